@@ -1,0 +1,11 @@
+//! The words of a script: reads a script's bytes into tokens, the words of which are ranges of those bytes.
+//! The rules are those of docs/scripts.md, "Words".
+#![tactic(auto)]
+
+mod faults;
+mod parts;
+mod tokens;
+
+pub use faults::{Fault, FaultKind};
+pub use parts::{Part, Span, Word};
+pub use tokens::{Lexed, Token, TokenKind};
