@@ -1,0 +1,3 @@
+mod ChecksumLemmas
+mod EntryLemmas
+mod TableLemmas

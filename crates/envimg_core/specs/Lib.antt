@@ -1,2 +1,7 @@
+pub mod Checksum
 pub mod Environment
+pub mod Geometry
+pub mod Image
 pub mod Pieces
+pub mod Register
+pub mod State

@@ -1,8 +1,98 @@
-/// How an environment is stored.
+//! Layouts and sizes of an image.
+ghost use Rattle.std.specs.Prelude.{◌≡◌, ◌≤◌, ◌+◌, ◌^◌, ◌<◌, SomeIff, OnSome, option_map, Some, None, if◌then◌else◌, ◌==◌, length, IsSome, ◌↔◌};
+ghost use Rattle.envimg_core.specs.Geometry.{Shape, IsSize, head, room_of, area_of};
+
+use std::marker::Model;
+
+/// How an environment is stored (U-Boot's documentation, "Environment": one copy, or two of which one is current).
 #[derive(Clone, Copy, Debug, PartialEq, Eq)]
 pub enum Layout {
-    /// One copy: checksum, then the data area.
+    /// One copy: four bytes of checksum, then the data area.
     Single,
     /// Two copies, each with a flag byte between checksum and data area.
     Redundant,
+}
+
+impl Layout {
+    /// The bytes before the data area.
+    const fn head_len(self) -> usize
+        ensures { result ≡ head self }
+    {
+        match self {
+            Layout::Single => 4,
+            Layout::Redundant => 5,
+        }
+    }
+}
+
+/// The greatest size of an image, in bytes: 1 MiB (docs/images.md, "Layouts").
+const SIZE_MAX: u32 = 1_048_576;
+
+/// The shortest data area, in bytes.
+const AREA_MIN: usize = 4;
+
+/// The layout and the size of one copy.
+#[derive(Clone, Copy, Debug, PartialEq, Eq)]
+pub struct Geometry {
+    layout: Layout,
+    size: u32,
+}
+
+impl Model for Geometry {
+    ghost use Rattle.envimg_core.specs.Geometry.{Shape, IsSize};
+
+    ghost Value = { Shape };
+
+    ghost view = { λ g. record { layout = g.layout; size = g.size } };
+
+    ghost invariant = { λ g. IsSize g.layout g.size };
+
+    ghost inverse = { λ s. record { layout = s.layout; size = s.size } };
+}
+
+impl Geometry {
+    /// The geometry of copies of `size` bytes: `None` where the layout has no image of that size, which is below
+    /// 8 bytes (single) or 9 bytes (redundant) and above 1,048,576.
+    pub fn new(layout: Layout, size: u32) -> Option<Geometry>
+        ensures { SomeIff result (IsSize layout size) (record { layout = layout; size = size }) }
+    {
+        if (size as usize) < layout.head_len() + AREA_MIN || size > SIZE_MAX {
+            return None;
+        }
+        Some(Geometry { layout, size })
+    }
+
+    /// How the copies are laid out.
+    pub fn layout(&self) -> Layout
+        ensures { result ≡ self.now.layout }
+    {
+        self.layout
+    }
+
+    /// The size of one copy, in bytes.
+    pub fn size(&self) -> u32
+        ensures value { result ≡ self.now.size }
+        ensures in_range { IsSize self.now.layout self.now.size }
+    {
+        self.size
+    }
+
+    /// The length of the data area, in bytes.
+    pub fn room(&self) -> u32
+        ensures value { result ≡ room_of self.now }
+        ensures in_range { IsSize self.now.layout self.now.size }
+    {
+        self.size - self.layout.head_len() as u32
+    }
+
+    /// The data area of a copy: `None` where the copy's length is not the size.
+    pub fn area<'a>(&self, copy: &'a [u8]) -> Option<&'a [u8]>
+        ensures value { option_map (λ area. area.now) result ≡ (if length copy.now == self.now.size then Some (area_of self.now copy.now) else None) }
+        ensures in_range { IsSize self.now.layout self.now.size }
+    {
+        if copy.len() != self.size as usize {
+            return None;
+        }
+        Some(&copy[self.layout.head_len()..])
+    }
 }

@@ -1,6 +1,18 @@
-//! The stored environment: geometry, checksum, state of a copy, entries.
+//! The stored environment: geometry, checksum, state of a copy, choice between two copies, entries, written images.
+//!
+//! No call takes memory. docs/images.md states the format.
 #![tactic(auto)]
 
+mod area;
+mod checksum;
+mod choice;
 mod geometry;
+mod pieces;
+mod state;
 
-pub use geometry::Layout;
+pub use area::entries;
+pub use checksum::{crc32, crc32_bitwise};
+pub use choice::{Choice, choose};
+pub use geometry::{Geometry, Layout};
+pub use pieces::{Entries, Entry};
+pub use state::{CopyState, check_copy};

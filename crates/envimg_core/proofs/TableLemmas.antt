@@ -1,0 +1,235 @@
+-- The register is linear, so each byte's part of it can be taken from a table.
+use Rattle.std.proofs.Common.{◌≡◌, ℕ, zero, suc, ◌+◌, ◌-◌, ◌*◌, ◌/◌, ◌%◌, ◌^◌, ◌<◌, ◌≤◌, ◌++◌, Bool, true, false, cond, List, [], ◌∷◌, map, length, get_or, drop, bit_xor, refl, sym, ap, ◌∙◌, subst, arith, length-append, drop-cons}
+use Rattle.std.proofs.lemmas.List.{drop_all}
+use Rattle.std.specs.Prelude.{◌==◌}
+use Rattle.std.specs.Int.Bits.{xor_zero_l, xor_zero_r, xor_assoc, xor_self}
+use Rattle.std.proofs.lemmas.Nat.{xor_shr, xor_mod, xor_lt, xor_comm, xor_block, mod_below, div-mul-add, mod-mul-add}
+use Rattle.envimg_core.specs.Checksum.{xor}
+use Rattle.envimg_core.specs.Register.{step, steps, advance, feed, mixed}
+use Rattle.envimg_core.proofs.ChecksumLemmas.{low_xor}
+use Rattle.envimg_core.specs.declared.checksum.tables.TheConstants.{TABLES}
+
+swap_middle : (a b c d : ℕ) → bit_xor (bit_xor a b) (bit_xor c d) ≡ bit_xor (bit_xor a c) (bit_xor b d)
+swap_middle a b c d =
+    xor_assoc a b (bit_xor c d)
+    ∙ ap (bit_xor a) (sym (xor_assoc b c d) ∙ ap (λ (x : ℕ). bit_xor x d) (xor_comm b c) ∙ xor_assoc c b d)
+    ∙ sym (xor_assoc a c (bit_xor b d))
+
+step_xor : (a b : ℕ) → step (bit_xor a b) ≡ bit_xor (step a) (step b)
+unfolding step
+step_xor a b =
+    ap (λ t. cond t (bit_xor (bit_xor a b / 2) 0xEDB88320) (bit_xor a b / 2)) (low_xor a b)
+    ∙ ap (λ (h : ℕ). cond (xor (a % 2 == 1) (b % 2 == 1)) (bit_xor h 0xEDB88320) h) (xor_shr a b 1)
+    ∙ cases (a % 2 == 1) (b % 2 == 1) (a / 2) (b / 2)
+  where
+    cases : (s t : Bool) (x y : ℕ) → cond (xor s t) (bit_xor (bit_xor x y) 0xEDB88320) (bit_xor x y) ≡ bit_xor (cond s (bit_xor x 0xEDB88320) x) (cond t (bit_xor y 0xEDB88320) y)
+    cases true true x y =
+        sym (swap_middle x 0xEDB88320 y 0xEDB88320 ∙ xor_zero_r (bit_xor x y))
+    cases true false x y = xor_assoc x y 0xEDB88320 ∙ ap (bit_xor x) (xor_comm y 0xEDB88320) ∙ sym (xor_assoc x 0xEDB88320 y)
+    cases false true x y = xor_assoc x y 0xEDB88320
+    cases false false x y = refl
+
+steps_xor : (k a b : ℕ) → steps k (bit_xor a b) ≡ bit_xor (steps k a) (steps k b)
+unfolding steps
+steps_xor zero a b = refl
+steps_xor (suc k) a b = ap (steps k) (step_xor a b) ∙ steps_xor k (step a) (step b)
+
+advance_xor : (n a b : ℕ) → advance n (bit_xor a b) ≡ bit_xor (advance n a) (advance n b)
+unfolding advance
+advance_xor zero a b = refl
+advance_xor (suc n) a b = ap (advance n) (steps_xor 8 a b) ∙ advance_xor n (steps 8 a) (steps 8 b)
+
+-- a whole number of zeros leaves by shifting
+step_even : (m : ℕ) → step (m * 2) ≡ m
+unfolding step
+step_even m =
+    let odd : m * 2 % 2 ≡ 0 = omega arith in
+    let half : m * 2 / 2 ≡ m = omega arith in
+    ap (λ (d : ℕ). cond (d == 1) (bit_xor (m * 2 / 2) 0xEDB88320) (m * 2 / 2)) odd ∙ half
+
+eight_even : (m : ℕ) → steps 8 (m * 256) ≡ m
+unfolding steps
+eight_even m =
+    ap (steps 7) (ap step (let e : m * 256 ≡ m * 128 * 2 = omega arith in e) ∙ step_even (m * 128))
+    ∙ ap (steps 6) (ap step (let e : m * 128 ≡ m * 64 * 2 = omega arith in e) ∙ step_even (m * 64))
+    ∙ ap (steps 5) (ap step (let e : m * 64 ≡ m * 32 * 2 = omega arith in e) ∙ step_even (m * 32))
+    ∙ ap (steps 4) (ap step (let e : m * 32 ≡ m * 16 * 2 = omega arith in e) ∙ step_even (m * 16))
+    ∙ ap (steps 3) (ap step (let e : m * 16 ≡ m * 8 * 2 = omega arith in e) ∙ step_even (m * 8))
+    ∙ ap (steps 2) (ap step (let e : m * 8 ≡ m * 4 * 2 = omega arith in e) ∙ step_even (m * 4))
+    ∙ ap (steps 1) (ap step (let e : m * 4 ≡ m * 2 * 2 = omega arith in e) ∙ step_even (m * 2))
+    ∙ step_even m
+
+halves : (x : ℕ) → x ≡ bit_xor (x % 256) (x / 256 * 256)
+halves x =
+    sym (ap (λ (y : ℕ). bit_xor (x % 256) y) (let e : x / 256 * 256 ≡ x / 256 * 2 ^ 8 + 0 = omega arith in e)
+    ∙ ap (λ (y : ℕ). bit_xor y (x / 256 * 2 ^ 8 + 0)) (let e : x % 256 ≡ 0 * 2 ^ 8 + x % 256 = omega arith in e)
+    ∙ xor_block 8 0 (x / 256) (x % 256) 0 (mod_below x 256 (omega arith)) (omega arith)
+    ∙ ap (λ (y : ℕ). x / 256 * 2 ^ 8 + y) (xor_zero_r (x % 256))
+    ∙ (let e : x / 256 * 2 ^ 8 + x % 256 ≡ x = omega arith in e))
+
+-- a byte leaves: the low byte's part from a table, the others by shifting
+pub steps-low : (x : ℕ) → steps 8 x ≡ bit_xor (steps 8 (x % 256)) (x / 256)
+steps-low x = ap (steps 8) (halves x) ∙ steps_xor 8 (x % 256) (x / 256 * 256) ∙ ap (bit_xor (steps 8 (x % 256))) (eight_even (x / 256))
+
+advance-low : (n x : ℕ) → advance (suc n) x ≡ bit_xor (advance (suc n) (x % 256)) (advance n (x / 256))
+unfolding advance
+advance-low n x = ap (advance n) (steps-low x) ∙ advance_xor n (steps 8 (x % 256)) (x / 256)
+
+-- ---- the tables
+
+abbrev rows : ℕ → ℕ → List ℕ
+rows i zero = []
+rows i (suc n) = steps 8 i ∷ rows (i + 1) n
+
+abbrev made : ℕ → List ℕ → List (List ℕ)
+made zero row = []
+made (suc n) row = row ∷ made n (map (steps 8) row)
+
+tables_made : TABLES ≡ made 16 (rows 0 256)
+unfolding step steps
+tables_made = refl
+
+get-rows : (i n k : ℕ) → k < n → get_or (rows i n) k 0 ≡ steps 8 (i + k)
+get-rows i zero k h = absurd (omega arith)
+get-rows i (suc n) zero h = ap (steps 8) (let e : i ≡ i + 0 = omega arith in e)
+get-rows i (suc n) (suc k) h = get-rows (i + 1) n k (omega arith) ∙ ap (steps 8) (let e : i + 1 + k ≡ i + suc k = omega arith in e)
+
+get-map : (row : List ℕ) (i : ℕ) → i < length row → get_or (map (steps 8) row) i 0 ≡ steps 8 (get_or row i 0)
+get-map [] i h = absurd (omega arith)
+get-map (x ∷ row) zero h = refl
+get-map (x ∷ row) (suc i) h = get-map row i (omega arith)
+
+length-map-steps : (row : List ℕ) → length (map (steps 8) row) ≡ length row
+length-map-steps [] = refl
+length-map-steps (x ∷ row) = ap suc (length-map-steps row)
+
+get-made : (n k i : ℕ) (row : List ℕ) → k < n → i < length row → get_or (get_or (made n row) k []) i 0 ≡ advance k (get_or row i 0)
+unfolding advance
+get-made zero k i row h l = absurd (omega arith)
+get-made (suc n) zero i row h l = refl
+get-made (suc n) (suc k) i row h l =
+    get-made n k i (map (steps 8) row) (omega arith) (omega (arith, length-map-steps row))
+    ∙ ap (advance k) (get-map row i l)
+
+length-rows : (i n : ℕ) → length (rows i n) ≡ n
+length-rows i zero = refl
+length-rows i (suc n) = ap suc (length-rows (i + 1) n)
+
+pub table_entry : (k b : ℕ) → k < 16 → b < 256 → get_or (get_or TABLES k []) b 0 ≡ advance (k + 1) b
+unfolding advance
+table_entry k b h l =
+    ap (λ ts. get_or (get_or ts k []) b 0) tables_made
+    ∙ get-made 16 k b (rows 0 256) h (omega (arith, length-rows 0 256))
+    ∙ ap (advance k) (get-rows 0 256 b l ∙ ap (steps 8) (let e : 0 + b ≡ b = omega arith in e))
+    ∙ (let e : suc k ≡ k + 1 = omega arith in ap (λ (n : ℕ). advance n b) e)
+
+-- ---- many bytes
+
+pub feed-append : (xs ys : List ℕ) (r : ℕ) → feed r (xs ++ ys) ≡ feed (feed r xs) ys
+unfolding feed
+feed-append [] ys r = refl
+feed-append (x ∷ xs) ys r = feed-append xs ys (steps 8 (bit_xor r x))
+
+-- the register's own part, and that of the bytes
+feed-split : (bs : List ℕ) (r : ℕ) → feed r bs ≡ bit_xor (advance (length bs) r) (mixed 0 bs)
+unfolding feed advance
+feed-split [] r = sym (xor_zero_r r)
+feed-split (b ∷ bs) r =
+    feed-split bs (steps 8 (bit_xor r b))
+    ∙ ap (λ (x : ℕ). bit_xor x (mixed 0 bs)) (ap (advance (length bs)) (steps_xor 8 r b) ∙ advance_xor (length bs) (steps 8 r) (steps 8 b))
+    ∙ xor_assoc (advance (length bs) (steps 8 r)) (advance (length bs) (steps 8 b)) (mixed 0 bs)
+    ∙ ap (λ (n : ℕ). bit_xor (advance (length bs) (steps 8 r)) (bit_xor (advance n b) (mixed 0 bs))) (let e : suc (length bs) ≡ suc (length bs) + 0 = omega arith in e)
+
+mixed-append : (n : ℕ) (xs ys : List ℕ) → mixed n (xs ++ ys) ≡ bit_xor (mixed (length ys + n) xs) (mixed n ys)
+mixed-append n [] ys = refl
+mixed-append n (x ∷ xs) ys =
+    ap (λ (m : ℕ). bit_xor (advance m x) (mixed n (xs ++ ys))) (let e : suc (length (xs ++ ys)) + n ≡ suc (length xs) + (length ys + n) = omega (arith, length-append xs ys) in e)
+    ∙ ap (bit_xor (advance (suc (length xs) + (length ys + n)) x)) (mixed-append n xs ys)
+    ∙ sym (xor_assoc (advance (suc (length xs) + (length ys + n)) x) (mixed (length ys + n) xs) (mixed n ys))
+
+four_xor : (n a b c d p q r s : ℕ) → mixed n (bit_xor a p ∷ bit_xor b q ∷ bit_xor c r ∷ bit_xor d s ∷ []) ≡ bit_xor (mixed n (p ∷ q ∷ r ∷ s ∷ [])) (mixed n (a ∷ b ∷ c ∷ d ∷ []))
+four_xor n a b c d p q r s =
+    one 3 a p (mixed n (b ∷ c ∷ d ∷ [])) (mixed n (q ∷ r ∷ s ∷ [])) (mixed n (bit_xor b q ∷ bit_xor c r ∷ bit_xor d s ∷ []))
+    (one 2 b q (mixed n (c ∷ d ∷ [])) (mixed n (r ∷ s ∷ [])) (mixed n (bit_xor c r ∷ bit_xor d s ∷ []))
+    (one 1 c r (mixed n (d ∷ [])) (mixed n (s ∷ [])) (mixed n (bit_xor d s ∷ []))
+    (one 0 d s 0 0 0 refl)))
+  where
+    one : (k x y u v w : ℕ) → w ≡ bit_xor v u → bit_xor (advance (suc k + n) (bit_xor x y)) w ≡ bit_xor (bit_xor (advance (suc k + n) y) v) (bit_xor (advance (suc k + n) x) u)
+    one k x y u v w e =
+        ap (λ (z : ℕ). bit_xor z w) (advance_xor (suc k + n) x y ∙ xor_comm (advance (suc k + n) x) (advance (suc k + n) y))
+        ∙ ap (bit_xor (bit_xor (advance (suc k + n) y) (advance (suc k + n) x))) e
+        ∙ swap_middle (advance (suc k + n) y) (advance (suc k + n) x) v u
+
+advance-nothing : (n : ℕ) → advance n 0 ≡ 0
+unfolding advance steps step
+advance-nothing zero = refl
+advance-nothing (suc n) = advance-nothing n
+
+-- the register as four bytes
+four_bytes : (r : ℕ) → r < 2 ^ 32 → advance 16 r ≡ mixed 12 (r % 256 ∷ r / 256 % 256 ∷ r / 65536 % 256 ∷ r / 16777216 % 256 ∷ [])
+four_bytes r h =
+    advance-low 15 r ∙ ap (bit_xor (advance 16 (r % 256)))
+    (advance-low 14 (r / 256) ∙ ap (bit_xor (advance 15 (r / 256 % 256)))
+    (ap (advance 14) (let e : r / 256 / 256 ≡ r / 65536 = omega arith in e) ∙ advance-low 13 (r / 65536) ∙ ap (bit_xor (advance 14 (r / 65536 % 256)))
+    (ap (advance 13) (let e : r / 65536 / 256 ≡ r / 16777216 = omega arith in e) ∙ advance-low 12 (r / 16777216) ∙ ap (bit_xor (advance 13 (r / 16777216 % 256)))
+    (ap (advance 12) (let e : r / 16777216 / 256 ≡ 0 = omega arith in e) ∙ advance-nothing 12))))
+
+abbrev gets : List ℕ → ℕ → ℕ → List ℕ
+gets xs i zero = []
+gets xs i (suc n) = get_or xs i 0 ∷ gets xs (i + 1) n
+
+drop-gets : (xs : List ℕ) (i n : ℕ) → length xs ≡ i + n → drop i xs ≡ gets xs i n
+drop-gets xs i zero e = drop_all i xs (omega arith)
+drop-gets xs i (suc n) e =
+    drop-cons xs i 0 (omega arith) ∙ ap (λ (m : ℕ). get_or xs i 0 ∷ drop m xs) (let k : suc i ≡ i + 1 = omega arith in k) ∙ ap (λ ys. get_or xs i 0 ∷ ys) (drop-gets xs (i + 1) n (omega arith))
+
+pub block_fed : (r : ℕ) (xs rs : List ℕ) → r < 2 ^ 32 → length xs ≡ 16 → rs ≡ r % 256 ∷ r / 256 % 256 ∷ r / 65536 % 256 ∷ r / 16777216 % 256 ∷ [] →
+    bit_xor (bit_xor (bit_xor
+    (mixed 12 (bit_xor (get_or xs 0 0) (get_or rs 0 0) ∷ bit_xor (get_or xs 1 0) (get_or rs 1 0) ∷ bit_xor (get_or xs 2 0) (get_or rs 2 0) ∷ bit_xor (get_or xs 3 0) (get_or rs 3 0) ∷ []))
+    (mixed 8 (get_or xs 4 0 ∷ get_or xs 5 0 ∷ get_or xs 6 0 ∷ get_or xs 7 0 ∷ [])))
+    (mixed 4 (get_or xs 8 0 ∷ get_or xs 9 0 ∷ get_or xs 10 0 ∷ get_or xs 11 0 ∷ [])))
+    (mixed 0 (get_or xs 12 0 ∷ get_or xs 13 0 ∷ get_or xs 14 0 ∷ get_or xs 15 0 ∷ []))
+    ≡ feed r xs
+block_fed r xs rs h l e =
+    let a : List ℕ = gets xs 0 4 in
+    let b : List ℕ = gets xs 4 4 in
+    let c : List ℕ = gets xs 8 4 in
+    let d : List ℕ = gets xs 12 4 in
+    let cut : xs ≡ a ++ (b ++ (c ++ d)) = drop-gets xs 0 16 l in
+    let whole : feed r xs ≡ bit_xor (mixed 12 (r % 256 ∷ r / 256 % 256 ∷ r / 65536 % 256 ∷ r / 16777216 % 256 ∷ [])) (mixed 0 (a ++ (b ++ (c ++ d)))) =
+    feed-split xs r ∙ ap (λ (n : ℕ). bit_xor (advance n r) (mixed 0 xs)) l ∙ ap (λ (n : ℕ). bit_xor n (mixed 0 xs)) (four_bytes r h) ∙ ap (λ ys. bit_xor (mixed 12 (r % 256 ∷ r / 256 % 256 ∷ r / 65536 % 256 ∷ r / 16777216 % 256 ∷ [])) (mixed 0 ys)) cut in
+    let parts : mixed 0 (a ++ (b ++ (c ++ d))) ≡ bit_xor (mixed 12 a) (bit_xor (mixed 8 b) (bit_xor (mixed 4 c) (mixed 0 d))) =
+    mixed-append 0 a (b ++ (c ++ d)) ∙ ap (bit_xor (mixed 12 a)) (mixed-append 0 b (c ++ d) ∙ ap (bit_xor (mixed 8 b)) (mixed-append 0 c d)) in
+    subst (λ ys. bit_xor (bit_xor (bit_xor (mixed 12 (bit_xor (get_or xs 0 0) (get_or ys 0 0) ∷ bit_xor (get_or xs 1 0) (get_or ys 1 0) ∷ bit_xor (get_or xs 2 0) (get_or ys 2 0) ∷ bit_xor (get_or xs 3 0) (get_or ys 3 0) ∷ [])) (mixed 8 b)) (mixed 4 c)) (mixed 0 d) ≡ feed r xs) (sym e)
+    (ap (λ (m : ℕ). bit_xor (bit_xor (bit_xor m (mixed 8 b)) (mixed 4 c)) (mixed 0 d)) (four_xor 12 (get_or xs 0 0) (get_or xs 1 0) (get_or xs 2 0) (get_or xs 3 0) (r % 256) (r / 256 % 256) (r / 65536 % 256) (r / 16777216 % 256))
+    ∙ grouped (mixed 12 (r % 256 ∷ r / 256 % 256 ∷ r / 65536 % 256 ∷ r / 16777216 % 256 ∷ [])) (mixed 12 a) (mixed 8 b) (mixed 4 c) (mixed 0 d)
+    ∙ ap (bit_xor (mixed 12 (r % 256 ∷ r / 256 % 256 ∷ r / 65536 % 256 ∷ r / 16777216 % 256 ∷ []))) (sym parts)
+    ∙ sym whole)
+  where
+    grouped : (u v w x y : ℕ) → bit_xor (bit_xor (bit_xor (bit_xor u v) w) x) y ≡ bit_xor u (bit_xor v (bit_xor w (bit_xor x y)))
+    grouped u v w x y = simp xor_assoc
+
+pub byte_fed : (r b : ℕ) → b < 256 → bit_xor (advance 1 (bit_xor (r % 256) b)) (r / 256) ≡ steps 8 (bit_xor r b)
+unfolding advance
+byte_fed r b h =
+    sym (steps-low (bit_xor r b)
+    ∙ ap (λ (m : ℕ). bit_xor (steps 8 m) (bit_xor r b / 256)) (xor_mod r b 8 ∙ ap (bit_xor (r % 256)) (let e : b % 256 ≡ b = omega arith in e))
+    ∙ ap (bit_xor (steps 8 (bit_xor (r % 256) b))) (xor_shr r b 8 ∙ ap (bit_xor (r / 256)) (let e : b / 256 ≡ 0 = omega arith in e) ∙ xor_zero_r (r / 256)))
+
+-- the next byte of those that are left
+pub feed_next : (r : ℕ) (bs : List ℕ) (i : ℕ) → i < length bs → feed r (drop i bs) ≡ feed (steps 8 (bit_xor r (get_or bs i 0))) (drop (i + 1) bs)
+unfolding feed
+feed_next r bs i h =
+    ap (feed r) (drop-cons bs i 0 h) ∙ ap (λ (n : ℕ). feed (steps 8 (bit_xor r (get_or bs i 0))) (drop n bs)) (let e : suc i ≡ i + 1 = omega arith in e)
+
+pub feed_done : (r : ℕ) (bs : List ℕ) (i : ℕ) → length bs ≤ i → feed r (drop i bs) ≡ r
+unfolding feed
+feed_done r bs i h = ap (feed r) (drop_all i bs h)
+
+pub steps_next : (k r : ℕ) → k < 8 → steps (8 - k) r ≡ steps (8 - (k + 1)) (step r)
+unfolding steps
+steps_next k r h = ap (λ (n : ℕ). steps n r) (let e : 8 - k ≡ suc (8 - (k + 1)) = omega arith in e)
+
+pub steps_done : (k r : ℕ) → 8 ≤ k → steps (8 - k) r ≡ r
+unfolding steps
+steps_done k r h = ap (λ (n : ℕ). steps n r) (let e : 8 - k ≡ 0 = omega arith in e)

@@ -1,0 +1,26 @@
+-- The sizes of an image, and where its parts lie (docs/images.md, "Layouts").
+use Rattle.std.specs.Prelude.{ℕ, ◌+◌, ◌-◌, ◌≤◌, List, drop}
+use Rattle.envimg_core.specs.declared.geometry.Layout.{Layout}
+use Rattle.envimg_core.specs.declared.geometry.Layout.TheVariants.{Single, Redundant}
+
+-- the bytes before the data area: four of checksum, and the flag of a redundant copy
+abbrev pub head : Layout → ℕ
+head Single = 4
+head Redundant = 5
+
+-- the sizes that an image of this layout may have: a data area of at least 4 bytes, and at most 1 MiB in all
+abbrev pub IsSize : Layout → ℕ → Type 0
+IsSize layout size = (head layout + 4 ≤ size) × (size ≤ 1048576)
+
+-- a layout and the size of one copy, in bytes
+pub record Shape : Type 0 where
+  pub layout : Layout
+  pub size : ℕ
+
+-- the length of the data area
+abbrev pub room_of : Shape → ℕ
+room_of shape = shape.size - head shape.layout
+
+-- the data area of a copy
+abbrev pub area_of : Shape → List ℕ → List ℕ
+area_of shape copy = drop (head shape.layout) copy

@@ -1,0 +1,46 @@
+-- The state of a stored copy, and which of two copies is current (docs/images.md, "State of a copy" and "Choice").
+use Rattle.std.specs.Prelude.{ℕ, ◌==◌, ◌&&◌, Bool, not, nat_lt, if◌then◌else◌, List, length, slice_index}
+use Rattle.byteorder.specs.Endian.{little_number}
+use Rattle.envimg_core.specs.Checksum.{checksum}
+use Rattle.envimg_core.specs.Geometry.{Shape, area_of}
+use Rattle.envimg_core.specs.Pieces.{is_terminated}
+use Rattle.envimg_core.specs.declared.geometry.Layout.{Layout}
+use Rattle.envimg_core.specs.declared.geometry.Layout.TheVariants.{Single, Redundant}
+use Rattle.envimg_core.specs.declared.state.CopyState.{CopyState}
+use Rattle.envimg_core.specs.declared.state.CopyState.TheVariants.{Good, BadLength, BadCrc, Unterminated}
+use Rattle.envimg_core.specs.declared.choice.Choice.{Choice}
+use Rattle.envimg_core.specs.declared.choice.Choice.TheVariants.{First, Second, Neither}
+
+-- the flag byte of a redundant copy stands behind the checksum; a single image has none, and counts as 0
+abbrev pub flag_of : Layout → List ℕ → ℕ
+flag_of Single copy = 0
+flag_of Redundant copy = slice_index copy 4
+
+abbrev pub has_checksum : Shape → List ℕ → Bool
+has_checksum shape copy = little_number 4 copy == checksum (area_of shape copy)
+
+-- the first fault that applies, else good
+abbrev pub state_of : Shape → List ℕ → CopyState
+state_of shape copy =
+    if not (length copy == shape.size) then BadLength
+    else if not (has_checksum shape copy) then BadCrc
+    else if not (is_terminated (area_of shape copy)) then Unterminated
+    else Good (flag_of shape.layout copy)
+
+-- two good copies: the larger flag, but 0 comes after 255; of equal flags the first
+abbrev pub choice_by_flags : ℕ → ℕ → Choice
+choice_by_flags first second =
+    if first == 255 && second == 0 then Second
+    else if first == 0 && second == 255 then First
+    else if nat_lt first second then Second
+    else First
+
+abbrev pub choice_of : CopyState → CopyState → Choice
+choice_of (Good first) (Good second) = choice_by_flags first second
+choice_of (Good first) BadLength = First
+choice_of (Good first) BadCrc = First
+choice_of (Good first) Unterminated = First
+choice_of BadLength (Good second) = Second
+choice_of BadCrc (Good second) = Second
+choice_of Unterminated (Good second) = Second
+choice_of _ _ = Neither

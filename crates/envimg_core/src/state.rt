@@ -1,0 +1,60 @@
+//! The state of a stored copy.
+ghost use Rattle.std.specs.Prelude.{◌≡◌, ◌≤◌, ◌+◌, ◌<◌, length, slice_index};
+ghost use Rattle.envimg_core.specs.Pieces.{is_terminated};
+ghost use Rattle.envimg_core.specs.State.{state_of, flag_of};
+
+use crate::checksum::crc32;
+use crate::geometry::{Geometry, Layout};
+use byteorder::{ByteOrder, LittleEndian};
+
+/// What a stored copy is good for.
+#[derive(Clone, Copy, Debug, PartialEq, Eq)]
+pub enum CopyState {
+    /// Length, checksum and end of the list are right; the number is the flag byte, 0 for a single image.
+    Good(u8),
+    /// The length is not the geometry's size.
+    BadLength,
+    /// The checksum of the data area is another.
+    BadCrc,
+    /// The checksum is right, but the list of entries is not ended inside the data area.
+    Unterminated,
+}
+
+/// The state of a copy: the first of `BadLength`, `BadCrc` and `Unterminated` that applies, else `Good`.
+pub fn check_copy(geometry: &Geometry, copy: &[u8]) -> CopyState
+    ensures { result ≡ state_of geometry.now copy.now }
+{
+    let Some(area) = geometry.area(copy) else {
+        return CopyState::BadLength;
+    };
+    if LittleEndian::read_u32(copy) != crc32(area) {
+        return CopyState::BadCrc;
+    }
+    if !is_ended(area) {
+        return CopyState::Unterminated;
+    }
+    CopyState::Good(flag(geometry.layout(), copy))
+}
+
+/// The flag byte of a copy that has one, else 0.
+fn flag(layout: Layout, copy: &[u8]) -> u8
+    requires { 5 ≤ length copy.now }
+    ensures { result ≡ flag_of layout copy.now }
+{
+    match layout {
+        Layout::Single => 0,
+        Layout::Redundant => copy[4],
+    }
+}
+
+/// Whether the list of entries is ended inside the area: the area begins with a 0, or two stand side by side.
+fn is_ended(area: &[u8]) -> bool
+    requires { 1 ≤ length area.now }
+    ensures { result ≡ is_terminated area.now }
+{
+    let mut ended = area[0] == 0;
+    for i in 1..area.len() {
+        ended |= (area[i - 1] == 0) & (area[i] == 0);
+    }
+    ended
+}
