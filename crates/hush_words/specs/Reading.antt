@@ -23,11 +23,17 @@ abbrev pub behind : (ℕ → Bool) → List ℕ → List ℕ
 behind test [] = []
 behind test (b ∷ bs) = if test b then behind test bs else b ∷ bs
 
+abbrev pub found : {P : Type 0} → P → List ℕ → Found P
+found p rest = Some (p, rest)
+
 -- parts as long as one is found, at most n of them, and the rest
+abbrev pub many_from : {P : Type 0} → (List ℕ → List P × List ℕ) → List ℕ → Found P → List P × List ℕ
+many_from more text None = ([], text)
+many_from more text (Some f) = (f.0 ∷ (more f.1).0, (more f.1).1)
+
 abbrev pub many : {P : Type 0} → (List ℕ → Found P) → ℕ → List ℕ → List P × List ℕ
 many at zero text = ([], text)
-many at (suc n) text =
-    elim (at text) [ None ↦ ([], text) | Some f ↦ (f.0 ∷ (many at n f.1).0, (many at n f.1).1) ]
+many at (suc n) text = many_from (many at n) text (at text)
 
 -- all that are found: each takes at least a byte
 abbrev pub all : {P : Type 0} → (List ℕ → Found P) → List ℕ → List P × List ℕ

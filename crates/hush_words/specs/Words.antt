@@ -12,7 +12,7 @@ pub data Atom : Type 0 where
   Status : (quoted : Bool) → Atom
 
 abbrev pub is_one_of : List ℕ → ℕ → Bool
-is_one_of set b = list_any (λ k. k == b) set
+is_one_of set b = list_any (λ k. b == k) set
 
 -- space and tab
 unfoldable pub is_blank : ℕ → Bool

@@ -1,0 +1,25 @@
+-- What the definitions of words and tokens come to.
+use Rattle.std.specs.Prelude.{◌≡◌, ℕ, true, List, Some, ◌↔◌}
+use Rattle.hush_words.specs.Words.{Atom}
+use Rattle.hush_words.specs.Tokens.{Token, HasTokens}
+use Rattle.hush_words.specs.Reading.{tokens_of}
+use Rattle.hush_words.specs.Forms.{IsPlain, IsNameWord, IsAssignment, is_plain, name_of, assignment_of}
+
+-- the tokens that are read of a text are exactly those that it has
+abbrev pub TokensAreRead : Type 0
+TokensAreRead = (text : List ℕ) (tokens : List Token) → (tokens_of text ≡ Some tokens) ↔ HasTokens text tokens
+
+-- a text has at most one list of tokens
+abbrev pub OneTokenList : Type 0
+OneTokenList = (text : List ℕ) (tokens others : List Token) → HasTokens text tokens → HasTokens text others → tokens ≡ others
+
+-- a word's form is told exactly
+abbrev pub PlainIsTold : Type 0
+PlainIsTold = (text : List ℕ) (atoms : List Atom) → (is_plain text atoms ≡ true) ↔ IsPlain text atoms
+
+abbrev pub NameIsTold : Type 0
+NameIsTold = (name : List ℕ) (atoms : List Atom) → (name_of atoms ≡ Some name) ↔ IsNameWord name atoms
+
+abbrev pub AssignmentIsTold : Type 0
+AssignmentIsTold =
+    (name : List ℕ) (value atoms : List Atom) → (assignment_of atoms ≡ Some (name, value)) ↔ IsAssignment name value atoms
