@@ -1,0 +1,4 @@
+pub mod CutLemmas
+pub mod SpelledLemmas
+pub mod ImportLemmas
+pub mod ExportLemmas

@@ -1,0 +1,41 @@
+-- The text of an exported variable.
+use Rattle.std.specs.Prelude.{◌≡◌, ℕ, ◌+◌, Bool, true, false, ◌||◌, ◌==◌, List, [], ◌∷◌, ◌++◌, Some, if◌then◌else◌}
+use Rattle.std.specs.List.{list_any, flat_map, count_by}
+use Rattle.envimg_core.specs.Environment.{Pair, is_name, is_value}
+use Rattle.envcfg_core.specs.Bytes.{is_newline, is_blank, hash, equals, backslash}
+use Rattle.envcfg_core.specs.Entries.{Entry}
+
+-- `\` stands before each `\` and each newline
+abbrev pub escaped_byte : ℕ → List ℕ
+escaped_byte b = if b == backslash || is_newline b then backslash ∷ b ∷ [] else b ∷ []
+
+abbrev pub escaped : List ℕ → List ℕ
+escaped value = flat_map escaped_byte value
+
+-- the name, `=`, the escaped value and a newline
+abbrev pub exported : List ℕ → List ℕ → List ℕ
+exported name value = name ++ (equals ∷ (escaped value ++ (10 ∷ [])))
+
+-- a name that an import would not read back: it begins with a blank or like a comment, or a newline would end it
+abbrev pub begins_unreadable : List ℕ → Bool
+begins_unreadable [] = false
+begins_unreadable (b ∷ bs) = is_blank b || b == hash
+
+abbrev pub is_unreadable : List ℕ → Bool
+is_unreadable name = begins_unreadable name || list_any is_newline name
+
+-- a variable that can be exported
+pub record IsExportable (p : Pair) : Type 0 where
+  pub name : is_name p.0 ≡ true
+  pub value : is_value p.1 ≡ true
+  pub readable : is_unreadable p.0 ≡ false
+
+-- the text of variables exported one after the other
+abbrev pub exported_all : List Pair → List ℕ
+exported_all pairs = flat_map (λ p. exported p.0 p.1) pairs
+
+-- the entries that such variables are, the first of which begins in this line; each newline of a value is one more line
+abbrev pub entries_of_pairs : ℕ → List Pair → List Entry
+entries_of_pairs line [] = []
+entries_of_pairs line (p ∷ pairs) =
+    record { name = p.0; value = Some p.1; line = line } ∷ entries_of_pairs (line + count_by is_newline p.1 + 1) pairs
