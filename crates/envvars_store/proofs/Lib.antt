@@ -1,0 +1,4 @@
+pub mod OrderLemmas
+pub mod MapLemmas
+pub mod PlainLemmas
+pub mod EntryLemmas

@@ -1,0 +1,4 @@
+pub mod Variable
+pub mod Order
+pub mod Laying
+pub mod Pieces

@@ -1,0 +1,20 @@
+-- One variable: a name and its value, each of its form.
+use Rattle.std.specs.Prelude.{ℕ, List, ◌∷◌, ◌++◌, IsTrue}
+use Rattle.std.specs.Borrow.{Bor}
+use Rattle.envimg_core.specs.Environment.{Pair, is_name, is_value}
+
+-- the name is a name, and the value a value
+abbrev pub IsVariable : Pair → Type 0
+IsVariable p = IsTrue (is_name p.0) × IsTrue (is_value p.1)
+
+-- name, '=' and value in one text
+abbrev pub joined : Pair → List ℕ
+joined p = p.0 ++ 61 ∷ p.1
+
+-- a variable whose name and value are lent
+abbrev pub lent_pair : Bor (List ℕ) × Bor (List ℕ) → Pair
+lent_pair lent = (lent.0.now, lent.1.now)
+
+-- a text that is lent
+abbrev pub lent_line : Bor (List ℕ) → List ℕ
+lent_line lent = lent.now
