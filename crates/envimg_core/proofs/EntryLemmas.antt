@@ -65,7 +65,7 @@ next_entry_of xs k p h =
     let high : k < length xs = omega (arith, h.0.high) in
     ap (λ ps. filter has_name (map entry_of (take_while (λ q. not (is_empty q)) ps))) (ended_first xs k (found is_zero xs k h) high)
     ∙ ap (λ ps. filter has_name (map entry_of ps)) (take_while-cons (λ q. not (is_empty q)) (take k xs) (ended_pieces (drop (k + 1) xs))
-      ∙ ap (λ b. cond (not b) (take k xs ∷ take_while (λ q. not (is_empty q)) (ended_pieces (drop (k + 1) xs))) []) (front_empty k xs p high))
+    ∙ ap (λ b. cond (not b) (take k xs ∷ take_while (λ q. not (is_empty q)) (ended_pieces (drop (k + 1) xs))) []) (front_empty k xs p high))
 
 pub range_rest : (n : ℕ) (xs : List ℕ) → take (length xs - n) (drop n xs) ≡ drop n xs
 range_rest n xs = take_all _ _ (omega (arith, length-drop n xs))
@@ -73,7 +73,7 @@ range_rest n xs = take_all _ _ (omega (arith, length-drop n xs))
 pub piece_ahead : (xs : List ℕ) (k : ℕ) → 0 < k → IsFirstByte is_zero xs (Some k) → YieldsEntry xs (take k xs) (take (length xs - (k + 1)) (drop (k + 1) xs))
 piece_ahead xs k p h =
     subst (YieldsEntry xs (take k xs)) (sym (range_rest (k + 1) xs))
-      (next_entry_of xs k p h, let high : k < length xs = omega (arith, h.0.high) in omega (arith, length-drop (k + 1) xs))
+    (next_entry_of xs k p h, let high : k < length xs = omega (arith, h.0.high) in omega (arith, length-drop (k + 1) xs))
 
 -- ---- a piece cut at its first '='
 
@@ -123,18 +123,18 @@ terminated_by (x ∷ xs) =
     let parts = split_cons xs in
     elim (is_zero x) as (λ b. is_zero x ≡ b → (is_terminated (x ∷ xs) ≡ (b || ((b && zero_first xs) || two_zeros xs))) × (ended_later (x ∷ xs) ≡ ((b && zero_first xs) || two_zeros xs))) [
       | true ↦ λ e. (
-          ap (λ ps. list_any is_empty (but_last ps)) (slice_split-cons_yes is_zero x xs e ∙ ap (λ ps. [] ∷ ps) parts.2),
-          ap (λ ps. list_any is_empty (but_last (behind_first ps))) (slice_split-cons_yes is_zero x xs e) ∙ below.0,
-        )
+        ap (λ ps. list_any is_empty (but_last ps)) (slice_split-cons_yes is_zero x xs e ∙ ap (λ ps. [] ∷ ps) parts.2),
+        ap (λ ps. list_any is_empty (but_last (behind_first ps))) (slice_split-cons_yes is_zero x xs e) ∙ below.0,
+      )
       | false ↦ λ e. (
-          ap (λ ps. list_any is_empty (but_last ps)) (slice_split-cons_no is_zero x xs e ∙ ap (onto_first x) parts.2)
-          ∙ longer_first x parts.0 parts.1
-          ∙ ap (λ ps. list_any is_empty (but_last (behind_first ps))) (sym parts.2)
-          ∙ below.1,
-          ap (λ ps. list_any is_empty (but_last (behind_first ps))) (slice_split-cons_no is_zero x xs e ∙ ap (onto_first x) parts.2)
-          ∙ ap (λ ps. list_any is_empty (but_last (behind_first ps))) (sym parts.2)
-          ∙ below.1,
-        )
+        ap (λ ps. list_any is_empty (but_last ps)) (slice_split-cons_no is_zero x xs e ∙ ap (onto_first x) parts.2)
+            ∙ longer_first x parts.0 parts.1
+            ∙ ap (λ ps. list_any is_empty (but_last (behind_first ps))) (sym parts.2)
+            ∙ below.1,
+        ap (λ ps. list_any is_empty (but_last (behind_first ps))) (slice_split-cons_no is_zero x xs e ∙ ap (onto_first x) parts.2)
+            ∙ ap (λ ps. list_any is_empty (but_last (behind_first ps))) (sym parts.2)
+            ∙ below.1,
+      )
     ] refl
 
 -- one byte more

@@ -1,3 +1,4 @@
 mod ChecksumLemmas
 mod EntryLemmas
 mod TableLemmas
+mod WriterLemmas

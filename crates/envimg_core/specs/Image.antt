@@ -1,5 +1,5 @@
 -- A written image (docs/images.md, "Written images").
-use Rattle.std.specs.Prelude.{ℕ, ◌+◌, ◌-◌, List, [], ◌∷◌, ◌++◌, length, replicate}
+use Rattle.std.specs.Prelude.{ℕ, ◌+◌, ◌-◌, List, [], ◌∷◌, ◌++◌, length, replicate, take, drop}
 use Rattle.std.specs.List.{flat_map}
 use Rattle.std.specs.FinMap.{entries}
 use Rattle.byteorder.specs.Endian.{little_bytes}
@@ -36,3 +36,7 @@ image_with shape flag stored = framed shape.layout flag (filled_area (room_of sh
 -- the image of an environment: its entries in ascending order of the names' bytes
 abbrev pub image_of : Shape → ℕ → Environment → List ℕ
 image_of shape flag env = image_with shape flag (stored_pairs (entries env))
+
+-- xs with these bytes written over it from place i on
+abbrev pub spliced : ℕ → List ℕ → List ℕ → List ℕ
+spliced i bytes xs = take i xs ++ bytes ++ drop (i + length bytes) xs

@@ -51,6 +51,14 @@ impl Model for Geometry {
 }
 
 impl Geometry {
+    /// The bytes before the data area.
+    pub(crate) fn head_len(&self) -> usize
+        ensures value { result ≡ head self.now.layout }
+        ensures in_range { IsSize self.now.layout self.now.size }
+    {
+        self.layout.head_len()
+    }
+
     /// The geometry of copies of `size` bytes: `None` where the layout has no image of that size, which is below
     /// 8 bytes (single) or 9 bytes (redundant) and above 1,048,576.
     pub fn new(layout: Layout, size: u32) -> Option<Geometry>

@@ -9,6 +9,7 @@ mod choice;
 mod geometry;
 mod pieces;
 mod state;
+mod writer;
 
 pub use area::entries;
 pub use checksum::{crc32, crc32_bitwise};
@@ -16,3 +17,4 @@ pub use choice::{Choice, choose};
 pub use geometry::{Geometry, Layout};
 pub use pieces::{Entries, Entry};
 pub use state::{CopyState, check_copy};
+pub use writer::ImageWriter;

@@ -1,0 +1,123 @@
+//! Writing an image in place.
+ghost use Rattle.std.specs.Prelude.{◌≡◌, ◌≤◌, ◌+◌, ◌-◌, ◌<◌, ◌↔◌, ◌++◌, [], ◌∷◌, List, IsTrue, if◌then◌else◌, length, take, drop, replicate};
+ghost use Rattle.envimg_core.specs.Geometry.{head, room_of};
+ghost use Rattle.byteorder.specs.Endian.{little_bytes};
+ghost use Rattle.envimg_core.specs.Checksum.{checksum};
+ghost use Rattle.envimg_core.specs.Image.{stored_pair, image_with, framed, spliced};
+
+use crate::checksum::crc32;
+use crate::geometry::{Geometry, Layout};
+use byteorder::{ByteOrder, LittleEndian};
+
+/// Writes an image into a slice of the image's size: entries one by one, then the end, the flag and the checksum.
+///
+/// The image is that of an environment where the entries are put in ascending order of the names' bytes
+/// (docs/images.md, "Written images").
+pub struct ImageWriter<'a> {
+    image: &'a mut [u8],
+    geometry: Geometry,
+    stored: usize,
+    ghost sized: { length image.now ≡ geometry.size },
+    ghost ended: { head geometry.layout + stored + 1 ≤ geometry.size },
+}
+
+impl<'a> ImageWriter<'a> {
+    ghost use Rattle.envimg_core.specs.ImageWriter.{shape_of, written};
+
+    /// A writer of the image of this geometry, with no entry yet. The slice has the image's size; what it holds counts
+    /// for nothing.
+    pub fn new(geometry: &Geometry, image: &'a mut [u8]) -> ImageWriter<'a>
+        requires { length image.old ≡ geometry.now.size }
+        ensures shape { shape_of result ≡ geometry.now }
+        ensures empty { written result ≡ [] }
+        ensures same_slice { result.image.ghost_name ≡ image.entry.ghost_name }
+    {
+        let _size = geometry.size();
+        ImageWriter {
+            image,
+            geometry: *geometry,
+            stored: 0,
+        }
+    }
+
+    /// Appends an entry, `name=value` and a 0. Answers false, with the entries as they were, exactly where the entry and
+    /// the final 0 don't fit into the data area.
+    pub fn put(&mut self, name: &[u8], value: &[u8]) -> bool
+        ensures fits { IsTrue result ↔ (length (written self.old) + length (stored_pair (name.now, value.now)) + 1 ≤ room_of (shape_of self.old)) }
+        ensures entries { written self.new ≡ (if result then written self.old ++ stored_pair (name.now, value.now) else written self.old) }
+        ensures shape { shape_of self.new ≡ shape_of self.old }
+        ensures same_slice { self.new.image.ghost_name ≡ self.old.image.ghost_name }
+    {
+        let start = self.geometry.head_len() + self.stored;
+        let free = self.image.len() - start - 1;
+        if free < 2 || name.len() > free - 2 || value.len() > free - 2 - name.len() {
+            return false;
+        }
+        store(self.image, start, name, value);
+        self.stored += name.len() + value.len() + 2;
+        true
+    }
+
+    /// Ends the list, fills the rest with zeros, and writes the flag (a single image has none) and the checksum.
+    pub fn finish(self, flag: u8)
+        ensures { self.exit.0.now ≡ image_with (shape_of self.entry) flag (written self.entry) }
+    {
+        let ImageWriter {
+            image,
+            geometry,
+            stored,
+        } = self;
+        clear_from(image, geometry.head_len() + stored);
+        seal(image, geometry.layout(), flag);
+    }
+}
+
+/// Writes an entry, `name=value` and a 0, from `start` on.
+fn store(image: &mut [u8], start: usize, name: &[u8], value: &[u8])
+    requires { start + (length name.now + length value.now + 2) ≤ length image.old }
+    ensures { image.new ≡ spliced start (stored_pair (name.now, value.now)) image.old }
+{
+    overwrite(image, start, name);
+    overwrite(image, start + name.len(), b"=");
+    overwrite(image, start + name.len() + 1, value);
+    overwrite(image, start + name.len() + 1 + value.len(), b"\0");
+}
+
+/// Writes `bytes` over what stands in `image` from `start` on.
+fn overwrite(image: &mut [u8], start: usize, bytes: &[u8])
+    requires { start + length bytes.now ≤ length image.old }
+    ensures { image.new ≡ spliced start bytes.now image.old }
+{
+    image[start..start + bytes.len()].copy_from_slice(bytes);
+}
+
+/// Writes zeros from `start` to the end.
+fn clear_from(image: &mut [u8], start: usize)
+    requires { start ≤ length image.old }
+    ensures { image.new ≡ take start image.old ++ replicate (length image.old - start) 0 }
+{
+    image[start..].fill(0);
+}
+
+/// Writes the flag, where the layout has one, and the checksum of the data area.
+fn seal(image: &mut [u8], layout: Layout, flag: u8)
+    requires { 8 ≤ length image.old }
+    ensures { image.new ≡ framed layout flag (drop (head layout) image.old) }
+{
+    match layout {
+        Layout::Single => sign(image, 4),
+        Layout::Redundant => {
+            image[4] = flag;
+            sign(image, 5);
+        }
+    }
+}
+
+/// Writes the checksum of what stands from `head` on.
+fn sign(image: &mut [u8], head: usize)
+    requires { (4 ≤ length image.old) × (head ≤ length image.old) }
+    ensures { image.new ≡ little_bytes 4 (checksum (drop head image.old)) ++ drop 4 image.old }
+{
+    let checksum = crc32(&image[head..]);
+    LittleEndian::write_u32(image, checksum);
+}
