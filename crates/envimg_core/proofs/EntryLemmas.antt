@@ -23,7 +23,7 @@ pub missed : (p : ℕ → Bool) (xs : List ℕ) → IsFirstByte p xs None → po
 missed p xs h =
     position_or_len_is p xs (length xs) 0 (omega arith) (λ j l. not_true (p (get_or xs j 0)) (h j (omega arith) l)) (λ l. absurd (omega arith))
 
-split_cons : (xs : List ℕ) → (q : List ℕ) × (qs : List (List ℕ)) × (slice_split is_zero xs ≡ q ∷ qs)
+pub split_cons : (xs : List ℕ) → (q : List ℕ) × (qs : List (List ℕ)) × (slice_split is_zero xs ≡ q ∷ qs)
 split_cons [] = ([], [], refl)
 split_cons (x ∷ xs) =
     let below = split_cons xs in

@@ -4,6 +4,8 @@ use Rattle.std.specs.Prelude.{◌==◌, ◌&&◌, ◌||◌}
 use Rattle.std.specs.Option.{option_and_then}
 use Rattle.std.specs.List.{list_all, list_any, flat_map, slice_split, onto_first, take_while, before_first, after_first, position_or_len}
 use Rattle.std.specs.Ordering.{eq_by_cmp, is_eq}
+use Rattle.std.proofs.lemmas.List.{reverse-append, take_all, drop_all, length-replicate}
+use Rattle.std.proofs.lemmas.List.Sums.{sum_by-append}
 use Rattle.std.specs.FinMap as env
 use Rattle.std.specs.FinMap.Entries.{put, is_sorted, below_all, where_key, by_order}
 use Rattle.std.specs.Cmp.{IsTotalOrder}
@@ -41,7 +43,7 @@ decides_from [] m q = refl
 decides_from (e ∷ es) m q =
     decides_from es (after_entry m e) q
     ∙ ap (decided (last_named q es)) (got_after m e q ∙ one (eq_by_cmp bytes_cmp q e.0) (env.get m q))
-    ∙ sym (ap (λ xs. decided (find (λ x. eq_by_cmp bytes_cmp q x.0) xs) (env.get m q)) (reverse-cons e es) ∙ find_behind (λ x. eq_by_cmp bytes_cmp q x.0) (reverse es) (e ∷ []) (env.get m q))
+    ∙ sym (ap (λ xs. decided (find (λ x. eq_by_cmp bytes_cmp q x.0) xs) (env.get m q)) (reverse-append (e ∷ []) es) ∙ find_behind (λ x. eq_by_cmp bytes_cmp q x.0) (reverse es) (e ∷ []) (env.get m q))
   where
     one : (b : Bool) (d : Option (List ℕ)) → cond b e.1 d ≡ decided (cond b (Some e) None) d
     one true d = refl

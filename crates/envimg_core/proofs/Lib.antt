@@ -1,4 +1,8 @@
 mod ChecksumLemmas
 mod EntryLemmas
+mod Examples
+mod FitLemmas
+mod ImageLemmas
+mod LawLemmas
 mod TableLemmas
 mod WriterLemmas

@@ -76,8 +76,8 @@ finished shape layout flag h s xs ys zs he le e l clear sealed =
     sealed
     ∙ ap (λ m. framed m flag (drop (head m) ys)) le
     ∙ ap (framed shape.layout flag)
-      (ap (drop (head shape.layout)) (clear ∙ ap (λ (k : ℕ). take (k + s) xs ++ replicate (length xs - (k + s)) 0) he)
-      ∙ cleared (head shape.layout) s shape.size xs e l)
+    (ap (drop (head shape.layout)) (clear ∙ ap (λ (k : ℕ). take (k + s) xs ++ replicate (length xs - (k + s)) 0) he)
+    ∙ cleared (head shape.layout) s shape.size xs e l)
 
 length-stored_pair : (n v : List ℕ) → length (stored_pair (n, v)) ≡ length n + length v + 2
 length-stored_pair n v = omega (arith, length-append (n ++ 61 ∷ v) (0 ∷ []), length-append n (61 ∷ v))

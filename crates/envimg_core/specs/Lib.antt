@@ -3,6 +3,7 @@ pub mod Environment
 pub mod Geometry
 pub mod Image
 pub mod ImageWriter
+pub mod Laws
 pub mod Pieces
 pub mod Register
 pub mod State

@@ -7,8 +7,11 @@ mod area;
 mod checksum;
 mod choice;
 mod geometry;
+pub mod laws;
 mod pieces;
 mod state;
+#[cfg(test)]
+mod tests;
 mod writer;
 
 pub use area::entries;
