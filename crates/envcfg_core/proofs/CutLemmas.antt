@@ -1,9 +1,9 @@
 -- Where a text is cut: the answers of memchr in the words of the definitions.
 use Rattle.std.proofs.Common.{◌≡◌, ℕ, ◌+◌, ◌-◌, Bool, true, false, List, [], ◌∷◌, length, take, drop, Option, None, Some, unwrap_or, sym, ap, ◌∙◌, subst, arith}
-use Rattle.std.specs.List.{position_or_len, after_first, list_any, All}
+use Rattle.std.specs.List.{position_or_len, before_first, after_first, list_any, All}
 use Rattle.std.specs.Option.{is_some}
 use Rattle.std.proofs.lemmas.Bool.{false_from_ne_true}
-use Rattle.std.proofs.lemmas.List.{drop_all, take_rest, get_or_default}
+use Rattle.std.proofs.lemmas.List.{drop_all, take_all, take_rest, get_or_default}
 use Rattle.std.proofs.lemmas.List.Sums.{position_or_len_is}
 use Rattle.std.proofs.lemmas.List.Folds.{list_any_at, list_any_none}
 use Rattle.memchr.specs.Find.{IsFirstByte}
@@ -23,7 +23,7 @@ pub position_or_len-answer : (p : ℕ → Bool) (xs : List ℕ) (r : Option ℕ)
 position_or_len-answer p xs None none = sym (position_or_len-none p xs none)
 position_or_len-answer p xs (Some k) found = sym (position_or_len-found p xs k found)
 
-none_pass : (p : ℕ → Bool) (xs : List ℕ) → IsFirstByte p xs None → All (λ x. p x ≡ false) xs
+pub none_pass : (p : ℕ → Bool) (xs : List ℕ) → IsFirstByte p xs None → All (λ x. p x ≡ false) xs
 none_pass p xs none k d h = let e = get_or_default xs k 0 d h in subst (λ (y : ℕ). p y ≡ false) e (false_from_ne_true _ (none k (omega arith) h))
 
 -- whether one is found
@@ -46,3 +46,9 @@ position_or_len-yes p x xs h = rw h
 
 pub position_or_len-no : (p : ℕ → Bool) (x : ℕ) (xs : List ℕ) → p x ≡ false → position_or_len p (x ∷ xs) ≡ 1 + position_or_len p xs
 position_or_len-no p x xs h = rw h
+
+pub before_first-found : (p : ℕ → Bool) (xs : List ℕ) (k : ℕ) → IsFirstByte p xs (Some k) → take k xs ≡ before_first p xs
+before_first-found p xs k found = ap (λ n. take n xs) (sym (position_or_len-found p xs k found))
+
+pub before_first-none : (p : ℕ → Bool) (xs : List ℕ) → IsFirstByte p xs None → xs ≡ before_first p xs
+before_first-none p xs none = sym (take_all (position_or_len p xs) xs (omega (arith, position_or_len-none p xs none)))

@@ -2,3 +2,5 @@ pub mod CutLemmas
 pub mod SpelledLemmas
 pub mod ImportLemmas
 pub mod ExportLemmas
+pub mod EscapeLemmas
+pub mod LineLemmas

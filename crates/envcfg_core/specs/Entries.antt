@@ -28,7 +28,7 @@ with_front front (Ok entries) = Ok (front ++ entries)
 with_front front (Err fault) = Err fault
 
 -- the fault is the definition's, or memory was refused
-abbrev pub IsFaultOf : Outcome → TextFault → Type 0
+abbrev pub IsFaultOf : {A : Type 0} → Result A TextFault → TextFault → Type 0
 IsFaultOf outcome (EmptyName line) = outcome ≡ Err (EmptyName line)
 IsFaultOf outcome Nul = outcome ≡ Err Nul
 IsFaultOf outcome Memory = Unit {0}

@@ -1,11 +1,12 @@
 -- The set script, read line by line.
-use Rattle.std.specs.Prelude.{ℕ, Bool, ◌||◌, ◌==◌, List, [], ◌∷◌, length, slice_index, Ok, Err, if◌then◌else◌}
+use Rattle.std.specs.Prelude.{ℕ, Bool, ◌||◌, ◌==◌, List, [], ◌∷◌, length, slice_index, Option, Some, None, Result, Ok, Err, if◌then◌else◌}
 use Rattle.std.specs.List.{list_any, list_all, before_first, after_first}
 use Rattle.std.specs.Str.Lines.{strip_carriage_return}
+use Rattle.envcfg_core.specs.declared.entry.TextFault.{TextFault}
 use Rattle.envcfg_core.specs.declared.entry.TextFault.TheVariants.{EmptyName, Nul}
 use Rattle.envimg_core.specs.Environment.{is_zero}
 use Rattle.envcfg_core.specs.Bytes.{some_unless_empty, is_blank, without_blanks, hash, equals}
-use Rattle.envcfg_core.specs.Entries.{Outcome, with_first}
+use Rattle.envcfg_core.specs.Entries.{Entry, Outcome, with_first}
 use Rattle.envcfg_core.specs.Lines.{Line, numbered_lines}
 
 -- a key ends at the first blank or `=`
@@ -16,20 +17,25 @@ ends_key b = is_blank b || b == equals
 abbrev pub is_skipped_line : List ℕ → Bool
 is_skipped_line text = list_all is_blank text || slice_index text 0 == hash
 
--- what a line reads, before what the lines after it read: the key, and behind the byte that ends it and further blanks the value
-abbrev pub line_first : ℕ → List ℕ → Outcome → Outcome
-line_first number text later =
-    if is_skipped_line text then later
-    else
+-- what a line holds: the key, and behind the byte that ends it and further blanks the value
+abbrev pub line_outcome : ℕ → List ℕ → Result (Option Entry) TextFault
+line_outcome number text =
     let key = before_first ends_key (without_blanks text) in
     let value = without_blanks (after_first ends_key (without_blanks text)) in
-    if length key == 0 then Err (EmptyName number)
-    else with_first (record { name = key; value = some_unless_empty value; line = number }) later
+    if is_skipped_line text then Ok None
+    else if length key == 0 then Err (EmptyName number)
+    else Ok (Some (record { name = key; value = some_unless_empty value; line = number }))
 
--- what lines read; one carriage return at a line's end is dropped
+-- what a line holds before what the lines behind it hold
+abbrev pub before : Result (Option Entry) TextFault → Outcome → Outcome
+before (Ok None) later = later
+before (Ok (Some e)) later = with_first e later
+before (Err fault) later = Err fault
+
+-- what lines hold; one carriage return at a line's end is dropped
 abbrev pub entries_of_lines : List Line → Outcome
 entries_of_lines [] = Ok []
-entries_of_lines (line ∷ lines) = line_first line.0 (strip_carriage_return line.1) (entries_of_lines lines)
+entries_of_lines (line ∷ lines) = before (line_outcome line.0 (strip_carriage_return line.1)) (entries_of_lines lines)
 
 -- what a whole set script is read as: a 0 byte anywhere is looked for first
 abbrev pub set_script_of : List ℕ → Outcome

@@ -1,17 +1,17 @@
 //! Where a text is cut.
 ghost use Rattle.std.specs.Prelude.{◌≡◌, ◌≤◌, length};
 ghost use Rattle.std.specs.List.{position_or_len, list_any, after_first};
-ghost use Rattle.envimg_core.specs.Environment.{is_zero};
+ghost use Rattle.memchr.specs.Find.{is_byte};
 ghost use Rattle.envcfg_core.specs.Bytes.{is_newline, without_blanks};
 ghost use Rattle.envcfg_core.specs.Import.{ends_name};
 
 use memchr::{memchr, memchr2};
 
-/// Whether the text holds a 0 byte.
-pub(crate) fn has_zero(text: &[u8]) -> bool
-    ensures { result ≡ list_any is_zero text.now }
+/// Whether the byte stands in the text.
+pub(crate) fn contains_byte(byte: u8, text: &[u8]) -> bool
+    ensures { result ≡ list_any (is_byte byte) text.now }
 {
-    memchr(0, text).is_some()
+    memchr(byte, text).is_some()
 }
 
 /// How many bytes stand before the first newline, or in all where there is none.

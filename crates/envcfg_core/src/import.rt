@@ -3,7 +3,7 @@ ghost use Rattle.std.specs.Prelude.{◌≡◌, ◌+◌, ◌^◌, ◌<◌, ◌≤
 ghost use Rattle.envcfg_core.specs.Entries.{entry_view, with_first, IsFaultOf};
 ghost use Rattle.envcfg_core.specs.Import.{import_of, entries_from, begins_skipped};
 
-use crate::cuts::{after_line, has_zero, name_len};
+use crate::cuts::{after_line, contains_byte, name_len};
 use crate::entry::{TextEntry, TextFault, some_unless_empty};
 use crate::spelled::read_behind_name;
 use std::alloc::Global;
@@ -24,7 +24,7 @@ pub fn parse_import(alloc: Global, text: &[u8]) -> Result<Vec<TextEntry>, TextFa
     ensures read { IfOk result (λ entries. import_of text.now ≡ Ok (map entry_view entries.items)) }
     ensures refused { IfErr result (IsFaultOf (import_of text.now)) }
 {
-    if has_zero(text) {
+    if contains_byte(0, text) {
         return Err(TextFault::Nul);
     }
     let mut entries = Vec::new(alloc);

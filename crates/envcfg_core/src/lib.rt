@@ -4,9 +4,14 @@
 
 mod cuts;
 mod entry;
+mod export;
 mod import;
 pub mod laws;
+mod lines;
+mod set_script;
 mod spelled;
 
 pub use entry::{TextEntry, TextFault};
+pub use export::{ExportFault, export_entry};
 pub use import::parse_import;
+pub use set_script::parse_set_script;

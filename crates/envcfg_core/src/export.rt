@@ -1,0 +1,110 @@
+//! Text for export.
+ghost use Rattle.std.specs.Prelude.{◌≡◌, ◌++◌, ◌^◌, ◌<◌, ◌≤◌, ◌+◌, ◌↔◌, IsTrue, OnOk, OnErr, IsErrOf, length, vec_len, vec_capacity};
+ghost use Rattle.std.specs.Option.{SomeIff};
+ghost use Rattle.envimg_core.specs.Environment.{is_name, is_value};
+ghost use Rattle.envcfg_core.specs.Export.{exported, escaped, begins_unreadable, is_unreadable};
+
+use crate::cuts::contains_byte;
+use memchr::{memchr_iter, memchr2};
+use thiserror::Error;
+
+/// Why a variable isn't exported.
+#[derive(Clone, Copy, Debug, PartialEq, Eq, Error)]
+pub enum ExportFault {
+    /// An import would not read the name back: it begins with a space, a tab or `#`, or holds a newline.
+    #[error("Name")]
+    Name,
+    /// A growth was refused.
+    #[error("Memory")]
+    Memory,
+}
+
+/// Appends a variable as text for import: the name, `=`, the value with `\` before each `\` and each newline,
+/// and a newline (docs/texts.md, "Text for import and export").
+///
+/// `Name` where an import would not read the name back; `Memory` where a growth was refused. A refusal leaves
+/// the output as it was. The name and the value have the forms of docs/images.md, "Names and values".
+pub fn export_entry(name: &[u8], value: &[u8], output: &mut Vec<u8>) -> Result<(), ExportFault>
+    requires name { IsTrue (is_name name.now) }
+    requires value { IsTrue (is_value value.now) }
+    ensures appended { OnOk result (output.new.items ≡ output.old.items ++ exported name.now value.now) }
+    ensures named { IsErrOf result ExportFault.Name ↔ IsTrue (is_unreadable name.now) }
+    ensures unchanged { OnErr result (output.new.items ≡ output.old.items) }
+{
+    if is_unreadable(name) {
+        return Err(ExportFault::Name);
+    }
+    let Some(needed) = exported_len(name, value) else {
+        return Err(ExportFault::Memory);
+    };
+    if output.reserve(needed).is_err() {
+        return Err(ExportFault::Memory);
+    }
+    append(output, name);
+    append(output, b"=");
+    append_escaped(output, value);
+    append(output, b"\n");
+    Ok(())
+}
+
+/// Whether an import would not read the name back.
+fn is_unreadable(name: &[u8]) -> bool
+    ensures { result ≡ is_unreadable name.now }
+{
+    begins_unreadable(name) || contains_byte(b'\n', name)
+}
+
+/// Whether the name begins with a blank or like a comment.
+fn begins_unreadable(name: &[u8]) -> bool
+    ensures { result ≡ begins_unreadable name.now }
+{
+    match name.split_first() {
+        Some((first, _)) => *first == b' ' || *first == b'\t' || *first == b'#',
+        None => false,
+    }
+}
+
+/// How many bytes the variable's text has, where that many can be counted.
+fn exported_len(name: &[u8], value: &[u8]) -> Option<usize>
+    ensures { SomeIff result (length (exported name.now value.now) < 2 ^ 64) (length (exported name.now value.now)) }
+{
+    name.len().checked_add(escaped_len(value))?.checked_add(2)
+}
+
+/// How many bytes the escaped value has.
+fn escaped_len(value: &[u8]) -> usize
+    ensures { result ≡ length (escaped value.now) }
+{
+    let backslashes = memchr_iter(b'\\', value).count();
+    let newlines = memchr_iter(b'\n', value).count();
+    value.len() + backslashes + newlines
+}
+
+/// Appends bytes for which there is room.
+fn append(output: &mut Vec<u8>, bytes: &[u8])
+    requires { vec_len output.old + length bytes.now ≤ vec_capacity output.old }
+    ensures items { output.new.items ≡ output.old.items ++ bytes.now }
+    ensures len { vec_len output.new ≡ vec_len output.old + length bytes.now }
+    ensures room { vec_capacity output.old ≤ vec_capacity output.new }
+{
+    output.extend_from_slice(bytes).unwrap();
+}
+
+/// Appends a value with `\` before each `\` and each newline, where there is room for that.
+fn append_escaped(output: &mut Vec<u8>, value: &[u8])
+    requires { vec_len output.old + length (escaped value.now) ≤ vec_capacity output.old }
+    ensures items { output.new.items ≡ output.old.items ++ escaped value.now }
+    ensures len { vec_len output.new ≡ vec_len output.old + length (escaped value.now) }
+    ensures room { vec_capacity output.old ≤ vec_capacity output.new }
+{
+    let mut rest = value;
+    while let Some(at) = memchr2(b'\\', b'\n', rest) {
+        let (plain, marked) = rest.split_at(at);
+        append(output, plain);
+        let (escaped, others) = marked.split_at(1);
+        append(output, b"\\");
+        append(output, escaped);
+        rest = others;
+    }
+    append(output, rest);
+}
