@@ -1,0 +1,5 @@
+pub mod Fronts
+pub mod Finds
+pub mod Sound
+pub mod TreeLemmas
+pub mod Told

@@ -1,0 +1,5 @@
+use Rattle.hush_syntax.proofs.Told.{trees-told}
+use Rattle.hush_syntax.proofs.laws.trees_are_read.Goals as goal
+
+pub returns : goal.returns
+returns c = trees-told

@@ -1,0 +1,5 @@
+pub mod Grammar
+pub mod Keywords
+pub mod Reading
+pub mod Trees
+pub mod Laws

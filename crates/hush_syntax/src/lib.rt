@@ -1,0 +1,11 @@
+//! Scripts of U-Boot's hush: reads a script's bytes into a tree, and answers a tree exactly where the grammar spells one.
+//! The rules are those of docs/scripts.md.
+#![tactic(auto)]
+
+mod keywords;
+pub mod laws;
+mod tree;
+
+pub use hush_words::{Part, Span, Word};
+pub use keywords::Keyword;
+pub use tree::{Branch, Link, Operator, Tree};
