@@ -1,0 +1,4 @@
+mod CheckLemmas
+mod FlagLemmas
+mod KeptLemmas
+mod SizeLemmas

@@ -1,0 +1,10 @@
+use Rattle.std.proofs.Common.{◌==◌, rules}
+use Rattle.std.specs.Char.{is_ascii_digit}
+use Rattle.std.proofs.lemmas.Iterator.Splits.{YieldsList-from_slice_split}
+use Rattle.std.proofs.lemmas.Iterator.Search.{all_from_yields_List}
+use Rattle.envvars_core.specs.Types.{is_group}
+use Rattle.envvars_core.proofs.types.are_decimal_groups.Goals as goal
+
+pub returns : goal.returns
+returns c =
+    all_from_yields_List (is_group is_ascii_digit 3) _ _ _ c.all.ensures.ran (YieldsList-from_slice_split _ (λ b. b == 46) c.args.value.now c.split.ensures.rest c.split.ensures.done c.split.ensures.closure (λ x b q k. search rules)) (λ x b q k. search rules)

@@ -1,0 +1,4 @@
+pub mod Attributes
+pub mod Refusals
+pub mod Types
+pub mod Variables

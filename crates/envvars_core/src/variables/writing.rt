@@ -1,0 +1,252 @@
+//! Writes: each is checked first, and then the one change is made or nothing is.
+
+ghost use Rattle.std.specs.Prelude.{◌≡◌, ◌≢◌, ◌≤◌, IfSome, IfNone, IfOk, IfErr, OnOk, OnErr, IsOkUnless, IsTrue, [], option_map, option_copied, unwrap_or};
+ghost use Rattle.std.specs.Option.{ForSome};
+ghost use Rattle.std.specs.FinMap as env;
+ghost use Rattle.envimg_core.specs.Environment.{used, is_name, is_value};
+ghost use Rattle.envimg_core.specs.Pieces.{with_value};
+ghost use Rattle.envvars_core.specs.Attributes.{flags_name};
+ghost use Rattle.envvars_core.specs.Refusals.{given, after, refusal, full, answer_of};
+ghost use Rattle.envvars_core.specs.Variables.{IsWas};
+
+use super::Vars;
+use crate::checks::{forbidden, given, has_form, has_type, is_nothing};
+use crate::flags::{FLAGS_NAME, Flags};
+use crate::refusals::{Memory, Refusal};
+use envvars_store::Variables;
+use std::alloc::{AllocError, Global};
+
+/// A name and the value that it had before a write.
+#[derive(Debug, Drop)]
+pub struct Was {
+    /// The name that was written.
+    pub name: Vec<u8>,
+    /// Its value before the write, if it had one.
+    pub before: Option<Vec<u8>>,
+}
+
+fn copied(alloc: Global, value: Option<&[u8]>) -> Result<Option<Vec<u8>>, AllocError>
+    ensures { IfOk result (λ copy. option_map (λ v. v.items) copy ≡ option_copied value.entry) }
+{
+    match value {
+        Some(value) => Ok(Some(value.to_vec(alloc)?)),
+        None => Ok(None),
+    }
+}
+
+/// The bytes of a value, none where there is no value.
+fn text_of(value: Option<&[u8]>) -> &[u8]
+    ensures { result.now ≡ unwrap_or (option_copied value.entry) [] }
+{
+    match value {
+        Some(value) => value,
+        None => &[],
+    }
+}
+
+fn value_before(was: &Was) -> Option<&[u8]>
+    ensures { option_copied result ≡ option_map (λ v. v.items) was.now.before }
+{
+    match &was.before {
+        Some(value) => Some(value),
+        None => None,
+    }
+}
+
+fn make_was(alloc: Global, name: &[u8], before: Option<&[u8]>) -> Result<Was, Memory>
+    ensures { IfOk result (λ was. IsWas was name.now (option_copied before.entry)) }
+{
+    let name = name.to_vec(alloc)?;
+    let before = copied(alloc, before)?;
+    Ok(Was { name, before })
+}
+
+/// The change itself: gives a name a value, or takes its variable away.
+fn change(variables: &mut Variables, name: &[u8], value: Option<&[u8]>) -> Result<(), AllocError>
+    requires name_form { IsTrue (is_name name.now) }
+    requires value_form { IfSome (option_copied value) (λ v. IsTrue (is_value v)) }
+    ensures ok { OnOk result (variables.new ≡ with_value variables.old name.now (option_copied value.entry)) }
+    ensures err { OnErr result (variables.new ≡ variables.old) }
+{
+    match value {
+        Some(value) => variables.insert(name, value),
+        None => {
+            variables.remove(name);
+            Ok(())
+        }
+    }
+}
+
+impl Vars {
+    /// What the size that a write would leave refuses.
+    fn size_refusal(&self, name: &[u8], value: Option<&[u8]>) -> Option<Refusal>
+        ensures { result ≡ full self.now.room (with_value self.now.env name.now (option_copied value.entry)) }
+    {
+        match self.used_after(name, value) {
+            Some(_) => None,
+            None => Some(Refusal::Full),
+        }
+    }
+
+    /// The first of the checks that refuses a write.
+    fn find_refusal(
+        &self,
+        name: &[u8],
+        new: Option<&[u8]>,
+        force: bool,
+        defaults: &Vars,
+    ) -> Option<Refusal>
+        ensures { result
+            ≡ refusal self.now.env defaults.now.env self.now.room name.now (option_copied new.entry) force }
+    {
+        if !has_form(name, new) {
+            return Some(Refusal::BadForm);
+        }
+        let value = given(new);
+        let old = self.get(name);
+        if is_nothing(old, value) {
+            return None;
+        }
+        let attr = self.attributes(name);
+        if !has_type(attr.kind, value) {
+            return Some(Refusal::BadType);
+        }
+        let default = defaults.get(name);
+        match forbidden(force, attr.access, old, default, value) {
+            Some(refusal) => Some(refusal),
+            None => self.size_refusal(name, value),
+        }
+    }
+
+    /// Whether a write is refused, and for what: the first of form, type, access and size that applies.
+    /// It takes no memory, and never answers that memory ran out.
+    ///
+    /// `defaults` is the default environment, and `force` leaves out the check of access and no other.
+    pub fn check(
+        &self,
+        name: &[u8],
+        new: Option<&[u8]>,
+        force: bool,
+        defaults: &Vars,
+    ) -> Result<(), Refusal>
+        ensures refusal { result
+            ≡ answer_of (refusal self.now.env defaults.now.env self.now.room name.now (option_copied new.entry) force) }
+        ensures never_memory { result ≢ Err Refusal.Memory }
+    {
+        match self.find_refusal(name, new, force, defaults) {
+            Some(refusal) => Err(refusal),
+            None => Ok(()),
+        }
+    }
+
+    /// Gives a name a value or takes its variable away, where the name is not `.flags`.
+    fn set_other(&mut self, name: &[u8], value: Option<&[u8]>, size: u32) -> Result<(), Memory>
+        requires name_form { IsTrue (is_name name.now) }
+        requires value_form { IfSome (option_copied value) (λ v. IsTrue (is_value v)) }
+        requires other { name.now ≢ flags_name }
+        requires sized { size ≡ used (with_value self.old.env name.now (option_copied value)) }
+        requires fits { size ≤ self.old.room }
+        ensures ok { OnOk result (self.new
+            ≡ record self.old { env = with_value self.old.env name.now (option_copied value.entry) }) }
+        ensures err { OnErr result (self.new ≡ self.old) }
+    {
+        change(&mut self.variables, name, value)?;
+        self.used = size;
+        Ok(())
+    }
+
+    /// Gives `.flags` a value or takes it away.
+    fn set_flags(&mut self, value: Option<&[u8]>, size: u32) -> Result<(), Memory>
+        requires value_form { IfSome (option_copied value) (λ v. IsTrue (is_value v)) }
+        requires sized { size ≡ used (with_value self.old.env flags_name (option_copied value)) }
+        requires fits { size ≤ self.old.room }
+        ensures ok { OnOk result (self.new
+            ≡ record self.old { env = with_value self.old.env flags_name (option_copied value.entry) }) }
+        ensures err { OnErr result (self.new ≡ self.old) }
+    {
+        let flags = Flags::parse(self.alloc, text_of(value))?;
+        change(&mut self.variables, FLAGS_NAME, value)?;
+        self.flags = flags;
+        self.used = size;
+        Ok(())
+    }
+
+    /// Gives a name a value or takes its variable away. Nothing has changed where it is refused.
+    fn set(&mut self, name: &[u8], value: Option<&[u8]>) -> Result<(), Memory>
+        requires name_form { IsTrue (is_name name.now) }
+        requires value_form { IfSome (option_copied value) (λ v. IsTrue (is_value v)) }
+        requires fits { used (with_value self.old.env name.now (option_copied value)) ≤ self.old.room }
+        ensures ok { OnOk result (self.new
+            ≡ record self.old { env = with_value self.old.env name.now (option_copied value.entry) }) }
+        ensures err { OnErr result (self.new ≡ self.old) }
+    {
+        let size = self.used_after(name, value).unwrap();
+        if name == FLAGS_NAME {
+            self.set_flags(value, size)
+        } else {
+            self.set_other(name, value, size)
+        }
+    }
+
+    /// Gives a name a value or takes its variable away, and hands out what it was.
+    fn replace(&mut self, name: &[u8], value: Option<&[u8]>) -> Result<Was, Memory>
+        requires name_form { IsTrue (is_name name.now) }
+        requires value_form { IfSome (option_copied value) (λ v. IsTrue (is_value v)) }
+        requires fits { used (with_value self.old.env name.now (option_copied value)) ≤ self.old.room }
+        ensures ok { OnOk result (self.new
+            ≡ record self.old { env = with_value self.old.env name.now (option_copied value.entry) }) }
+        ensures was { IfOk result (λ was. IsWas was name.now (env.get self.old.env name.now)) }
+        ensures err { OnErr result (self.new ≡ self.old) }
+    {
+        let was = make_was(self.alloc, name, self.variables.get(name))?;
+        self.set(name, value)?;
+        Ok(was)
+    }
+
+    /// Writes a new value, or deletes the variable where there is none or an empty one.
+    /// Hands out the value before the write.
+    ///
+    /// A write that is refused has changed nothing. It is refused for memory only where no check refuses it.
+    /// `defaults` is the default environment, and `force` leaves out the check of access and no other.
+    pub fn write(
+        &mut self,
+        name: &[u8],
+        new: Option<&[u8]>,
+        force: bool,
+        defaults: &Vars,
+    ) -> Result<Was, Refusal>
+        ensures refused { IfSome
+            (refusal self.old.env defaults.now.env self.old.room name.now (option_copied new.entry) force)
+            (λ r. result ≡ Err r) }
+        ensures accepted { IfNone
+            (refusal self.old.env defaults.now.env self.old.room name.now (option_copied new.entry) force)
+            (IsOkUnless result Refusal.Memory) }
+        ensures written { OnOk result
+            (self.new ≡ record self.old { env = after self.old.env name.now (option_copied new.entry) }) }
+        ensures was { IfOk result (λ was. IsWas was name.now (env.get self.old.env name.now)) }
+        ensures unchanged { OnErr result (self.new ≡ self.old) }
+    {
+        self.check(name, new, force, defaults)?;
+        prove!(self.used <= self.room);
+        Ok(self.replace(name, given(new))?)
+    }
+
+    /// Gives the name of a `Was` its value before the write, or none where it had none.
+    /// Types and access are not checked; the room holds what that leaves. Where memory runs out,
+    /// nothing has changed and the `Was` comes back.
+    pub fn put_back(&mut self, was: Was) -> Result<(), (Was, Memory)>
+        requires name_form { IsTrue (is_name was.name.items) }
+        requires value_form { IfSome (option_map (λ v. v.items) was.before) (λ v. IsTrue (is_value v)) }
+        requires fits { used (with_value self.old.env was.name.items (option_map (λ v. v.items) was.before))
+            ≤ self.old.room }
+        ensures put_back { OnOk result (self.new
+            ≡ record self.old { env = with_value self.old.env was.name.items (option_map (λ v. v.items) was.before) }) }
+        ensures handed_back { IfErr result (λ e. e.0 ≡ was) }
+        ensures unchanged { OnErr result (self.new ≡ self.old) }
+    {
+        match self.set(&was.name, value_before(&was)) {
+            Ok(()) => Ok(()),
+            Err(memory) => Err((was, memory)),
+        }
+    }
+}
