@@ -4,3 +4,5 @@ pub mod ImportLemmas
 pub mod ExportLemmas
 pub mod EscapeLemmas
 pub mod LineLemmas
+pub mod FieldLemmas
+pub mod ConfigLemmas

@@ -1,7 +1,11 @@
 pub mod Bytes
+pub mod Candidate
+pub mod Config
 pub mod Entries
 pub mod Export
 pub mod Import
 pub mod Lines
+pub mod Numerals
+pub mod Place
 pub mod SetScript
 pub mod Views

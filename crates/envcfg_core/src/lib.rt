@@ -2,16 +2,24 @@
 //! import and export, and set scripts. docs/texts.md states each form.
 #![tactic(auto)]
 
+mod accept;
+mod config;
 mod cuts;
 mod entry;
 mod export;
 mod import;
 pub mod laws;
 mod lines;
+mod numerals;
+mod place;
 mod set_script;
 mod spelled;
+#[cfg(test)]
+mod tests;
 
+pub use config::{Config, ConfigFault, parse_config};
 pub use entry::{TextEntry, TextFault};
 pub use export::{ExportFault, export_entry};
 pub use import::parse_import;
+pub use place::Place;
 pub use set_script::parse_set_script;
