@@ -4,7 +4,7 @@ use Rattle.std.specs.List.{list_all}
 use Rattle.std.specs.Option.{option_map}
 use Rattle.std.proofs.Common.{refl, sym, ◌∙◌, ap, subst, arith, append_assoc}
 use Rattle.std.proofs.lemmas.Bool.{not-true, not_from_false, and_parts, and_from, or_parts, or_from, ne_eqb, both_ways}
-use Rattle.hush_words.specs.Words.{Dollar, dollar_text, FitsDollar, inner_text, FitsInner, next, is_name, is_braced_name, is_blank, ends_word, begins_name, is_in_name, is_in_braces, follows_dollar, is_bare, is_inner, is_escaped}
+use Rattle.hush_words.specs.Words.{Dollar, dollar_text, FitsDollar, inner_text, FitsInner, next, is_name, is_braced_name, is_blank, ends_word, begins_name, is_in_name, is_in_braces, follows_dollar, is_bare, is_special, is_inner, is_escaped}
 use Rattle.hush_words.specs.Words.Dollar.{Name, Braces, LastStatus, Alone}
 use Rattle.hush_words.specs.Words.Inner.{Byte, Backslash, EscapedInner, JoinedInner, DollarInner}
 use Rattle.hush_words.specs.Reading.{Found, found, front, behind, closed, braces, dollar_at, as_inner, inner_escape, inner_at}
@@ -40,24 +40,24 @@ pub quote-inner : is_inner 34 ≡ false
 unfolding is_inner
 quote-inner = refl
 
-newline-escaped : is_escaped 10 ≡ false
+pub newline-escaped : is_escaped 10 ≡ false
 unfolding is_escaped
 newline-escaped = refl
 
 pub dollar-bare : is_bare 36 ≡ false
-unfolding is_bare ends_word is_blank
+unfolding is_bare is_special ends_word is_blank
 dollar-bare = refl
 
 pub backslash-bare : is_bare 92 ≡ false
-unfolding is_bare ends_word is_blank
+unfolding is_bare is_special ends_word is_blank
 backslash-bare = refl
 
 pub single-bare : is_bare 39 ≡ false
-unfolding is_bare ends_word is_blank
+unfolding is_bare is_special ends_word is_blank
 single-bare = refl
 
 pub double-bare : is_bare 34 ≡ false
-unfolding is_bare ends_word is_blank
+unfolding is_bare is_special ends_word is_blank
 double-bare = refl
 
 pub not_after_dollar : (b : ℕ) → follows_dollar b ≡ false → (begins_name b ≡ false) × ((b == 123) ≡ false) × ((b == 63) ≡ false)
@@ -139,7 +139,7 @@ dollar-finds (b ∷ bs) =
     (λ f. (refl, not_from_false (follows_dollar b) f)))))
 
 -- between double quotes
-escape-alone : (r : List ℕ) → next (λ b. not (is_escaped b || b == 10)) r ≡ true → inner_escape r ≡ found Backslash r
+pub escape-alone : (r : List ℕ) → next (λ b. not (is_escaped b || b == 10)) r ≡ true → inner_escape r ≡ found Backslash r
 unfolding inner_escape
 escape-alone [] e = refl
 escape-alone (b ∷ bs) e =
@@ -148,11 +148,11 @@ escape-alone (b ∷ bs) e =
     let p1 : (b == 10) ≡ false = p.1 in
     rw (p0, p1) refl
 
-escape-byte : (b : ℕ) (r : List ℕ) → is_escaped b ≡ true → inner_escape (b ∷ r) ≡ found (EscapedInner b) r
+pub escape-byte : (b : ℕ) (r : List ℕ) → is_escaped b ≡ true → inner_escape (b ∷ r) ≡ found (EscapedInner b) r
 unfolding inner_escape
 escape-byte b r e = rw e refl
 
-escape-line : (r : List ℕ) → inner_escape (10 ∷ r) ≡ found JoinedInner r
+pub escape-line : (r : List ℕ) → inner_escape (10 ∷ r) ≡ found JoinedInner r
 unfolding inner_escape
 escape-line r = rw newline-escaped refl
 

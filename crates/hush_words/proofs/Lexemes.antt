@@ -3,7 +3,7 @@ use Rattle.std.specs.Prelude.{◌≡◌, ℕ, ◌≤◌, ◌==◌, true, false, 
 use Rattle.std.specs.List.{flat_map}
 use Rattle.std.proofs.Common.{refl, ◌∙◌, ap, arith, length-append}
 use Rattle.std.proofs.lemmas.Bool.{not-true, not-false, not_from_false, not_from_true, or_left, both_ways}
-use Rattle.hush_words.specs.Words.{Piece, piece_text, FitsPiece, FitAll, next, is_blank, ends_word, is_bare}
+use Rattle.hush_words.specs.Words.{Piece, piece_text, FitsPiece, FitAll, next, is_blank, ends_word, is_bare, is_special}
 use Rattle.hush_words.specs.Words.Piece.{Bare, Joined}
 use Rattle.hush_words.specs.Tokens.{lexeme_text, FitsLexeme, opens_word}
 use Rattle.hush_words.specs.Tokens.Lexeme.{WordOf, EndOfLine, Separator, And, Or, Blank, JoinedLine, Comment}
@@ -111,7 +111,7 @@ unfolding ends_word is_blank
 ends-124 = refl
 
 bare-35 : is_bare 35 ≡ true
-unfolding is_bare ends_word is_blank
+unfolding is_bare is_special ends_word is_blank
 bare-35 = refl
 
 pub lexeme-newline : (r : List ℕ) → lexeme_at (10 ∷ r) ≡ found EndOfLine r

@@ -5,3 +5,9 @@ pub mod Pieces
 pub mod Lexemes
 pub mod Whole
 pub mod Told
+pub mod Runs
+pub mod DollarLemmas
+pub mod Inners
+pub mod QuoteLemmas
+pub mod WordLemmas
+pub mod TextLemmas

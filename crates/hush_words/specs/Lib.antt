@@ -4,3 +4,4 @@ pub mod Reading
 pub mod Parts
 pub mod Laws
 pub mod Forms
+pub mod Steps

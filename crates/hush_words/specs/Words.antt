@@ -38,9 +38,13 @@ is_in_braces b = not (is_blank b || is_one_of (10 ∷ codes "}{$:='\"\\") b)
 unfoldable pub follows_dollar : ℕ → Bool
 follows_dollar b = begins_name b || is_one_of (codes "{?#@*$!-(") b || is_ascii_digit b
 
--- what stands for itself in a word: all but what ends it and `$ ' " \`
+-- what begins a substitution, quotes or an escape: `$ ' " \`
+unfoldable pub is_special : ℕ → Bool
+is_special b = is_one_of (codes "$'\"\\") b
+
+-- what stands for itself in a word: all but these and what ends it
 unfoldable pub is_bare : ℕ → Bool
-is_bare b = not (ends_word b || is_one_of (codes "$'\"\\") b)
+is_bare b = not (ends_word b || is_special b)
 
 -- what stands for itself between double quotes: all but `" $ \`
 unfoldable pub is_inner : ℕ → Bool

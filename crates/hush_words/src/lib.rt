@@ -2,11 +2,18 @@
 //! The rules are those of docs/scripts.md, "Words".
 #![tactic(auto)]
 
+mod classes;
+mod dollars;
 mod faults;
 pub mod laws;
 mod parts;
+mod quotes;
+mod reading;
+mod steps;
 mod tokens;
+mod words;
 
 pub use faults::{Fault, FaultKind};
 pub use parts::{Part, Span, Word};
+pub use reading::read;
 pub use tokens::{Lexed, Token, TokenKind};

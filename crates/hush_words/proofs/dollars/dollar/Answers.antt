@@ -1,0 +1,10 @@
+use Rattle.std.proofs.Common.{sym, ◌∙◌, ap}
+use Rattle.hush_words.specs.Reading.{found, dollar_at}
+use Rattle.hush_words.specs.Words.Dollar.{Alone}
+use Rattle.hush_words.proofs.DollarLemmas.{read-alone, behind-end}
+use Rattle.hush_words.proofs.dollars.dollar.Goals as goal
+
+pub returns-in-None : goal.returns-in-None
+returns-in-None c =
+    read-alone c.args.source.now c.args.place c.args.quoted c.byte_part.result c.requires c.byte_part.ensures
+    (ap dollar_at c.in-None.ensures ∙ behind-end ∙ ap (λ l. found Alone l) (sym c.in-None.ensures))

@@ -1,0 +1,148 @@
+-- What the readers of this crate promise each other: a reader stands at a place of the source, and says what was
+-- read there and where it went on from.
+use Rattle.std.specs.Prelude.{◌≡◌, ℕ, ◌+◌, ◌-◌, ◌<◌, ◌≤◌, ◌==◌, Bool, true, false, List, [], ◌∷◌, ◌++◌, Option, Some, None, Result, Ok, Err, length, take, drop}
+use Rattle.std.specs.List.{flat_map}
+use Rattle.std.specs.Option.{option_map}
+use Rattle.hush_words.specs.Words.{Atom, Piece, Dollar, byte_atom, dollar_atom, inner_atoms, piece_atoms, ends_word, is_in_name, is_in_braces, is_bare, is_inner, next}
+use Rattle.hush_words.specs.Tokens.{Lexeme, lexeme_tokens}
+use Rattle.hush_words.specs.Tokens as tokens
+use Rattle.hush_words.specs.Reading.{Found, front, behind, all, braces, dollar_at, inner_at, piece_at, lexeme_at}
+use Rattle.hush_words.specs.Parts.{part_atoms, kind_token}
+use Rattle.hush_words.specs.declared.classes.Class.{Class}
+use Rattle.hush_words.specs.declared.classes.Class.TheVariants as class
+use Rattle.hush_words.specs.declared.parts.Part.{Part}
+use Rattle.hush_words.specs.declared.tokens.TokenKind.{TokenKind}
+use Rattle.hush_words.specs.declared.steps.Stop.{Stop}
+use Rattle.hush_words.specs.declared.steps.Stop.TheVariants as stop
+use Rattle.hush_words.specs.declared.steps.PartRead.{PartRead}
+use Rattle.hush_words.specs.declared.steps.InnerRead.{InnerRead}
+use Rattle.hush_words.specs.declared.steps.LexemeRead.{LexemeRead}
+
+abbrev pub passes : Class → ℕ → Bool
+passes class.Bare b = is_bare b
+passes class.Inner b = is_inner b
+passes class.Name b = is_in_name b
+passes class.Braces b = is_in_braces b
+
+-- the byte at the front, if it is this one
+abbrev pub begins : ℕ → List ℕ → Bool
+begins byte [] = false
+begins byte (b ∷ bs) = b == byte
+
+-- a byte of the source, and what stands behind it
+abbrev pub StandsAt : List ℕ → ℕ → ℕ → Type 0
+StandsAt source at b = (at < length source) × (drop at source ≡ b ∷ drop (at + 1) source)
+
+abbrev pub ByteAt : List ℕ → ℕ → Option ℕ → Type 0
+ByteAt source at None = drop at source ≡ []
+ByteAt source at (Some b) = StandsAt source at b
+
+-- the longest run of bytes that pass, from `start` to `end`
+abbrev pub IsRun : (ℕ → Bool) → List ℕ → ℕ → ℕ → Type 0
+IsRun test source start end =
+    (start ≤ end) × (end ≤ length source) ×
+    (take (end - start) (drop start source) ≡ front test (drop start source)) ×
+    (drop end source ≡ behind test (drop start source))
+
+abbrev pub dollar_read : (quoted : Bool) → Dollar × List ℕ → List Atom × List ℕ
+dollar_read quoted f = (dollar_atom quoted f.0 ∷ [], f.1)
+
+-- a part that stands for what was found, up to where that ends
+abbrev pub ReadsPart : List ℕ → ℕ → (quoted : Bool) → Found Dollar → Option PartRead → Type 0
+ReadsPart source at quoted f None = f ≡ None
+ReadsPart source at quoted f (Some r) =
+    (at ≤ r.end) × (r.end ≤ length source) ×
+    (option_map (dollar_read quoted) f ≡ Some (part_atoms source r.part, drop r.end source))
+
+-- what a `$` begins, read from the byte behind it
+abbrev pub ReadsDollar : List ℕ → ℕ → (quoted : Bool) → Option PartRead → Type 0
+ReadsDollar source at quoted r = ReadsPart source at quoted (dollar_at (drop at source)) r
+
+abbrev pub ReadsBraces : List ℕ → ℕ → (quoted : Bool) → Option PartRead → Type 0
+ReadsBraces source at quoted r =
+    ReadsPart source at quoted (braces (front is_in_braces (drop at source)) (behind is_in_braces (drop at source))) r
+
+-- one byte is read as itself
+abbrev pub ReadsByte : ℕ → (quoted : Bool) → PartRead → Type 0
+ReadsByte place quoted r =
+    (r.end ≡ place + 1) ×
+    ((source : List ℕ) (b : ℕ) → StandsAt source place b → part_atoms source r.part ≡ byte_atom quoted b ∷ [])
+
+-- what is left to read between double quotes, and where that ends
+unfoldable pub inner_left : List ℕ → List Atom
+inner_left text = flat_map inner_atoms (all inner_at text).0
+
+unfoldable pub inner_end : List ℕ → List ℕ
+inner_end text = (all inner_at text).1
+
+abbrev pub optional_atoms : List ℕ → Option Part → List Atom
+optional_atoms source None = []
+optional_atoms source (Some part) = part_atoms source part
+
+abbrev pub ReadsInner : List ℕ → ℕ → Option InnerRead → Type 0
+ReadsInner source at None = inner_at (drop at source) ≡ None
+ReadsInner source at (Some r) =
+    (at < r.end) × (r.end ≤ length source) ×
+    (inner_left (drop at source) ≡ optional_atoms source r.part ++ inner_left (drop r.end source)) ×
+    (inner_end (drop at source) ≡ inner_end (drop r.end source))
+
+-- what is left to read of a word, and where that ends
+unfoldable pub piece_left : List ℕ → List Atom
+piece_left text = flat_map piece_atoms (all piece_at text).0
+
+unfoldable pub piece_end : List ℕ → List ℕ
+piece_end text = (all piece_at text).1
+
+abbrev pub piece_read : List Atom → Piece × List ℕ → List Atom × List ℕ
+piece_read old f = (old ++ piece_atoms f.0, f.1)
+
+-- one piece, whose atoms are put behind those that were there
+abbrev pub ReadsPiece : List ℕ → ℕ → List Atom → List Atom → Result ℕ Stop → Type 0
+ReadsPiece source at old new (Ok end) =
+    (at < end) × (end ≤ length source) ×
+    (option_map (piece_read old) (piece_at (drop at source)) ≡ Some (new, drop end source))
+ReadsPiece source at old new (Err (stop.Fault f)) = piece_at (drop at source) ≡ None
+ReadsPiece source at old new (Err (stop.Memory e)) = Unit {0}
+
+-- the parts were put behind those that were there
+abbrev pub Pushed : List Part → List Part → List Part → Result (Unit {0}) Stop → Type 0
+Pushed old new more (Ok u) = new ≡ old ++ more
+Pushed old new more (Err (stop.Fault f)) = ⊥
+Pushed old new more (Err (stop.Memory e)) = Unit {0}
+
+abbrev pub optional_part : Option Part → List Part
+optional_part None = []
+optional_part (Some part) = part ∷ []
+
+-- the pieces at a place; none where the word ends, a fault where something else stands
+abbrev pub ReadsPieces : List ℕ → ℕ → List Atom → List Atom → Result (Option ℕ) Stop → Type 0
+ReadsPieces source at old new (Ok (Some end)) =
+    (at < end) × (end ≤ length source) ×
+    (new ++ piece_left (drop end source) ≡ old ++ piece_left (drop at source)) ×
+    (piece_end (drop end source) ≡ piece_end (drop at source))
+ReadsPieces source at old new (Ok None) =
+    (new ≡ old) × (piece_at (drop at source) ≡ None) × (next ends_word (drop at source) ≡ true)
+ReadsPieces source at old new (Err (stop.Fault f)) =
+    (piece_at (drop at source) ≡ None) × (next ends_word (drop at source) ≡ false)
+ReadsPieces source at old new (Err (stop.Memory e)) = Unit {0}
+
+abbrev pub optional_token : List ℕ → Option TokenKind → List tokens.Token
+optional_token source None = []
+optional_token source (Some kind) = kind_token source kind ∷ []
+
+abbrev pub lexeme_read : Lexeme × List ℕ → List tokens.Token × List ℕ
+lexeme_read f = (lexeme_tokens f.0, f.1)
+
+abbrev pub ReadsLexeme : List ℕ → ℕ → Result LexemeRead Stop → Type 0
+ReadsLexeme source at (Ok r) =
+    (at < r.end) × (r.end ≤ length source) ×
+    (option_map lexeme_read (lexeme_at (drop at source)) ≡ Some (optional_token source r.kind, drop r.end source))
+ReadsLexeme source at (Err (stop.Fault f)) = lexeme_at (drop at source) ≡ None
+ReadsLexeme source at (Err (stop.Memory e)) = Unit {0}
+
+-- what is left to read of a text, and where that ends
+unfoldable pub lexeme_left : List ℕ → List tokens.Token
+lexeme_left text = flat_map lexeme_tokens (all lexeme_at text).0
+
+unfoldable pub lexeme_end : List ℕ → List ℕ
+lexeme_end text = (all lexeme_at text).1

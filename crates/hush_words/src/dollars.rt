@@ -1,0 +1,79 @@
+//! What a `$` begins (docs/scripts.md, "Words").
+
+ghost use Rattle.std.specs.Prelude.{◌≡◌, ◌+◌, ◌<◌, ◌≤◌, length};
+ghost use Rattle.hush_words.specs.Steps.{StandsAt, ReadsByte, ReadsBraces, ReadsDollar};
+
+use crate::classes::{Class, begins_name, byte_at, follows_dollar, run_end, stands_at};
+use crate::steps::PartRead;
+use crate::{Part, Span};
+
+/// Reads what the `$` at the place begins; none where it can't stand there.
+pub(crate) fn dollar(source: &[u8], place: usize, quoted: bool) -> Option<PartRead>
+    requires { StandsAt source.now place 36 }
+    ensures { ReadsDollar source.now (place + 1) quoted result }
+{
+    match byte_at(source, place + 1) {
+        Some(next) => dollar_before(source, place, next, quoted),
+        None => Some(byte_part(place, quoted)),
+    }
+}
+
+/// Reads what the `$` at the place begins before this byte.
+fn dollar_before(source: &[u8], place: usize, next: u8, quoted: bool) -> Option<PartRead>
+    requires dollar { StandsAt source.now place 36 }
+    requires next { StandsAt source.now (place + 1) next }
+    ensures { ReadsDollar source.now (place + 1) quoted result }
+{
+    let start = place + 1;
+    if begins_name(next) {
+        let end = run_end(Class::Name, source, start);
+        Some(PartRead {
+            part: Part::Value(Span { start, end }, quoted),
+            end,
+        })
+    } else if next == b'{' {
+        braces(source, start + 1, quoted)
+    } else if next == b'?' {
+        Some(PartRead {
+            part: Part::Status(quoted),
+            end: start + 1,
+        })
+    } else if follows_dollar(next) {
+        None
+    } else {
+        Some(byte_part(place, quoted))
+    }
+}
+
+/// Reads a name and the brace that closes it, from behind the opening brace.
+fn braces(source: &[u8], start: usize, quoted: bool) -> Option<PartRead>
+    requires { start ≤ length source.now }
+    ensures { ReadsBraces source.now start quoted result }
+{
+    let end = run_end(Class::Braces, source, start);
+    if start < end && stands_at(source, end, b'}') {
+        Some(PartRead {
+            part: Part::Value(Span { start, end }, quoted),
+            end: end + 1,
+        })
+    } else {
+        None
+    }
+}
+
+/// The byte at the place as itself.
+pub(crate) fn byte_part(place: usize, quoted: bool) -> PartRead
+    requires { place < usize.MAX }
+    ensures { ReadsByte place quoted result }
+{
+    let end = place + 1;
+    let span = Span { start: place, end };
+    PartRead {
+        part: if quoted {
+            Part::Quoted(span)
+        } else {
+            Part::Plain(span)
+        },
+        end,
+    }
+}

@@ -1,0 +1,34 @@
+//! What the readers answer.
+
+use crate::{Fault, Part, TokenKind};
+use std::alloc::AllocError;
+
+/// Why a reader stops.
+#[derive(Drop)]
+pub(crate) enum Stop {
+    /// The text isn't written as the rules want.
+    Fault(Fault),
+    /// A growth was refused.
+    Memory(AllocError),
+}
+
+/// A part, and where it ends.
+#[derive(Clone, Copy)]
+pub(crate) struct PartRead {
+    pub(crate) part: Part,
+    pub(crate) end: usize,
+}
+
+/// What stands at a place between double quotes: a part, or none for a joined line, and where it ends.
+#[derive(Clone, Copy)]
+pub(crate) struct InnerRead {
+    pub(crate) part: Option<Part>,
+    pub(crate) end: usize,
+}
+
+/// What stands at a place where no word is open: a token, or none for what is passed over, and where it ends.
+#[derive(Drop)]
+pub(crate) struct LexemeRead {
+    pub(crate) kind: Option<TokenKind>,
+    pub(crate) end: usize,
+}

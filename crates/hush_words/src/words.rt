@@ -1,0 +1,137 @@
+//! Words, a piece behind the other (docs/scripts.md, "Words").
+
+ghost use Rattle.std.specs.Prelude.{◌≡◌, ◌+◌, ◌&&◌, true, false, drop};
+ghost use Rattle.hush_words.specs.Words.{ends_word, is_special};
+ghost use Rattle.hush_words.specs.Parts.{atoms_of};
+ghost use Rattle.hush_words.specs.Steps.{StandsAt, ReadsPiece, ReadsPieces, ReadsLexeme, begins};
+
+use crate::classes::{Class, byte_at, ends_word, is_special, run_end};
+use crate::dollars::{byte_part, dollar};
+use crate::quotes::{double, push, single};
+use crate::steps::{LexemeRead, Stop};
+use crate::{Fault, FaultKind, Part, Span, TokenKind, Word};
+use std::alloc::Global;
+
+/// Reads a word, which opens with this byte.
+pub(crate) fn word(
+    alloc: Global,
+    source: &[u8],
+    start: usize,
+    first: u8,
+) -> Result<LexemeRead, Stop>
+    requires here { StandsAt source.now start first }
+    requires inside { ends_word first ≡ false }
+    requires no_comment { first ≡ 35 → ⊥ }
+    requires no_line { begins 92 (drop start source.now) && begins 10 (drop (start + 1) source.now) ≡ false }
+    ensures { ReadsLexeme source.now start result }
+{
+    let mut parts = Vec::new(alloc);
+    let mut at = start;
+    while let Some(end) = pieces(source, at, &mut parts)? {
+        at = end;
+    }
+    Ok(LexemeRead {
+        kind: Some(TokenKind::Word(Word { parts })),
+        end: at,
+    })
+}
+
+/// Reads the pieces at the place; none where the word ends there.
+fn pieces(source: &[u8], at: usize, parts: &mut Vec<Part>) -> Result<Option<usize>, Stop>
+    ensures { ReadsPieces source.now at (atoms_of source.now parts.old.items) (atoms_of source.now parts.new.items) result }
+{
+    match byte_at(source, at) {
+        Some(first) => pieces_from(source, at, first, parts),
+        None => Ok(None),
+    }
+}
+
+/// Reads the pieces that begin with this byte; none where it ends the word.
+fn pieces_from(
+    source: &[u8],
+    at: usize,
+    first: u8,
+    parts: &mut Vec<Part>,
+) -> Result<Option<usize>, Stop>
+    requires { StandsAt source.now at first }
+    ensures { ReadsPieces source.now at (atoms_of source.now parts.old.items) (atoms_of source.now parts.new.items) result }
+{
+    if ends_word(first) {
+        Ok(None)
+    } else if is_special(first) {
+        let end = piece(source, at, first, parts)?;
+        Ok(Some(end))
+    } else {
+        let end = run_end(Class::Bare, source, at);
+        push(parts, Part::Plain(Span { start: at, end }))?;
+        Ok(Some(end))
+    }
+}
+
+/// Reads the piece that begins with this byte, one of `$`, `\` and the quotes.
+fn piece(source: &[u8], at: usize, first: u8, parts: &mut Vec<Part>) -> Result<usize, Stop>
+    requires here { StandsAt source.now at first }
+    requires special { is_special first ≡ true }
+    ensures { ReadsPiece source.now at (atoms_of source.now parts.old.items) (atoms_of source.now parts.new.items) result }
+{
+    if first == b'$' {
+        dollar_piece(source, at, parts)
+    } else if first == b'\\' {
+        backslash(source, at, parts)
+    } else if first == b'\'' {
+        single(source, at, parts)
+    } else {
+        double(source, at, parts)
+    }
+}
+
+/// Reads what an unquoted `$` begins.
+fn dollar_piece(source: &[u8], at: usize, parts: &mut Vec<Part>) -> Result<usize, Stop>
+    requires { StandsAt source.now at 36 }
+    ensures { ReadsPiece source.now at (atoms_of source.now parts.old.items) (atoms_of source.now parts.new.items) result }
+{
+    match dollar(source, at, false) {
+        Some(read) => {
+            push(parts, read.part)?;
+            Ok(read.end)
+        }
+        None => Err(Stop::Fault(Fault {
+            kind: FaultKind::Substitution,
+            place: at,
+        })),
+    }
+}
+
+/// Reads an unquoted `\` and the byte behind it.
+fn backslash(source: &[u8], at: usize, parts: &mut Vec<Part>) -> Result<usize, Stop>
+    requires { StandsAt source.now at 92 }
+    ensures { ReadsPiece source.now at (atoms_of source.now parts.old.items) (atoms_of source.now parts.new.items) result }
+{
+    let start = at + 1;
+    match byte_at(source, start) {
+        Some(next) => backslash_before(source, at, next, parts),
+        None => Err(Stop::Fault(Fault {
+            kind: FaultKind::Backslash,
+            place: at,
+        })),
+    }
+}
+
+/// Reads an unquoted `\` before this byte.
+fn backslash_before(
+    source: &[u8],
+    at: usize,
+    next: u8,
+    parts: &mut Vec<Part>,
+) -> Result<usize, Stop>
+    requires backslash { StandsAt source.now at 92 }
+    requires next { StandsAt source.now (at + 1) next }
+    ensures { ReadsPiece source.now at (atoms_of source.now parts.old.items) (atoms_of source.now parts.new.items) result }
+{
+    let end = at + 2;
+    if next == b'\n' {
+        return Ok(end);
+    }
+    push(parts, byte_part(at + 1, true).part)?;
+    Ok(end)
+}
