@@ -6,3 +6,4 @@ pub mod EscapeLemmas
 pub mod LineLemmas
 pub mod FieldLemmas
 pub mod ConfigLemmas
+pub mod Rows
