@@ -54,7 +54,7 @@ neither p q (x ∷ xs) h =
     let later = neither p q xs here.1 in
     (or_from _ _ both.0 later.0, or_from _ _ both.1 later.1)
 
-name_parts : (name : List ℕ) → is_name name ≡ true → (is_empty name ≡ false) × (list_any is_zero name ≡ false) × (list_any is_equals name ≡ false)
+pub name_parts : (name : List ℕ) → is_name name ≡ true → (is_empty name ≡ false) × (list_any is_zero name ≡ false) × (list_any is_equals name ≡ false)
 name_parts name h =
     let parts = or_parts (is_empty name) _ (not-true _ h) in
     let bytes = neither is_zero is_equals name parts.1 in
@@ -63,7 +63,7 @@ name_parts name h =
 value_parts : (value : List ℕ) → is_value value ≡ true → (is_empty value ≡ false) × (list_any is_zero value ≡ false)
 value_parts value h = let parts = or_parts (is_empty value) _ (not-true _ h) in (parts.0, parts.1)
 
-not_empty : (xs : List ℕ) → is_empty xs ≡ false → eqb (length xs) 0 ≡ false
+pub not_empty : (xs : List ℕ) → is_empty xs ≡ false → eqb (length xs) 0 ≡ false
 not_empty [] h = h
 not_empty (x ∷ xs) h = ne_eqb (suc (length xs)) 0 (λ e. omega arith)
 
@@ -74,7 +74,7 @@ exported-front : (name value rest : List ℕ) → exported name value ++ rest �
 exported-front name value rest =
     append_assoc name (equals ∷ (escaped value ++ 10 ∷ [])) rest ∙ ap (λ xs. name ++ equals ∷ xs) (append_assoc (escaped value) (10 ∷ []) rest)
 
-begins_entry : (name rest : List ℕ) → is_empty name ≡ false → is_unreadable name ≡ false → begins_skipped (name ++ rest) ≡ false
+pub begins_entry : (name rest : List ℕ) → is_empty name ≡ false → is_unreadable name ≡ false → begins_skipped (name ++ rest) ≡ false
 begins_entry [] rest h u = absurd (true≢false h)
 begins_entry (b ∷ bs) rest h u =
     let parts = or_parts (is_blank b || eqb b hash) _ u in

@@ -7,3 +7,4 @@ pub mod LineLemmas
 pub mod FieldLemmas
 pub mod ConfigLemmas
 pub mod Rows
+pub mod LawLemmas

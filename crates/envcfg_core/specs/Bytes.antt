@@ -1,8 +1,11 @@
 -- The bytes that the text forms tell apart.
 use Rattle.std.specs.Prelude.{ℕ, Bool, ◌||◌, ◌==◌, List, [], ◌∷◌, length, Option, Some, None, if◌then◌else◌}
 
+abbrev pub newline : ℕ
+newline = 10
+
 abbrev pub is_newline : ℕ → Bool
-is_newline b = b == 10
+is_newline b = b == newline
 
 -- a space or a tab
 abbrev pub is_blank : ℕ → Bool

@@ -2,7 +2,7 @@
 use Rattle.std.specs.Prelude.{◌≡◌, ℕ, ◌+◌, Bool, true, false, ◌||◌, ◌==◌, List, [], ◌∷◌, ◌++◌, Some, if◌then◌else◌}
 use Rattle.std.specs.List.{list_any, flat_map, count_by}
 use Rattle.envimg_core.specs.Environment.{Pair, is_name, is_value}
-use Rattle.envcfg_core.specs.Bytes.{is_newline, is_blank, hash, equals, backslash}
+use Rattle.envcfg_core.specs.Bytes.{newline, is_newline, is_blank, hash, equals, backslash}
 use Rattle.envcfg_core.specs.Entries.{Entry}
 
 -- `\` stands before each `\` and each newline
@@ -14,7 +14,7 @@ escaped value = flat_map escaped_byte value
 
 -- the name, `=`, the escaped value and a newline
 abbrev pub exported : List ℕ → List ℕ → List ℕ
-exported name value = name ++ (equals ∷ (escaped value ++ (10 ∷ [])))
+exported name value = name ++ (equals ∷ (escaped value ++ (newline ∷ [])))
 
 -- a name that an import would not read back: it begins with a blank or like a comment, or a newline would end it
 abbrev pub begins_unreadable : List ℕ → Bool
@@ -34,8 +34,14 @@ pub record IsExportable (p : Pair) : Type 0 where
 abbrev pub exported_all : List Pair → List ℕ
 exported_all pairs = flat_map (λ p. exported p.0 p.1) pairs
 
--- the entries that such variables are, the first of which begins in this line; each newline of a value is one more line
+-- the entry that a variable is, and the line behind it: each newline of its value is one more line
+abbrev pub pair_entry : ℕ → Pair → Entry
+pair_entry line p = record { name = p.0; value = Some p.1; line = line }
+
+abbrev pub line_behind : ℕ → Pair → ℕ
+line_behind line p = line + count_by is_newline p.1 + 1
+
+-- the entries that such variables are, the first of which begins in this line
 abbrev pub entries_of_pairs : ℕ → List Pair → List Entry
 entries_of_pairs line [] = []
-entries_of_pairs line (p ∷ pairs) =
-    record { name = p.0; value = Some p.1; line = line } ∷ entries_of_pairs (line + count_by is_newline p.1 + 1) pairs
+entries_of_pairs line (p ∷ pairs) = pair_entry line p ∷ entries_of_pairs (line_behind line p) pairs

@@ -1,12 +1,26 @@
 //! Laws of the text forms, each the contract of a function without a body.
-ghost use Rattle.std.specs.Prelude.{◌≡◌, List, Ok};
-ghost use Rattle.std.specs.List.{AllByRecursion};
-ghost use Rattle.envimg_core.specs.Environment.{Pair};
-ghost use Rattle.envcfg_core.specs.Export.{IsExportable, exported_all, entries_of_pairs};
-ghost use Rattle.envcfg_core.specs.Import.{import_of};
+ghost use Rattle.std.specs.Prelude.{◌≡◌, ℕ, ◌+◌, true, false, List, ◌∷◌, ◌++◌, None, Ok};
+ghost use Rattle.std.specs.List.{list_all, list_any, AllByRecursion};
+ghost use Rattle.envimg_core.specs.Environment.{Pair, is_name};
+ghost use Rattle.envcfg_core.specs.Bytes.{hash, is_blank, is_newline, newline};
+ghost use Rattle.envcfg_core.specs.Entries.{with_first};
+ghost use Rattle.envcfg_core.specs.Export.{IsExportable, entries_of_pairs, exported, exported_all, is_unreadable, line_behind, pair_entry};
+ghost use Rattle.envcfg_core.specs.Import.{entries_from, import_of};
 
 /// A text made of exported variables, any number of them one after the other, is read as those variables
 /// in their order, each at the line in which it begins.
 pub fn export_reads_back()
     ensures { (pairs : List Pair) → AllByRecursion IsExportable pairs → import_of (exported_all pairs) ≡ Ok (entries_of_pairs 1 pairs) }
+{}
+
+/// What a text for import reads is what its first line holds, and what the rest reads from the next line on.
+pub fn import_reads_line_by_line()
+    ensures blank_line { (line : ℕ) (blanks rest : List ℕ) → list_all is_blank blanks ≡ true
+        → entries_from line (blanks ++ newline ∷ rest) ≡ entries_from (line + 1) rest }
+    ensures comment { (line : ℕ) (blanks text rest : List ℕ) → list_all is_blank blanks ≡ true → list_any is_newline text ≡ false
+        → entries_from line (blanks ++ hash ∷ (text ++ newline ∷ rest)) ≡ entries_from (line + 1) rest }
+    ensures deletion { (line : ℕ) (name rest : List ℕ) → is_name name ≡ true → is_unreadable name ≡ false
+        → entries_from line (name ++ newline ∷ rest) ≡ with_first (record { name = name; value = None; line = line }) (entries_from (line + 1) rest) }
+    ensures variable { (line : ℕ) (p : Pair) (rest : List ℕ) → IsExportable p
+        → entries_from line (exported p.0 p.1 ++ rest) ≡ with_first (pair_entry line p) (entries_from (line_behind line p) rest) }
 {}
