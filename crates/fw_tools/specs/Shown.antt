@@ -1,0 +1,46 @@
+-- What the bytes of one single image print (docs/tools.md, "fwenv without a subcommand").
+use Rattle.std.specs.Prelude.{◌≡◌, ℕ, ◌≤◌, ◌&&◌, nat_le, if◌then◌else◌, List, [], ◌∷◌, ◌++◌, Option, length, drop, codes}
+use Rattle.std.specs.List.{flat_map}
+use Rattle.std.specs.FinMap.{entries}
+use Rattle.envimg_core.specs.Environment.{Environment, Pair}
+use Rattle.envimg_core.specs.Pieces.{entries_of, vars_of}
+use Rattle.envimg_core.specs.State.{state_of}
+use Rattle.envimg_core.specs.declared.geometry.Layout.TheVariants.{Single}
+use Rattle.envimg_core.specs.declared.state.CopyState.{CopyState}
+use Rattle.envimg_core.specs.declared.state.CopyState.TheVariants.{Good, BadLength, BadCrc, Unterminated}
+use Rattle.fw_tools.specs.Tool.{Texts, Took, Printed}
+use Rattle.fw_tools.specs.declared.ending.ToolEnd.{ToolEnd}
+
+-- name=value and a newline
+abbrev pub line_of : Pair → List ℕ
+line_of p = p.0 ++ 61 ∷ p.1 ++ 10 ∷ []
+
+-- a line for each variable, in ascending order of the names' bytes
+abbrev pub listing : Environment → List ℕ
+listing env = flat_map line_of (entries env)
+
+-- the state of all the bytes as one single image; a length that is no size is a bad length
+abbrev pub state_shown : List ℕ → CopyState
+state_shown bytes =
+    if nat_le 8 (length bytes) && nat_le (length bytes) 1048576 then state_of (record { layout = Single; size = length bytes }) bytes else BadLength
+
+abbrev pub bad_image : List ℕ → Texts
+bad_image kind = record { output = []; errors = codes "## Error: bad image: " ++ kind ++ 10 ∷ []; status = 1 }
+
+abbrev pub shown_in : CopyState → List ℕ → Texts
+shown_in (Good flag) bytes = record { output = listing (vars_of (entries_of (drop 4 bytes))); errors = []; status = 0 }
+shown_in BadLength bytes = bad_image (codes "BadLength")
+shown_in BadCrc bytes = bad_image (codes "BadCrc")
+shown_in Unterminated bytes = bad_image (codes "Unterminated")
+
+abbrev pub shown : List ℕ → Texts
+shown bytes = shown_in (state_shown bytes) bytes
+
+-- the most bytes that are read: one more than the greatest image has
+abbrev pub read_limit : ℕ
+read_limit = 1048577
+
+-- a whole call, by what its reader had before and after it and what its writers held
+abbrev pub Shows : Option (List ℕ) → Option (List ℕ) → Option (List ℕ) → Option (List ℕ) → Option (List ℕ) → Option (List ℕ) → ToolEnd → Type 0
+Shows input input' out out' err err' end =
+    (bytes : List ℕ) × Took end.fault input input' read_limit bytes × Printed end.fault out out' err err' (shown bytes) end.status

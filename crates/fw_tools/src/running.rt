@@ -1,0 +1,91 @@
+//! The program over its words and streams.
+ghost use Rattle.std.specs.Prelude.{◌≤◌};
+
+use crate::command_line::read_words;
+use crate::ending::{StreamFault, ToolEnd};
+use crate::messages::{CANNOT_READ, CANNOT_WRITE, NO_WORDS, NOT_UTF8, OUT_OF_MEMORY};
+use crate::showing::show;
+use crate::streams::write_text;
+use clap::Error;
+use clap::error::ErrorKind;
+use std::alloc::Global;
+use std::convert::AsStr;
+use std::io::{self, Read, Write};
+use std::rt::Files;
+
+/// Runs the program and answers its exit status, 0 or 1. `words` begin with the program's own name.
+///
+/// Without a further word the variables of the image on `input` are printed ([`show`]). Help goes to `output`, status 0;
+/// a fault of the command line to `errors`, status 1. docs/tools.md has each text.
+pub fn program<X: Files + AllocGlobal, S: AsStr, R: Read, W: Write, E: Write>(
+    rt: &X,
+    words: &[S],
+    input: &mut R,
+    output: &mut W,
+    errors: &mut E,
+) -> u8
+    ensures { result ≤ 1 }
+{
+    let alloc = rt.alloc();
+    match read_words(alloc, words) {
+        Err(error) => print_error(alloc, &error, output, errors),
+        Ok(()) => {
+            let end = show(alloc, input, output, errors);
+            report(end, errors)
+        }
+    }
+}
+
+/// Says on `errors` why the words of the command line could not be had, and answers the exit status, 1.
+pub fn words_failed<E: Write>(error: &io::Error, errors: &mut E) -> u8
+    ensures { result ≤ 1 }
+{
+    let text = match error.kind() {
+        io::ErrorKind::OutOfMemory => OUT_OF_MEMORY,
+        io::ErrorKind::InvalidData => NOT_UTF8,
+        _ => NO_WORDS,
+    };
+    let _ = write_text(errors, text);
+    1
+}
+
+/// Prints the help on `output`, or what is wrong with the words on `errors`.
+fn print_error<W: Write, E: Write>(
+    alloc: Global,
+    error: &Error,
+    output: &mut W,
+    errors: &mut E,
+) -> u8
+    ensures { result ≤ 1 }
+{
+    let Ok(text) = error.to_string(alloc) else {
+        return report(ToolEnd::stopped(StreamFault::Memory), errors);
+    };
+    if error.kind() == ErrorKind::OutOfMemory {
+        return report(ToolEnd::stopped(StreamFault::Memory), errors);
+    }
+    if error.use_stderr() {
+        let _ = write_text(errors, text.as_bytes());
+        return 1;
+    }
+    if !write_text(output, text.as_bytes()) {
+        return report(ToolEnd::stopped(StreamFault::Write), errors);
+    }
+    0
+}
+
+/// Says on `errors` which fault stopped a tool, if one did, and answers the exit status.
+fn report<E: Write>(end: ToolEnd, errors: &mut E) -> u8
+    requires { end.status ≤ 1 }
+    ensures { result ≤ 1 }
+{
+    if let Some(fault) = end.fault {
+        let text = match fault {
+            StreamFault::Read => CANNOT_READ,
+            StreamFault::Write => CANNOT_WRITE,
+            StreamFault::Memory => OUT_OF_MEMORY,
+        };
+        let _ = write_text(errors, text);
+    }
+    end.status
+}

@@ -1,0 +1,106 @@
+//! The variables of one single image, printed.
+ghost use Rattle.std.specs.Prelude.{◌≡◌, ◌≢◌, ◌≤◌, IfOk, IsTrue, length, Some};
+ghost use Rattle.envimg_core.specs.Pieces.{entries_of, is_terminated, vars_of};
+ghost use Rattle.fw_tools.specs.Shown.{Shows, listing, shown, state_shown};
+ghost use Rattle.fw_tools.specs.Tool.{Printed, PrintsText, Lists};
+
+use crate::ending::{StreamFault, ToolEnd};
+use crate::messages::{BAD_CHECKSUM, BAD_LENGTH, UNTERMINATED};
+use crate::streams::{read_up_to, write_text};
+use envimg_core::{CopyState, Geometry, Layout, check_copy};
+use envvars_core::{Memory, Vars};
+use std::alloc::Global;
+use std::io::{Read, Write};
+
+/// The most bytes that are read: one more than the greatest image has.
+const READ_LIMIT: usize = 1_048_577;
+
+/// The checksum before the data area of a single image, in bytes.
+const HEAD: usize = 4;
+
+/// Reads one single image and prints its variables, a line `name=value` for each, in ascending order of the names' bytes,
+/// names that begin with `.` among them. A bad image prints `## Error: bad image: KIND` on `errors`, status 1.
+///
+/// Reads at most 1,048,577 bytes, the whole of the reader where it has no more. docs/tools.md has the texts.
+pub fn show<R: Read, W: Write, E: Write>(
+    alloc: Global,
+    input: &mut R,
+    output: &mut W,
+    errors: &mut E,
+) -> ToolEnd
+    ensures { Shows (R.remaining input.old) (R.remaining input.new) (W.contents output.old) (W.contents output.new) (E.contents errors.old) (E.contents errors.new) result }
+{
+    match read_up_to(alloc, input, READ_LIMIT) {
+        Err(fault) => ToolEnd::stopped(fault),
+        Ok(bytes) => show_bytes(alloc, &bytes, output, errors),
+    }
+}
+
+/// Prints the variables of these bytes as one single image.
+fn show_bytes<W: Write, E: Write>(
+    alloc: Global,
+    bytes: &[u8],
+    output: &mut W,
+    errors: &mut E,
+) -> ToolEnd
+    ensures printed { Printed result.fault (W.contents output.old) (W.contents output.new) (E.contents errors.old) (E.contents errors.new) (shown bytes.now) result.status }
+    ensures late { result.fault ≢ Some StreamFault.Read }
+{
+    match image_state(bytes) {
+        CopyState::Good(_) => list(alloc, &bytes[HEAD..], output),
+        CopyState::BadLength => print_text(errors, BAD_LENGTH, 1),
+        CopyState::BadCrc => print_text(errors, BAD_CHECKSUM, 1),
+        CopyState::Unterminated => print_text(errors, UNTERMINATED, 1),
+    }
+}
+
+/// The state of these bytes as one single image; a length that is no size is a bad length.
+fn image_state(bytes: &[u8]) -> CopyState
+    ensures { result ≡ state_shown bytes.now }
+{
+    if bytes.len() >= READ_LIMIT {
+        return CopyState::BadLength;
+    }
+    match Geometry::new(Layout::Single, bytes.len() as u32) {
+        None => CopyState::BadLength,
+        Some(geometry) => check_copy(&geometry, bytes),
+    }
+}
+
+/// Prints a line for each variable of an area.
+fn list<W: Write>(alloc: Global, area: &[u8], output: &mut W) -> ToolEnd
+    requires terminated { IsTrue (is_terminated area.now) }
+    requires bounded { length area.now ≤ 1048576 }
+    ensures { Lists (W.contents output.old) (W.contents output.new) (listing (vars_of (entries_of area.now))) result }
+{
+    match lines_of(alloc, area) {
+        Err(_) => ToolEnd::stopped(StreamFault::Memory),
+        Ok(text) => print_text(output, &text, 0),
+    }
+}
+
+/// The text with a line for each variable of an area.
+fn lines_of(alloc: Global, area: &[u8]) -> Result<Vec<u8>, Memory>
+    requires terminated { IsTrue (is_terminated area.now) }
+    requires bounded { length area.now ≤ 1048576 }
+    ensures { IfOk result (λ text. text.items ≡ listing (vars_of (entries_of area.now))) }
+{
+    let vars = Vars::load(alloc, area)?;
+    let mut text = Vec::with_capacity(alloc, area.len())?;
+    for line in vars.lines() {
+        text.extend_from_slice(line)?;
+        text.push(b'\n')?;
+    }
+    Ok(text)
+}
+
+/// Writes a whole text, and ends with this status.
+fn print_text<W: Write>(writer: &mut W, text: &[u8], status: u8) -> ToolEnd
+    ensures { PrintsText (W.contents writer.old) (W.contents writer.new) text.now status result }
+{
+    if write_text(writer, text) {
+        ToolEnd::done(status)
+    } else {
+        ToolEnd::stopped(StreamFault::Write)
+    }
+}
