@@ -1,0 +1,15 @@
+//! Sweeps over want of memory: does each row of each crate once, and where a call answers that memory ran out, looks at
+//! what is left and makes the call again.
+//!
+//! scripts/test runs this program once for each of its allocations, with that one refused. A line that begins with
+//! `refused` says which call met the refusal; every other line is the same whichever allocation it was.
+#![tactic(auto)]
+
+mod lines;
+mod showing;
+
+use std::io;
+
+fn main(rt: HostRuntime) -> io::Result<()> {
+    showing::sweep(rt.alloc(), &mut rt.stdout())
+}
