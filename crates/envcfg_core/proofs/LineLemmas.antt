@@ -1,19 +1,14 @@
 -- The lines of a text, and what they hold.
-use Rattle.std.proofs.Common.{◌≡◌, ℕ, ◌+◌, ◌-◌, ◌<◌, ◌||◌, ◌&&◌, Bool, true, false, eqb, List, [], ◌∷◌, ◌++◌, length, get_or, take, drop, Option, None, Some, Result, Ok, refl, sym, ap, ◌∙◌, subst, ⊎_elim, arith}
+use Rattle.std.proofs.Common.{◌≡◌, ℕ, ◌+◌, ◌-◌, ◌<◌, ◌||◌, ◌&&◌, Bool, true, false, eqb, List, [], ◌∷◌, length, get_or, take, drop, Some, refl, sym, ap, ◌∙◌, subst, ⊎_elim, arith}
 use Rattle.std.specs.List.{slice_split, position_or_len, after_first, list_all}
-use Rattle.std.specs.Str.Lines.{strip_carriage_return}
 use Rattle.std.proofs.lemmas.Bool.{cases_Bool, cond-true, cond-false, ne_eqb}
 use Rattle.std.proofs.lemmas.List.{length-drop}
 use Rattle.std.proofs.lemmas.List.Splits.{slice_split_first}
 use Rattle.memchr.specs.Find.{IsFirstByte}
-use Rattle.envcfg_core.specs.declared.entry.TextFault.{TextFault}
-use Rattle.envcfg_core.specs.declared.entry.TextFault.TheVariants.{EmptyName, Nul, Memory}
 use Rattle.envcfg_core.specs.Bytes.{is_newline, is_blank, without_blanks, hash}
-use Rattle.envcfg_core.specs.Lines.{Line, CutsLine}
-use Rattle.envcfg_core.specs.Entries.{Entry, Outcome, with_front, IsFaultOf}
-use Rattle.envcfg_core.specs.SetScript.{is_skipped_line, line_outcome, before, entries_of_lines}
+use Rattle.envcfg_core.specs.Lines.{CutsLine}
+use Rattle.envcfg_core.specs.SetScript.{is_skipped_line}
 use Rattle.envcfg_core.proofs.CutLemmas.{position_or_len-found, before_first-found, after_first-found}
-use Rattle.envcfg_core.proofs.ImportLemmas.{with_front-push, IsFaultOf-with_front}
 
 -- a text is cut at its first newline
 pub cuts_line : (text : List ℕ) (at : ℕ) → IsFirstByte is_newline text (Some at) →
@@ -46,26 +41,3 @@ pub is_skipped_line-is : (line rest others : List ℕ) (first : ℕ) (r : Bool) 
 is_skipped_line-is line rest others first r e other w h =
     let no_hash : eqb (get_or line 0 0) hash ≡ false = ap (λ xs. eqb (get_or xs 0 0) hash) e ∙ ne_eqb first hash other in
     h ∙ ap (λ xs. eqb (length xs) 0) w ∙ blank_line line ∙ or-false (list_all is_blank line) (eqb (get_or line 0 0) hash) no_hash
-
--- one line more is read
-pub line_skipped : (whole : Outcome) (entries : List Entry) (left later : List Line) (line : Line) → whole ≡ with_front entries (entries_of_lines left) →
-    left ≡ line ∷ later → line_outcome line.0 (strip_carriage_return line.1) ≡ Ok None → whole ≡ with_front entries (entries_of_lines later)
-line_skipped whole entries left later line w l h =
-    w ∙ ap (λ ls. with_front entries (entries_of_lines ls)) l ∙ ap (λ o. with_front entries (before o (entries_of_lines later))) h
-
-pub line_read : (whole : Outcome) (entries : List Entry) (left later : List Line) (line : Line) (e : Entry) → whole ≡ with_front entries (entries_of_lines left) →
-    left ≡ line ∷ later → line_outcome line.0 (strip_carriage_return line.1) ≡ Ok (Some e) → whole ≡ with_front (entries ++ e ∷ []) (entries_of_lines later)
-line_read whole entries left later line e w l h =
-    w ∙ ap (λ ls. with_front entries (entries_of_lines ls)) l ∙ ap (λ o. with_front entries (before o (entries_of_lines later))) h
-    ∙ sym (with_front-push entries e (entries_of_lines later))
-
-fault_before : (o : Result (Option Entry) TextFault) (later : Outcome) (fault : TextFault) → IsFaultOf o fault → IsFaultOf (before o later) fault
-fault_before o later (EmptyName n) h = ap (λ x. before x later) h
-fault_before o later Nul h = ap (λ x. before x later) h
-fault_before o later Memory h = tt
-
-pub line_refused : (whole : Outcome) (entries : List Entry) (left later : List Line) (line : Line) (fault : TextFault) → whole ≡ with_front entries (entries_of_lines left) →
-    left ≡ line ∷ later → IsFaultOf (line_outcome line.0 (strip_carriage_return line.1)) fault → IsFaultOf whole fault
-line_refused whole entries left later line fault w l h =
-    IsFaultOf-with_front entries (before (line_outcome line.0 (strip_carriage_return line.1)) (entries_of_lines later)) whole fault
-    (w ∙ ap (λ ls. with_front entries (entries_of_lines ls)) l) (fault_before _ (entries_of_lines later) fault h)
