@@ -1,8 +1,8 @@
 -- One piece of a data area as an entry, and what it does to the variables.
-use Rattle.std.proofs.Common.{◌≡◌, ◌≢◌, ℕ, zero, suc, ◌+◌, ◌-◌, ◌<◌, ◌≤◌, Bool, true, false, not, ◌||◌, IsTrue, List, [], ◌∷◌, ◌++◌, length, take, drop, get_or, map, filter, fold, All, Option, Some, None, sym, ap, subst, ◌∙◌, refl, arith, length-take, length-drop, slice_range}
+use Rattle.std.proofs.Common.{◌≡◌, ◌≢◌, ℕ, zero, suc, ◌+◌, ◌-◌, ◌<◌, ◌≤◌, Bool, true, false, not, ◌||◌, IsTrue, List, [], ◌∷◌, ◌++◌, length, take, drop, get_or, map, filter, fold, All, Option, Some, None, sym, ap, subst, ◌∙◌, refl, arith, length-take, length-take-le, length-drop, slice_range, take-take}
 use Rattle.std.specs.FinMap as env
 use Rattle.std.specs.List.{slice_split, position_or_len, take_while}
-use Rattle.std.proofs.lemmas.List.{take_all, take_rest, drop_all, get_or-take}
+use Rattle.std.proofs.lemmas.List.{take_all, take_rest, drop_all, drop-take, get_or-take}
 use Rattle.std.proofs.Math.Seq.{drop-drop}
 use Rattle.std.proofs.lemmas.List.Sums.{position_or_len_is, take_while-cons, fold-append}
 use Rattle.std.proofs.lemmas.List.Splits.{slice_split_first, slice_split_none, length-slice_split}
@@ -12,6 +12,7 @@ use Rattle.memchr.specs.Find.{IsFirstByte, is_byte}
 use Rattle.envimg_core.specs.Environment.{Environment, is_empty, is_zero, is_equals, is_name, is_value}
 use Rattle.envimg_core.specs.Pieces.{but_last, ended_pieces, Entry, value_of, entry_of, entries_of, has_name, after_entry, with_value}
 use Rattle.envvars_store.specs.Pieces.{IsPiece}
+use Rattle.envvars_store.specs.Variable.{IsVariable}
 
 pub is_false : (b : Bool) → (b ≢ true) → b ≡ false
 is_false true h = absurd (h refl)
@@ -155,16 +156,6 @@ none_takes m xs h f =
 pub some_takes : (m : Environment) (xs : List ℕ) (k : ℕ) → IsFirstByte (is_byte 61) xs (Some k) → (k ≢ 0) → k + 1 ≡ length xs → env.remove m (take k xs) ≡ fold after_entry m (filter has_name (entry_of xs ∷ []))
 some_takes m xs k f n e = sym (takes_away m xs k (first_at 61 xs k f) (omega arith) (omega arith) (omega arith))
 
-pub some_gives : (m : Environment) (xs : List ℕ) (k : ℕ) → IsFirstByte (is_byte 61) xs (Some k) → (k ≢ 0) → (k + 1 ≢ length xs) → env.insert m (take k xs) (take (length xs - (k + 1)) (drop (k + 1) xs)) ≡ fold after_entry m (filter has_name (entry_of xs ∷ []))
-some_gives m xs k f n e =
-    let within : k < length xs = f.0.high in
-    ap (env.insert m (take k xs)) (take_rest xs (k + 1)) ∙ sym (gives m xs k (first_at 61 xs k f) (omega arith) (omega arith))
-
-pub value_at : (xs : List ℕ) (k : ℕ) → All (λ b. is_zero b ≡ false) xs → IsFirstByte (is_byte 61) xs (Some k) → (k + 1 ≢ length xs) → IsTrue (is_value (take (length xs - (k + 1)) (drop (k + 1) xs)))
-value_at xs k z f e =
-    let within : k < length xs = f.0.high in
-    subst (λ v. IsTrue (is_value v)) (sym (take_rest xs (k + 1))) (value_formed (drop (k + 1) xs) (omega (arith, length-drop (k + 1) xs)) (All-drop (λ b. is_zero b ≡ false) (k + 1) xs z))
-
 -- a search in what follows a place
 pub rest_first : (area : List ℕ) (at : ℕ) (r : Option ℕ) → IsFirstByte (is_byte 0) (take (length area - at) (drop at area)) r → IsFirstByte (is_byte 0) (drop at area) r
 rest_first area at r f = subst (λ xs. IsFirstByte (is_byte 0) xs r) (take_rest area at) f
@@ -173,3 +164,38 @@ pub ended : (xs : List ℕ) (k : ℕ) → k ≡ 0 → IsFirstByte (is_byte 0) xs
 ended xs k e f =
     let within : k < length xs = f.0.high in
     entries_end xs (first_at 0 xs k f ∙ e) (omega arith)
+
+-- a name and a value as places of an area
+name_part : (area : List ℕ) (s e k : ℕ) → k ≤ e - s → slice_range area s (s + k) ≡ take k (slice_range area s e)
+name_part area s e k h =
+    let same : s + k - s ≡ k = omega arith in
+    ap (λ n. take n (drop s area)) same ∙ sym (take-take k (e - s) (drop s area) h)
+
+value_part : (area : List ℕ) (s e k : ℕ) → k + 1 ≤ e - s → slice_range area (s + k + 1) e ≡ drop (k + 1) (slice_range area s e)
+value_part area s e k h =
+    let whole : k + 1 + (e - (s + k + 1)) ≡ e - s = omega arith in
+    let there : s + (k + 1) ≡ s + k + 1 = omega arith in
+    sym (ap (λ n. drop (k + 1) (take n (drop s area))) (sym whole) ∙ drop-take (k + 1) (e - (s + k + 1)) (drop s area) ∙ ap (take (e - (s + k + 1))) (drop-drop (k + 1) s area ∙ ap (λ n. drop n area) there))
+
+piece_long : (area : List ℕ) (s e : ℕ) → IsPiece area s e → length (slice_range area s e) ≡ e - s
+piece_long area s e p = let w = p.within in length-take-le (e - s) (drop s area) (omega (arith, length-drop s area))
+
+pub place_formed : (area : List ℕ) (s e k : ℕ) → IsPiece area s e → IsFirstByte (is_byte 61) (slice_range area s e) (Some k) → (k ≢ 0) → (k + 1 ≢ length (slice_range area s e)) → IsVariable (slice_range area s (s + k), slice_range area (s + k + 1) e)
+place_formed area s e k p f n m =
+    let within : k < length (slice_range area s e) = f.0.high in
+    let size = piece_long area s e p in
+    let more : k + 1 < length (slice_range area s e) = omega arith in (
+      subst (λ v. IsTrue (is_name v)) (sym (name_part area s e k (omega arith))) (name_formed (slice_range area s e) k p.whole f (omega arith)),
+      subst (λ v. IsTrue (is_value v)) (sym (value_part area s e k (omega arith))) (value_formed (drop (k + 1) (slice_range area s e)) (omega (arith, length-drop (k + 1) (slice_range area s e))) (All-drop (λ b. is_zero b ≡ false) (k + 1) (slice_range area s e) p.whole)),
+    )
+
+pub place_gives : (m : Environment) (area : List ℕ) (s e k : ℕ) → IsPiece area s e → IsFirstByte (is_byte 61) (slice_range area s e) (Some k) → (k ≢ 0) → (k + 1 ≢ length (slice_range area s e)) → env.insert m (slice_range area s (s + k)) (slice_range area (s + k + 1) e) ≡ fold after_entry m (filter has_name (entry_of (slice_range area s e) ∷ []))
+place_gives m area s e k p f n o =
+    let within : k < length (slice_range area s e) = f.0.high in
+    let size = piece_long area s e p in
+    ap (λ a. env.insert m a (slice_range area (s + k + 1) e)) (name_part area s e k (omega arith))
+    ∙ ap (env.insert m (take k (slice_range area s e))) (value_part area s e k (omega arith))
+    ∙ sym (gives m (slice_range area s e) k (first_at 61 (slice_range area s e) k f) (omega arith) (omega arith))
+
+pub piece_some : (area : List ℕ) (s e : ℕ) → IsPiece area s e → 0 < length (slice_range area s e)
+piece_some area s e p = let h = p.some in omega (arith, piece_long area s e p)

@@ -1,4 +1,6 @@
-pub mod OrderLemmas
-pub mod MapLemmas
-pub mod PlainLemmas
 pub mod EntryLemmas
+pub mod FindLemmas
+pub mod MapLemmas
+pub mod OrderLemmas
+pub mod PlaceLemmas
+pub mod RunLemmas

@@ -1,5 +1,5 @@
 -- Sorted variables as an environment: what `put` and the filter make of it.
-use Rattle.std.proofs.Common.{◌≡◌, ℕ, Bool, true, false, T, List, [], Option, Some, None, IsSome, is_some, Result, Ok, Err, OnOk, length, cond, not, sym, ap, ◌∙◌, refl, is_eq}
+use Rattle.std.proofs.Common.{◌≡◌, ℕ, Bool, true, false, T, List, [], Option, Some, None, IsSome, is_some, Result, Ok, Err, OnOk, OnErr, length, cond, not, sym, ap, ◌∙◌, refl, is_eq}
 use Rattle.std.specs.Ordering.{eq_by_cmp}
 use Rattle.std.proofs.lemmas.Bool.{false≢true}
 use Rattle.std.specs.FinMap as env
@@ -62,3 +62,7 @@ none_is o e s = false≢true (sym (ap is_some e) ∙ s)
 pub on_ok : {A E : Type 0} (r : Result A E) (P Q : Type 0) → (P → Q) → OnOk r P → OnOk r Q
 on_ok (Ok a) P Q f h = f h
 on_ok (Err e) P Q f h = h
+
+pub on_err : {A E : Type 0} (r : Result A E) (P : Type 0) → P → OnErr r P
+on_err (Ok a) P h = tt
+on_err (Err e) P h = h

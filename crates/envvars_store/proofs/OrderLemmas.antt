@@ -87,7 +87,7 @@ find_below : (q : List ℕ) (ys : List Pair) → T (below_all bytes_cmp q ys) �
 find_below q [] h = refl
 find_below q (y ∷ ys) h = ap (λ o. cond (is_eq o) (Some y.1) (find bytes_cmp q ys)) (is_less _ (and_left _ _ h)) ∙ find_below q ys (and_right _ _ h)
 
-sorted_rest : (xs ys : List Pair) → T (is_sorted bytes_cmp (xs ++ ys)) → T (is_sorted bytes_cmp ys)
+pub sorted_rest : (xs ys : List Pair) → T (is_sorted bytes_cmp (xs ++ ys)) → T (is_sorted bytes_cmp ys)
 sorted_rest [] ys h = h
 sorted_rest (x ∷ xs) ys h = sorted_rest xs ys (and_right _ _ h)
 

@@ -1,4 +1,5 @@
-pub mod Variable
-pub mod Order
 pub mod Laying
+pub mod Order
 pub mod Pieces
+pub mod Runs
+pub mod Variable

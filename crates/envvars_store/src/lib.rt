@@ -1,10 +1,13 @@
 //! The variables of an environment in memory (docs/variables.md, "In memory").
 #![tactic(auto)]
 
+mod copying;
 mod finding;
 mod iterating;
 mod loading;
 mod placing;
+mod runs;
+mod slots;
 mod storing;
 mod writing;
 

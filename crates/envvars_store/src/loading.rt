@@ -1,14 +1,15 @@
 // The variables of a data area.
-ghost use Rattle.std.specs.Prelude.{◌≡◌, ◌<◌, ◌≤◌, length, fold, filter, IfOk, OnOk, MatchOption, All, drop, [], ◌∷◌, false};
-ghost use Rattle.envimg_core.specs.Environment.{is_zero};
+ghost use Rattle.std.specs.Prelude.{◌≡◌, ◌<◌, ◌≤◌, ◌^◌, length, fold, filter, IfOk, OnOk, MatchOption, drop, [], ◌∷◌, slice_range};
 ghost use Rattle.envimg_core.specs.Pieces.{entries_of, vars_of, entry_of, has_name, after_entry};
 ghost use Rattle.std.specs.FinMap as env;
-ghost use Rattle.envvars_store.specs.Laying.{IsOrdered};
 ghost use Rattle.envvars_store.specs.Pieces.{IsPiece};
+ghost use Rattle.envvars_store.specs.Runs.{listed, IsLaid};
 
+use crate::copying::copied;
 use crate::placing::{forget, set};
+use crate::runs::Run;
+use crate::slots::{Place, Slot};
 use crate::storing::Variables;
-use crate::writing::Text;
 use memchr::memchr;
 use std::alloc::{AllocError, Global};
 
@@ -19,15 +20,27 @@ impl Variables {
         requires { length area.now ≤ 1048576 }
         ensures { IfOk result (λ v. v ≡ vars_of (entries_of area.now)) }
     {
-        let mut texts = Vec::new(alloc);
-        let mut at = 0;
-        'walk: loop {
-            match piece_end(area, at) {
-                None => return Ok(Variables { texts }),
-                Some(end) => {
-                    read_entry(alloc, &mut texts, &area[at..end])?;
-                    at = end + 1;
-                }
+        let area = copied(alloc, area)?;
+        let runs = loaded(alloc, &area)?;
+        Ok(Variables { area, runs })
+    }
+}
+
+// The variables of an area as places of it.
+fn loaded(alloc: Global, area: &[u8]) -> Result<Vec<Run>, AllocError>
+    requires { length area.now ≤ 1048576 }
+    ensures laid { IfOk result (λ runs. IsLaid area.now runs.items) }
+    ensures variables { IfOk result (λ runs.
+        env.from_sorted (listed area.now runs.items) ≡ vars_of (entries_of area.now)) }
+{
+    let mut runs = Vec::new(alloc);
+    let mut at = 0;
+    'walk: loop {
+        match piece_end(area, at) {
+            None => return Ok(runs),
+            Some(end) => {
+                read_entry(alloc, area, &mut runs, at, end)?;
+                at = end + 1;
             }
         }
     }
@@ -46,22 +59,34 @@ fn piece_end(area: &[u8], at: usize) -> Option<usize>
 }
 
 // The variables after one more entry.
-fn read_entry(alloc: Global, texts: &mut Vec<Text>, piece: &[u8]) -> Result<(), AllocError>
-    requires ordered { IsOrdered texts.old.items }
-    requires some { 0 < length piece.now }
-    requires whole { All (λ b. is_zero b ≡ false) piece.now }
-    ensures ordered { IsOrdered texts.new.items }
-    ensures ok { OnOk result (env.from_sorted texts.new.items
-        ≡ fold after_entry (env.from_sorted texts.old.items) (filter has_name (entry_of piece.now ∷ []))) }
+fn read_entry(
+    alloc: Global,
+    area: &[u8],
+    runs: &mut Vec<Run>,
+    start: usize,
+    end: usize,
+) -> Result<(), AllocError>
+    requires laid { IsLaid area.now runs.old.items }
+    requires piece { IsPiece area.now start end }
+    requires size { length area.now ≤ 1048576 }
+    ensures laid { IsLaid area.now runs.new.items }
+    ensures ok { OnOk result (env.from_sorted (listed area.now runs.new.items)
+        ≡ fold after_entry (env.from_sorted (listed area.now runs.old.items))
+        (filter has_name (entry_of (slice_range area.now start end) ∷ []))) }
 {
+    let piece = &area[start..end];
     match memchr(b'=', piece) {
-        None => forget(texts, piece),
+        None => forget(area, runs, piece),
         Some(0) => {}
-        Some(middle) if middle + 1 == piece.len() => forget(texts, &piece[..middle]),
-        Some(middle) => set(
-            texts,
-            Text::new(alloc, &piece[..middle], &piece[middle + 1..])?,
-        )?,
+        Some(length) if length + 1 == piece.len() => forget(area, runs, &piece[..length]),
+        Some(length) => {
+            let place = Place {
+                start: start as u32,
+                middle: (start + length) as u32,
+                end: end as u32,
+            };
+            set(alloc, area, runs, Slot::Placed(place))?;
+        }
     }
     Ok(())
 }

@@ -2,34 +2,46 @@
 ghost use Rattle.std.specs.Prelude.{◌≡◌, OnOk, OnErr};
 ghost use Rattle.std.specs.FinMap.Entries.{put, where_key};
 ghost use Rattle.envimg_core.specs.Environment.{bytes_cmp};
-ghost use Rattle.envvars_store.specs.Laying.{IsOrdered};
+ghost use Rattle.envvars_store.specs.Laying.{pair_of, IsPlaced};
 ghost use Rattle.envvars_store.specs.Order.{is_other};
+ghost use Rattle.envvars_store.specs.Runs.{listed, IsFormed, IsLaid};
 
-use crate::finding::locate;
-use crate::writing::Text;
-use std::alloc::AllocError;
+use crate::finding::{locate, locate_late};
+use crate::runs::{Run, insert_at, remove_at, replace_at};
+use crate::slots::Slot;
+use std::alloc::{AllocError, Global};
 
 /// Puts a variable in its place, over the one of its name.
-pub(crate) fn set(texts: &mut Vec<Text>, text: Text) -> Result<(), AllocError>
-    requires { IsOrdered texts.old.items }
-    ensures ordered { IsOrdered texts.new.items }
-    ensures ok { OnOk result (texts.new.items ≡ put bytes_cmp text.0 text.1 texts.old.items) }
-    ensures err { OnErr result (texts.new.items ≡ texts.old.items) }
+pub(crate) fn set(
+    alloc: Global,
+    area: &[u8],
+    runs: &mut Vec<Run>,
+    slot: Slot,
+) -> Result<(), AllocError>
+    requires laid { IsLaid area.now runs.old.items }
+    requires placed { IsPlaced area.now slot }
+    requires formed { IsFormed area.now slot }
+    ensures laid { IsLaid area.now runs.new.items }
+    ensures ok { OnOk result (listed area.now runs.new.items
+        ≡ put bytes_cmp (pair_of area.now slot).0 (pair_of area.now slot).1 (listed area.now runs.old.items)) }
+    ensures err { OnErr result (listed area.now runs.new.items ≡ listed area.now runs.old.items) }
 {
-    match locate(texts, text.name()) {
-        Ok(at) => texts[at] = text,
-        Err(at) => texts.insert(at, text)?,
+    match locate_late(area, runs, slot.name(area)) {
+        Ok(at) => replace_at(runs, at, slot),
+        Err(at) => insert_at(alloc, runs, at, slot)?,
     }
     Ok(())
 }
 
 /// Takes the variable of a name away, if there is one.
-pub(crate) fn forget(texts: &mut Vec<Text>, name: &[u8])
-    requires { IsOrdered texts.old.items }
-    ensures ordered { IsOrdered texts.new.items }
-    ensures gone { texts.new.items ≡ where_key bytes_cmp (is_other name.now) texts.old.items }
+pub(crate) fn forget(area: &[u8], runs: &mut Vec<Run>, name: &[u8])
+    requires { IsLaid area.now runs.old.items }
+    ensures laid { IsLaid area.now runs.new.items }
+    ensures gone { listed area.now runs.new.items
+        ≡ where_key bytes_cmp (is_other name.now) (listed area.now runs.old.items) }
 {
-    if let Ok(at) = locate(texts, name) {
-        let _ = texts.remove(at);
+    match locate(area, runs, name) {
+        Ok(at) => remove_at(runs, at),
+        Err(_) => {}
     }
 }

@@ -1,5 +1,5 @@
 // The variables in the order of their names.
-ghost use Rattle.std.specs.Prelude.{◌≡◌, ◌↔◌, map, All, IfOk, IsTrue, IsOk, IsSome, OnOk, OnErr, IfErr, option_map};
+ghost use Rattle.std.specs.Prelude.{◌≡◌, ◌↔◌, map, All, IsTrue, IsOk, IsSome, OnOk, OnErr, IfErr, IfSome, option_map};
 ghost use Rattle.std.specs.FinMap as env;
 ghost use Rattle.envimg_core.specs.Environment.{is_name, is_value};
 ghost use Rattle.envvars_store.specs.Variable.{IsVariable, joined};
@@ -7,29 +7,35 @@ ghost use Rattle.envvars_store.specs.Variable.{IsVariable, joined};
 use crate::finding::locate;
 use crate::iterating::{Iter, Lines};
 use crate::placing::{forget, set};
+use crate::runs::{Run, replace_at};
+use crate::slots::Slot;
 use crate::writing::Text;
 use std::alloc::{AllocError, Global};
 use std::marker::Model;
 
 /// The variables of an environment: a finite map from names to values.
+///
+/// One copy of the loaded area, which never changes, and the variables in the order of their names:
+/// each is a place of the area, or, once it was written, a text of its own.
 #[derive(Drop)]
 pub struct Variables {
-    pub(crate) texts: Vec<Text>,
+    pub(crate) area: Vec<u8>,
+    pub(crate) runs: Vec<Run>,
 }
 
 impl Model for Variables {
     ghost use Rattle.std.specs.FinMap as env;
     ghost use Rattle.std.specs.Coded.{coded_list, coded_ℕ};
     ghost use Rattle.envimg_core.specs.Environment.{Environment};
-    ghost use Rattle.envvars_store.specs.Laying.{IsOrdered};
+    ghost use Rattle.envvars_store.specs.Runs.{listed, IsLaid};
 
     ghost Value = { Environment };
 
     ghost coded = { env.code (coded_list coded_ℕ) (coded_list coded_ℕ) };
 
-    ghost view = { λ v. env.from_sorted v.texts.items };
+    ghost view = { λ v. env.from_sorted (listed v.area.items v.runs.items) };
 
-    ghost invariant = { λ v. IsOrdered v.texts.items };
+    ghost invariant = { λ v. IsLaid v.area.items v.runs.items };
 }
 
 impl Variables {
@@ -38,29 +44,20 @@ impl Variables {
         ensures { result ≡ env.empty }
     {
         Variables {
-            texts: Vec::new(alloc),
+            area: Vec::new(alloc),
+            runs: Vec::new(alloc),
         }
     }
 
     /// The value of a name, if it has one.
     pub fn get(&self, name: &[u8]) -> Option<&[u8]>
-        ensures { option_map (λ v. v.now) result ≡ env.get self.now name.now }
+        ensures value { option_map (λ v. v.now) result ≡ env.get self.now name.now }
+        ensures formed { IfSome result (λ v. IsVariable (name.now, v.now)) }
     {
-        match locate(&self.texts, name) {
-            Ok(at) => Some(self.texts[at].value()),
+        match locate(&self.area, &self.runs, name) {
+            Ok(at) => Some(self.runs[at.run][at.place].value(&self.area)),
             Err(_) => None,
         }
-    }
-
-    /// The same variables in memory of their own.
-    pub fn try_clone(&self, alloc: Global) -> Result<Variables, AllocError>
-        ensures { IfOk result (λ v. v ≡ self.now) }
-    {
-        let mut texts = Vec::new(alloc);
-        for text in &self.texts {
-            texts.push(text.try_clone(alloc)?)?;
-        }
-        Ok(Variables { texts })
     }
 
     /// Gives a name a value. The name is a name and the value a value (docs/images.md).
@@ -71,15 +68,16 @@ impl Variables {
         ensures ok { OnOk result (self.new ≡ env.insert self.old name.now value.now) }
         ensures err { OnErr result (self.new ≡ self.old) }
     {
-        let text = Text::new(*self.texts.allocator(), name, value)?;
-        set(&mut self.texts, text)
+        let alloc = *self.area.allocator();
+        let text = Text::new(alloc, name, value)?;
+        set(alloc, &self.area, &mut self.runs, Slot::Owned(text))
     }
 
     /// Takes the variable of a name away, if there is one. It takes no memory.
     pub fn remove(&mut self, name: &[u8])
         ensures { self.new ≡ env.remove self.old name.now }
     {
-        forget(&mut self.texts, name);
+        forget(&self.area, &mut self.runs, name);
     }
 
     /// Puts a variable in the place of the one that has its name, which takes no memory.
@@ -90,9 +88,9 @@ impl Variables {
         ensures err { OnErr result (self.new ≡ self.old) }
         ensures back { IfErr result (λ t. t ≡ text) }
     {
-        match locate(&self.texts, text.name()) {
+        match locate(&self.area, &self.runs, text.name()) {
             Ok(at) => {
-                self.texts[at] = text;
+                replace_at(&mut self.runs, at, Slot::Owned(text));
                 Ok(())
             }
             Err(_) => Err(text),
@@ -104,7 +102,7 @@ impl Variables {
         ensures entries { result ≡ env.entries self.now }
         ensures formed { All IsVariable (env.entries self.now) }
     {
-        Iter::new(&self.texts)
+        Iter::new(&self.area, &self.runs)
     }
 
     /// Each variable as one text `name=value`, in ascending order of the names' bytes.
@@ -112,6 +110,6 @@ impl Variables {
         ensures entries { result ≡ map joined (env.entries self.now) }
         ensures formed { All IsVariable (env.entries self.now) }
     {
-        Lines::new(&self.texts)
+        Lines::new(&self.area, &self.runs)
     }
 }

@@ -1,19 +1,23 @@
-use Rattle.std.proofs.Common.{◌∙◌}
-use Rattle.envvars_store.proofs.PlainLemmas.{found_as, gap_as, over_found, into_gap, ordered_over, ordered_into, ordered_same}
+use Rattle.std.proofs.Common.{refl}
+use Rattle.envvars_store.proofs.PlaceLemmas.{found_as, gap_as, written_over, written_into}
 use Rattle.envvars_store.proofs.placing.set.Goals as goal
 
-pub returns-in-Ok-clause-ordered : goal.returns-in-Ok-clause-ordered
-returns-in-Ok-clause-ordered c =
-    ordered_over c.args.text c.args.texts.now.items c.in-Ok.at c.requires c.name.ensures.form (found_as _ _ _ _ _ c.name.ensures.name c.deref.ensures.value c.in-Ok.ensures)
+pub returns-in-Ok-clause-laid : goal.returns-in-Ok-clause-laid
+returns-in-Ok-clause-laid c =
+    (written_over c.args.area.now c.args.runs.now.items c.replace_at.new.runs.items c.in-Ok.at c.args.slot c.requires.laid c.requires.placed c.requires.formed
+    (found_as _ _ _ _ _ _ c.in-Ok.at c.name.ensures refl c.deref.ensures.value c.in-Ok.ensures) c.replace_at.ensures.filled c.replace_at.ensures.slots).laid
 
 pub returns-in-Ok-clause-ok : goal.returns-in-Ok-clause-ok
 returns-in-Ok-clause-ok c =
-    over_found c.args.text c.args.texts.now.items c.in-Ok.at (found_as _ _ _ _ _ c.name.ensures.name c.deref.ensures.value c.in-Ok.ensures)
+    (written_over c.args.area.now c.args.runs.now.items c.replace_at.new.runs.items c.in-Ok.at c.args.slot c.requires.laid c.requires.placed c.requires.formed
+    (found_as _ _ _ _ _ _ c.in-Ok.at c.name.ensures refl c.deref.ensures.value c.in-Ok.ensures) c.replace_at.ensures.filled c.replace_at.ensures.slots).is_put
 
-pub returns-in_ok-insert-in-Err-clause-ordered : goal.returns-in_ok-insert-in-Err-clause-ordered
-returns-in_ok-insert-in-Err-clause-ordered c =
-    ordered_same _ _ c.in_ok-insert-in-Err.ensures.items (ordered_into c.args.text c.args.texts.now.items c.in-Err.at c.requires c.name.ensures.form (gap_as _ _ _ _ _ c.name.ensures.name c.deref.ensures.value c.in-Err.ensures))
+pub returns-in_ok-insert_at-in-Err-clause-laid : goal.returns-in_ok-insert_at-in-Err-clause-laid
+returns-in_ok-insert_at-in-Err-clause-laid c =
+    (written_into c.args.area.now c.args.runs.now.items c.insert_at.new.runs.items c.in-Err.at c.args.slot c.requires.laid c.requires.placed c.requires.formed
+    (gap_as _ _ _ _ _ _ c.in-Err.at c.name.ensures refl c.deref.ensures.value c.in-Err.ensures) c.in_ok-insert_at-in-Err.ensures.filled c.in_ok-insert_at-in-Err.ensures.ok).laid
 
-pub returns-in_ok-insert-in-Err-clause-ok : goal.returns-in_ok-insert-in-Err-clause-ok
-returns-in_ok-insert-in-Err-clause-ok c =
-    c.in_ok-insert-in-Err.ensures.items ∙ into_gap c.args.text c.args.texts.now.items c.in-Err.at (gap_as _ _ _ _ _ c.name.ensures.name c.deref.ensures.value c.in-Err.ensures)
+pub returns-in_ok-insert_at-in-Err-clause-ok : goal.returns-in_ok-insert_at-in-Err-clause-ok
+returns-in_ok-insert_at-in-Err-clause-ok c =
+    (written_into c.args.area.now c.args.runs.now.items c.insert_at.new.runs.items c.in-Err.at c.args.slot c.requires.laid c.requires.placed c.requires.formed
+    (gap_as _ _ _ _ _ _ c.in-Err.at c.name.ensures refl c.deref.ensures.value c.in-Err.ensures) c.in_ok-insert_at-in-Err.ensures.filled c.in_ok-insert_at-in-Err.ensures.ok).is_put

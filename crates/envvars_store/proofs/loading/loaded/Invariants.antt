@@ -1,16 +1,16 @@
 use Rattle.std.proofs.Common.{◌≡◌, ◌≤◌, ◌-◌, length, fold, drop}
 use Rattle.std.specs.FinMap as env
 use Rattle.envimg_core.specs.Pieces.{entries_of, vars_of, after_entry}
-use Rattle.envvars_store.specs.Laying.{IsOrdered}
-use Rattle.envvars_store.proofs.storing.Variables.load.Given as goal
+use Rattle.envvars_store.specs.Runs.{listed, IsLaid}
+use Rattle.envvars_store.proofs.loading.loaded.Given as goal
 
 -- the entries that are left make of these variables those of the area
 abbrev pub invariant-walk : goal.invariant-walk
 invariant-walk l =
     record {
       within : l.at ≤ length l.area;
-      ordered : IsOrdered l.texts.items;
-      left : fold after_entry (env.from_sorted l.texts.items) (entries_of (drop l.at l.area)) ≡ vars_of (entries_of l.area);
+      laid : IsLaid l.area l.runs.items;
+      left : fold after_entry (env.from_sorted (listed l.area l.runs.items)) (entries_of (drop l.at l.area)) ≡ vars_of (entries_of l.area);
     }
 
 abbrev pub decreases-walk : goal.decreases-walk

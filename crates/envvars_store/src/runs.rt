@@ -1,0 +1,127 @@
+// Slots in runs of a bounded length, so that a write moves one run at most.
+ghost use Rattle.std.specs.Prelude.{◌≡◌, ◌+◌, ◌<◌, ◌≤◌, suc, [], ◌∷◌, ◌++◌, length, All, IfOk, OnOk, OnErr};
+ghost use Rattle.envvars_store.specs.Runs.{flat, front, rest, later, slots_at, IsFilled};
+
+use crate::slots::Slot;
+use std::alloc::{AllocError, Global};
+
+/// A run of slots, at most `MOST` of them.
+pub(crate) type Run = Vec<Slot>;
+
+/// The most slots that a run has. A write moves at most so many.
+const MOST: usize = 512;
+
+/// Where a slot stands: the number of its run, and its place in the run.
+#[derive(Clone, Copy)]
+pub(crate) struct Spot {
+    pub(crate) run: usize,
+    pub(crate) place: usize,
+}
+
+/// Puts a slot in front of the one at a spot.
+pub(crate) fn insert_at(
+    alloc: Global,
+    runs: &mut Vec<Run>,
+    at: Spot,
+    slot: Slot,
+) -> Result<(), AllocError>
+    requires place { at.place ≤ length (slots_at runs.old.items at.run) }
+    requires filled { All IsFilled runs.old.items }
+    ensures ok { OnOk result (flat runs.new.items ≡ front runs.old.items at ++ slot ∷ rest runs.old.items at) }
+    ensures err { OnErr result (flat runs.new.items ≡ flat runs.old.items) }
+    ensures filled { All IsFilled runs.new.items }
+{
+    if at.run >= runs.len() {
+        let run = run_of_one(alloc, slot)?;
+        runs.push(run)?;
+        return Ok(());
+    }
+    let length = runs[at.run].len();
+    if length < MOST {
+        return insert_in(runs, at, slot);
+    }
+    if at.place == length {
+        let run = run_of_one(alloc, slot)?;
+        runs.insert(at.run + 1, run)?;
+        return Ok(());
+    }
+    let at = divide(runs, at)?;
+    insert_in(runs, at, slot)
+}
+
+// Puts a slot into a run that is there.
+fn insert_in(runs: &mut Vec<Run>, at: Spot, slot: Slot) -> Result<(), AllocError>
+    requires run { at.run < length runs.old.items }
+    requires place { at.place ≤ length (slots_at runs.old.items at.run) }
+    requires filled { All IsFilled runs.old.items }
+    ensures ok { OnOk result (flat runs.new.items ≡ front runs.old.items at ++ slot ∷ rest runs.old.items at) }
+    ensures err { OnErr result (flat runs.new.items ≡ flat runs.old.items) }
+    ensures filled { All IsFilled runs.new.items }
+{
+    runs[at.run].insert(at.place, slot)?;
+    Ok(())
+}
+
+// A new run, with room for all that it may get.
+fn run_of_one(alloc: Global, slot: Slot) -> Result<Run, AllocError>
+    ensures { IfOk result (λ r. r.items ≡ slot ∷ []) }
+{
+    let mut run = Vec::with_capacity(alloc, MOST)?;
+    run.push(slot)?;
+    Ok(run)
+}
+
+// Cuts a run in two halves, and answers where the spot is now.
+fn divide(runs: &mut Vec<Run>, at: Spot) -> Result<Spot, AllocError>
+    requires run { at.run < length runs.old.items }
+    requires place { at.place ≤ length (slots_at runs.old.items at.run) }
+    requires long { 1 < length (slots_at runs.old.items at.run) }
+    requires filled { All IsFilled runs.old.items }
+    ensures front { IfOk result (λ s. front runs.new.items s ≡ front runs.old.items at) }
+    ensures rest { IfOk result (λ s. rest runs.new.items s ≡ rest runs.old.items at) }
+    ensures run { IfOk result (λ s. s.run < length runs.new.items) }
+    ensures place { IfOk result (λ s. s.place ≤ length (slots_at runs.new.items s.run)) }
+    ensures slots { flat runs.new.items ≡ flat runs.old.items }
+    ensures filled { All IsFilled runs.new.items }
+{
+    runs.reserve(1)?;
+    let half = runs[at.run].len() / 2;
+    let upper = runs[at.run].split_off(half)?;
+    let Ok(()) = runs.insert(at.run + 1, upper) else {
+        unreachable!()
+    };
+    if at.place <= half {
+        Ok(at)
+    } else {
+        Ok(Spot {
+            run: at.run + 1,
+            place: at.place - half,
+        })
+    }
+}
+
+/// Puts a slot in the place of another.
+pub(crate) fn replace_at(runs: &mut Vec<Run>, at: Spot, slot: Slot)
+    requires run { at.run < length runs.old.items }
+    requires place { at.place < length (slots_at runs.old.items at.run) }
+    requires filled { All IsFilled runs.old.items }
+    ensures slots { flat runs.new.items ≡ front runs.old.items at ++ slot ∷ later runs.old.items at }
+    ensures filled { All IsFilled runs.new.items }
+{
+    let run = &mut runs[at.run];
+    run[at.place] = slot;
+}
+
+/// Takes a slot out. It takes no memory.
+pub(crate) fn remove_at(runs: &mut Vec<Run>, at: Spot)
+    requires run { at.run < length runs.old.items }
+    requires place { at.place < length (slots_at runs.old.items at.run) }
+    requires filled { All IsFilled runs.old.items }
+    ensures slots { flat runs.new.items ≡ front runs.old.items at ++ later runs.old.items at }
+    ensures filled { All IsFilled runs.new.items }
+{
+    let _slot = runs[at.run].remove(at.place);
+    if runs[at.run].is_empty() {
+        let _run = runs.remove(at.run);
+    }
+}
