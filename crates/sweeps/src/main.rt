@@ -7,9 +7,11 @@
 
 mod lines;
 mod showing;
+mod texts;
 
 use std::io;
 
 fn main(rt: HostRuntime) -> io::Result<()> {
-    showing::sweep(rt.alloc(), &mut rt.stdout())
+    showing::sweep(rt.alloc(), &mut rt.stdout())?;
+    texts::sweep(rt.alloc(), &mut rt.stdout())
 }
