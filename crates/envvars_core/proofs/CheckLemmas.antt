@@ -7,7 +7,7 @@ use Rattle.std.specs.FinMap as env
 use Rattle.envimg_core.specs.Environment.{Environment, is_name, is_value, used}
 use Rattle.envimg_core.specs.Pieces.{with_value}
 use Rattle.envvars_core.specs.Attributes.{attributes}
-use Rattle.envvars_core.specs.Refusals.{given, holds_no_zero, has_type_if_some, is_value_of, access_refusal, after, first_refusal, forbidden, full, refusal, answer_of}
+use Rattle.envvars_core.specs.Refusals.{given, holds_no_zero, has_type_if_some, is_value_of, access_refusal, after, first_refusal, forbidden, full, refusal, answer_of, IsAccepted}
 use Rattle.envvars_core.proofs.SizeLemmas.{used-remove}
 use Rattle.envvars_core.specs.declared.attributes.Access.{Access}
 use Rattle.envvars_core.specs.declared.attributes.Access.TheVariants.{Any, ReadOnly, WriteOnce, ChangeDefault}
@@ -91,12 +91,6 @@ full_none room m e =
 none_is : (o : Option (List ℕ)) → is_none o ≡ true → o ≡ None
 none_is None e = refl
 none_is (Some v) e = cc
-
--- what a write without a refusal has
-pub record IsAccepted (m : Environment) (room : ℕ) (n : List ℕ) (new : Option (List ℕ)) : Type 0 where
-  pub named : IsTrue (is_name n)
-  pub valued : IfSome (given new) (λ v. IsTrue (is_value v))
-  pub fits : used (after m n new) ≤ room
 
 valued_from : (new : Option (List ℕ)) → holds_no_zero new ≡ true → IfSome (given new) (λ v. IsTrue (is_value v))
 valued_from None e = tt

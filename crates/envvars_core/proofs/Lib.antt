@@ -1,4 +1,5 @@
 mod CheckLemmas
 mod FlagLemmas
 mod KeptLemmas
+mod Rows
 mod SizeLemmas

@@ -1,10 +1,10 @@
 -- Which writes are refused, and what an accepted one leaves (docs/variables.md, "The checks of a write").
-use Rattle.std.specs.Prelude.{ℕ, ◌&&◌, Bool, true, false, not, List, Option, Some, None, Result, Ok, Err, is_none, nat_lt, if◌then◌else◌}
+use Rattle.std.specs.Prelude.{ℕ, ◌≤◌, IfSome, IsTrue, ◌&&◌, Bool, true, false, not, List, Option, Some, None, Result, Ok, Err, is_none, nat_lt, if◌then◌else◌}
 use Rattle.std.specs.List.{list_any}
 use Rattle.std.specs.Option.{option_and_then, option_or}
 use Rattle.std.specs.Str.{bytes_eq}
 use Rattle.std.specs.FinMap.{get}
-use Rattle.envimg_core.specs.Environment.{Environment, used, is_name, is_zero}
+use Rattle.envimg_core.specs.Environment.{Environment, used, is_name, is_value, is_zero}
 use Rattle.envimg_core.specs.Pieces.{value_of, with_value}
 use Rattle.envvars_core.specs.Types.{has_type}
 use Rattle.envvars_core.specs.Attributes.{attributes}
@@ -78,3 +78,9 @@ refusal env defaults room n new force =
 abbrev pub answer_of : Option Refusal → Result (Unit {0}) Refusal
 answer_of None = Ok tt
 answer_of (Some r) = Err r
+
+-- what a write without a refusal has: name and value have their forms, and the room holds what it leaves
+pub record IsAccepted (env : Environment) (room : ℕ) (n : List ℕ) (new : Option (List ℕ)) : Type 0 where
+  pub named : IsTrue (is_name n)
+  pub valued : IfSome (given new) (λ v. IsTrue (is_value v))
+  pub fits : used (after env n new) ≤ room

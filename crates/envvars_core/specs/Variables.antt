@@ -1,8 +1,8 @@
 -- Variables as callers see them: an environment, and the room of its data area.
-use Rattle.std.specs.Prelude.{◌≡◌, ℕ, ◌≤◌, List, Option, Some, None, option_map, refl}
+use Rattle.std.specs.Prelude.{◌≡◌, ℕ, ◌≤◌, List, Option, Some, None, IfSome, IsTrue, option_map, refl}
 use Rattle.std.specs.Coded.{Coded, code_by, coded×, coded_ℕ, coded_list}
 use Rattle.std.specs.FinMap as finite
-use Rattle.envimg_core.specs.Environment.{Environment, pair_size, used}
+use Rattle.envimg_core.specs.Environment.{Environment, is_name, is_value, pair_size, used}
 use Rattle.envvars_core.specs.Attributes.{Item, attr_among, attributes}
 use Rattle.envvars_core.specs.declared.variables.writing.Was.{Was}
 
@@ -28,3 +28,7 @@ pub record IsKept (env : Environment) (flags : List Item) (size room : ℕ) : Ty
 -- a name, and the value that it had or none
 abbrev pub IsWas : Was → List ℕ → Option (List ℕ) → Type 0
 IsWas was n before = (was.name.items ≡ n) × (option_map (λ v. v.items) was.before ≡ before)
+
+-- the name is a name, and the value, where there was one, a value
+abbrev pub IsFormed : Was → Type 0
+IsFormed was = IsTrue (is_name was.name.items) × IfSome (option_map (λ v. v.items) was.before) (λ v. IsTrue (is_value v))

@@ -1,6 +1,6 @@
 //! The variables, with what is kept beside them: their size and the attributes that `.flags` gives.
 
-ghost use Rattle.std.specs.Prelude.{◌≡◌, ◌<◌, ◌≤◌, ◌^◌, ℕ, All, IfOk, IsTrue, SomeIff, option_copied, length, map};
+ghost use Rattle.std.specs.Prelude.{◌≡◌, ◌<◌, ◌≤◌, ◌^◌, ℕ, All, IfOk, IfSome, IsTrue, SomeIff, option_copied, length, map};
 ghost use Rattle.std.specs.FinMap as env;
 ghost use Rattle.envimg_core.specs.Environment.{used};
 ghost use Rattle.envimg_core.specs.Pieces.{entries_of, vars_of, is_terminated, with_value};
@@ -107,7 +107,8 @@ impl Vars {
 
     /// The value of a name, if it has one.
     pub fn get(&self, name: &[u8]) -> Option<&[u8]>
-        ensures { option_copied result ≡ env.get self.now.env name.now }
+        ensures value { option_copied result ≡ env.get self.now.env name.now }
+        ensures formed { IfSome result (λ v. IsVariable (name.now, v.now)) }
     {
         self.variables.get(name)
     }
@@ -150,23 +151,26 @@ impl Vars {
         self.variables.lines()
     }
 
-    /// The bytes that the variables take without that of a name.
-    fn used_without(&self, name: &[u8]) -> u32
+    /// The bytes that the variables take without that of a name, whose value is `old`.
+    fn used_without(&self, name: &[u8], old: Option<&[u8]>) -> u32
+        requires { option_copied old ≡ env.get self.now.env name.now }
         ensures without { result ≡ used (env.remove self.now.env name.now) }
         ensures within { result ≤ self.now.room }
     {
-        match self.variables.get(name) {
+        match old {
             Some(value) => self.used - (name.len() + value.len() + 2) as u32,
             None => self.used,
         }
     }
 
-    /// The bytes that the variables take after a write, where the room holds them.
-    pub(crate) fn used_after(&self, name: &[u8], new: Option<&[u8]>) -> Option<u32>
+    /// The bytes that the variables take once a name whose value is `old` has a new value or none,
+    /// where the room holds them.
+    fn used_after(&self, name: &[u8], old: Option<&[u8]>, new: Option<&[u8]>) -> Option<u32>
+        requires { option_copied old ≡ env.get self.now.env name.now }
         ensures { SomeIff result (used (with_value self.now.env name.now (option_copied new.entry)) ≤ self.now.room)
             (used (with_value self.now.env name.now (option_copied new.entry))) }
     {
-        let others = self.used_without(name);
+        let others = self.used_without(name, old);
         match new {
             Some(value) => size_with(others, self.room, name, value),
             None => Some(others),

@@ -6,8 +6,8 @@ ghost use Rattle.std.specs.FinMap as env;
 ghost use Rattle.envimg_core.specs.Environment.{used, is_name, is_value};
 ghost use Rattle.envimg_core.specs.Pieces.{with_value};
 ghost use Rattle.envvars_core.specs.Attributes.{flags_name};
-ghost use Rattle.envvars_core.specs.Refusals.{given, after, refusal, full, answer_of};
-ghost use Rattle.envvars_core.specs.Variables.{IsWas};
+ghost use Rattle.envvars_core.specs.Refusals.{given, after, refusal, full, answer_of, IsAccepted};
+ghost use Rattle.envvars_core.specs.Variables.{IsWas, IsFormed};
 
 use super::Vars;
 use crate::checks::{forbidden, given, has_form, has_type, is_nothing};
@@ -23,6 +23,18 @@ pub struct Was {
     pub name: Vec<u8>,
     /// Its value before the write, if it had one.
     pub before: Option<Vec<u8>>,
+}
+
+impl Was {
+    /// The value before the write.
+    pub(crate) fn value(&self) -> Option<&[u8]>
+        ensures { option_copied result ≡ option_map (λ v. v.items) self.now.before }
+    {
+        match &self.before {
+            Some(value) => Some(value),
+            None => None,
+        }
+    }
 }
 
 fn copied(alloc: Global, value: Option<&[u8]>) -> Result<Option<Vec<u8>>, AllocError>
@@ -41,15 +53,6 @@ fn text_of(value: Option<&[u8]>) -> &[u8]
     match value {
         Some(value) => value,
         None => &[],
-    }
-}
-
-fn value_before(was: &Was) -> Option<&[u8]>
-    ensures { option_copied result ≡ option_map (λ v. v.items) was.now.before }
-{
-    match &was.before {
-        Some(value) => Some(value),
-        None => None,
     }
 }
 
@@ -79,10 +82,11 @@ fn change(variables: &mut Variables, name: &[u8], value: Option<&[u8]>) -> Resul
 
 impl Vars {
     /// What the size that a write would leave refuses.
-    fn size_refusal(&self, name: &[u8], value: Option<&[u8]>) -> Option<Refusal>
+    fn size_refusal(&self, name: &[u8], old: Option<&[u8]>, value: Option<&[u8]>) -> Option<Refusal>
+        requires { option_copied old ≡ env.get self.now.env name.now }
         ensures { result ≡ full self.now.room (with_value self.now.env name.now (option_copied value.entry)) }
     {
-        match self.used_after(name, value) {
+        match self.used_after(name, old, value) {
             Some(_) => None,
             None => Some(Refusal::Full),
         }
@@ -114,7 +118,7 @@ impl Vars {
         let default = defaults.get(name);
         match forbidden(force, attr.access, old, default, value) {
             Some(refusal) => Some(refusal),
-            None => self.size_refusal(name, value),
+            None => self.size_refusal(name, old, value),
         }
     }
 
@@ -132,7 +136,9 @@ impl Vars {
         ensures refusal { result
             ≡ answer_of (refusal self.now.env defaults.now.env self.now.room name.now (option_copied new.entry) force) }
         ensures never_memory { result ≢ Err Refusal.Memory }
+        ensures accepted { OnOk result (IsAccepted self.now.env self.now.room name.now (option_copied new.entry)) }
     {
+        prove!(self.used <= self.room);
         match self.find_refusal(name, new, force, defaults) {
             Some(refusal) => Err(refusal),
             None => Ok(()),
@@ -171,16 +177,16 @@ impl Vars {
         Ok(())
     }
 
-    /// Gives a name a value or takes its variable away. Nothing has changed where it is refused.
-    fn set(&mut self, name: &[u8], value: Option<&[u8]>) -> Result<(), Memory>
+    /// Gives a name a value or takes its variable away, which leaves this size.
+    fn set(&mut self, name: &[u8], value: Option<&[u8]>, size: u32) -> Result<(), Memory>
         requires name_form { IsTrue (is_name name.now) }
         requires value_form { IfSome (option_copied value) (λ v. IsTrue (is_value v)) }
-        requires fits { used (with_value self.old.env name.now (option_copied value)) ≤ self.old.room }
+        requires sized { size ≡ used (with_value self.old.env name.now (option_copied value)) }
+        requires fits { size ≤ self.old.room }
         ensures ok { OnOk result (self.new
             ≡ record self.old { env = with_value self.old.env name.now (option_copied value.entry) }) }
         ensures err { OnErr result (self.new ≡ self.old) }
     {
-        let size = self.used_after(name, value).unwrap();
         if name == FLAGS_NAME {
             self.set_flags(value, size)
         } else {
@@ -196,10 +202,13 @@ impl Vars {
         ensures ok { OnOk result (self.new
             ≡ record self.old { env = with_value self.old.env name.now (option_copied value.entry) }) }
         ensures was { IfOk result (λ was. IsWas was name.now (env.get self.old.env name.now)) }
+        ensures formed { IfOk result IsFormed }
         ensures err { OnErr result (self.new ≡ self.old) }
     {
-        let was = make_was(self.alloc, name, self.variables.get(name))?;
-        self.set(name, value)?;
+        let old = self.get(name);
+        let size = self.used_after(name, old, value).unwrap();
+        let was = make_was(self.alloc, name, old)?;
+        self.set(name, value, size)?;
         Ok(was)
     }
 
@@ -224,10 +233,10 @@ impl Vars {
         ensures written { OnOk result
             (self.new ≡ record self.old { env = after self.old.env name.now (option_copied new.entry) }) }
         ensures was { IfOk result (λ was. IsWas was name.now (env.get self.old.env name.now)) }
+        ensures formed { IfOk result IsFormed }
         ensures unchanged { OnErr result (self.new ≡ self.old) }
     {
         self.check(name, new, force, defaults)?;
-        prove!(self.used <= self.room);
         Ok(self.replace(name, given(new))?)
     }
 
@@ -235,8 +244,7 @@ impl Vars {
     /// Types and access are not checked; the room holds what that leaves. Where memory runs out,
     /// nothing has changed and the `Was` comes back.
     pub fn put_back(&mut self, was: Was) -> Result<(), (Was, Memory)>
-        requires name_form { IsTrue (is_name was.name.items) }
-        requires value_form { IfSome (option_map (λ v. v.items) was.before) (λ v. IsTrue (is_value v)) }
+        requires formed { IsFormed was }
         requires fits { used (with_value self.old.env was.name.items (option_map (λ v. v.items) was.before))
             ≤ self.old.room }
         ensures put_back { OnOk result (self.new
@@ -244,7 +252,10 @@ impl Vars {
         ensures handed_back { IfErr result (λ e. e.0 ≡ was) }
         ensures unchanged { OnErr result (self.new ≡ self.old) }
     {
-        match self.set(&was.name, value_before(&was)) {
+        let before = was.value();
+        let old = self.get(&was.name);
+        let size = self.used_after(&was.name, old, before).unwrap();
+        match self.set(&was.name, before, size) {
             Ok(()) => Ok(()),
             Err(memory) => Err((was, memory)),
         }

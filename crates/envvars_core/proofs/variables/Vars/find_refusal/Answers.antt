@@ -13,14 +13,14 @@ pub returns-then-is_nothing : goal.returns-then-is_nothing
 returns-then-is_nothing c =
     refusal_is c.args.self.now.env c.args.defaults.now.env c.args.self.now.room c.args.name.now (option_copied c.args.new) c.args.force true true _ _ _
     (sym c.if-not-has_form.false ∙ c.has_form.ensures)
-    (sym c.if-is_nothing.true ∙ c.is_nothing.ensures ∙ (λ i. is_none (c.get-old.ensures i) && is_none (c.given-value.ensures i)))
+    (sym c.if-is_nothing.true ∙ c.is_nothing.ensures ∙ (λ i. is_none (c.get-old.ensures.value i) && is_none (c.given-value.ensures i)))
     refl refl refl
 
 pub returns-then-not-has_type : goal.returns-then-not-has_type
 returns-then-not-has_type c =
     refusal_is c.args.self.now.env c.args.defaults.now.env c.args.self.now.room c.args.name.now (option_copied c.args.new) c.args.force true false false _ _
     (sym c.if-not-has_form.false ∙ c.has_form.ensures)
-    (sym c.if-is_nothing.false ∙ c.is_nothing.ensures ∙ (λ i. is_none (c.get-old.ensures i) && is_none (c.given-value.ensures i)))
+    (sym c.if-is_nothing.false ∙ c.is_nothing.ensures ∙ (λ i. is_none (c.get-old.ensures.value i) && is_none (c.given-value.ensures i)))
     (sym c.if-not-has_type.true ∙ c.has_type.ensures ∙ (λ i. has_type_if_some (c.attributes-attr.ensures i).kind (c.given-value.ensures i)))
     refl refl
 
@@ -28,16 +28,16 @@ pub returns-in-Some : goal.returns-in-Some
 returns-in-Some c =
     refusal_is c.args.self.now.env c.args.defaults.now.env c.args.self.now.room c.args.name.now (option_copied c.args.new) c.args.force true false true (Some c.in-Some.refusal) _
     (sym c.if-not-has_form.false ∙ c.has_form.ensures)
-    (sym c.if-is_nothing.false ∙ c.is_nothing.ensures ∙ (λ i. is_none (c.get-old.ensures i) && is_none (c.given-value.ensures i)))
+    (sym c.if-is_nothing.false ∙ c.is_nothing.ensures ∙ (λ i. is_none (c.get-old.ensures.value i) && is_none (c.given-value.ensures i)))
     (sym c.if-not-has_type.false ∙ c.has_type.ensures ∙ (λ i. has_type_if_some (c.attributes-attr.ensures i).kind (c.given-value.ensures i)))
-    (c.in-Some.ensures ∙ (λ i. forbidden c.args.force (c.attributes-attr.ensures i).access (c.get-old.ensures i) (c.get-default.ensures i) (c.given-value.ensures i)))
+    (c.in-Some.ensures ∙ (λ i. forbidden c.args.force (c.attributes-attr.ensures i).access (c.get-old.ensures.value i) (c.get-default.ensures.value i) (c.given-value.ensures i)))
     refl
 
 pub returns-in-None : goal.returns-in-None
 returns-in-None c =
     refusal_is c.args.self.now.env c.args.defaults.now.env c.args.self.now.room c.args.name.now (option_copied c.args.new) c.args.force true false true None c.size_refusal.result
     (sym c.if-not-has_form.false ∙ c.has_form.ensures)
-    (sym c.if-is_nothing.false ∙ c.is_nothing.ensures ∙ (λ i. is_none (c.get-old.ensures i) && is_none (c.given-value.ensures i)))
+    (sym c.if-is_nothing.false ∙ c.is_nothing.ensures ∙ (λ i. is_none (c.get-old.ensures.value i) && is_none (c.given-value.ensures i)))
     (sym c.if-not-has_type.false ∙ c.has_type.ensures ∙ (λ i. has_type_if_some (c.attributes-attr.ensures i).kind (c.given-value.ensures i)))
-    (c.in-None.ensures ∙ (λ i. forbidden c.args.force (c.attributes-attr.ensures i).access (c.get-old.ensures i) (c.get-default.ensures i) (c.given-value.ensures i)))
+    (c.in-None.ensures ∙ (λ i. forbidden c.args.force (c.attributes-attr.ensures i).access (c.get-old.ensures.value i) (c.get-default.ensures.value i) (c.given-value.ensures i)))
     (c.size_refusal.ensures ∙ ap (λ v. full c.args.self.now.room (with_value c.args.self.now.env c.args.name.now v)) c.given-value.ensures)
