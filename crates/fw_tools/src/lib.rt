@@ -7,6 +7,8 @@ mod messages;
 mod running;
 mod showing;
 mod streams;
+#[cfg(test)]
+mod tests;
 
 pub use ending::{StreamFault, ToolEnd};
 pub use running::{program, words_failed};
