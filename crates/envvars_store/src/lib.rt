@@ -9,6 +9,8 @@ mod placing;
 mod runs;
 mod slots;
 mod storing;
+#[cfg(test)]
+mod tests;
 mod writing;
 
 pub use iterating::{Iter, Lines};

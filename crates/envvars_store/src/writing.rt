@@ -63,7 +63,7 @@ impl Text {
         ensures line { result.now ≡ joined self.now }
         ensures form { IsVariable self.now }
     {
-        &self.bytes
+        self.bytes.as_slice()
     }
 
     /// The same variable in memory of its own.
