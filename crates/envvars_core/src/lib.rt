@@ -14,3 +14,6 @@ pub use envvars_store::{Iter, Lines};
 pub use refusals::{Memory, Refusal};
 pub use types::Kind;
 pub use variables::{Vars, Was};
+
+#[cfg(test)]
+mod tests;
