@@ -1,0 +1,64 @@
+# What the measurements share; they read it with `source`. Sets top, the repository, and work, a folder for what they make.
+set -euo pipefail
+top=$(cd "$(dirname "${BASH_SOURCE[0]}")/.." && pwd)
+work=${TMPDIR:-/tmp}/fwenv-bench-$(id -u)
+mkdir -p "$work"
+
+# need COMMAND [PACKAGE]: stops where a command is missing, and says which Debian package has it.
+need() {
+    if ! command -v "$1" >/dev/null; then
+        echo "$(basename "$0"): $1 is missing${2:+ (Debian: apt-get install $2)}" >&2
+        exit 1
+    fi
+}
+
+# compiled NAME [WORDS]: the program that bench/NAME.c makes, compiled where it is missing or old.
+compiled() {
+    local program=$work/$1
+    if [ ! "$program" -nt "$top/bench/$1.c" ]; then
+        gcc -O2 -Wall -o "$program" "$top/bench/$1.c" "${@:2}" >&2
+    fi
+    echo "$program"
+}
+
+# counted COMMAND [WORDS]: the instructions of a command, nothing where LIMIT seconds (600) don't suffice; its output goes
+# to $work/output, its profile to $work/profile.
+counted() {
+    timeout "${LIMIT:-600}" valgrind --tool=callgrind --callgrind-out-file="$work/profile" "$@" 2>&1 >"$work/output" |
+        sed -n 's/.*Collected : *//p' || true
+}
+
+# in_millions NUMBER
+in_millions() {
+    awk -v n="$1" 'BEGIN { printf "%.2f", n / 1e6 }'
+}
+
+# workspace NAME CRATE..: a repository of its own with the crate NAME, which stands on these crates and whose files the
+# caller writes into $space/crates/NAME, and with copies of those that are ours. Proofs made before are taken over.
+workspace() {
+    local name=$1 crate
+    shift
+    space=$work/$name
+    mkdir -p "$space/crates/$name/src"
+    : >"$space/crates.txt"
+    for crate; do
+        [ -d "$top/crates/$crate" ] || continue
+        mkdir -p "$space/crates/$crate"
+        [ -d "$space/crates/$crate/out" ] || [ ! -d "$top/crates/$crate/out" ] ||
+            cp -a "$top/crates/$crate/out" "$space/crates/$crate/"
+        rm -rf "$space/crates/$crate"/{src,specs,proofs}
+        cp -a "$top/crates/$crate"/{src,specs,proofs} "$space/crates/$crate/"
+        grep "^$crate:" "$top/crates.txt" >>"$space/crates.txt"
+    done
+    echo "$name: $*" >>"$space/crates.txt"
+}
+
+# built NAME: builds the crate NAME of the workspace and prints its program's path; what the build says goes to a log.
+built() {
+    echo "$(basename "$0"): proving and building the program that measures (minutes the first time) .." >&2
+    if ! (cd "$space/crates/$1" && ${RT:-rt} run </dev/null) >"$work/$1.log" 2>&1; then
+        tail -n 40 "$work/$1.log" >&2
+        exit 1
+    fi
+    echo "$space/crates/$1/out/$1"
+}
