@@ -24,8 +24,10 @@ compiled() {
 # counted COMMAND [WORDS]: the instructions of a command, nothing where LIMIT seconds (600) don't suffice; its output goes
 # to $work/output, its profile to $work/profile.
 counted() {
-    timeout "${LIMIT:-600}" valgrind --tool=callgrind --callgrind-out-file="$work/profile" "$@" 2>&1 >"$work/output" |
-        sed -n 's/.*Collected : *//p' || true
+    local status=0
+    timeout "${LIMIT:-600}" valgrind --tool=callgrind --callgrind-out-file="$work/profile" "$@" \
+        >"$work/output" 2>"$work/counted" || status=$?
+    if [ "$status" != 124 ]; then sed -n 's/.*Collected : *//p' "$work/counted"; fi
 }
 
 # in_millions NUMBER
