@@ -11,3 +11,4 @@ pub mod Inners
 pub mod QuoteLemmas
 pub mod WordLemmas
 pub mod TextLemmas
+pub mod FormLemmas

@@ -44,7 +44,7 @@ first-cut test (b ∷ bs) (suc n) before here within =
     let rest = first-cut test bs n (λ k lt. before (suc k) (omega arith)) (λ lt. here (omega arith)) (omega arith) in
     (rw e (ap (λ (l : List ℕ). b ∷ l) rest.0), rw e rest.1)
 
-range-rest : (n : ℕ) (xs : List ℕ) → take (length xs - n) (drop n xs) ≡ drop n xs
+pub range-rest : {X : Type 0} (n : ℕ) (xs : List X) → take (length xs - n) (drop n xs) ≡ drop n xs
 range-rest n xs = take_all (length xs - n) (drop n xs) (omega (arith, length-drop n xs))
 
 found-first : (byte : ℕ) (ys : List ℕ) (n : ℕ) → IsFirstByte (is_byte byte) ys (Some n) →

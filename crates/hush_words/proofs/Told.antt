@@ -15,10 +15,10 @@ plain-here [] [] e = refl
 plain-here [] (a ∷ atoms) e = absurd (both_ways false refl e)
 plain-here (t ∷ text) [] e = absurd (both_ways false refl e)
 plain-here (t ∷ text) (Plain b ∷ atoms) e =
-    let p = and_parts (t == b) (is_plain text atoms) e in
-    let same : t ≡ b = eqb-true t b p.0 in
+    let p = and_parts (b == t) (is_plain text atoms) e in
+    let same : b ≡ t = eqb-true b t p.0 in
     let rest : atoms ≡ map Plain text = plain-here text atoms p.1 in
-    ap (λ k. Plain k ∷ atoms) (sym same) ∙ ap (λ l. Plain t ∷ l) rest
+    ap (λ k. Plain k ∷ atoms) same ∙ ap (λ l. Plain t ∷ l) rest
 plain-here (t ∷ text) (Quoted b ∷ atoms) e = absurd (both_ways false refl e)
 plain-here (t ∷ text) (Mark ∷ atoms) e = absurd (both_ways false refl e)
 plain-here (t ∷ text) (Value n q ∷ atoms) e = absurd (both_ways false refl e)

@@ -22,7 +22,7 @@ unfoldable pub is_plain : (text : List ℕ) → List Atom → Bool
 is_plain [] [] = true
 is_plain [] (a ∷ atoms) = false
 is_plain (t ∷ text) [] = false
-is_plain (t ∷ text) (Plain b ∷ atoms) = t == b && is_plain text atoms
+is_plain (t ∷ text) (Plain b ∷ atoms) = b == t && is_plain text atoms
 is_plain (t ∷ text) (Quoted b ∷ atoms) = false
 is_plain (t ∷ text) (Mark ∷ atoms) = false
 is_plain (t ∷ text) (Value n q ∷ atoms) = false
@@ -63,3 +63,7 @@ assignment_from begun (Status q ∷ atoms) = None
 -- the name and the value that a word assigns, if it has that form
 unfoldable pub assignment_of : List Atom → Option (List ℕ × List Atom)
 assignment_of atoms = assignment_from false atoms
+
+-- a name as a word of its own, and the value
+abbrev pub split_of : List Atom → Option (Option (List ℕ) × List Atom)
+split_of atoms = option_map (λ f. (Some f.0, f.1)) (assignment_of atoms)

@@ -4,6 +4,8 @@ use Rattle.std.specs.List.{flat_map}
 use Rattle.hush_words.specs.Words.{Atom}
 use Rattle.hush_words.specs.Words.Atom.{Plain, Quoted, Mark, Value, Status}
 use Rattle.hush_words.specs.Tokens as tokens
+use Rattle.hush_words.specs.Forms.{name_of}
+use Rattle.hush_words.specs.declared.forms.Assignment.{Assignment}
 use Rattle.hush_words.specs.declared.parts.Span.{Span}
 use Rattle.hush_words.specs.declared.parts.Part.{Part}
 use Rattle.hush_words.specs.declared.parts.Part.TheVariants as part
@@ -45,3 +47,7 @@ tokens_in source ts = map (λ t. kind_token source t.kind) ts
 -- the tokens of a text that was read to its end; none where a fault stopped the reading
 abbrev pub tokens_read : List ℕ → Lexed → Option (List tokens.Token)
 tokens_read source lexed = elim lexed.fault [ None ↦ Some (tokens_in source lexed.tokens.items) | Some f ↦ None ]
+
+-- the name and the value that an assignment's words stand for
+abbrev pub assignment_view : List ℕ → Assignment → Option (List ℕ) × List Atom
+assignment_view source a = (name_of (word_atoms source a.name), word_atoms source a.value)

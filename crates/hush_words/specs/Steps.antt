@@ -1,13 +1,15 @@
 -- What the readers of this crate promise each other: a reader stands at a place of the source, and says what was
 -- read there and where it went on from.
-use Rattle.std.specs.Prelude.{◌≡◌, ℕ, ◌+◌, ◌-◌, ◌<◌, ◌≤◌, ◌==◌, Bool, true, false, List, [], ◌∷◌, ◌++◌, Option, Some, None, Result, Ok, Err, length, take, drop}
+use Rattle.std.specs.Prelude.{◌≡◌, ℕ, ◌+◌, ◌-◌, ◌<◌, ◌≤◌, ◌==◌, Bool, true, false, if◌then◌else◌, List, [], ◌∷◌, ◌++◌, map, Option, Some, None, Result, Ok, Err, length, take, drop}
 use Rattle.std.specs.List.{flat_map}
 use Rattle.std.specs.Option.{option_map}
 use Rattle.hush_words.specs.Words.{Atom, Piece, Dollar, byte_atom, dollar_atom, inner_atoms, piece_atoms, ends_word, is_in_name, is_in_braces, is_bare, is_inner, next}
 use Rattle.hush_words.specs.Tokens.{Lexeme, lexeme_tokens}
 use Rattle.hush_words.specs.Tokens as tokens
 use Rattle.hush_words.specs.Reading.{Found, front, behind, all, braces, dollar_at, inner_at, piece_at, lexeme_at}
-use Rattle.hush_words.specs.Parts.{part_atoms, kind_token}
+use Rattle.hush_words.specs.Words.Atom.{Plain, Quoted, Mark, Value, Status}
+use Rattle.hush_words.specs.Forms.{is_plain, goes_on, name_from, assignment_from, assignment_of}
+use Rattle.hush_words.specs.Parts.{span_bytes, part_atoms, atoms_of, kind_token}
 use Rattle.hush_words.specs.declared.classes.Class.{Class}
 use Rattle.hush_words.specs.declared.classes.Class.TheVariants as class
 use Rattle.hush_words.specs.declared.parts.Part.{Part}
@@ -17,6 +19,10 @@ use Rattle.hush_words.specs.declared.steps.Stop.TheVariants as stop
 use Rattle.hush_words.specs.declared.steps.PartRead.{PartRead}
 use Rattle.hush_words.specs.declared.steps.InnerRead.{InnerRead}
 use Rattle.hush_words.specs.declared.steps.LexemeRead.{LexemeRead}
+use Rattle.hush_words.specs.declared.steps.Equals.{Equals}
+use Rattle.hush_words.specs.declared.steps.Scan.{Scan}
+use Rattle.hush_words.specs.declared.steps.Scan.TheVariants as scan
+use Rattle.hush_words.specs.declared.parts.Span.{Span}
 
 abbrev pub passes : Class → ℕ → Bool
 passes class.Bare b = is_bare b
@@ -146,3 +152,64 @@ lexeme_left text = flat_map lexeme_tokens (all lexeme_at text).0
 
 unfoldable pub lexeme_end : List ℕ → List ℕ
 lexeme_end text = (all lexeme_at text).1
+
+-- the first atom is another than a plain byte
+abbrev pub begins_otherwise : List Atom → Bool
+begins_otherwise [] = false
+begins_otherwise (Plain b ∷ atoms) = false
+begins_otherwise (Quoted b ∷ atoms) = true
+begins_otherwise (Mark ∷ atoms) = true
+begins_otherwise (Value n q ∷ atoms) = true
+begins_otherwise (Status q ∷ atoms) = true
+
+-- plain bytes alone, and these; or else no plain byte at the front
+abbrev pub ArePlain : List Atom → Option (List ℕ) → Type 0
+ArePlain atoms None = begins_otherwise atoms ≡ true
+ArePlain atoms (Some bytes) = atoms ≡ map Plain bytes
+
+-- what goes on with a name, and what stands behind that
+abbrev pub name_front : (begun : Bool) → List ℕ → List ℕ
+name_front begun [] = []
+name_front begun (b ∷ bs) = if goes_on begun b then b ∷ front is_in_name bs else []
+
+abbrev pub name_behind : (begun : Bool) → List ℕ → List ℕ
+name_behind begun [] = []
+name_behind begun (b ∷ bs) = if goes_on begun b then behind is_in_name bs else b ∷ bs
+
+-- the parts before the `=` and those behind it
+abbrev pub SplitsAt : List ℕ → List Part → Option Equals → Type 0
+SplitsAt source parts None = assignment_of (atoms_of source parts) ≡ None
+SplitsAt source parts (Some e) =
+    (e.part < length parts) × (name : List ℕ) × (atoms_of source (take e.part parts) ++ map Plain (span_bytes source e.name) ≡ map Plain name) ×
+    (assignment_of (atoms_of source parts) ≡ Some (name, map Plain (span_bytes source e.value) ++ atoms_of source (drop (e.part + 1) parts)))
+
+-- the assignment of a name that has begun so
+abbrev pub behind_front : List ℕ → Option (List ℕ × List Atom) → Option (List ℕ × List Atom)
+behind_front front f = option_map (λ a. (front ++ a.0, a.1)) f
+
+abbrev pub PartAt : List Part → ℕ → Option Part → Type 0
+PartAt parts index None = drop index parts ≡ []
+PartAt parts index (Some part) = (index < length parts) × (drop index parts ≡ part ∷ drop (index + 1) parts)
+
+-- what a text has left to be, behind these atoms
+abbrev pub PlainRest : List Atom → List ℕ → Option (List ℕ) → Type 0
+PlainRest atoms text None = (more : List Atom) → is_plain text (atoms ++ more) ≡ false
+PlainRest atoms text (Some rest) = (more : List Atom) → is_plain text (atoms ++ more) ≡ is_plain rest more
+
+abbrev pub behind_name : List ℕ → Option (List ℕ) → Option (List ℕ)
+behind_name front n = option_map (λ m. front ++ m) n
+
+-- what atoms are to a name, whatever stands behind them
+abbrev pub ScanIs : List ℕ → List Atom → (begun : Bool) → Scan → Type 0
+ScanIs source atoms begun (scan.GoesOn now) =
+    (front : List ℕ) × (atoms ≡ map Plain front) ×
+    ((more : List Atom) → name_from begun (atoms ++ more) ≡ behind_name front (name_from now more)) ×
+    ((more : List Atom) → assignment_from begun (atoms ++ more) ≡ behind_front front (assignment_from now more))
+ScanIs source atoms begun (scan.Equals name value) =
+    ((more : List Atom) → name_from begun (atoms ++ more) ≡ None) ×
+    ((more : List Atom) → assignment_from begun (atoms ++ more) ≡ Some (span_bytes source name, map Plain (span_bytes source value) ++ more))
+ScanIs source atoms begun scan.Stops =
+    ((more : List Atom) → name_from begun (atoms ++ more) ≡ None) × ((more : List Atom) → assignment_from begun (atoms ++ more) ≡ None)
+
+abbrev pub RangeIs : List ℕ → Span → (begun : Bool) → Scan → Type 0
+RangeIs source span begun s = ScanIs source (map Plain (span_bytes source span)) begun s

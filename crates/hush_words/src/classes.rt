@@ -106,7 +106,7 @@ pub(crate) fn begins_name(b: u8) -> bool
 
 /// A letter, a digit or `_`.
 #[tactic(auto, unfolding(crate::specs::Words::is_in_name))]
-fn is_in_name(b: u8) -> bool
+pub(crate) fn is_in_name(b: u8) -> bool
     ensures { result ≡ is_in_name b }
 {
     begins_name(b) || b.is_ascii_digit()

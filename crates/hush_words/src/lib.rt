@@ -5,6 +5,7 @@
 mod classes;
 mod dollars;
 mod faults;
+mod forms;
 pub mod laws;
 mod parts;
 mod quotes;
@@ -14,6 +15,10 @@ mod tokens;
 mod words;
 
 pub use faults::{Fault, FaultKind};
+pub use forms::Assignment;
 pub use parts::{Part, Span, Word};
 pub use reading::read;
 pub use tokens::{Lexed, Token, TokenKind};
+
+#[cfg(test)]
+mod tests;
