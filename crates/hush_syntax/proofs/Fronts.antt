@@ -64,14 +64,24 @@ pub is_plain-plain : (text : List ℕ) → is_plain text (map Plain text) ≡ tr
 is_plain-plain text = (plain-told text (map Plain text)).1 refl
 
 -- an assignment's word is no reserved word
+differs : (text name : List ℕ) (value : List Atom) → list_all (λ b. not (b == 61)) text ≡ true → map Plain name ++ Plain 61 ∷ value ≡ map Plain text → ⊥
+differs [] [] value none e = absurd (let no : ◌≡◌ {A = List Atom} (Plain 61 ∷ value) [] = e in cc)
+differs [] (n ∷ name) value none e = absurd (let no : ◌≡◌ {A = List Atom} (Plain n ∷ (map Plain name ++ Plain 61 ∷ value)) [] = e in cc)
+differs (b ∷ text) [] value none e =
+    let heads : ◌≡◌ {A = List Atom} (Plain 61 ∷ value) (Plain b ∷ map Plain text) = e in
+    let same : ◌≡◌ {A = ℕ} b 61 = cc in
+    let other : (b == 61) ≡ false = not-true (b == 61) (both (not (b == 61)) (list_all (λ b. not (b == 61)) text) none).0 in
+    let no : true ≡ false = subst (λ x. (x == 61) ≡ false) same other in cc
+differs (b ∷ text) (n ∷ name) value none e =
+    let lists : ◌≡◌ {A = List Atom} (Plain n ∷ (map Plain name ++ Plain 61 ∷ value)) (Plain b ∷ map Plain text) = e in
+    let tails : map Plain name ++ Plain 61 ∷ value ≡ map Plain text = cc in
+    differs text name value (both (not (b == 61)) (list_all (λ b. not (b == 61)) text) none).1 tails
+
 no_equals : (text name : List ℕ) (value : List Atom) → list_all (λ b. not (b == 61)) text ≡ true → is_plain text (map Plain name ++ Plain 61 ∷ value) ≡ false
-unfolding is_plain
-no_equals [] [] value none = refl
-no_equals [] (n ∷ name) value none = refl
-no_equals (b ∷ text) [] value none = let differs : (b == 61) ≡ false = not-true (b == 61) (both (not (b == 61)) (list_all (λ b. not (b == 61)) text) none).0 in rw differs
-no_equals (b ∷ text) (n ∷ name) value none =
-    let rest = no_equals text name value (both (not (b == 61)) (list_all (λ b. not (b == 61)) text) none).1 in
-    by_test (b == n) (λ e. rw e rest) (λ e. rw e)
+no_equals text name value none =
+    by_test (is_plain text (map Plain name ++ Plain 61 ∷ value))
+    (λ e. absurd (differs text name value none (is_plain-true text (map Plain name ++ Plain 61 ∷ value) e)))
+    (λ e. e)
 
 pub keyword_of-assignment : (name : List ℕ) (value : List Atom) → keyword_of (map Plain name ++ Plain 61 ∷ value) ≡ None
 unfolding keyword_of

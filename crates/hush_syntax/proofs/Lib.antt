@@ -3,3 +3,5 @@ pub mod Finds
 pub mod Sound
 pub mod TreeLemmas
 pub mod Told
+pub mod LoopLemmas
+pub mod ExitLemmas

@@ -3,3 +3,5 @@ pub mod Keywords
 pub mod Reading
 pub mod Trees
 pub mod Laws
+pub mod Answers
+pub mod Scripts

@@ -1,10 +1,13 @@
 -- Which tree of the grammar the code's tree stands for. Where a part isn't of the kind that its place wants, which the
 -- parser never makes, it stands for a command without words, which nothing spells.
-use Rattle.std.specs.Prelude.{ℕ, List, [], ◌∷◌, map, Option, Some, None, unwrap_or}
+use Rattle.std.specs.Prelude.{ℕ, List, [], ◌∷◌, map, Option, Some, None, unwrap_or, Box}
+use Rattle.std.specs.declared.alloc.Global.{Global}
 use Rattle.hush_words.specs.Words.{Atom}
 use Rattle.hush_words.specs.Forms.{name_of}
 use Rattle.hush_words.specs.Parts.{word_atoms}
 use Rattle.hush_words.specs.declared.parts.Word.{Word}
+use Rattle.hush_syntax.specs.declared.tree.Branch as branch
+use Rattle.hush_syntax.specs.declared.tree.Link as code
 use Rattle.hush_syntax.specs.declared.tree.Operator.{Operator}
 use Rattle.hush_syntax.specs.declared.tree.Operator.TheVariants.{And}
 use Rattle.hush_syntax.specs.declared.tree.Tree.{Tree, Row_of-Tree, end_of-Tree, more_of-Tree, Row_of-Link, end_of-Link, more_of-Link, Row_of-Branch, end_of-Branch, more_of-Branch, Held-Tree-If-1, None', Some'}
@@ -103,3 +106,17 @@ module _ (source : List ℕ) where
     pub otherwise_in : Held-Tree-If-1 → Option Chains
     otherwise_in None' = None
     otherwise_in (Some' p body) = Some (chains_of body)
+
+  -- the parts of a chain, of an `if` and of a loop
+  abbrev pub link_of : code.Link → Option Operator × Command
+  link_of link = (link.operator, command_of link.command)
+
+  abbrev pub branch_of : branch.Branch → Chains × Chains
+  branch_of branch = (chains_of branch.condition, chains_of branch.body)
+
+  abbrev pub held_of : Option (Box Tree Global) → Option Chains
+  held_of None = None
+  held_of (Some body) = Some (chains_of body.value)
+
+  abbrev pub loop_of : (Chains → Chains → Command) → Box Tree Global × Box Tree Global → Command
+  loop_of form parts = form (chains_of parts.0.value) (chains_of parts.1.value)

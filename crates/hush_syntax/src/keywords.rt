@@ -1,4 +1,9 @@
-/// The reserved words.
+ghost use Rattle.std.specs.Prelude.{◌≡◌};
+ghost use Rattle.hush_words.specs.Parts.{word_atoms};
+
+use hush_words::Word;
+
+/// The reserved words: each stands for itself where a command may begin, in unquoted bytes alone.
 #[derive(Clone, Copy, Debug, PartialEq, Eq)]
 pub enum Keyword {
     If,
@@ -11,4 +16,65 @@ pub enum Keyword {
     Until,
     Do,
     Done,
+}
+
+impl Keyword {
+    ghost use Rattle.hush_syntax.specs.Keywords.{spelling, keyword_of};
+    ghost use Rattle.hush_syntax.specs.Reading.{is_closing};
+
+    const ALL: [Keyword; 10] = [
+        Keyword::If,
+        Keyword::Then,
+        Keyword::Elif,
+        Keyword::Else,
+        Keyword::Fi,
+        Keyword::For,
+        Keyword::While,
+        Keyword::Until,
+        Keyword::Do,
+        Keyword::Done,
+    ];
+
+    pub(crate) fn text(self) -> &'static [u8]
+        ensures { result.now ≡ spelling self }
+    {
+        match self {
+            Keyword::If => b"if",
+            Keyword::Then => b"then",
+            Keyword::Elif => b"elif",
+            Keyword::Else => b"else",
+            Keyword::Fi => b"fi",
+            Keyword::For => b"for",
+            Keyword::While => b"while",
+            Keyword::Until => b"until",
+            Keyword::Do => b"do",
+            Keyword::Done => b"done",
+        }
+    }
+
+    /// The reserved word that a word would be where a command may begin.
+    #[tactic(auto, unfolding(crate::specs::Keywords::keyword_of))]
+    pub(crate) fn of(word: &Word, source: &[u8]) -> Option<Keyword>
+        ensures { result ≡ keyword_of (word_atoms source.now word.now) }
+    {
+        Keyword::ALL
+            .iter()
+            .copied()
+            .find(|keyword| word.is_plain(source, keyword.text()))
+    }
+
+    /// It ends a list of chains.
+    pub(crate) fn is_closing(self) -> bool
+        ensures { result ≡ is_closing self }
+    {
+        match self {
+            Keyword::Then
+            | Keyword::Elif
+            | Keyword::Else
+            | Keyword::Fi
+            | Keyword::Do
+            | Keyword::Done => true,
+            Keyword::If | Keyword::For | Keyword::While | Keyword::Until => false,
+        }
+    }
 }

@@ -2,10 +2,18 @@
 //! The rules are those of docs/scripts.md.
 #![tactic(auto)]
 
+mod cursor;
+mod faults;
 mod keywords;
 pub mod laws;
+mod parser;
+mod script;
+#[cfg(test)]
+mod tests;
 mod tree;
 
+pub use faults::{FaultKind, SyntaxFault};
 pub use hush_words::{Part, Span, Word};
 pub use keywords::Keyword;
+pub use script::Script;
 pub use tree::{Branch, Link, Operator, Tree};
