@@ -177,7 +177,7 @@ value_part area s e k h =
     let there : s + (k + 1) ≡ s + k + 1 = omega arith in
     sym (ap (λ n. drop (k + 1) (take n (drop s area))) (sym whole) ∙ drop-take (k + 1) (e - (s + k + 1)) (drop s area) ∙ ap (take (e - (s + k + 1))) (drop-drop (k + 1) s area ∙ ap (λ n. drop n area) there))
 
-piece_long : (area : List ℕ) (s e : ℕ) → IsPiece area s e → length (slice_range area s e) ≡ e - s
+pub piece_long : (area : List ℕ) (s e : ℕ) → IsPiece area s e → length (slice_range area s e) ≡ e - s
 piece_long area s e p = let w = p.within in length-take-le (e - s) (drop s area) (omega (arith, length-drop s area))
 
 pub place_formed : (area : List ℕ) (s e k : ℕ) → IsPiece area s e → IsFirstByte (is_byte 61) (slice_range area s e) (Some k) → (k ≢ 0) → (k + 1 ≢ length (slice_range area s e)) → IsVariable (slice_range area s (s + k), slice_range area (s + k + 1) e)

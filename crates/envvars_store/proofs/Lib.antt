@@ -3,4 +3,5 @@ pub mod FindLemmas
 pub mod MapLemmas
 pub mod OrderLemmas
 pub mod PlaceLemmas
+pub mod RisingLemmas
 pub mod RunLemmas

@@ -1,17 +1,18 @@
 // The variables of a data area.
-ghost use Rattle.std.specs.Prelude.{◌≡◌, ◌<◌, ◌≤◌, ◌^◌, length, fold, filter, IfOk, OnOk, MatchOption, drop, [], ◌∷◌, slice_range};
+ghost use Rattle.std.specs.Prelude.{◌≡◌, ◌<◌, ◌≤◌, ◌^◌, length, fold, filter, IfOk, IfSome, OnOk, MatchOption, drop, [], ◌∷◌, slice_range};
 ghost use Rattle.envimg_core.specs.Pieces.{entries_of, vars_of, entry_of, has_name, after_entry};
 ghost use Rattle.std.specs.FinMap as env;
-ghost use Rattle.envvars_store.specs.Pieces.{IsPiece};
+ghost use Rattle.envvars_store.specs.Pieces.{IsPiece, IsNextPlace};
 ghost use Rattle.envvars_store.specs.Runs.{listed, IsLaid};
 
 use crate::copying::copied;
 use crate::placing::{forget, set};
-use crate::runs::Run;
+use crate::runs::{Run, push};
 use crate::slots::{Place, Slot};
 use crate::storing::Variables;
 use memchr::memchr;
 use std::alloc::{AllocError, Global};
+use std::cmp::Ordering;
 
 impl Variables {
     /// The variables of a data area: the last of its entries for a name decides.
@@ -26,7 +27,7 @@ impl Variables {
     }
 }
 
-// The variables of an area as places of it.
+// The variables of an area as places of it: as far as its names rise without a search, and from there on entry by entry.
 fn loaded(alloc: Global, area: &[u8]) -> Result<Vec<Run>, AllocError>
     requires { length area.now ≤ 1048576 }
     ensures laid { IfOk result (λ runs. IsLaid area.now runs.items) }
@@ -34,7 +35,7 @@ fn loaded(alloc: Global, area: &[u8]) -> Result<Vec<Run>, AllocError>
         env.from_sorted (listed area.now runs.items) ≡ vars_of (entries_of area.now)) }
 {
     let mut runs = Vec::new(alloc);
-    let mut at = 0;
+    let mut at = rising(alloc, area, &mut runs)?;
     'walk: loop {
         match piece_end(area, at) {
             None => return Ok(runs),
@@ -43,6 +44,51 @@ fn loaded(alloc: Global, area: &[u8]) -> Result<Vec<Run>, AllocError>
                 at = end + 1;
             }
         }
+    }
+}
+
+// Takes the entries up to the first whose name doesn't come after the last one, or that has no name or value, and answers where that one begins.
+fn rising(alloc: Global, area: &[u8], runs: &mut Vec<Run>) -> Result<usize, AllocError>
+    requires empty { runs.old.items ≡ [] }
+    requires size { length area.now ≤ 1048576 }
+    ensures within { IfOk result (λ at. at ≤ length area.now) }
+    ensures laid { OnOk result (IsLaid area.now runs.new.items) }
+    ensures left { IfOk result (λ at. fold after_entry (env.from_sorted (listed area.now runs.new.items))
+        (entries_of (drop at area.now)) ≡ vars_of (entries_of area.now)) }
+{
+    let mut at = 0;
+    let mut last: &[u8] = &[];
+    'walk: loop {
+        match next_place(area, at, last) {
+            None => return Ok(at),
+            Some(place) => {
+                push(alloc, runs, Slot::Placed(place))?;
+                last = &area[place.start as usize..place.middle as usize];
+                at = place.end as usize + 1;
+            }
+        }
+    }
+}
+
+// The place of the entry that begins at a place, if it has a value and its name comes after another.
+fn next_place(area: &[u8], at: usize, last: &[u8]) -> Option<Place>
+    requires within { at ≤ length area.now }
+    requires size { length area.now ≤ 1048576 }
+    ensures { IfSome result (IsNextPlace area.now at last.now) }
+{
+    let end = piece_end(area, at)?;
+    let length = memchr(b'=', &area[at..end])?;
+    let name = &area[at..at + length];
+    if length == 0 || at + length + 1 == end {
+        return None;
+    }
+    match name.cmp(&last) {
+        Ordering::Greater => Some(Place {
+            start: at as u32,
+            middle: (at + length) as u32,
+            end: end as u32,
+        }),
+        _ => None,
     }
 }
 

@@ -18,6 +18,23 @@ pub(crate) struct Spot {
     pub(crate) place: usize,
 }
 
+/// Puts a slot behind all others.
+pub(crate) fn push(alloc: Global, runs: &mut Vec<Run>, slot: Slot) -> Result<(), AllocError>
+    requires { All IsFilled runs.old.items }
+    ensures ok { OnOk result (flat runs.new.items ≡ flat runs.old.items ++ slot ∷ []) }
+    ensures filled { OnOk result (All IsFilled runs.new.items) }
+{
+    let last = runs.len();
+    if last > 0 && runs[last - 1].len() < MOST {
+        let run = &mut runs[last - 1];
+        run.push(slot)?;
+        return Ok(());
+    }
+    let run = run_of_one(alloc, slot)?;
+    runs.push(run)?;
+    Ok(())
+}
+
 /// Puts a slot in front of the one at a spot.
 pub(crate) fn insert_at(
     alloc: Global,

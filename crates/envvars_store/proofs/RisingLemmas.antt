@@ -1,0 +1,102 @@
+-- Entries whose names rise: each is put at the end.
+use Rattle.std.proofs.Common.{◌≡◌, ◌≢◌, ℕ, suc, ◌+◌, ◌-◌, ◌<◌, T, List, [], ◌∷◌, ◌++◌, length, take, drop, get_or, fold, filter, All, Some, sym, ap, subst, ◌∙◌, arith, set, Less, Greater, append-nil, append_assoc, slice_range, length-take, get_or-drop, get_or-take, eqb-true}
+use Rattle.std.specs.FinMap as env
+use Rattle.std.specs.FinMap.Entries.{put, is_sorted}
+use Rattle.std.proofs.lemmas.Cmp.{nat_list_cmp_total}
+use Rattle.std.proofs.lemmas.List.{map-append, drop_all}
+use Rattle.std.proofs.lemmas.List.Elements.{All-push}
+use Rattle.memchr.specs.Find.{IsFirstByte, is_byte}
+use Rattle.envimg_core.specs.Environment.{bytes_cmp, Environment}
+use Rattle.envimg_core.specs.Pieces.{entries_of, entry_of, has_name, after_entry}
+use Rattle.envvars_store.specs.Order.{AllBefore}
+use Rattle.envvars_store.specs.Laying.{pair_of, IsPlaced}
+use Rattle.envvars_store.specs.Pieces.{IsPiece, IsNextPlace}
+use Rattle.envvars_store.specs.Runs.{Run, flat, pairs, listed, IsFilled, IsFormed, IsLaid, slots_at}
+use Rattle.envvars_store.specs.declared.slots.Place.{Place}
+use Rattle.envvars_store.specs.declared.slots.Slot.{Slot}
+use Rattle.envvars_store.specs.declared.slots.Slot.TheVariants.{Placed}
+use Rattle.envvars_store.proofs.OrderLemmas.{turned, put_between, all_before_push}
+use Rattle.envvars_store.proofs.MapLemmas.{env_of, env_put, sorted_put}
+use Rattle.envvars_store.proofs.RunLemmas.{flat_cut, flat_set, slots_read}
+use Rattle.envvars_store.specs.Variable.{IsVariable}
+use Rattle.envvars_store.proofs.EntryLemmas.{piece_read, piece_long, place_formed, place_gives}
+
+-- a slot pushed onto the last run
+pub pushed_last : (runs : List Run) (r : ℕ) (x y : Run) (p : Slot) → r + 1 ≡ length runs → x ≡ get_or runs r x → y.items ≡ x.items ++ p ∷ [] → flat (set runs r y) ≡ flat runs ++ p ∷ []
+pushed_last runs r x y p h at is =
+    let within : r < length runs = omega arith in
+    let none : drop (suc r) runs ≡ [] = drop_all (suc r) runs (omega arith) in
+    flat_set runs r y within
+    ∙ ap (λ m. flat (take r runs) ++ (y.items ++ flat m)) none ∙ ap (λ m. flat (take r runs) ++ m) (append-nil y.items ∙ is)
+    ∙ sym (append_assoc (flat (take r runs)) x.items (p ∷ []))
+    ∙ ap (λ m. m ++ p ∷ []) (sym (flat_cut runs r within ∙ ap (λ m. flat (take r runs) ++ (slots_at runs r ++ flat m)) none ∙ ap (λ m. flat (take r runs) ++ m) (append-nil (slots_at runs r) ∙ slots_read runs r x within at)))
+
+-- a name after the last one comes after all
+abbrev pub RisesTo : (area : List ℕ) (runs : List Run) (last : List ℕ) → Type 0
+RisesTo area runs last = (q : List ℕ) → bytes_cmp q last ≡ Greater → AllBefore q (listed area runs)
+
+after_both : (q n last : List ℕ) → bytes_cmp q n ≡ Greater → bytes_cmp n last ≡ Greater → bytes_cmp q last ≡ Greater
+after_both q n last a b = turned last q Less (nat_list_cmp_total.trans last n q (turned n last Greater b) (turned q n Greater a))
+
+-- what a push in rising order leaves
+pub record IsRisen (area : List ℕ) (runs new : List Run) (p : Place) : Type 0 where
+  pub laid : IsLaid area new
+  pub is_put : listed area new ≡ put bytes_cmp (pair_of area (Placed p)).0 (pair_of area (Placed p)).1 (listed area runs)
+  pub rises : (q : List ℕ) → bytes_cmp q (pair_of area (Placed p)).0 ≡ Greater → AllBefore q (listed area new)
+
+pub risen : (area : List ℕ) (runs new : List Run) (at : ℕ) (last : List ℕ) (p : Place) → IsLaid area runs → RisesTo area runs last → IsNextPlace area at last p → All IsFilled new → flat new ≡ flat runs ++ Placed p ∷ [] → IsRisen area runs new p
+risen area runs new at last p l rises next filled is =
+    let n = (pair_of area (Placed p)).0 in
+    let v = (pair_of area (Placed p)).1 in
+    let es = listed area runs in
+    let more : listed area new ≡ es ++ (n, v) ∷ [] = ap (pairs area) is ∙ map-append (pair_of area) (flat runs) (Placed p ∷ []) in
+    let before : AllBefore n es = rises n next.rising in
+    let put_is : listed area new ≡ put bytes_cmp n v es = more ∙ sym (ap (put bytes_cmp n v) (sym (append-nil es)) ∙ put_between n v es [] before tt) in
+    record {
+      laid = record {
+        filled = filled;
+        placed = subst (All (IsPlaced area)) (sym is) (All-push (IsPlaced area) (flat runs) (Placed p) l.placed next.place);
+        sorted = subst (λ xs. T (is_sorted bytes_cmp xs)) (sym put_is) (sorted_put n v es l.sorted);
+        formed = subst (All (IsFormed area)) (sym is) (All-push (IsFormed area) (flat runs) (Placed p) l.formed next.formed);
+      };
+      is_put = put_is;
+      rises = λ q g. subst (AllBefore q) (sym more) (all_before_push q es (n, v) (rises q (after_both q n last g next.rising)) g);
+    }
+
+pub risen_left : (area : List ℕ) (runs new : List Run) (at : ℕ) (last : List ℕ) (p : Place) (goal : Environment) → IsLaid area runs → IsNextPlace area at last p → IsRisen area runs new p → fold after_entry (env_of (listed area runs)) (entries_of (drop at area)) ≡ goal → fold after_entry (env_of (listed area new)) (entries_of (drop (p.end + 1) area)) ≡ goal
+risen_left area runs new at last p goal l next r e =
+    let from_start : fold after_entry (env_of (listed area runs)) (entries_of (drop p.start area)) ≡ goal = ap (λ n. fold after_entry (env_of (listed area runs)) (entries_of (drop n area))) next.start ∙ e in
+    piece_read area p.start p.end (env_of (listed area runs)) (env_of (listed area new)) goal next.piece from_start
+    (ap env_of r.is_put ∙ env_put (pair_of area (Placed p)).0 (pair_of area (Placed p)).1 (listed area runs) l.sorted ∙ sym (next.entry (env_of (listed area runs))))
+
+-- the '=' that was found in a piece
+pub place_marked : (area : List ℕ) (s e k : ℕ) → IsPiece area s e → IsFirstByte (is_byte 61) (slice_range area s e) (Some k) → get_or area (s + k) 0 ≡ 61
+place_marked area s e k p f =
+    let within : k < length (slice_range area s e) = f.0.high in
+    let short : k < e - s = omega (arith, length-take (e - s) (drop s area)) in
+    sym (get_or-take (e - s) (drop s area) k 0 short ∙ get_or-drop s area k 0) ∙ eqb-true _ _ f.1
+
+pub next_place_is : (area : List ℕ) (s k e : ℕ) (last : List ℕ) (p : Place) → p.start ≡ s → p.middle ≡ s + k → p.end ≡ e → IsPiece area s e → IsFirstByte (is_byte 61) (slice_range area s e) (Some k) → (k ≢ 0) → (s + k + 1 ≢ e) → bytes_cmp (slice_range area s (s + k)) last ≡ Greater → IsNextPlace area s last p
+next_place_is area s k e last p a b c piece f n m g =
+    let within : k < length (slice_range area s e) = f.0.high in
+    let size : length (slice_range area s e) ≡ e - s = piece_long area s e piece in
+    let some = piece.some in
+    let inner = piece.within in
+    let more : k + 1 ≢ length (slice_range area s e) = λ w. m (omega arith) in
+    record {
+      start = a;
+      piece = subst (λ x. IsPiece area x p.end) (sym a) (subst (IsPiece area s) (sym c) piece);
+      place = record { ordered = omega arith; inside = omega arith; within = omega arith; marked = ap (λ x. get_or area x 0) b ∙ place_marked area s e k piece f };
+      formed = subst (λ x. IsVariable (slice_range area x p.middle, slice_range area (p.middle + 1) p.end)) (sym a)
+          (subst (λ x. IsVariable (slice_range area s x, slice_range area (x + 1) p.end)) (sym b)
+          (subst (λ x. IsVariable (slice_range area s (s + k), slice_range area (s + k + 1) x)) (sym c) (place_formed area s e k piece f n more)));
+      entry = λ w.
+          ap (λ x. fold after_entry w (filter has_name (entry_of (slice_range area x p.end) ∷ []))) a ∙ ap (λ x. fold after_entry w (filter has_name (entry_of (slice_range area s x) ∷ []))) c
+          ∙ sym (place_gives w area s e k piece f n more)
+          ∙ sym (ap (λ x. env.insert w (slice_range area x p.middle) (slice_range area (p.middle + 1) p.end)) a ∙ ap (λ x. env.insert w (slice_range area s x) (slice_range area (x + 1) p.end)) b ∙ ap (λ x. env.insert w (slice_range area s (s + k)) (slice_range area (s + k + 1) x)) c);
+      rising = ap (λ x. bytes_cmp (slice_range area x p.middle) last) a ∙ ap (λ x. bytes_cmp (slice_range area s x) last) b ∙ g;
+    }
+
+-- at the beginning there are no variables
+pub rises_none : (area : List ℕ) (runs : List Run) → runs ≡ [] → RisesTo area runs []
+rises_none area runs e = λ q g. subst (λ rs. AllBefore q (listed area rs)) (sym e) tt
