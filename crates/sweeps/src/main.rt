@@ -8,10 +8,12 @@
 mod lines;
 mod showing;
 mod texts;
+mod variables;
 
 use std::io;
 
 fn main(rt: HostRuntime) -> io::Result<()> {
     showing::sweep(rt.alloc(), &mut rt.stdout())?;
-    texts::sweep(rt.alloc(), &mut rt.stdout())
+    texts::sweep(rt.alloc(), &mut rt.stdout())?;
+    variables::sweep(rt.alloc(), &mut rt.stdout())
 }
