@@ -1,5 +1,9 @@
 -- The register is linear, so each byte's part of it can be taken from a table.
-use Rattle.std.proofs.Common.{◌≡◌, ℕ, zero, suc, ◌+◌, ◌-◌, ◌*◌, ◌/◌, ◌%◌, ◌^◌, ◌<◌, ◌≤◌, ◌++◌, Bool, true, false, cond, List, [], ◌∷◌, map, length, get_or, drop, bit_xor, refl, sym, ap, ◌∙◌, subst, arith, length-append, drop-cons}
+use Rattle.std.proofs.Common.{◌≡◌, ℕ, zero, suc, ◌+◌, ◌-◌, ◌*◌, ◌/◌, ◌%◌, ◌^◌, ◌<◌, ◌≤◌, ◌++◌, Bool, true, false, cond, List, [], ◌∷◌, map, length, get_or, drop, bit_xor, refl, sym, ap, ◌∙◌, subst, arith, length-append, drop-cons, take, length-drop}
+use Rattle.std.specs.Int.{byte_at, bytes_low_first}
+use Rattle.byteorder.specs.Endian.{little_from}
+use Rattle.std.proofs.Math.Nat.{pow-succ', div-div-eq-div-mul}
+use Rattle.std.proofs.lemmas.List.{take_all, get_or-drop}
 use Rattle.std.proofs.lemmas.List.{drop_all}
 use Rattle.std.specs.Prelude.{◌==◌}
 use Rattle.std.specs.Int.Bits.{xor_zero_l, xor_zero_r, xor_assoc, xor_self}
@@ -174,7 +178,7 @@ four_bytes r h =
     (ap (advance 13) (let e : r / 65536 / 256 ≡ r / 16777216 = omega arith in e) ∙ advance-low 12 (r / 16777216) ∙ ap (bit_xor (advance 13 (r / 16777216 % 256)))
     (ap (advance 12) (let e : r / 16777216 / 256 ≡ 0 = omega arith in e) ∙ advance-nothing 12))))
 
-abbrev gets : List ℕ → ℕ → ℕ → List ℕ
+abbrev pub gets : List ℕ → ℕ → ℕ → List ℕ
 gets xs i zero = []
 gets xs i (suc n) = get_or xs i 0 ∷ gets xs (i + 1) n
 
@@ -183,7 +187,7 @@ drop-gets xs i zero e = drop_all i xs (omega arith)
 drop-gets xs i (suc n) e =
     drop-cons xs i 0 (omega arith) ∙ ap (λ (m : ℕ). get_or xs i 0 ∷ drop m xs) (let k : suc i ≡ i + 1 = omega arith in k) ∙ ap (λ ys. get_or xs i 0 ∷ ys) (drop-gets xs (i + 1) n (omega arith))
 
-pub block_fed : (r : ℕ) (xs rs : List ℕ) → r < 2 ^ 32 → length xs ≡ 16 → rs ≡ r % 256 ∷ r / 256 % 256 ∷ r / 65536 % 256 ∷ r / 16777216 % 256 ∷ [] →
+block_fed : (r : ℕ) (xs rs : List ℕ) → r < 2 ^ 32 → length xs ≡ 16 → rs ≡ r % 256 ∷ r / 256 % 256 ∷ r / 65536 % 256 ∷ r / 16777216 % 256 ∷ [] →
     bit_xor (bit_xor (bit_xor
     (mixed 12 (bit_xor (get_or xs 0 0) (get_or rs 0 0) ∷ bit_xor (get_or xs 1 0) (get_or rs 1 0) ∷ bit_xor (get_or xs 2 0) (get_or rs 2 0) ∷ bit_xor (get_or xs 3 0) (get_or rs 3 0) ∷ []))
     (mixed 8 (get_or xs 4 0 ∷ get_or xs 5 0 ∷ get_or xs 6 0 ∷ get_or xs 7 0 ∷ [])))
@@ -233,3 +237,70 @@ steps_next k r h = ap (λ (n : ℕ). steps n r) (let e : 8 - k ≡ suc (8 - (k +
 pub steps_done : (k r : ℕ) → 8 ≤ k → steps (8 - k) r ≡ r
 unfolding steps
 steps_done k r h = ap (λ (n : ℕ). steps n r) (let e : 8 - k ≡ 0 = omega arith in e)
+
+-- ---- eight bytes as one number and back
+
+byte_behind : (i x m : ℕ) → x < 256 → byte_at (suc i) (x + 256 * m) ≡ byte_at i m
+byte_behind zero x m h = ap (λ (n : ℕ). n % 256) (let e : (x + 256 * m) / 256 ≡ m = omega arith in e)
+byte_behind (suc i) x m h =
+    ap (λ (n : ℕ). (x + 256 * m) / n % 256) (pow-succ' 256 (suc i))
+    ∙ ap (λ (n : ℕ). n % 256) (sym (div-div-eq-div-mul (x + 256 * m) 256 (256 ^ suc i)) ∙ ap (λ (n : ℕ). n / 256 ^ suc i) (let e : (x + 256 * m) / 256 ≡ m = omega arith in e))
+
+bytes_behind : (i k x m : ℕ) → x < 256 → bytes_low_first (suc i) k (x + 256 * m) ≡ bytes_low_first i k m
+bytes_behind i zero x m h = refl
+bytes_behind i (suc k) x m h = λ j. byte_behind i x m h j ∷ bytes_behind (suc i) k x m h j
+
+-- the bytes of the number that bytes make are those bytes
+bytes_again : (k i : ℕ) (xs : List ℕ) → ((j : ℕ) → get_or xs j 0 < 2 ^ 8) → bytes_low_first 0 k (little_from i k xs) ≡ gets xs i k
+bytes_again zero i xs small = refl
+bytes_again (suc k) i xs small =
+    let low : get_or xs i 0 < 256 = small i in
+    let first : (get_or xs i 0 + 256 * little_from (suc i) k xs) % 256 ≡ get_or xs i 0 = omega arith in
+    let rest : bytes_low_first 1 k (get_or xs i 0 + 256 * little_from (suc i) k xs) ≡ gets xs (i + 1) k =
+    bytes_behind 0 k (get_or xs i 0) (little_from (suc i) k xs) low ∙ bytes_again k (suc i) xs small ∙ ap (λ (n : ℕ). gets xs n k) (let e : suc i ≡ i + 1 = omega arith in e) in
+    λ j. first j ∷ rest j
+
+number_dropped : (n i k : ℕ) (xs : List ℕ) → little_from i k (drop n xs) ≡ little_from (n + i) k xs
+number_dropped n i zero xs = refl
+number_dropped n i (suc k) xs =
+    ap (λ (x : ℕ). x + 256 * little_from (suc i) k (drop n xs)) (get_or-drop n xs i 0)
+    ∙ ap (λ (m : ℕ). get_or xs (n + i) 0 + 256 * m) (number_dropped n (suc i) k xs ∙ ap (λ (j : ℕ). little_from j k xs) (let e : n + suc i ≡ suc (n + i) = omega arith in e))
+
+pub front_word : (xs ws : List ℕ) (w : ℕ) → ((j : ℕ) → get_or xs j 0 < 2 ^ 8) → w ≡ little_from 0 8 xs → ws ≡ bytes_low_first 0 8 w → ws ≡ gets xs 0 8
+front_word xs ws w small e f = f ∙ ap (bytes_low_first 0 8) e ∙ bytes_again 8 0 xs small
+
+pub back_word : (xs ws : List ℕ) (w : ℕ) → ((j : ℕ) → get_or xs j 0 < 2 ^ 8) → w ≡ little_from 0 8 (take (length xs - 8) (drop 8 xs)) → ws ≡ bytes_low_first 0 8 w → ws ≡ gets xs 8 8
+back_word xs ws w small e f =
+    f ∙ ap (bytes_low_first 0 8) (e ∙ ap (little_from 0 8) (take_all (length xs - 8) (drop 8 xs) (omega (arith, length-drop 8 xs))) ∙ number_dropped 8 0 8 xs) ∙ bytes_again 8 8 xs small
+
+turned : (a b c d : ℕ) → bit_xor (bit_xor (bit_xor d c) b) a ≡ bit_xor (bit_xor (bit_xor a b) c) d
+turned a b c d =
+    xor_comm (bit_xor (bit_xor d c) b) a
+    ∙ ap (bit_xor a) (xor_comm (bit_xor d c) b ∙ ap (bit_xor b) (xor_comm d c))
+    ∙ sym (xor_assoc a b (bit_xor c d))
+    ∙ sym (xor_assoc (bit_xor a b) c d)
+
+pub words_fed : (r : ℕ) (xs rs fs bs : List ℕ) → r < 2 ^ 32 → length xs ≡ 16 → rs ≡ r % 256 ∷ r / 256 % 256 ∷ r / 65536 % 256 ∷ r / 16777216 % 256 ∷ [] → fs ≡ gets xs 0 8 → bs ≡ gets xs 8 8 →
+    bit_xor (bit_xor (bit_xor
+    (mixed 0 (get_or bs 4 0 ∷ get_or bs 5 0 ∷ get_or bs 6 0 ∷ get_or bs 7 0 ∷ []))
+    (mixed 4 (get_or bs 0 0 ∷ get_or bs 1 0 ∷ get_or bs 2 0 ∷ get_or bs 3 0 ∷ [])))
+    (mixed 8 (get_or fs 4 0 ∷ get_or fs 5 0 ∷ get_or fs 6 0 ∷ get_or fs 7 0 ∷ [])))
+    (mixed 12 (bit_xor (get_or fs 0 0) (get_or rs 0 0) ∷ bit_xor (get_or fs 1 0) (get_or rs 1 0) ∷ bit_xor (get_or fs 2 0) (get_or rs 2 0) ∷ bit_xor (get_or fs 3 0) (get_or rs 3 0) ∷ []))
+    ≡ feed r xs
+words_fed r xs rs fs bs h l e f b =
+    turned
+    (mixed 12 (bit_xor (get_or fs 0 0) (get_or rs 0 0) ∷ bit_xor (get_or fs 1 0) (get_or rs 1 0) ∷ bit_xor (get_or fs 2 0) (get_or rs 2 0) ∷ bit_xor (get_or fs 3 0) (get_or rs 3 0) ∷ []))
+    (mixed 8 (get_or fs 4 0 ∷ get_or fs 5 0 ∷ get_or fs 6 0 ∷ get_or fs 7 0 ∷ []))
+    (mixed 4 (get_or bs 0 0 ∷ get_or bs 1 0 ∷ get_or bs 2 0 ∷ get_or bs 3 0 ∷ []))
+    (mixed 0 (get_or bs 4 0 ∷ get_or bs 5 0 ∷ get_or bs 6 0 ∷ get_or bs 7 0 ∷ []))
+    ∙ ap (λ ys. bit_xor (bit_xor (bit_xor
+    (mixed 12 (bit_xor (get_or ys 0 0) (get_or rs 0 0) ∷ bit_xor (get_or ys 1 0) (get_or rs 1 0) ∷ bit_xor (get_or ys 2 0) (get_or rs 2 0) ∷ bit_xor (get_or ys 3 0) (get_or rs 3 0) ∷ []))
+    (mixed 8 (get_or ys 4 0 ∷ get_or ys 5 0 ∷ get_or ys 6 0 ∷ get_or ys 7 0 ∷ [])))
+    (mixed 4 (get_or bs 0 0 ∷ get_or bs 1 0 ∷ get_or bs 2 0 ∷ get_or bs 3 0 ∷ [])))
+    (mixed 0 (get_or bs 4 0 ∷ get_or bs 5 0 ∷ get_or bs 6 0 ∷ get_or bs 7 0 ∷ []))) f
+    ∙ ap (λ ys. bit_xor (bit_xor (bit_xor
+    (mixed 12 (bit_xor (get_or xs 0 0) (get_or rs 0 0) ∷ bit_xor (get_or xs 1 0) (get_or rs 1 0) ∷ bit_xor (get_or xs 2 0) (get_or rs 2 0) ∷ bit_xor (get_or xs 3 0) (get_or rs 3 0) ∷ []))
+    (mixed 8 (get_or xs 4 0 ∷ get_or xs 5 0 ∷ get_or xs 6 0 ∷ get_or xs 7 0 ∷ [])))
+    (mixed 4 (get_or ys 0 0 ∷ get_or ys 1 0 ∷ get_or ys 2 0 ∷ get_or ys 3 0 ∷ [])))
+    (mixed 0 (get_or ys 4 0 ∷ get_or ys 5 0 ∷ get_or ys 6 0 ∷ get_or ys 7 0 ∷ []))) b
+    ∙ block_fed r xs rs h l e

@@ -5,6 +5,7 @@ ghost use Rattle.envimg_core.specs.Register.{step, steps, advance, feed, mixed};
 
 mod tables;
 
+use byteorder::{ByteOrder, LittleEndian};
 use tables::TABLES;
 
 /// How many bytes the register takes in one go.
@@ -82,19 +83,23 @@ fn feed_byte(register: u32, byte: u8) -> u32
 }
 
 /// Sixteen bytes go by: each byte's part comes from the table for the bytes behind it.
+///
+/// The block is read as two words, and the part of the register, for which all else waits, is added last.
 fn feed_block(register: u32, block: &[u8]) -> u32
     requires { length block.now ≡ BLOCK }
     ensures { result ≡ feed register block.now }
 {
     let [r0, r1, r2, r3] = register.to_le_bytes();
+    let front = LittleEndian::read_u64(block).to_le_bytes();
+    let back = LittleEndian::read_u64(&block[8..]).to_le_bytes();
+    let last = mixed_four(0, [back[4], back[5], back[6], back[7]]);
+    let third = mixed_four(4, [back[0], back[1], back[2], back[3]]);
+    let second = mixed_four(8, [front[4], front[5], front[6], front[7]]);
     let first = mixed_four(
         12,
-        [block[0] ^ r0, block[1] ^ r1, block[2] ^ r2, block[3] ^ r3],
+        [front[0] ^ r0, front[1] ^ r1, front[2] ^ r2, front[3] ^ r3],
     );
-    let second = mixed_four(8, [block[4], block[5], block[6], block[7]]);
-    let third = mixed_four(4, [block[8], block[9], block[10], block[11]]);
-    let last = mixed_four(0, [block[12], block[13], block[14], block[15]]);
-    first ^ second ^ third ^ last
+    last ^ third ^ second ^ first
 }
 
 /// What four bytes leave in an empty register once `zeros` bytes of zeros have gone by.
