@@ -1,3 +1,4 @@
+mod DefaultsLemmas
 mod ListingLemmas
 mod ShowLemmas
 mod StreamLemmas

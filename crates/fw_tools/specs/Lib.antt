@@ -1,3 +1,4 @@
+pub mod Defaults
 pub mod Shown
 pub mod Streams
 pub mod Tool

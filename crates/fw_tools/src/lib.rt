@@ -2,6 +2,7 @@
 #![tactic(auto)]
 
 mod command_line;
+mod defaulting;
 mod ending;
 mod messages;
 mod running;
@@ -10,6 +11,7 @@ mod streams;
 #[cfg(test)]
 mod tests;
 
+pub use defaulting::defaults;
 pub use ending::{StreamFault, ToolEnd};
 pub use running::{program, words_failed};
 pub use showing::show;

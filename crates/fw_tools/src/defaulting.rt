@@ -1,0 +1,51 @@
+//! The default environment, from the entries of a text.
+ghost use Rattle.std.specs.Prelude.{◌≡◌, ◌≤◌, IfNone, IfSome, IsOkUnless, OnOk, option_copied};
+ghost use Rattle.envvars_core.specs.Refusals.{after};
+ghost use Rattle.fw_tools.specs.Defaults.{Answers, entry_refusal, value_of_entry};
+
+use envcfg_core::TextEntry;
+use envvars_core::{Refusal, Vars};
+use std::alloc::Global;
+
+/// The environment that the entries leave, written in their order into an empty one of this room, in bytes; the access
+/// that `.flags` gives is not checked (forced writes).
+///
+/// # Errors
+///
+/// The line and the refusal of the first entry that is refused; `Memory` only where a growth was refused.
+pub fn defaults(alloc: Global, room: u32, entries: &[TextEntry]) -> Result<Vars, (usize, Refusal)>
+    requires { 1 ≤ room }
+    ensures { Answers room entries.now result }
+{
+    let none = Vars::empty(alloc, room);
+    let mut vars = Vars::empty(alloc, room);
+    for entry in entries {
+        match write_entry(&mut vars, entry, &none) {
+            Ok(()) => (),
+            Err(refusal) => return Err((entry.line, refusal)),
+        }
+    }
+    Ok(vars)
+}
+
+/// Writes one entry, forced.
+fn write_entry(vars: &mut Vars, entry: &TextEntry, none: &Vars) -> Result<(), Refusal>
+    ensures refused { IfSome (entry_refusal vars.old.room vars.old.env entry.now) (λ r. result ≡ Err r) }
+    ensures accepted { IfNone (entry_refusal vars.old.room vars.old.env entry.now) (IsOkUnless result Refusal.Memory) }
+    ensures written { OnOk result (vars.new ≡ record vars.old { env = after vars.old.env entry.now.name.items (value_of_entry entry.now) }) }
+{
+    match vars.write(&entry.name, value_of(entry), true, none) {
+        Ok(_was) => Ok(()),
+        Err(refusal) => Err(refusal),
+    }
+}
+
+/// The entry's value, if it has one.
+fn value_of(entry: &TextEntry) -> Option<&[u8]>
+    ensures { option_copied result ≡ value_of_entry entry.now }
+{
+    match &entry.value {
+        Some(value) => Some(value),
+        None => None,
+    }
+}
