@@ -81,22 +81,22 @@ advance-low n x = ap (advance n) (steps-low x) ∙ advance_xor n (steps 8 (x % 2
 
 -- ---- the tables
 
-abbrev rows : ℕ → ℕ → List ℕ
-rows i zero = []
-rows i (suc n) = steps 8 i ∷ rows (i + 1) n
+abbrev first_table : ℕ → ℕ → List ℕ
+first_table i zero = []
+first_table i (suc n) = steps 8 i ∷ first_table (i + 1) n
 
 abbrev made : ℕ → List ℕ → List (List ℕ)
 made zero row = []
 made (suc n) row = row ∷ made n (map (steps 8) row)
 
-tables_made : TABLES ≡ made 16 (rows 0 256)
+tables_made : TABLES ≡ made 16 (first_table 0 256)
 unfolding step steps
 tables_made = refl
 
-get-rows : (i n k : ℕ) → k < n → get_or (rows i n) k 0 ≡ steps 8 (i + k)
-get-rows i zero k h = absurd (omega arith)
-get-rows i (suc n) zero h = ap (steps 8) (let e : i ≡ i + 0 = omega arith in e)
-get-rows i (suc n) (suc k) h = get-rows (i + 1) n k (omega arith) ∙ ap (steps 8) (let e : i + 1 + k ≡ i + suc k = omega arith in e)
+get-first_table : (i n k : ℕ) → k < n → get_or (first_table i n) k 0 ≡ steps 8 (i + k)
+get-first_table i zero k h = absurd (omega arith)
+get-first_table i (suc n) zero h = ap (steps 8) (let e : i ≡ i + 0 = omega arith in e)
+get-first_table i (suc n) (suc k) h = get-first_table (i + 1) n k (omega arith) ∙ ap (steps 8) (let e : i + 1 + k ≡ i + suc k = omega arith in e)
 
 get-map : (row : List ℕ) (i : ℕ) → i < length row → get_or (map (steps 8) row) i 0 ≡ steps 8 (get_or row i 0)
 get-map [] i h = absurd (omega arith)
@@ -115,16 +115,16 @@ get-made (suc n) (suc k) i row h l =
     get-made n k i (map (steps 8) row) (omega arith) (omega (arith, length-map-steps row))
     ∙ ap (advance k) (get-map row i l)
 
-length-rows : (i n : ℕ) → length (rows i n) ≡ n
-length-rows i zero = refl
-length-rows i (suc n) = ap suc (length-rows (i + 1) n)
+length-first_table : (i n : ℕ) → length (first_table i n) ≡ n
+length-first_table i zero = refl
+length-first_table i (suc n) = ap suc (length-first_table (i + 1) n)
 
 pub table_entry : (k b : ℕ) → k < 16 → b < 256 → get_or (get_or TABLES k []) b 0 ≡ advance (k + 1) b
 unfolding advance
 table_entry k b h l =
     ap (λ ts. get_or (get_or ts k []) b 0) tables_made
-    ∙ get-made 16 k b (rows 0 256) h (omega (arith, length-rows 0 256))
-    ∙ ap (advance k) (get-rows 0 256 b l ∙ ap (steps 8) (let e : 0 + b ≡ b = omega arith in e))
+    ∙ get-made 16 k b (first_table 0 256) h (omega (arith, length-first_table 0 256))
+    ∙ ap (advance k) (get-first_table 0 256 b l ∙ ap (steps 8) (let e : 0 + b ≡ b = omega arith in e))
     ∙ (let e : suc k ≡ k + 1 = omega arith in ap (λ (n : ℕ). advance n b) e)
 
 -- ---- many bytes
