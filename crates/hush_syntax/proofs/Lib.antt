@@ -5,3 +5,4 @@ pub mod TreeLemmas
 pub mod Told
 pub mod LoopLemmas
 pub mod ExitLemmas
+pub mod Rows

@@ -1,5 +1,4 @@
-ghost use Rattle.std.specs.Prelude.{◌≡◌, ℕ, List, Bool, if◌then◌else◌, option_map, is_some, false, map, ◌++◌, ◌∷◌, OnOk, IfErr};
-ghost use Rattle.hush_words.specs.Parts.{word_atoms, tokens_in};
+ghost use Rattle.std.specs.Prelude.{◌≡◌, ℕ, List, if◌then◌else◌, option_map, is_some, ◌++◌, OnOk, IfErr};
 ghost use Rattle.hush_syntax.specs.declared.faults.FaultKind.TheVariants.{Memory};
 
 use crate::{FaultKind, Keyword, Operator, SyntaxFault};
@@ -18,7 +17,7 @@ pub(crate) struct Tokens {
 impl Tokens {
     ghost use Rattle.hush_syntax.specs.Answers.{Answers, first_kind, left_in, TakesWord};
     ghost use Rattle.hush_syntax.specs.Grammar.{begins, is_separator, is_newline};
-    ghost use Rattle.hush_syntax.specs.Reading.{is, is_end, is_word, behind, skip, one, separators, any_words, words_at, name, keyword_at, closes, operator_at};
+    ghost use Rattle.hush_syntax.specs.Reading.{is, is_end, is_word, behind, skip, one, separators, words_at, name, keyword_at, closes, operator_at};
     ghost use Rattle.hush_syntax.specs.Trees.{name_in, words_in};
 
     /// What is wrong where the next token can't stand.

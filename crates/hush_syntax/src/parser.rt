@@ -11,7 +11,7 @@ use std::collections::VecDeque;
 pub(crate) const NEST_LIMIT: u32 = 64;
 
 /// Makes trees of the tokens of one source. `room` is how many if, for, while and until may still stand inside one
-/// another, and no call goes deeper than that by more than a few.
+/// another: calls go no deeper than the limit on these times a constant.
 #[derive(Clone, Copy)]
 pub(crate) struct Parser<'s> {
     pub(crate) alloc: Global,

@@ -1,6 +1,8 @@
 ghost use Rattle.std.specs.Prelude.{◌≡◌, ◌≢◌, IfOk, IfErr, Option, option_map};
+ghost use Rattle.hush_syntax.specs.Answers.{AnswersScript};
 ghost use Rattle.hush_syntax.specs.declared.faults.FaultKind.TheVariants.{Memory};
 ghost use Rattle.hush_syntax.specs.Grammar.{Chains, SpellsText};
+ghost use Rattle.hush_syntax.specs.Reading.{read};
 
 use crate::parser::Parser;
 use crate::{FaultKind, SyntaxFault, Tree};
@@ -49,9 +51,6 @@ impl Script {
         self.tree.as_ref()
     }
 }
-
-ghost use Rattle.hush_syntax.specs.Answers.{AnswersScript};
-ghost use Rattle.hush_syntax.specs.Reading.{read};
 
 /// The tree that a text spells. The fault of a word is answered where the parser asks for the token at fault.
 fn read_tree(alloc: Global, source: &[u8]) -> Result<Option<Tree>, SyntaxFault>
