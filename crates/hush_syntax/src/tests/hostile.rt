@@ -92,13 +92,13 @@ fn two_hundred_thousand_links_are_one_chain(rt: HostRuntime) -> Result<(), Fail>
 
 #[test]
 fn sixty_four_may_stand_inside_one_another(rt: HostRuntime) -> Result<(), Fail> {
-    let forms: [(&[u8], &[u8]); 4] = [
-        (b"if true; then ", b"; fi"),
-        (b"for i in a; do ", b"; done"),
-        (b"while true; do ", b"; done"),
-        (b"until ", b"; do true; done"),
+    let forms: [(&[u8], &[u8], usize); 4] = [
+        (b"if true; then ", b"; fi", 64 * 14),
+        (b"for i in a; do ", b"; done", 64 * 15),
+        (b"while true; do ", b"; done", 64 * 15),
+        (b"until ", b"; do true; done", 64 * 6),
     ];
-    for (opening, closing) in forms.iter() {
+    for (opening, closing, place) in forms.iter() {
         let text = nested(rt.alloc(), 64, opening, closing)?;
         let script = Script::parse(rt.alloc(), text)?;
         assert!(rt; script.tree().is_some());
@@ -108,7 +108,7 @@ fn sixty_four_may_stand_inside_one_another(rt: HostRuntime) -> Result<(), Fail> 
             Err(fault) => assert_eq!(rt;
                 fault,
                 SyntaxFault {
-                    place: 64 * opening.len(),
+                    place: *place,
                     kind: FaultKind::Nest
                 }
             ),

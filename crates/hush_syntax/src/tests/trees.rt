@@ -1,11 +1,20 @@
-//! Texts and the trees that they spell, written by hand; `shown` prints a tree so.
+//! Texts and the trees that they spell, written by hand; `shown` prints a tree so. Each line of the table in
+//! docs/scripts.md, "Grammar", has its texts.
 
 use super::shown;
 use crate::Script;
+use std::alloc::Global;
 use std::test::Fail;
 
-/// A line for each form of the table in docs/scripts.md, "Grammar", and more.
-const TREES: [(&[u8], &[u8]); 100] = [
+/// The text spells this tree, and stands in the script as it was.
+fn spells(alloc: Global, text: &[u8], tree: &[u8]) -> Result<bool, Fail> {
+    let script = Script::parse(alloc, text.to_vec(alloc)?)?;
+    let shown = shown(alloc, &script)?;
+    Ok(shown.as_slice() == tree && script.source() == text)
+}
+
+/// Lists, and simple commands without quotes.
+const LISTS: [(&[u8], &[u8]); 22] = [
     (b"", b""),
     (b"\n", b""),
     (b" ;; \n ; # c", b""),
@@ -28,6 +37,18 @@ const TREES: [(&[u8], &[u8]); 100] = [
     (b"a #b", b"{(a)}"),
     (b"echo a # b", b"{(echo a)}"),
     (b"test a < b", b"{(test a < b)}"),
+];
+
+#[test]
+fn lists_spell_their_trees(rt: HostRuntime) -> Result<(), Fail> {
+    for (text, tree) in LISTS.iter() {
+        assert!(rt; spells(rt.alloc(), text, tree)?);
+    }
+    Ok(())
+}
+
+/// Words of every kind of part.
+const WORDS: [(&[u8], &[u8]); 19] = [
     (b"'if' x", b"{(\"'if' x)}"),
     (b"\\if x", b"{('i'f x)}"),
     (b"\"if\" x", b"{(\"'if' x)}"),
@@ -47,6 +68,18 @@ const TREES: [(&[u8], &[u8]); 100] = [
     (b"'a;b' c", b"{(\"'a;b' c)}"),
     (b"a$", b"{(a$)}"),
     (b"$x=1", b"{($x=1)}"),
+];
+
+#[test]
+fn words_spell_their_trees(rt: HostRuntime) -> Result<(), Fail> {
+    for (text, tree) in WORDS.iter() {
+        assert!(rt; spells(rt.alloc(), text, tree)?);
+    }
+    Ok(())
+}
+
+/// Assignments and chains.
+const ASSIGNMENTS_AND_CHAINS: [(&[u8], &[u8]); 23] = [
     (b"a=1", b"{a:=(1)}"),
     (b"a=", b"{a:=()}"),
     (b"_a9=x", b"{_a9:=(x)}"),
@@ -70,6 +103,18 @@ const TREES: [(&[u8], &[u8]); 100] = [
     (b"a &&\nb", b"{(a) && (b)}"),
     (b"a ||\n\n\nb", b"{(a) || (b)}"),
     (b"a && b; c || d", b"{(a) && (b); (c) || (d)}"),
+];
+
+#[test]
+fn assignments_and_chains_spell_their_trees(rt: HostRuntime) -> Result<(), Fail> {
+    for (text, tree) in ASSIGNMENTS_AND_CHAINS.iter() {
+        assert!(rt; spells(rt.alloc(), text, tree)?);
+    }
+    Ok(())
+}
+
+/// `if`.
+const IFS: [(&[u8], &[u8]); 16] = [
     (b"if a; then b; fi", b"{if {(a)} then {(b)} fi}"),
     (b"if a\nthen\nb\nfi", b"{if {(a)} then {(b)} fi}"),
     (
@@ -116,6 +161,18 @@ const TREES: [(&[u8], &[u8]); 100] = [
         b"{if {(a)} then {(b)} elif {(c)} then {(d)} else {(e)} fi}",
     ),
     (b"if a=1; then b; fi", b"{if {a:=(1)} then {(b)} fi}"),
+];
+
+#[test]
+fn ifs_spell_their_trees(rt: HostRuntime) -> Result<(), Fail> {
+    for (text, tree) in IFS.iter() {
+        assert!(rt; spells(rt.alloc(), text, tree)?);
+    }
+    Ok(())
+}
+
+/// `for`, `while` and `until`.
+const LOOPS: [(&[u8], &[u8]); 20] = [
     (
         b"for i in a b; do c; done",
         b"{for i in (a b) do {(c)} done}",
@@ -184,12 +241,9 @@ const TREES: [(&[u8], &[u8]); 100] = [
 ];
 
 #[test]
-fn each_text_spells_its_tree(rt: HostRuntime) -> Result<(), Fail> {
-    for (text, tree) in TREES.iter() {
-        let script = Script::parse(rt.alloc(), text.to_vec(rt.alloc())?)?;
-        let shown = shown(rt.alloc(), &script)?;
-        assert!(rt; shown.as_slice() == *tree);
-        assert!(rt; script.source() == *text);
+fn loops_spell_their_trees(rt: HostRuntime) -> Result<(), Fail> {
+    for (text, tree) in LOOPS.iter() {
+        assert!(rt; spells(rt.alloc(), text, tree)?);
     }
     Ok(())
 }
