@@ -2,10 +2,12 @@
 //! what is left and makes the call again.
 //!
 //! scripts/test runs this program once for each of its allocations, with that one refused. A line that begins with
-//! `refused` says which call met the refusal; every other line is the same whichever allocation it was.
+//! `refused:` says which call met the refusal; every other line is the same whichever allocation it was.
 #![tactic(auto)]
 
+mod defaulting;
 mod lines;
+mod scripts;
 mod showing;
 mod texts;
 mod variables;
@@ -15,5 +17,7 @@ use std::io;
 fn main(rt: HostRuntime) -> io::Result<()> {
     showing::sweep(rt.alloc(), &mut rt.stdout())?;
     texts::sweep(rt.alloc(), &mut rt.stdout())?;
-    variables::sweep(rt.alloc(), &mut rt.stdout())
+    variables::sweep(rt.alloc(), &mut rt.stdout())?;
+    defaulting::sweep(rt.alloc(), &mut rt.stdout())?;
+    scripts::sweep(rt.alloc(), &mut rt.stdout())
 }
