@@ -1,4 +1,3 @@
-pub mod CompareLemmas
 pub mod EntryLemmas
 pub mod FindLemmas
 pub mod MapLemmas

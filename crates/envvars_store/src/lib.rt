@@ -1,7 +1,6 @@
 //! The variables of an environment in memory (docs/variables.md, "In memory").
 #![tactic(auto)]
 
-mod comparing;
 mod copying;
 mod finding;
 mod iterating;

@@ -5,7 +5,6 @@ ghost use Rattle.std.specs.FinMap as env;
 ghost use Rattle.envvars_store.specs.Pieces.{IsPiece, IsNextPlace};
 ghost use Rattle.envvars_store.specs.Runs.{listed, IsLaid};
 
-use crate::comparing::comes_after;
 use crate::copying::copied;
 use crate::placing::{forget, set};
 use crate::runs::{Run, push};
@@ -13,6 +12,7 @@ use crate::slots::{Place, Slot};
 use crate::storing::Variables;
 use memchr::memchr;
 use std::alloc::{AllocError, Global};
+use std::cmp::Ordering;
 
 impl Variables {
     /// The variables of a data area: the last of its entries for a name decides.
@@ -82,14 +82,13 @@ fn next_place(area: &[u8], at: usize, last: &[u8]) -> Option<Place>
     if length == 0 || at + length + 1 == end {
         return None;
     }
-    if comes_after(name, last) {
-        Some(Place {
+    match name.cmp(&last) {
+        Ordering::Greater => Some(Place {
             start: at as u32,
             middle: (at + length) as u32,
             end: end as u32,
-        })
-    } else {
-        None
+        }),
+        _ => None,
     }
 }
 
