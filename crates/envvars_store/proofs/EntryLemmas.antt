@@ -157,8 +157,8 @@ pub some_takes : (m : Environment) (xs : List ℕ) (k : ℕ) → IsFirstByte (is
 some_takes m xs k f n e = sym (takes_away m xs k (first_at 61 xs k f) (omega arith) (omega arith) (omega arith))
 
 -- a search in what follows a place
-pub rest_first : (area : List ℕ) (at : ℕ) (r : Option ℕ) → IsFirstByte (is_byte 0) (take (length area - at) (drop at area)) r → IsFirstByte (is_byte 0) (drop at area) r
-rest_first area at r f = subst (λ xs. IsFirstByte (is_byte 0) xs r) (take_rest area at) f
+pub rest_first : (a : ℕ) (area : List ℕ) (at : ℕ) (r : Option ℕ) → IsFirstByte (is_byte a) (take (length area - at) (drop at area)) r → IsFirstByte (is_byte a) (drop at area) r
+rest_first a area at r f = subst (λ xs. IsFirstByte (is_byte a) xs r) (take_rest area at) f
 
 pub ended : (xs : List ℕ) (k : ℕ) → k ≡ 0 → IsFirstByte (is_byte 0) xs (Some k) → entries_of xs ≡ []
 ended xs k e f =
@@ -166,7 +166,7 @@ ended xs k e f =
     entries_end xs (first_at 0 xs k f ∙ e) (omega arith)
 
 -- a name and a value as places of an area
-name_part : (area : List ℕ) (s e k : ℕ) → k ≤ e - s → slice_range area s (s + k) ≡ take k (slice_range area s e)
+pub name_part : (area : List ℕ) (s e k : ℕ) → k ≤ e - s → slice_range area s (s + k) ≡ take k (slice_range area s e)
 name_part area s e k h =
     let same : s + k - s ≡ k = omega arith in
     ap (λ n. take n (drop s area)) same ∙ sym (take-take k (e - s) (drop s area) h)

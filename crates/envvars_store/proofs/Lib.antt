@@ -1,3 +1,4 @@
+pub mod CompareLemmas
 pub mod EntryLemmas
 pub mod FindLemmas
 pub mod MapLemmas

@@ -19,7 +19,8 @@ use Rattle.envvars_store.proofs.OrderLemmas.{turned, put_between, all_before_pus
 use Rattle.envvars_store.proofs.MapLemmas.{env_of, env_put, sorted_put}
 use Rattle.envvars_store.proofs.RunLemmas.{flat_cut, flat_set, slots_read}
 use Rattle.envvars_store.specs.Variable.{IsVariable}
-use Rattle.envvars_store.proofs.EntryLemmas.{piece_read, piece_long, place_formed, place_gives}
+use Rattle.envvars_store.proofs.CompareLemmas.{not_empty}
+use Rattle.envvars_store.proofs.EntryLemmas.{piece_read, piece_long, name_part, place_formed, place_gives}
 
 -- a slot pushed onto the last run
 pub pushed_last : (runs : List Run) (r : ℕ) (x y : Run) (p : Slot) → r + 1 ≡ length runs → x ≡ get_or runs r x → y.items ≡ x.items ++ p ∷ [] → flat (set runs r y) ≡ flat runs ++ p ∷ []
@@ -76,8 +77,9 @@ place_marked area s e k p f =
     let short : k < e - s = omega (arith, length-take (e - s) (drop s area)) in
     sym (get_or-take (e - s) (drop s area) k 0 short ∙ get_or-drop s area k 0) ∙ eqb-true _ _ f.1
 
-pub next_place_is : (area : List ℕ) (s k e : ℕ) (last : List ℕ) (p : Place) → p.start ≡ s → p.middle ≡ s + k → p.end ≡ e → IsPiece area s e → IsFirstByte (is_byte 61) (slice_range area s e) (Some k) → (k ≢ 0) → (s + k + 1 ≢ e) → bytes_cmp (slice_range area s (s + k)) last ≡ Greater → IsNextPlace area s last p
-next_place_is area s k e last p a b c piece f n m g =
+pub next_place_is : (area : List ℕ) (s k e : ℕ) (last : List ℕ) (p : Place) → p.start ≡ s → p.middle ≡ s + k → p.end ≡ e → IsPiece area s e → IsFirstByte (is_byte 61) (slice_range area s e) (Some k) → (s + k + 1 ≢ e) → bytes_cmp (take k (slice_range area s e)) last ≡ Greater → IsNextPlace area s last p
+next_place_is area s k e last p a b c piece f m g =
+    let n : k ≢ 0 = not_empty (slice_range area s e) last k g in
     let within : k < length (slice_range area s e) = f.0.high in
     let size : length (slice_range area s e) ≡ e - s = piece_long area s e piece in
     let some = piece.some in
@@ -94,7 +96,7 @@ next_place_is area s k e last p a b c piece f n m g =
           ap (λ x. fold after_entry w (filter has_name (entry_of (slice_range area x p.end) ∷ []))) a ∙ ap (λ x. fold after_entry w (filter has_name (entry_of (slice_range area s x) ∷ []))) c
           ∙ sym (place_gives w area s e k piece f n more)
           ∙ sym (ap (λ x. env.insert w (slice_range area x p.middle) (slice_range area (p.middle + 1) p.end)) a ∙ ap (λ x. env.insert w (slice_range area s x) (slice_range area (x + 1) p.end)) b ∙ ap (λ x. env.insert w (slice_range area s (s + k)) (slice_range area (s + k + 1) x)) c);
-      rising = ap (λ x. bytes_cmp (slice_range area x p.middle) last) a ∙ ap (λ x. bytes_cmp (slice_range area s x) last) b ∙ g;
+      rising = ap (λ x. bytes_cmp (slice_range area x p.middle) last) a ∙ ap (λ x. bytes_cmp (slice_range area s x) last) b ∙ ap (λ x. bytes_cmp x last) (name_part area s e k (omega arith)) ∙ g;
     }
 
 -- at the beginning there are no variables

@@ -1,5 +1,5 @@
 -- Where a name stands among variables in the order of their names.
-use Rattle.std.specs.Prelude.{◌≡◌, ℕ, Bool, not, ◌<◌, ◌≤◌, List, [], ◌∷◌, length, take, drop, slice_index_or}
+use Rattle.std.specs.Prelude.{◌≡◌, ◌≢◌, slice_index, ℕ, Bool, not, ◌<◌, ◌≤◌, List, [], ◌∷◌, length, take, drop, slice_index_or}
 use Rattle.std.specs.Ordering.{eq_by_cmp}
 use Rattle.std.specs.declared.cmp.Ordering.TheVariants.{Less, Equal, Greater}
 use Rattle.envimg_core.specs.Environment.{Pair, bytes_cmp}
@@ -29,3 +29,10 @@ pub record IsGap (name : List ℕ) (es : List Pair) (i : ℕ) : Type 0 where
 -- whether a name is another than the first one
 abbrev pub is_other : List ℕ → List ℕ → Bool
 is_other q n = not (eq_by_cmp bytes_cmp q n)
+
+-- two texts share as many bytes at their front, and no more
+pub record IsShared (xs ys : List ℕ) (n : ℕ) : Type 0 where
+  pub first : n ≤ length xs
+  pub second : n ≤ length ys
+  pub same : take n xs ≡ take n ys
+  pub differ : n < length xs → n < length ys → slice_index xs n ≢ slice_index ys n

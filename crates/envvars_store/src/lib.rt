@@ -1,6 +1,7 @@
 //! The variables of an environment in memory (docs/variables.md, "In memory").
 #![tactic(auto)]
 
+mod comparing;
 mod copying;
 mod finding;
 mod iterating;

@@ -1,10 +1,12 @@
 // The variables of a data area.
-ghost use Rattle.std.specs.Prelude.{◌≡◌, ◌<◌, ◌≤◌, ◌^◌, length, fold, filter, IfOk, IfSome, OnOk, MatchOption, drop, [], ◌∷◌, slice_range};
+ghost use Rattle.std.specs.Prelude.{◌≡◌, ◌<◌, ◌≤◌, ◌^◌, length, fold, filter, IfOk, IfSome, OnOk, MatchOption, drop, false, [], ◌∷◌, All, slice_range};
 ghost use Rattle.envimg_core.specs.Pieces.{entries_of, vars_of, entry_of, has_name, after_entry};
 ghost use Rattle.std.specs.FinMap as env;
 ghost use Rattle.envvars_store.specs.Pieces.{IsPiece, IsNextPlace};
 ghost use Rattle.envvars_store.specs.Runs.{listed, IsLaid};
+ghost use Rattle.memchr.specs.Find.{is_byte};
 
+use crate::comparing::rising_end;
 use crate::copying::copied;
 use crate::placing::{forget, set};
 use crate::runs::{Run, push};
@@ -12,7 +14,6 @@ use crate::slots::{Place, Slot};
 use crate::storing::Variables;
 use memchr::memchr;
 use std::alloc::{AllocError, Global};
-use std::cmp::Ordering;
 
 impl Variables {
     /// The variables of a data area: the last of its entries for a name decides.
@@ -74,22 +75,19 @@ fn rising(alloc: Global, area: &[u8], runs: &mut Vec<Run>) -> Result<usize, Allo
 fn next_place(area: &[u8], at: usize, last: &[u8]) -> Option<Place>
     requires within { at ≤ length area.now }
     requires size { length area.now ≤ 1048576 }
+    requires last { All (λ b. is_byte 61 b ≡ false) last.now }
     ensures { IfSome result (IsNextPlace area.now at last.now) }
 {
     let end = piece_end(area, at)?;
-    let length = memchr(b'=', &area[at..end])?;
-    let name = &area[at..at + length];
-    if length == 0 || at + length + 1 == end {
+    let middle = at + rising_end(&area[at..end], last)?;
+    if middle + 1 == end {
         return None;
     }
-    match name.cmp(&last) {
-        Ordering::Greater => Some(Place {
-            start: at as u32,
-            middle: (at + length) as u32,
-            end: end as u32,
-        }),
-        _ => None,
-    }
+    Some(Place {
+        start: at as u32,
+        middle: middle as u32,
+        end: end as u32,
+    })
 }
 
 // Where the piece that begins at a place ends; none where no entry is left.

@@ -9,7 +9,7 @@ use std::alloc::Global;
 use std::io::{Read, Write};
 
 /// How many bytes one read asks for at the most.
-const BLOCK: usize = 16_384;
+const BLOCK: usize = 4_096;
 
 /// Reads until the reader ends or `limit` bytes are there. A read that fails is not tried again.
 pub(crate) fn read_up_to<R: Read>(

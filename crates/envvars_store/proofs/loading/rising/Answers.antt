@@ -1,6 +1,7 @@
 use Rattle.std.proofs.Common.{ap, refl, ◌∙◌, arith, fold}
 use Rattle.envimg_core.specs.Pieces.{entries_of, after_entry}
 use Rattle.envvars_store.specs.Runs.{listed}
+use Rattle.envvars_store.proofs.CompareLemmas.{name_plain}
 use Rattle.envvars_store.proofs.MapLemmas.{env_of, env_empty}
 use Rattle.envvars_store.proofs.PlaceLemmas.{laid_none, laid_lent}
 use Rattle.envvars_store.proofs.RisingLemmas.{rises_none, risen, risen_left}
@@ -11,6 +12,7 @@ walk-init c =
     record {
       within = omega arith;
       laid = laid_lent _ _ _ _ refl c.requires.empty (laid_none c.args.area.now);
+      plain = λ k d h. absurd (omega arith);
       rises = rises_none c.args.area.now c.args.runs.now.items c.requires.empty;
       left = ap (λ m. fold after_entry m (entries_of c.args.area.now)) (ap (λ runs. env_of (listed c.args.area.now runs)) c.requires.empty ∙ env_empty);
     }
@@ -23,6 +25,7 @@ walk-preserved c =
     record {
       within = omega arith;
       laid = r.laid;
+      plain = name_plain _ next.formed.0;
       rises = r.rises;
       left = risen_left c.args.area.now c.walk.runs.items c.push.new.runs.items c.walk.at c.walk.last.now c.in-Some.place _ c.walk.invariant.laid next r c.walk.invariant.left;
     }

@@ -1,16 +1,18 @@
-use Rattle.std.proofs.Common.{◌≡◌, ◌≤◌, ◌-◌, length, fold, drop}
+use Rattle.std.proofs.Common.{◌≡◌, ◌≤◌, ◌-◌, false, length, fold, drop, All}
 use Rattle.std.specs.FinMap as env
 use Rattle.envimg_core.specs.Pieces.{entries_of, vars_of, after_entry}
+use Rattle.memchr.specs.Find.{is_byte}
 use Rattle.envvars_store.specs.Runs.{listed, IsLaid}
 use Rattle.envvars_store.proofs.RisingLemmas.{RisesTo}
 use Rattle.envvars_store.proofs.loading.rising.Given as goal
 
--- a name after the last one comes after all; the entries that are left make of these variables those of the area
+-- the last name has no '=', and a name after it comes after all; the entries that are left make of these variables those of the area
 abbrev pub invariant-walk : goal.invariant-walk
 invariant-walk l =
     record {
       within : l.at ≤ length l.area;
       laid : IsLaid l.area l.runs.items;
+      plain : All (λ b. is_byte 61 b ≡ false) l.last;
       rises : RisesTo l.area l.runs.items l.last;
       left : fold after_entry (env.from_sorted (listed l.area l.runs.items)) (entries_of (drop l.at l.area)) ≡ vars_of (entries_of l.area);
     }
