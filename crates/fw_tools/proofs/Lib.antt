@@ -2,3 +2,4 @@ mod DefaultsLemmas
 mod ListingLemmas
 mod ShowLemmas
 mod StreamLemmas
+pub mod Rows

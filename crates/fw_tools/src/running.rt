@@ -1,5 +1,10 @@
 //! The program over its words and streams.
-ghost use Rattle.std.specs.Prelude.{◌≤◌};
+ghost use Rattle.std.specs.Prelude.{◌≡◌, ◌⊎◌, ◌≤◌, map};
+ghost use Rattle.clap.specs.Words.{kind_of};
+ghost use Rattle.fw_tools.specs.Running.{Answers, LacksMemory, Runs, Says};
+ghost use Rattle.fw_tools.specs.Streams.{AppendsFront};
+ghost use Rattle.fw_tools.specs.Words.{faults, message_without_words};
+ghost use Rattle.std.specs.IoError.{error_kind};
 
 use crate::command_line::read_words;
 use crate::ending::{StreamFault, ToolEnd};
@@ -24,7 +29,8 @@ pub fn program<X: Files + AllocGlobal, S: AsStr, R: Read, W: Write, E: Write>(
     output: &mut W,
     errors: &mut E,
 ) -> u8
-    ensures { result ≤ 1 }
+    ensures status { result ≤ 1 }
+    ensures runs { Runs (faults (map S.text words.entry.now)) (R.remaining input.old) (R.remaining input.new) (W.contents output.old) (W.contents output.new) (E.contents errors.old) (E.contents errors.new) result }
 {
     let alloc = rt.alloc();
     match read_words(alloc, words) {
@@ -38,14 +44,15 @@ pub fn program<X: Files + AllocGlobal, S: AsStr, R: Read, W: Write, E: Write>(
 
 /// Says on `errors` why the words of the command line could not be had, and answers the exit status, 1.
 pub fn words_failed<E: Write>(error: &io::Error, errors: &mut E) -> u8
-    ensures { result ≤ 1 }
+    ensures status { result ≡ 1 }
+    ensures said { AppendsFront (E.contents errors.old) (E.contents errors.new) (message_without_words (error_kind error.now)) }
 {
     let text = match error.kind() {
         io::ErrorKind::OutOfMemory => OUT_OF_MEMORY,
         io::ErrorKind::InvalidData => NOT_UTF8,
         _ => NO_WORDS,
     };
-    let _ = write_text(errors, text);
+    say(errors, text);
     1
 }
 
@@ -56,7 +63,8 @@ fn print_error<W: Write, E: Write>(
     output: &mut W,
     errors: &mut E,
 ) -> u8
-    ensures { result ≤ 1 }
+    ensures status { result ≤ 1 }
+    ensures answers { LacksMemory (W.contents output.old) (W.contents output.new) (E.contents errors.old) (E.contents errors.new) result ⊎ Answers (kind_of error.now) (W.contents output.old) (W.contents output.new) (E.contents errors.old) (E.contents errors.new) result }
 {
     let Ok(text) = error.to_string(alloc) else {
         return report(ToolEnd::stopped(StreamFault::Memory), errors);
@@ -65,7 +73,7 @@ fn print_error<W: Write, E: Write>(
         return report(ToolEnd::stopped(StreamFault::Memory), errors);
     }
     if error.use_stderr() {
-        let _ = write_text(errors, text.as_bytes());
+        say(errors, text.as_bytes());
         return 1;
     }
     if !write_text(output, text.as_bytes()) {
@@ -76,8 +84,8 @@ fn print_error<W: Write, E: Write>(
 
 /// Says on `errors` which fault stopped a tool, if one did, and answers the exit status.
 fn report<E: Write>(end: ToolEnd, errors: &mut E) -> u8
-    requires { end.status ≤ 1 }
-    ensures { result ≤ 1 }
+    ensures status { result ≡ end.status }
+    ensures said { Says end.fault (E.contents errors.old) (E.contents errors.new) }
 {
     if let Some(fault) = end.fault {
         let text = match fault {
@@ -85,7 +93,14 @@ fn report<E: Write>(end: ToolEnd, errors: &mut E) -> u8
             StreamFault::Write => CANNOT_WRITE,
             StreamFault::Memory => OUT_OF_MEMORY,
         };
-        let _ = write_text(errors, text);
+        say(errors, text);
     }
     end.status
+}
+
+/// Writes a text as far as the writer takes it: where that fails there is nothing left to say it on.
+fn say<E: Write>(errors: &mut E, text: &[u8])
+    ensures { AppendsFront (E.contents errors.old) (E.contents errors.new) text.now }
+{
+    let _ = write_text(errors, text);
 }
