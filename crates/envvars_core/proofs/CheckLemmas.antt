@@ -1,22 +1,32 @@
 -- The checks of a write, found one by one, are the refusal.
-use Rattle.std.proofs.Common.{◌≡◌, ◌≢◌, ◌≤◌, ◌⊎◌, ℕ, Bool, true, false, ◌&&◌, List, [], ◌∷◌, Option, Some, None, Ok, Err, IfSome, IsTrue, refl, sym, ap, subst, inl, inr, arith}
-use borrow.Author.Tests.{ltb-false}
+use Rattle.std.proofs.Common.{◌≡◌, ◌≢◌, ◌≤◌, ◌⊎◌, ℕ, Bool, true, false, ◌&&◌, List, [], ◌∷◌, Option, Some, None, Ok, Err, IfSome, IsTrue, refl, sym, ap, subst, ◌∙◌, inl, inr, not, arith}
+use Rattle.std.proofs.lemmas.Bool.{ltb-false}
 use Rattle.std.specs.Prelude.{is_none, nat_lt, if◌then◌else◌}
 use Rattle.std.specs.Option.{option_or}
 use Rattle.std.specs.FinMap as env
 use Rattle.envimg_core.specs.Environment.{Environment, is_name, is_value, used}
 use Rattle.envimg_core.specs.Pieces.{with_value}
 use Rattle.envvars_core.specs.Attributes.{attributes}
-use Rattle.envvars_core.specs.Refusals.{given, holds_no_zero, has_type_if_some, is_value_of, access_refusal, after, first_refusal, forbidden, full, refusal, answer_of, IsAccepted}
+use Rattle.envvars_core.specs.Refusals.{given, holds_no_zero, has_type_if_some, is_value_of, access_refusal, attr_refusal, after, first_refusal, forbidden, full, refusal, answer_of, IsAccepted}
 use Rattle.envvars_core.proofs.SizeLemmas.{used-remove}
 use Rattle.envvars_core.specs.declared.attributes.Access.{Access}
 use Rattle.envvars_core.specs.declared.attributes.Access.TheVariants.{Any, ReadOnly, WriteOnce, ChangeDefault}
 use Rattle.envvars_core.specs.declared.refusals.Refusal.{Refusal}
 use Rattle.envvars_core.specs.declared.refusals.Refusal.TheVariants.{BadForm, BadType, NoCreate, NoDelete, NoOverwrite, Full, Memory}
 
-pub refusal_is : (m defaults : Environment) (room : ℕ) (n : List ℕ) (new : Option (List ℕ)) (force : Bool) (formed nothing typed : Bool) (access size : Option Refusal) → formed ≡ (is_name n && holds_no_zero new) → nothing ≡ (is_none (env.get m n) && is_none (given new)) → typed ≡ has_type_if_some (attributes m n).kind (given new) → access ≡ forbidden force (attributes m n).access (env.get m n) (env.get defaults n) (given new) → size ≡ full room (after m n new) → first_refusal formed nothing typed access size ≡ refusal m defaults room n new force
+-- the first refusal, with type and access found together
+abbrev by_attr : Bool → Bool → Option Refusal → Option Refusal → Option Refusal
+by_attr formed nothing attr full = if not formed then Some BadForm else (if nothing then None else option_or attr full)
+
+type_first : (formed nothing typed : Bool) (access size : Option Refusal) → by_attr formed nothing (if not typed then Some BadType else access) size ≡ first_refusal formed nothing typed access size
+type_first formed nothing true access size = refl
+type_first formed nothing false access size = refl
+
+pub refusal_is : (m defaults : Environment) (room : ℕ) (n : List ℕ) (new : Option (List ℕ)) (force : Bool) (formed nothing : Bool) (attr size : Option Refusal) → formed ≡ (is_name n && holds_no_zero new) → nothing ≡ (is_none (env.get m n) && is_none (given new)) → attr ≡ attr_refusal force (attributes m n) (env.get m n) (env.get defaults n) (given new) → size ≡ full room (after m n new) → by_attr formed nothing attr size ≡ refusal m defaults room n new force
 unfolding refusal
-refusal_is m defaults room n new force formed nothing typed access size f g h a s = λ i. first_refusal (f i) (g i) (h i) (a i) (s i)
+refusal_is m defaults room n new force formed nothing attr size f g h s =
+    (λ i. by_attr (f i) (g i) (h i) (s i))
+    ∙ type_first (is_name n && holds_no_zero new) (is_none (env.get m n) && is_none (given new)) (has_type_if_some (attributes m n).kind (given new)) (forbidden force (attributes m n).access (env.get m n) (env.get defaults n) (given new)) (full room (after m n new))
 
 -- a refusal that is not for want of memory
 abbrev IsNamed : Option Refusal → Type 0

@@ -4,9 +4,10 @@ use Rattle.std.specs.Ordering.{is_eq, eq_by_cmp}
 use Rattle.std.specs.declared.cmp.Ordering.TheVariants.{Less, Equal, Greater}
 use Rattle.std.specs.Cmp.Lexicographic.{nat_list_cmp_total}
 use Rattle.std.specs.FinMap as env
-use Rattle.std.specs.FinMap.{IsAntisymmetric, nat_cmp-IsAntisymmetric, slice_cmp-IsAntisymmetric, get-empty, get-insert, get-remove}
+use Rattle.std.specs.FinMap.{get-empty, get-insert, get-remove}
 use Rattle.envimg_core.specs.Environment.{Environment, bytes_cmp}
 use Rattle.envimg_core.specs.Pieces.{with_value}
+use Rattle.envvars_store.proofs.OrderLemmas.{same_name}
 use Rattle.envvars_core.specs.Attributes.{attr_among, attributes_in, attributes, flags_name}
 
 pub attributes_by : (m : Environment) (o : Option (List ℕ)) (n : List ℕ) → o ≡ env.get m flags_name → attributes_in (unwrap_or o []) n ≡ attributes m n
@@ -21,14 +22,11 @@ no_text n = refl
 pub attributes-empty : (n : List ℕ) → attr_among [] n ≡ attributes env.empty n
 attributes-empty n = no_text n ∙ attributes_by env.empty None n (sym (get-empty bytes_cmp flags_name))
 
-bytes_same : IsAntisymmetric bytes_cmp
-bytes_same = slice_cmp-IsAntisymmetric nat_cmp-IsAntisymmetric
-
 apart : (q n : List ℕ) → (n ≡ q → ⊥) → eq_by_cmp bytes_cmp q n ≡ false
 apart q n ne =
     elim (bytes_cmp q n) as (λ o. bytes_cmp q n ≡ o → is_eq o ≡ false) [
       | Less ↦ λ p. refl
-      | Equal ↦ λ p. absurd (ne (sym (bytes_same q n p)))
+      | Equal ↦ λ p. absurd (ne (sym (same_name q n p)))
       | Greater ↦ λ p. refl
     ] refl
 

@@ -1,15 +1,14 @@
 -- Worked values of the definitions, which the checker computes.
-use Rattle.std.proofs.Common.{◌≡◌, ℕ, Bool, true, false, ◌&&◌, List, Option, Some, None, refl, sym, ap, arith}
+use Rattle.std.proofs.Common.{◌≡◌, ℕ, true, false, ◌&&◌, List, Option, Some, None, refl, sym, ap, arith}
 use Rattle.std.specs.Prelude.{codes, is_none, nat_lt, if◌then◌else◌}
 use Rattle.std.specs.FinMap as env
 use Rattle.std.specs.FinMap.{get-empty}
-use Rattle.envimg_core.specs.Environment.{Environment, bytes_cmp, used}
+use Rattle.envimg_core.specs.Environment.{bytes_cmp, used}
 use Rattle.envvars_core.specs.Types.{has_type}
-use Rattle.envvars_core.specs.Attributes.{attributes_in, attr_among, plain, flags_name}
-use Rattle.envvars_core.specs.Refusals.{given, has_type_if_some, access_refusal, forbidden, full, refusal}
+use Rattle.envvars_core.specs.Attributes.{attributes_in, plain}
+use Rattle.envvars_core.specs.Refusals.{access_refusal, forbidden, attr_refusal, refusal}
 use Rattle.envvars_core.specs.declared.types.Kind.TheVariants.{String, Decimal, Hexadecimal, Boolean, IpAddress, MacAddress}
 use Rattle.envvars_core.specs.declared.attributes.Access.TheVariants.{Any, ReadOnly, WriteOnce, ChangeDefault}
-use Rattle.envvars_core.specs.declared.attributes.Attr.{Attr}
 use Rattle.envvars_core.specs.declared.refusals.Refusal.TheVariants.{Full, NoCreate, NoDelete, NoOverwrite}
 use Rattle.envvars_core.specs.Variables.{size_of}
 use Rattle.envvars_core.proofs.CheckLemmas.{refusal_is}
@@ -127,11 +126,10 @@ five_bytes =
 
 sized : (room : ℕ) → (if nat_lt room 5 then Some Full else None) ≡ refusal env.empty env.empty room (codes "a") (Some (codes "b")) false
 sized room =
-    refusal_is env.empty env.empty room (codes "a") (Some (codes "b")) false true false true None (if nat_lt room 5 then Some Full else None)
+    refusal_is env.empty env.empty room (codes "a") (Some (codes "b")) false true false None (if nat_lt room 5 then Some Full else None)
     refl
     (ap (λ (o : Option (List ℕ)). is_none o && false) (sym (get-empty bytes_cmp (codes "a"))))
-    (ap (λ (a : Attr). has_type_if_some a.kind (Some (codes "b"))) (attributes-empty (codes "a")))
-    (λ i. forbidden false (attributes-empty (codes "a") i).access (sym (get-empty {X = List ℕ} bytes_cmp (codes "a")) i) (sym (get-empty {X = List ℕ} bytes_cmp (codes "a")) i) (Some (codes "b")))
+    (λ i. attr_refusal false (attributes-empty (codes "a") i) (sym (get-empty {X = List ℕ} bytes_cmp (codes "a")) i) (sym (get-empty {X = List ℕ} bytes_cmp (codes "a")) i) (Some (codes "b")))
     (ap (λ u. if nat_lt room u then Some Full else None) (sym five_bytes))
 
 no_room : refusal env.empty env.empty 4 (codes "a") (Some (codes "b")) false ≡ Some Full

@@ -9,6 +9,7 @@ use Rattle.envimg_core.specs.Pieces.{value_of, with_value}
 use Rattle.envvars_core.specs.Types.{has_type}
 use Rattle.envvars_core.specs.Attributes.{attributes}
 use Rattle.envvars_core.specs.declared.types.Kind.{Kind}
+use Rattle.envvars_core.specs.declared.attributes.Attr.{Attr}
 use Rattle.envvars_core.specs.declared.attributes.Access.{Access}
 use Rattle.envvars_core.specs.declared.attributes.Access.TheVariants.{Any, ReadOnly, WriteOnce, ChangeDefault}
 use Rattle.envvars_core.specs.declared.refusals.Refusal.{Refusal}
@@ -59,6 +60,10 @@ first_refusal formed nothing typed forbidden full =
 -- what the access refuses, unless the write is forced
 abbrev pub forbidden : Bool → Access → Option (List ℕ) → Option (List ℕ) → Option (List ℕ) → Option Refusal
 forbidden force access old default new = if force then None else access_refusal access old default new
+
+-- what the attributes refuse: the type first, then the access, unless the write is forced
+abbrev pub attr_refusal : Bool → Attr → Option (List ℕ) → Option (List ℕ) → Option (List ℕ) → Option Refusal
+attr_refusal force attr old default new = if not (has_type_if_some attr.kind new) then Some BadType else forbidden force attr.access old default new
 
 -- what the size refuses
 abbrev pub full : ℕ → Environment → Option Refusal

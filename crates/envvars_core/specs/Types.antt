@@ -3,8 +3,15 @@ use Rattle.std.specs.Prelude.{ℕ, ◌==◌, ◌||◌, ◌&&◌, Bool, true, not
 use Rattle.std.specs.List.{slice_split, list_all, list_any, starts_with}
 use Rattle.std.specs.Char.{is_ascii_digit, is_ascii_hexdigit}
 use Rattle.envimg_core.specs.Environment.{is_empty}
+use Rattle.envvars_core.specs.declared.types.Base.{Base}
+use Rattle.envvars_core.specs.declared.types.Base.TheVariants.{Ten, Sixteen}
 use Rattle.envvars_core.specs.declared.types.Kind.{Kind}
 use Rattle.envvars_core.specs.declared.types.Kind.TheVariants.{String, Decimal, Hexadecimal, Boolean, IpAddress, MacAddress}
+
+-- the digits of a base
+abbrev pub is_digit : Base → ℕ → Bool
+is_digit Ten = is_ascii_digit
+is_digit Sixteen = is_ascii_hexdigit
 
 -- one or more hexadecimal digits
 abbrev pub is_hexadecimal : List ℕ → Bool

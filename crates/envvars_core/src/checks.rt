@@ -3,9 +3,9 @@
 ghost use Rattle.std.specs.Prelude.{◌≡◌, ◌&&◌, ◌||◌, ◌+◌, ◌≤◌, SomeIff, is_none, option_copied};
 ghost use Rattle.std.specs.List.{list_any};
 ghost use Rattle.envimg_core.specs.Environment.{is_name, is_zero, is_equals, pair_size};
-ghost use Rattle.envvars_core.specs.Refusals.{given, holds_no_zero, has_type_if_some, is_value_of, access_refusal, forbidden};
+ghost use Rattle.envvars_core.specs.Refusals.{given, holds_no_zero, has_type_if_some, is_value_of, access_refusal, attr_refusal};
 
-use crate::attributes::Access;
+use crate::attributes::{Access, Attr};
 use crate::refusals::Refusal;
 use crate::types::Kind;
 
@@ -49,7 +49,7 @@ pub(crate) fn given<'a>(new: Option<&'a [u8]>) -> Option<&'a [u8]>
 }
 
 /// Whether a new value, if there is one, has a type.
-pub(crate) fn has_type(kind: Kind, new: Option<&[u8]>) -> bool
+fn has_type(kind: Kind, new: Option<&[u8]>) -> bool
     ensures { result ≡ has_type_if_some kind (option_copied new.entry) }
 {
     match new {
@@ -95,21 +95,23 @@ fn access_refusal(
     }
 }
 
-/// What the access refuses, unless the write is forced.
-pub(crate) fn forbidden(
+/// What the attributes refuse: the type first, then the access, unless the write is forced.
+pub(crate) fn attr_refusal(
     force: bool,
-    access: Access,
+    attr: Attr,
     old: Option<&[u8]>,
     default: Option<&[u8]>,
     new: Option<&[u8]>,
 ) -> Option<Refusal>
     ensures { result
-        ≡ forbidden force access (option_copied old.entry) (option_copied default.entry) (option_copied new.entry) }
+        ≡ attr_refusal force attr (option_copied old.entry) (option_copied default.entry) (option_copied new.entry) }
 {
-    if force {
+    if !has_type(attr.kind, new) {
+        Some(Refusal::BadType)
+    } else if force {
         None
     } else {
-        access_refusal(access, old, default, new)
+        access_refusal(attr.access, old, default, new)
     }
 }
 

@@ -2,7 +2,7 @@
 
 ghost use Rattle.std.specs.Prelude.{◌≡◌, ◌==◌, length};
 ghost use Rattle.std.specs.List.{slice_split, list_all};
-ghost use Rattle.std.specs.Char.{is_ascii_digit, is_ascii_hexdigit};
+ghost use Rattle.envvars_core.specs.Types.{has_type, is_digit, is_hexadecimal, is_prefixed_hexadecimal, is_group, are_groups};
 
 /// The type of a variable's values, by the letter that `.flags` has for it.
 #[derive(Clone, Copy, Debug, PartialEq, Eq)]
@@ -28,33 +28,35 @@ impl Kind {
     {
         match self {
             Kind::String => true,
-            Kind::Decimal => all_decimal(value),
+            Kind::Decimal => are_digits(Base::Ten, value),
             Kind::Hexadecimal => is_hexadecimal(value) || is_prefixed_hexadecimal(value),
             Kind::Boolean => is_boolean(value),
-            Kind::IpAddress => is_ip_address(value),
-            Kind::MacAddress => is_mac_address(value),
+            Kind::IpAddress => are_groups(value, 4, b'.', Base::Ten, 3),
+            Kind::MacAddress => are_groups(value, 6, b':', Base::Sixteen, 2),
         }
     }
 }
 
-ghost use Rattle.envvars_core.specs.Types.{has_type, is_hexadecimal, is_prefixed_hexadecimal, is_group, are_groups};
-
-fn all_decimal(value: &[u8]) -> bool
-    ensures { result ≡ list_all is_ascii_digit value.now }
-{
-    value.iter().all(|b| b.is_ascii_digit())
+/// The base of a number: its digits are ten or sixteen.
+#[derive(Clone, Copy)]
+enum Base {
+    Ten,
+    Sixteen,
 }
 
-fn all_hexadecimal(value: &[u8]) -> bool
-    ensures { result ≡ list_all is_ascii_hexdigit value.now }
+fn are_digits(base: Base, bytes: &[u8]) -> bool
+    ensures { result ≡ list_all (is_digit base) bytes.now }
 {
-    value.iter().all(|b| b.is_ascii_hexdigit())
+    match base {
+        Base::Ten => bytes.iter().all(|b| b.is_ascii_digit()),
+        Base::Sixteen => bytes.iter().all(|b| b.is_ascii_hexdigit()),
+    }
 }
 
 fn is_hexadecimal(value: &[u8]) -> bool
     ensures { result ≡ is_hexadecimal value.now }
 {
-    !value.is_empty() && all_hexadecimal(value)
+    !value.is_empty() && are_digits(Base::Sixteen, value)
 }
 
 fn is_prefixed_hexadecimal(value: &[u8]) -> bool
@@ -82,44 +84,26 @@ fn group_count(value: &[u8], separator: u8) -> usize
     value.split(|b| *b == separator).count()
 }
 
-fn is_decimal_group(group: &[u8]) -> bool
-    ensures { result ≡ is_group is_ascii_digit 3 group.now }
+/// Whether a group is one to `most` digits.
+fn is_group(group: &[u8], base: Base, most: usize) -> bool
+    ensures { result ≡ is_group (is_digit base) most group.now }
 {
-    1 <= group.len() && group.len() <= 3 && all_decimal(group)
+    1 <= group.len() && group.len() <= most && are_digits(base, group)
 }
 
-fn are_decimal_groups(value: &[u8]) -> bool
+/// Whether the groups that the separator makes are each one to `most` digits.
+fn are_all_groups(value: &[u8], separator: u8, base: Base, most: usize) -> bool
     ensures { result
-        ≡ list_all (is_group is_ascii_digit 3) (slice_split (λ b. b == 46) value.now) }
+        ≡ list_all (is_group (is_digit base) most) (slice_split (λ b. b == separator) value.now) }
 {
     value
-        .split(|b| *b == b'.')
-        .all(|group| is_decimal_group(group))
+        .split(|b| *b == separator)
+        .all(|group| is_group(group, base, most))
 }
 
-fn is_ip_address(value: &[u8]) -> bool
-    ensures { result ≡ are_groups 4 46 (is_group is_ascii_digit 3) value.now }
+/// Whether a value is so many groups of one to `most` digits, with the separator between them.
+fn are_groups(value: &[u8], count: usize, separator: u8, base: Base, most: usize) -> bool
+    ensures { result ≡ are_groups count separator (is_group (is_digit base) most) value.now }
 {
-    group_count(value, b'.') == 4 && are_decimal_groups(value)
-}
-
-fn is_hexadecimal_group(group: &[u8]) -> bool
-    ensures { result ≡ is_group is_ascii_hexdigit 2 group.now }
-{
-    1 <= group.len() && group.len() <= 2 && all_hexadecimal(group)
-}
-
-fn are_hexadecimal_groups(value: &[u8]) -> bool
-    ensures { result
-        ≡ list_all (is_group is_ascii_hexdigit 2) (slice_split (λ b. b == 58) value.now) }
-{
-    value
-        .split(|b| *b == b':')
-        .all(|group| is_hexadecimal_group(group))
-}
-
-fn is_mac_address(value: &[u8]) -> bool
-    ensures { result ≡ are_groups 6 58 (is_group is_ascii_hexdigit 2) value.now }
-{
-    group_count(value, b':') == 6 && are_hexadecimal_groups(value)
+    group_count(value, separator) == count && are_all_groups(value, separator, base, most)
 }

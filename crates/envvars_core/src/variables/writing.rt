@@ -10,7 +10,7 @@ ghost use Rattle.envvars_core.specs.Refusals.{given, after, refusal, full, answe
 ghost use Rattle.envvars_core.specs.Variables.{IsWas, IsFormed};
 
 use super::Vars;
-use crate::checks::{forbidden, given, has_form, has_type, is_nothing};
+use crate::checks::{attr_refusal, given, has_form, is_nothing};
 use crate::flags::{FLAGS_NAME, Flags};
 use crate::refusals::{Memory, Refusal};
 use envvars_store::Variables;
@@ -112,11 +112,8 @@ impl Vars {
             return None;
         }
         let attr = self.attributes(name);
-        if !has_type(attr.kind, value) {
-            return Some(Refusal::BadType);
-        }
         let default = defaults.get(name);
-        match forbidden(force, attr.access, old, default, value) {
+        match attr_refusal(force, attr, old, default, value) {
             Some(refusal) => Some(refusal),
             None => self.size_refusal(name, old, value),
         }

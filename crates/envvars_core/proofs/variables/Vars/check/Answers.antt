@@ -1,4 +1,4 @@
-use Rattle.std.proofs.Common.{◌≡◌, ℕ, ◌≤◌, option_copied, sym, subst, arith}
+use Rattle.std.proofs.Common.{◌≡◌, ◌≤◌, option_copied, sym, subst, arith}
 use Rattle.envimg_core.specs.Environment.{used}
 use Rattle.envvars_core.specs.Variables.{Contents}
 use Rattle.envvars_core.specs.declared.refusals.Refusal.TheVariants.{Memory}
