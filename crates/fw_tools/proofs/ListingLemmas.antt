@@ -1,5 +1,5 @@
 -- A line is a joined variable with a newline behind it.
-use Rattle.std.proofs.Common.{◌≡◌, ℕ, List, [], ◌∷◌, ◌++◌, map, refl, ap}
+use Rattle.std.proofs.Common.{◌≡◌, List, [], ◌∷◌, ◌++◌, map, refl, ap}
 use Rattle.std.specs.List.{flat_map}
 use Rattle.envimg_core.specs.Environment.{Pair}
 use Rattle.fw_tools.specs.Shown.{line_of}

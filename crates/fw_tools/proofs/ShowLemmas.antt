@@ -1,18 +1,18 @@
 -- What one write leaves is what the bytes print.
-use Rattle.std.proofs.Common.{◌≡◌, ◌⊎◌, ℕ, List, [], ◌-◌, Option, Some, None, length, take, drop, arith, length-drop, refl, sym, ap, subst, inl, inr}
+use Rattle.std.proofs.Common.{◌≡◌, ◌⊎◌, ℕ, List, [], ◌-◌, Option, Some, None, length, take, drop, arith, length-drop, refl, sym, subst, inl, inr}
 use Rattle.std.specs.Prelude.{MatchOption}
 use Rattle.std.proofs.lemmas.List.{take_all}
 use Rattle.std.proofs.KnownBytes.{Appends-nil, Keeps-refl}
 use Rattle.std.specs.Io.KnownBytes.{Appends, Keeps}
 use Rattle.envimg_core.specs.Pieces.{entries_of, vars_of}
 use Rattle.envimg_core.specs.declared.state.CopyState.{CopyState}
-use Rattle.envimg_core.specs.declared.state.CopyState.TheVariants.{Good, BadLength, BadCrc, Unterminated}
-use Rattle.fw_tools.specs.Shown.{shown, shown_in, state_shown, listing, bad_image}
+use Rattle.envimg_core.specs.declared.state.CopyState.TheVariants.{Good}
+use Rattle.fw_tools.specs.Shown.{shown, shown_in, state_shown, listing}
 use Rattle.fw_tools.specs.Streams.{AppendsFront}
-use Rattle.fw_tools.specs.Tool.{Texts, Printed, PrintsText, Lists}
+use Rattle.fw_tools.specs.Tool.{Printed, PrintsText, Lists}
 use Rattle.fw_tools.specs.declared.ending.ToolEnd.{ToolEnd}
 use Rattle.fw_tools.specs.declared.ending.StreamFault.{StreamFault}
-use Rattle.fw_tools.specs.declared.ending.StreamFault.TheVariants.{Read, Write, Memory}
+use Rattle.fw_tools.specs.declared.ending.StreamFault.TheVariants.{Write, Memory}
 
 nothing : (a : Option (List ℕ)) → AppendsFront a a []
 nothing a = ([], [], refl, Appends-nil a)

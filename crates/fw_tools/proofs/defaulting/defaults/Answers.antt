@@ -1,4 +1,4 @@
-use Rattle.std.proofs.Common.{ℕ, ◌∙◌, sym, ap, subst, Ok, Err, None, Result, arith, ◌≡◌}
+use Rattle.std.proofs.Common.{ℕ, ◌∙◌, sym, ap, subst, Ok, Err, Result, arith, ◌≡◌}
 use Rattle.std.specs.Prelude.{IfSome, IfNone}
 use Rattle.envvars_core.specs.declared.refusals.Refusal.{Refusal}
 use Rattle.envvars_core.specs.declared.refusals.Refusal.TheVariants.{Memory}

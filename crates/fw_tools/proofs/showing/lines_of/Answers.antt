@@ -1,7 +1,6 @@
-use Rattle.std.proofs.Common.{ap, ◌∙◌, ◌++◌, [], ◌∷◌, map}
+use Rattle.std.proofs.Common.{ap, ◌∙◌, ◌++◌, [], ◌∷◌}
 use Rattle.std.specs.List.{flat_map}
 use Rattle.std.specs.FinMap as env
-use Rattle.envimg_core.specs.Pieces.{entries_of, vars_of}
 use Rattle.fw_tools.specs.Shown.{listing}
 use Rattle.fw_tools.proofs.ListingLemmas.{lines_joined}
 use Rattle.fw_tools.proofs.showing.lines_of.Goals as goal
