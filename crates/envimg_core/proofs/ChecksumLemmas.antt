@@ -1,11 +1,9 @@
 -- The register is the division: what the code computes and what the checksum is are one number.
-use Rattle.std.proofs.Common.{◌≡◌, ℕ, zero, suc, ◌+◌, ◌-◌, ◌*◌, ◌/◌, ◌%◌, ◌^◌, ◌<◌, ◌≤◌, ◌++◌, Bool, true, false, not, cond, List, [], ◌∷◌, map, length, replicate, bit_xor, refl, sym, ap, ◌∙◌, subst, arith, append_assoc, length-append, get_or, lit<}
+use Rattle.std.proofs.Common.{◌≡◌, ℕ, zero, suc, ◌+◌, ◌*◌, ◌/◌, ◌%◌, ◌^◌, ◌<◌, ◌≤◌, ◌++◌, Bool, true, false, not, cond, List, [], ◌∷◌, map, length, replicate, bit_xor, refl, sym, ap, ◌∙◌, subst, arith, append_assoc, length-append, get_or, lit<}
 use Rattle.std.specs.Prelude.{◌==◌}
-use Rattle.std.specs.List.{flat_map}
-use Rattle.std.specs.Int.Bits.{xor_zero_l, xor_zero_r, xor_assoc}
 use Rattle.std.proofs.Math.Nat.{pow-suc}
 use Rattle.std.proofs.lemmas.Nat.{xor_shr, xor_mod, xor_lt, xor_comm, div_below, mod_below}
-use Rattle.envimg_core.specs.Checksum.{xor, add, low_first, high_first, number, polynomial, divide, bits, dividend, checksum}
+use Rattle.envimg_core.specs.Checksum.{xor, add, low_first, number, polynomial, divide, bits, checksum}
 use Rattle.envimg_core.specs.Register.{step, steps, feed}
 
 xor_assoc_bool : (a b c : Bool) → xor (xor a b) c ≡ xor a (xor b c)

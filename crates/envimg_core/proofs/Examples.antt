@@ -2,17 +2,13 @@
 use Rattle.std.proofs.Common.{◌≡◌, ℕ, List, [], ◌∷◌, Some, None, refl, ◌++◌}
 use Rattle.std.specs.Prelude.{codes}
 use Rattle.envimg_core.specs.Checksum.{checksum, divide}
-use Rattle.envimg_core.specs.Environment.{bytes_cmp}
-use Rattle.envimg_core.specs.Geometry.{Shape, area_of, room_of}
+use Rattle.envimg_core.specs.Geometry.{Shape, area_of}
 use Rattle.envimg_core.specs.Image.{image_with, stored_pairs}
-use Rattle.envimg_core.specs.Pieces.{Entry, entries_of, is_terminated}
+use Rattle.envimg_core.specs.Pieces.{entries_of}
 use Rattle.envimg_core.specs.State.{state_of, choice_of}
-use Rattle.envimg_core.specs.declared.geometry.Layout.{Layout}
 use Rattle.envimg_core.specs.declared.geometry.Layout.TheVariants.{Single, Redundant}
-use Rattle.envimg_core.specs.declared.state.CopyState.{CopyState}
 use Rattle.envimg_core.specs.declared.state.CopyState.TheVariants.{Good, BadLength, BadCrc, Unterminated}
-use Rattle.envimg_core.specs.declared.choice.Choice.{Choice}
-use Rattle.envimg_core.specs.declared.choice.Choice.TheVariants.{First, Second, Neither}
+use Rattle.envimg_core.specs.declared.choice.Choice.TheVariants.{Second}
 
 abbrev single : ℕ → Shape
 single size = record { layout = Single; size = size }

@@ -1,30 +1,29 @@
 -- An image reads back.
-use Rattle.std.proofs.Common.{◌≡◌, ℕ, zero, suc, ◌+◌, ◌-◌, ◌*◌, ◌/◌, ◌%◌, ◌^◌, ◌<◌, ◌≤◌, ◌++◌, Bool, true, false, not, cond, List, [], ◌∷◌, map, filter, fold, length, take, drop, get_or, replicate, Option, Some, None, sum_by, IsTrue, T, refl, sym, ap, ◌∙◌, subst, arith, eq-eqb, append_assoc, append-nil, length-append, lit<}
+use Rattle.std.proofs.Common.{◌≡◌, ℕ, zero, suc, ◌+◌, ◌-◌, ◌*◌, ◌/◌, ◌%◌, ◌^◌, ◌<◌, ◌≤◌, ◌++◌, Bool, true, false, not, cond, List, [], ◌∷◌, map, filter, fold, length, take, drop, get_or, replicate, Some, sum_by, IsTrue, T, refl, sym, ap, ◌∙◌, subst, arith, eq-eqb, append_assoc, append-nil, length-append, lit<}
 use Rattle.std.proofs.Math.Nat.{pow-suc}
 use Rattle.std.proofs.Math.Seq.{take-append_seam, drop-append-add, get_or-append_seam}
 use Rattle.std.proofs.Math.ListN.{get_or-append}
-use Rattle.std.proofs.lemmas.List.{length-map}
+use Rattle.std.proofs.lemmas.List.{length-map, nil_from_length}
 use Rattle.std.proofs.lemmas.List.Elements.{All-from_get_or}
 use Rattle.std.specs.Prelude.{◌==◌, ◌&&◌, ◌||◌}
-use Rattle.std.specs.List.{list_all, list_any, flat_map, slice_split, All, take_while, position_or_len, before_first, after_first}
+use Rattle.std.specs.List.{list_all, list_any, All, take_while, position_or_len, before_first, after_first}
 use Rattle.std.specs.declared.cmp.Ordering.{Ordering}
 use Rattle.std.specs.declared.cmp.Ordering.TheVariants.{Less, Equal, Greater}
-use Rattle.std.specs.Ordering.{eq_by_cmp, is_eq, is_lt, ordering_reverse}
+use Rattle.std.specs.Ordering.{is_lt, ordering_reverse}
 use Rattle.std.specs.FinMap as env
 use Rattle.std.specs.FinMap.Entries.{put, is_sorted, below_all, by_order}
-use Rattle.std.specs.Cmp.{IsTotalOrder}
-use Rattle.std.specs.Cmp.Lexicographic.{slice_cmp, nat_list_cmp_total}
+use Rattle.std.specs.Cmp.Lexicographic.{nat_list_cmp_total}
 use Rattle.std.proofs.lemmas.List.{length-replicate}
 use Rattle.std.proofs.lemmas.List.Folds.{list_any-append}
 use Rattle.std.proofs.lemmas.List.Splits.{slice_split_at}
 use Rattle.std.proofs.lemmas.List.Sums.{sum_by-cons, take_while-cons, position_or_len_is}
 use Rattle.envimg_core.specs.Checksum.{add, number, polynomial, divide, bits, dividend, checksum}
 use Rattle.envimg_core.specs.Environment.{Environment, Pair, bytes_cmp, pair_size, used, is_name, is_value, is_zero, is_equals, is_empty}
-use Rattle.envimg_core.specs.Geometry.{Shape, IsSize, head, room_of, area_of}
-use Rattle.envimg_core.specs.Image.{stored_pair, stored_pairs, filled_area, flag_bytes, framed, image_with, image_of}
+use Rattle.envimg_core.specs.Geometry.{Shape, IsSize, head, area_of}
+use Rattle.envimg_core.specs.Image.{stored_pair, stored_pairs, filled_area, framed}
 use Rattle.envimg_core.specs.Laws.{is_variable, IsFormed, shown_flag, ReadsBack}
 use Rattle.envimg_core.specs.Pieces.{but_last, ended_pieces, is_terminated, Entry, entry_of, value_of, has_name, entries_of, after_entry, vars_of}
-use Rattle.envimg_core.specs.State.{state_of, has_checksum, flag_of}
+use Rattle.envimg_core.specs.State.{state_of}
 use Rattle.envimg_core.specs.declared.geometry.Layout.{Layout}
 use Rattle.envimg_core.specs.declared.geometry.Layout.TheVariants.{Single, Redundant}
 use Rattle.envimg_core.specs.declared.state.CopyState.{CopyState}
@@ -65,12 +64,8 @@ inserted (e ∷ es) m h =
     let joined : env.entries (env.insert m e.0 e.1) ++ es ≡ env.entries m ++ e ∷ es = ap (λ xs. xs ++ es) grown ∙ append_assoc (env.entries m) (e ∷ []) es in
     inserted es (env.insert m e.0 e.1) (subst (λ xs. T (is_sorted bytes_cmp xs)) (sym joined) h) ∙ joined
 
-no_length : (es : List Pair) → length es ≡ 0 → es ≡ []
-no_length [] e = refl
-no_length (x ∷ es) e = absurd (omega arith)
-
 pub empty_entries : env.entries (env.empty {X = List ℕ} {R = bytes_cmp}) ≡ []
-empty_entries = no_length (env.entries (env.empty {X = List ℕ} {R = bytes_cmp})) (sym (env.len-entries (env.empty {X = List ℕ} {R = bytes_cmp})) ∙ env.len-empty bytes_cmp (List ℕ))
+empty_entries = nil_from_length (env.entries (env.empty {X = List ℕ} {R = bytes_cmp})) (sym (env.len-entries (env.empty {X = List ℕ} {R = bytes_cmp})) ∙ env.len-empty bytes_cmp (List ℕ))
 
 pub entries_again : (m : Environment) → vars_of (map valued (env.entries m)) ≡ m
 entries_again m =

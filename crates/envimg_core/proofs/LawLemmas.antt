@@ -1,18 +1,12 @@
 -- The laws: the last entry decides, an image reads back, what is loaded fits.
-use Rattle.std.proofs.Common.{◌≡◌, ℕ, zero, suc, ◌+◌, ◌-◌, ◌*◌, ◌/◌, ◌%◌, ◌^◌, ◌<◌, ◌≤◌, ◌++◌, Bool, true, false, not, cond, List, [], ◌∷◌, map, filter, fold, length, take, drop, replicate, Option, Some, None, sum_by, find, reverse, IsTrue, T, refl, sym, ap, ◌∙◌, subst, arith, append_assoc, length-append}
-use Rattle.std.specs.Prelude.{◌==◌, ◌&&◌, ◌||◌}
+use Rattle.std.proofs.Common.{◌≡◌, ℕ, ◌++◌, Bool, true, false, cond, List, [], ◌∷◌, fold, Option, Some, None, find, reverse, refl, sym, ap, ◌∙◌}
 use Rattle.std.specs.Option.{option_and_then}
-use Rattle.std.specs.List.{list_all, list_any, flat_map, slice_split, onto_first, take_while, before_first, after_first, position_or_len}
-use Rattle.std.specs.Ordering.{eq_by_cmp, is_eq}
-use Rattle.std.proofs.lemmas.List.{reverse-append, take_all, drop_all, length-replicate}
-use Rattle.std.proofs.lemmas.List.Sums.{sum_by-append}
+use Rattle.std.specs.Ordering.{eq_by_cmp}
+use Rattle.std.proofs.lemmas.List.{reverse-append}
 use Rattle.std.specs.FinMap as env
-use Rattle.std.specs.FinMap.Entries.{put, is_sorted, below_all, where_key, by_order}
-use Rattle.std.specs.Cmp.{IsTotalOrder}
-use Rattle.std.specs.Cmp.Lexicographic.{slice_cmp, nat_list_cmp_total}
-use Rattle.envimg_core.specs.Checksum.{add, number, polynomial, divide, bits, dividend, checksum}
-use Rattle.envimg_core.specs.Environment.{Environment, Pair, bytes_cmp, pair_size, used}
-use Rattle.envimg_core.specs.Pieces.{Entry, after_entry, vars_of}
+use Rattle.std.specs.Cmp.Lexicographic.{nat_list_cmp_total}
+use Rattle.envimg_core.specs.Environment.{Environment, bytes_cmp}
+use Rattle.envimg_core.specs.Pieces.{Entry, after_entry}
 use Rattle.envimg_core.specs.Laws.{last_named, LastDecides}
 
 -- ---- the last entry decides

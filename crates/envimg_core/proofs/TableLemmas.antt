@@ -6,8 +6,8 @@ use Rattle.std.proofs.Math.Nat.{pow-succ', div-div-eq-div-mul}
 use Rattle.std.proofs.lemmas.List.{take_all, get_or-drop}
 use Rattle.std.proofs.lemmas.List.{drop_all}
 use Rattle.std.specs.Prelude.{◌==◌}
-use Rattle.std.specs.Int.Bits.{xor_zero_l, xor_zero_r, xor_assoc, xor_self}
-use Rattle.std.proofs.lemmas.Nat.{xor_shr, xor_mod, xor_lt, xor_comm, xor_block, mod_below, div-mul-add, mod-mul-add}
+use Rattle.std.specs.Int.Bits.{xor_zero_r, xor_assoc}
+use Rattle.std.proofs.lemmas.Nat.{xor_shr, xor_mod, xor_comm, xor_block, mod_below}
 use Rattle.envimg_core.specs.Checksum.{xor}
 use Rattle.envimg_core.specs.Register.{step, steps, advance, feed, mixed}
 use Rattle.envimg_core.proofs.ChecksumLemmas.{low_xor}

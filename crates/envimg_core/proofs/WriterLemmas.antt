@@ -1,10 +1,10 @@
 -- What writes into an image leave.
-use Rattle.std.proofs.Common.{◌≡◌, ℕ, zero, suc, ◌+◌, ◌-◌, ◌<◌, ◌≤◌, ◌++◌, List, [], ◌∷◌, length, take, drop, set, replicate, refl, sym, ap, ◌∙◌, subst, arith, append_assoc, length-append, length-drop, length-take}
-use Rattle.std.proofs.lemmas.List.{take_all, take-append-le, drop-append-le, drop-set, drop-set-lt, drop-take, drop-drop}
-use Rattle.std.proofs.Math.Seq.{take-append_seam, drop-append_seam, drop-append-add}
+use Rattle.std.proofs.Common.{◌≡◌, ℕ, zero, suc, ◌+◌, ◌-◌, ◌<◌, ◌≤◌, ◌++◌, List, [], ◌∷◌, length, take, drop, set, replicate, refl, sym, ap, ◌∙◌, arith, append_assoc, length-append, length-drop, length-take}
+use Rattle.std.proofs.lemmas.List.{drop-append-le, drop-set, drop-set-lt, drop-take, drop-drop}
+use Rattle.std.proofs.Math.Seq.{take-append_seam, drop-append-add}
 use Rattle.envimg_core.specs.Geometry.{Shape, head}
 use Rattle.envimg_core.specs.declared.geometry.Layout.{Layout}
-use Rattle.envimg_core.specs.Image.{spliced, stored_pair, framed, flag_bytes, filled_area, image_with}
+use Rattle.envimg_core.specs.Image.{spliced, stored_pair, framed, filled_area, image_with}
 
 -- a front of n elements
 take_front : (n : ℕ) (xs ys : List ℕ) → length xs ≡ n → take n (xs ++ ys) ≡ xs

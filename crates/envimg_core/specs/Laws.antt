@@ -1,5 +1,5 @@
 -- What the laws of this crate say.
-use Rattle.std.specs.Prelude.{◌≡◌, ℕ, ◌+◌, ◌<◌, ◌≤◌, ◌==◌, ◌&&◌, Bool, List, ◌∷◌, Option, Some, None, length, reverse, find, IsTrue}
+use Rattle.std.specs.Prelude.{◌≡◌, ℕ, ◌≤◌, ◌&&◌, Bool, List, Option, length, reverse, find, IsTrue}
 use Rattle.std.specs.Option.{option_and_then}
 use Rattle.std.specs.List.{list_all}
 use Rattle.std.specs.Ordering.{eq_by_cmp}

@@ -1,9 +1,9 @@
 -- A data area as a list of pieces: its bytes cut at each 0 (docs/images.md, "Entries").
-use Rattle.std.specs.Prelude.{◌≡◌, ℕ, ◌<◌, ◌==◌, if◌then◌else◌, length, Bool, not, true, false, List, [], ◌∷◌, map, filter, fold, Option, Some, None, option_map}
+use Rattle.std.specs.Prelude.{◌≡◌, ℕ, ◌<◌, if◌then◌else◌, length, Bool, not, List, [], ◌∷◌, map, filter, fold, Option, Some, None, option_map}
 use Rattle.std.specs.List.{slice_split, before_first, after_first, list_any, take_while}
 use Rattle.std.specs.FinMap.{insert, remove, empty}
 use Rattle.std.specs.Borrow.{Bor}
-use Rattle.envimg_core.specs.Environment.{Environment, bytes_cmp, is_zero, is_equals, is_empty}
+use Rattle.envimg_core.specs.Environment.{Environment, is_zero, is_equals, is_empty}
 
 -- all but the last: of the parts that a cut at each 0 gives, those behind which a 0 stands
 abbrev pub but_last : {X : Type 0} → List X → List X

@@ -1,4 +1,4 @@
-use Rattle.std.proofs.Common.{arith, sym, ◌∙◌, ap, take, drop, bit_xor, ◌++◌}
+use Rattle.std.proofs.Common.{arith, sym, ◌∙◌, ap, take, drop, bit_xor}
 use Rattle.std.proofs.lemmas.List.{take-append-drop}
 use Rattle.envimg_core.specs.Register.{feed}
 use Rattle.envimg_core.proofs.ChecksumLemmas.{checksum-feed}

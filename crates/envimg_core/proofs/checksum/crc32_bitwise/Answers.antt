@@ -1,4 +1,4 @@
-use Rattle.std.proofs.Common.{arith, sym, ◌∙◌, ap, drop, get_or, bit_xor, ◌+◌}
+use Rattle.std.proofs.Common.{arith, sym, ◌∙◌, ap, drop, bit_xor, ◌+◌}
 use Rattle.envimg_core.specs.Register.{feed, steps}
 use Rattle.envimg_core.proofs.ChecksumLemmas.{checksum-feed}
 use Rattle.envimg_core.proofs.TableLemmas.{feed_next, feed_done}

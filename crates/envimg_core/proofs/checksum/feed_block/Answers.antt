@@ -1,4 +1,4 @@
-use Rattle.std.proofs.Common.{◌≡◌, ℕ, List, ◌<◌, ◌^◌, get_or, arith}
+use Rattle.std.proofs.Common.{◌≡◌, ℕ, ◌<◌, ◌^◌, get_or, arith}
 use Rattle.envimg_core.proofs.TableLemmas.{words_fed, front_word, back_word, gets}
 use Rattle.envimg_core.proofs.checksum.feed_block.Goals as goal
 

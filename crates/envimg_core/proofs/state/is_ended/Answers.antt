@@ -1,5 +1,5 @@
 use Rattle.std.proofs.Common.{arith}
-use Rattle.envimg_core.proofs.EntryLemmas.{ended_step, ended_whole, ended_init}
+use Rattle.envimg_core.proofs.EntryLemmas.{ended_step, ended_whole}
 use Rattle.envimg_core.proofs.state.is_ended.Goals as goal
 
 pub loop-i-preserved : goal.loop-i-preserved
