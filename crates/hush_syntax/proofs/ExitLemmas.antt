@@ -21,7 +21,11 @@ use Rattle.hush_syntax.specs.Answers.{Refuses, Answers, branch, otherwise, assig
 use Rattle.hush_syntax.specs.Grammar.{Command, Chain, Chains, is_newline, is_separator, begins, nest_limit}
 use Rattle.hush_syntax.specs.Reading.{behind, skip, is_end, is, separators, keyword_at, closes, operator_at, chain, compound, command, plain}
 use Rattle.hush_syntax.specs.Trees.{command_of, chain_of, chains_of, link_of, branch_of, held_of, chains_from}
-use Rattle.hush_syntax.proofs.LoopLemmas.{behind-begun, branch-shorter, operator-shorter, skip-shorter, command-shorter, chain-shorter, separators-shorter, skip-begun, ListSoFar, list-ends, list-goes_on, ChainSoFar, chain-ends, chain-command_none, chain-goes_on, IfSoFar, if-branch_none, if-goes_on, if-ends, ScriptSoFar, script-ends, script-unseparated, script-goes_on}
+use Rattle.hush_syntax.proofs.Shorter.{behind-begun, operator-shorter, skip-shorter, command-shorter, chain-shorter, separators-shorter, skip-begun}
+use Rattle.hush_syntax.proofs.IfLoop.{branch-shorter, IfSoFar, if-branch_none, if-goes_on, if-ends}
+use Rattle.hush_syntax.proofs.ListLoop.{ListSoFar, list-ends, list-goes_on}
+use Rattle.hush_syntax.proofs.ChainLoop.{ChainSoFar, chain-ends, chain-command_none, chain-goes_on}
+use Rattle.hush_syntax.proofs.ScriptLoop.{ScriptSoFar, script-ends, script-unseparated, script-goes_on}
 use Rattle.hush_syntax.proofs.TreeLemmas.{chains_of-List, chain_of-Chain, command_of-If}
 use Rattle.hush_syntax.proofs.Fronts.{command-plain, command-compound, command-none}
 

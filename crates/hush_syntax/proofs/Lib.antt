@@ -1,8 +1,14 @@
 pub mod Fronts
+pub mod FindParts
 pub mod Finds
+pub mod SoundParts
 pub mod Sound
 pub mod TreeLemmas
 pub mod Told
-pub mod LoopLemmas
+pub mod Shorter
+pub mod ListLoop
+pub mod ChainLoop
+pub mod IfLoop
+pub mod ScriptLoop
 pub mod ExitLemmas
 pub mod Rows

@@ -1,5 +1,5 @@
 -- Scripts read by the definitions alone.
-use Rattle.std.proofs.Common.{◌≡◌, ℕ, List, [], ◌∷◌, map, codes, refl, Option, Some, None}
+use Rattle.std.proofs.Common.{◌≡◌, ℕ, List, [], ◌∷◌, map, codes, refl, Some, None}
 use Rattle.hush_words.specs.Words.{Atom, begins_name, is_in_name}
 use Rattle.hush_words.specs.Words.Atom.{Plain, Quoted, Mark}
 use Rattle.hush_words.specs.Forms.{is_plain, name_of, assignment_of}
@@ -7,7 +7,7 @@ use Rattle.hush_words.specs.Tokens.{Token}
 use Rattle.hush_words.specs.Tokens.Token.{Word, Newline, Semicolon, AndIf, OrIf}
 use Rattle.hush_syntax.specs.declared.tree.Operator.TheVariants.{And, Or}
 use Rattle.hush_syntax.specs.Keywords.{keyword_of}
-use Rattle.hush_syntax.specs.Grammar.{Command, Simple, If, Until, Branches, Fi, Chain, First, Links, Link, End, Chains, Last, More}
+use Rattle.hush_syntax.specs.Grammar.{Command, Simple, If, Until, Fi, First, Link, End, Chains, Last}
 use Rattle.hush_syntax.specs.Reading.{command, script_of}
 
 abbrev word : List ℕ → List Atom

@@ -16,7 +16,8 @@ use Rattle.hush_syntax.specs.Grammar.{Chains, SpellsText}
 use Rattle.hush_syntax.specs.Reading.{script_of, read}
 use Rattle.hush_syntax.specs.Laws.{OneTree, TreesAreRead, ScriptsAreRead}
 use Rattle.hush_syntax.proofs.Finds.{script-found}
-use Rattle.hush_syntax.proofs.Sound.{bind-some, script-sound}
+use Rattle.hush_syntax.proofs.SoundParts.{bind-some}
+use Rattle.hush_syntax.proofs.Sound.{script-sound}
 
 pub trees-told : TreesAreRead
 trees-told tokens script = (script-sound tokens script, λ s. script-found script tokens s.0 s.1)

@@ -5,3 +5,4 @@ pub mod Trees
 pub mod Laws
 pub mod Answers
 pub mod Scripts
+pub mod Faults

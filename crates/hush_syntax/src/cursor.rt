@@ -1,7 +1,8 @@
 ghost use Rattle.std.specs.Prelude.{◌≡◌, ℕ, List, if◌then◌else◌, option_map, is_some, ◌++◌, OnOk, IfErr};
 ghost use Rattle.hush_syntax.specs.declared.faults.FaultKind.TheVariants.{Memory};
 
-use crate::{FaultKind, Keyword, Operator, SyntaxFault};
+use crate::keywords::Keyword;
+use crate::{FaultKind, Operator, SyntaxFault};
 use hush_words::{Token, TokenKind, Word};
 use std::collections::VecDeque;
 
@@ -16,12 +17,15 @@ pub(crate) struct Tokens {
 
 impl Tokens {
     ghost use Rattle.hush_syntax.specs.Answers.{Answers, first_kind, left_in, TakesWord};
+    ghost use Rattle.hush_syntax.specs.Faults.{fault_at};
     ghost use Rattle.hush_syntax.specs.Grammar.{begins, is_separator, is_newline};
     ghost use Rattle.hush_syntax.specs.Reading.{is, is_end, is_word, behind, skip, one, separators, words_at, name, keyword_at, closes, operator_at};
     ghost use Rattle.hush_syntax.specs.Trees.{name_in, words_in};
 
     /// What is wrong where the next token can't stand.
-    pub(crate) fn fault(&self) -> SyntaxFault {
+    pub(crate) fn fault(&self) -> SyntaxFault
+        ensures { result ≡ fault_at self.now }
+    {
         match self.left.front() {
             Some(token) => SyntaxFault {
                 place: token.place,
@@ -102,7 +106,8 @@ impl Tokens {
 
     /// Passes the word of these plain bytes.
     pub(crate) fn expect(&mut self, source: &[u8], text: &[u8]) -> Result<(), SyntaxFault>
-        ensures { Answers (λ _. tt) (one (is text.now) (left_in source.now self.old)) (left_in source.now self.new) result }
+        ensures answered { Answers (λ _. tt) (one (is text.now) (left_in source.now self.old)) (left_in source.now self.new) result }
+        ensures refused { IfErr result (λ fault. fault ≡ fault_at self.old) }
     {
         if self.at(source, text) {
             self.advance();
@@ -130,7 +135,8 @@ impl Tokens {
 
     /// Passes one separator or more.
     pub(crate) fn separators(&mut self) -> Result<(), SyntaxFault>
-        ensures { (source : List ℕ) → Answers (λ _. tt) (separators (left_in source self.old)) (left_in source self.new) result }
+        ensures answered { (source : List ℕ) → Answers (λ _. tt) (separators (left_in source self.old)) (left_in source self.new) result }
+        ensures refused { IfErr result (λ fault. fault ≡ fault_at self.old) }
     {
         if self.at_separator() {
             self.skip_separators();
@@ -186,7 +192,8 @@ impl Tokens {
 
     /// Takes a word that is a name.
     pub(crate) fn name(&mut self, source: &[u8]) -> Result<Word, SyntaxFault>
-        ensures { Answers (name_in source.now) (name (left_in source.now self.old)) (left_in source.now self.new) result }
+        ensures answered { Answers (name_in source.now) (name (left_in source.now self.old)) (left_in source.now self.new) result }
+        ensures refused { IfErr result (λ fault. fault ≡ fault_at self.old) }
     {
         let fault = self.fault();
         match self.word() {

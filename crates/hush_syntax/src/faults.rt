@@ -1,4 +1,5 @@
 ghost use Rattle.std.specs.Prelude.{◌≡◌};
+ghost use Rattle.hush_syntax.specs.Faults.{word_fault};
 ghost use Rattle.hush_syntax.specs.declared.faults.FaultKind.TheVariants.{Memory};
 
 use std::alloc::{AllocError, AllocFailed};
@@ -40,6 +41,8 @@ pub struct SyntaxFault {
 }
 
 impl From<hush_words::Fault> for SyntaxFault {
+    ghost from_gives = { λ fault given. given ≡ word_fault fault };
+
     fn from(fault: hush_words::Fault) -> SyntaxFault {
         let kind = match fault.kind {
             hush_words::FaultKind::Quote => FaultKind::Quote,

@@ -5,7 +5,7 @@ use hush_words::Word;
 
 /// The reserved words: each stands for itself where a command may begin, in unquoted bytes alone.
 #[derive(Clone, Copy, Debug, PartialEq, Eq)]
-pub enum Keyword {
+pub(crate) enum Keyword {
     If,
     Then,
     Elif,

@@ -14,6 +14,5 @@ mod tree;
 
 pub use faults::{FaultKind, SyntaxFault};
 pub use hush_words::{Part, Span, Word};
-pub use keywords::Keyword;
 pub use script::Script;
 pub use tree::{Branch, Link, Operator, Tree};

@@ -1,8 +1,10 @@
-ghost use Rattle.std.specs.Prelude.{◌≡◌, IfOk, option_map};
+ghost use Rattle.std.specs.Prelude.{◌≡◌, IfOk, IfErr, option_map};
+ghost use Rattle.hush_syntax.specs.Faults.{assignment_fault, nested_kind};
 
 use crate::cursor::Tokens;
+use crate::keywords::Keyword;
 use crate::tree::{Branch, Link, Tree};
-use crate::{FaultKind, Keyword, SyntaxFault};
+use crate::{FaultKind, SyntaxFault};
 use hush_words::{Assignment, Token, Word};
 use std::alloc::{AllocError, Global};
 use std::collections::VecDeque;
@@ -258,7 +260,8 @@ impl<'s> Parser<'s> {
 
     /// What stands behind an assignment: no word.
     fn assignment(self, tokens: &mut Tokens, assignment: Assignment) -> Result<Tree, SyntaxFault>
-        ensures { Answers (command_of self.entry.source.now) (assignment_before (assigned_of self.entry.source.now assignment) (left_in self.entry.source.now tokens.old)) (left_in self.entry.source.now tokens.new) result }
+        ensures answered { Answers (command_of self.entry.source.now) (assignment_before (assigned_of self.entry.source.now assignment) (left_in self.entry.source.now tokens.old)) (left_in self.entry.source.now tokens.new) result }
+        ensures refused { IfErr result (λ fault. fault ≡ assignment_fault tokens.old) }
     {
         if tokens.at_word() {
             return Err(SyntaxFault {
@@ -281,14 +284,17 @@ impl<'s> Parser<'s> {
     }
 }
 
-/// What an opening word for which there is no room is, and what a closing word is.
-fn nested_fault(keyword: Keyword, fault: SyntaxFault) -> SyntaxFault {
-    match keyword {
-        Keyword::If | Keyword::For | Keyword::While | Keyword::Until => SyntaxFault {
+/// What is wrong with a reserved word for which there is no room.
+fn nested_fault(keyword: Keyword, fault: SyntaxFault) -> SyntaxFault
+    ensures place { result.place ≡ fault.place }
+    ensures kind { result.kind ≡ nested_kind keyword fault.kind }
+{
+    if keyword.is_closing() {
+        fault
+    } else {
+        SyntaxFault {
             kind: FaultKind::Nest,
             ..fault
-        },
-        Keyword::Then | Keyword::Elif | Keyword::Else | Keyword::Fi | Keyword::Do | Keyword::Done =>
-            fault,
+        }
     }
 }

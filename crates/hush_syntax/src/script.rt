@@ -1,8 +1,9 @@
-ghost use Rattle.std.specs.Prelude.{◌≡◌, ◌≢◌, IfOk, IfErr, Option, option_map};
+ghost use Rattle.std.specs.Prelude.{◌≡◌, ◌≢◌, IfOk, IfErr, Option, option_map, length};
 ghost use Rattle.hush_syntax.specs.Answers.{AnswersScript};
 ghost use Rattle.hush_syntax.specs.declared.faults.FaultKind.TheVariants.{Memory};
 ghost use Rattle.hush_syntax.specs.Grammar.{Chains, SpellsText};
 ghost use Rattle.hush_syntax.specs.Reading.{read};
+ghost use Rattle.hush_syntax.specs.Faults.{missing_at};
 
 use crate::parser::Parser;
 use crate::{FaultKind, SyntaxFault, Tree};
@@ -64,12 +65,16 @@ fn read_tree(alloc: Global, source: &[u8]) -> Result<Option<Tree>, SyntaxFault>
             parser.script(tokens, end)?;
             Err(end)
         }
-        None => parser.script(
-            tokens,
-            SyntaxFault {
-                place: source.len(),
-                kind: FaultKind::Missing,
-            },
-        ),
+        None => parser.script(tokens, missing(source)),
+    }
+}
+
+/// What is wrong where the text ends and something must still come.
+fn missing(source: &[u8]) -> SyntaxFault
+    ensures { result ≡ missing_at (length source.now) }
+{
+    SyntaxFault {
+        place: source.len(),
+        kind: FaultKind::Missing,
     }
 }

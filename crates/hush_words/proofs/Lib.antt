@@ -11,4 +11,8 @@ pub mod Inners
 pub mod QuoteLemmas
 pub mod WordLemmas
 pub mod TextLemmas
+pub mod PlaceLemmas
+pub mod WordOpens
+pub mod NameRuns
 pub mod FormLemmas
+pub mod Rows

@@ -44,6 +44,10 @@ kind_token source kind.OrIf = tokens.Token.OrIf
 abbrev pub tokens_in : List ℕ → List Token → List tokens.Token
 tokens_in source ts = map (λ t. kind_token source t.kind) ts
 
+-- how many bytes stand before each of them
+abbrev pub places_in : List Token → List ℕ
+places_in ts = map (λ t. t.place) ts
+
 -- the tokens of a text that was read to its end; none where a fault stopped the reading
 abbrev pub tokens_read : List ℕ → Lexed → Option (List tokens.Token)
 tokens_read source lexed = elim lexed.fault [ None ↦ Some (tokens_in source lexed.tokens.items) | Some f ↦ None ]

@@ -1,13 +1,13 @@
 -- The same from the text's side: which lexemes, and so which tokens, a text has. The laws of this crate say that
 -- these are exactly those of `HasTokens`.
-use Rattle.std.specs.Prelude.{ℕ, zero, suc, ◌==◌, Bool, not, if◌then◌else◌, List, [], ◌∷◌, Option, Some, None, length}
+use Rattle.std.specs.Prelude.{ℕ, zero, suc, ◌+◌, ◌==◌, Bool, not, if◌then◌else◌, List, [], ◌∷◌, ◌++◌, map, Option, Some, None, length}
 use Rattle.std.specs.List.{flat_map}
 use Rattle.std.specs.Option.{option_map}
 use Rattle.hush_words.specs.Words.{Dollar, Inner, Piece, is_blank, ends_word, begins_name, is_in_name, is_in_braces, follows_dollar, is_bare, is_inner, is_escaped, next}
 use Rattle.hush_words.specs.Words.Dollar.{Name, Braces, LastStatus, Alone}
 use Rattle.hush_words.specs.Words.Inner.{Byte, Backslash, EscapedInner, JoinedInner, DollarInner}
 use Rattle.hush_words.specs.Words.Piece.{Bare, Escaped, Joined, Single, Double, DollarPiece}
-use Rattle.hush_words.specs.Tokens.{Token, Lexeme, opens_word, lexeme_tokens, has_no_nul}
+use Rattle.hush_words.specs.Tokens.{Token, Lexeme, opens_word, lexeme_text, lexeme_tokens, has_no_nul}
 use Rattle.hush_words.specs.Tokens.Lexeme.{WordOf, EndOfLine, Separator, And, Or, Blank, JoinedLine, Comment}
 
 -- a part at the front of a text, and the text behind it
@@ -132,6 +132,19 @@ lexeme_at text =
 abbrev pub tokens_if_whole : List Lexeme × List ℕ → Option (List Token)
 tokens_if_whole (ls, []) = Some (flat_map lexeme_tokens ls)
 tokens_if_whole (ls, b ∷ bs) = None
+
+-- the tokens of a text up to its end or its first fault; a byte 0 is looked for before all else
+unfoldable pub tokens_before_fault : List ℕ → List Token
+tokens_before_fault text = if has_no_nul text then flat_map lexeme_tokens (all lexeme_at text).0 else []
+
+-- how many bytes stand before each token of these lexemes, where so many stand before the lexemes
+abbrev pub places_from : ℕ → List Lexeme → List ℕ
+places_from at [] = []
+places_from at (l ∷ ls) = map (λ t. at) (lexeme_tokens l) ++ places_from (at + length (lexeme_text l)) ls
+
+-- how many bytes of a text stand before each of those tokens
+unfoldable pub token_places : List ℕ → List ℕ
+token_places text = if has_no_nul text then places_from 0 (all lexeme_at text).0 else []
 
 -- the tokens of a text, none where it has none
 unfoldable pub tokens_of : List ℕ → Option (List Token)

@@ -6,7 +6,7 @@ use Rattle.std.specs.Option.{option_map}
 use Rattle.hush_words.specs.Words.{Atom, Piece, Dollar, byte_atom, dollar_atom, inner_atoms, piece_atoms, ends_word, is_in_name, is_in_braces, is_bare, is_inner, next}
 use Rattle.hush_words.specs.Tokens.{Lexeme, lexeme_tokens}
 use Rattle.hush_words.specs.Tokens as tokens
-use Rattle.hush_words.specs.Reading.{Found, front, behind, all, braces, dollar_at, inner_at, piece_at, lexeme_at}
+use Rattle.hush_words.specs.Reading.{Found, front, behind, all, braces, dollar_at, inner_at, piece_at, lexeme_at, places_from}
 use Rattle.hush_words.specs.Words.Atom.{Plain, Quoted, Mark, Value, Status}
 use Rattle.hush_words.specs.Forms.{is_plain, goes_on, name_from, assignment_from, assignment_of}
 use Rattle.hush_words.specs.Parts.{span_bytes, part_atoms, atoms_of, kind_token}
@@ -136,6 +136,10 @@ abbrev pub optional_token : List ℕ → Option TokenKind → List tokens.Token
 optional_token source None = []
 optional_token source (Some kind) = kind_token source kind ∷ []
 
+abbrev pub optional_place : ℕ → Option TokenKind → List ℕ
+optional_place at None = []
+optional_place at (Some kind) = at ∷ []
+
 abbrev pub lexeme_read : Lexeme × List ℕ → List tokens.Token × List ℕ
 lexeme_read f = (lexeme_tokens f.0, f.1)
 
@@ -152,6 +156,10 @@ lexeme_left text = flat_map lexeme_tokens (all lexeme_at text).0
 
 unfoldable pub lexeme_end : List ℕ → List ℕ
 lexeme_end text = (all lexeme_at text).1
+
+-- the places of the tokens that are left
+unfoldable pub places_left : ℕ → List ℕ → List ℕ
+places_left at text = places_from at (all lexeme_at text).0
 
 -- the first atom is another than a plain byte
 abbrev pub begins_otherwise : List Atom → Bool

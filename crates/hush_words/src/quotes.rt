@@ -1,6 +1,6 @@
 //! Pairs of quotes (docs/scripts.md, "Words").
 
-ghost use Rattle.std.specs.Prelude.{◌≡◌, ℕ, ◌+◌, ◌-◌, List, [], ◌∷◌, Some, map, take, drop};
+ghost use Rattle.std.specs.Prelude.{◌≡◌, ℕ, ◌+◌, ◌-◌, ◌≤◌, List, [], ◌∷◌, Some, None, map, take, drop};
 ghost use Rattle.hush_words.specs.Words.Atom.{Quoted};
 ghost use Rattle.hush_words.specs.Parts.{atoms_of};
 ghost use Rattle.hush_words.specs.Steps.{StandsAt, ReadsInner, ReadsPiece, Pushed, optional_part};
@@ -33,7 +33,8 @@ fn push_some(parts: &mut Vec<Part>, part: Option<Part>) -> Result<(), Stop>
 
 /// The bytes of the range as a part, if there are any.
 fn quoted_part(start: usize, end: usize) -> Option<Part>
-    ensures { (source : List ℕ) → atoms_of source (optional_part result) ≡ map Quoted (take (end - start) (drop start source)) }
+    ensures atoms { (source : List ℕ) → atoms_of source (optional_part result) ≡ map Quoted (take (end - start) (drop start source)) }
+    ensures none { end ≤ start → result ≡ None }
 {
     if start < end {
         Some(Part::Quoted(Span { start, end }))

@@ -2,9 +2,9 @@
 
 ghost use Rattle.std.specs.Prelude.{◌≡◌, ◌+◌, ◌&&◌, ◌++◌, ◌<◌, ℕ, List, IfOk, OnOk, Bool, true, drop};
 ghost use Rattle.hush_words.specs.Tokens.{has_no_nul};
-ghost use Rattle.hush_words.specs.Reading.{tokens_of};
-ghost use Rattle.hush_words.specs.Parts.{tokens_in, tokens_read};
-ghost use Rattle.hush_words.specs.Steps.{begins, optional_token, StandsAt, ReadsLexeme};
+ghost use Rattle.hush_words.specs.Reading.{tokens_of, tokens_before_fault, token_places};
+ghost use Rattle.hush_words.specs.Parts.{tokens_in, places_in, tokens_read};
+ghost use Rattle.hush_words.specs.Steps.{begins, optional_token, optional_place, StandsAt, ReadsLexeme};
 
 use crate::classes::{byte_at, is_blank, place_of, stands_at};
 use crate::steps::{LexemeRead, Stop};
@@ -19,7 +19,9 @@ use std::alloc::{AllocError, Global};
 ///
 /// An error only where memory for the tokens or their parts was refused.
 pub fn read(alloc: Global, source: &[u8]) -> Result<Lexed, AllocError>
-    ensures { IfOk result (λ lexed. tokens_of source.now ≡ tokens_read source.now lexed) }
+    ensures whole { IfOk result (λ lexed. tokens_of source.now ≡ tokens_read source.now lexed) }
+    ensures front { IfOk result (λ lexed. tokens_in source.now lexed.tokens.items ≡ tokens_before_fault source.now) }
+    ensures places { IfOk result (λ lexed. places_in lexed.tokens.items ≡ token_places source.now) }
 {
     match memchr(0, source) {
         Some(place) => Ok(Lexed {
@@ -36,7 +38,9 @@ pub fn read(alloc: Global, source: &[u8]) -> Result<Lexed, AllocError>
 /// Reads the tokens of a text without 0.
 fn read_lexemes(alloc: Global, source: &[u8]) -> Result<Lexed, AllocError>
     requires { has_no_nul source.now ≡ true }
-    ensures { IfOk result (λ lexed. tokens_of source.now ≡ tokens_read source.now lexed) }
+    ensures whole { IfOk result (λ lexed. tokens_of source.now ≡ tokens_read source.now lexed) }
+    ensures front { IfOk result (λ lexed. tokens_in source.now lexed.tokens.items ≡ tokens_before_fault source.now) }
+    ensures places { IfOk result (λ lexed. places_in lexed.tokens.items ≡ token_places source.now) }
 {
     let mut tokens = Vec::new(alloc);
     let mut at = 0;
@@ -65,7 +69,8 @@ fn push_token(
     kind: Option<TokenKind>,
     place: usize,
 ) -> Result<(), AllocError>
-    ensures { OnOk result ((source : List ℕ) → tokens_in source tokens.new.items ≡ tokens_in source tokens.old.items ++ optional_token source kind) }
+    ensures tokens { OnOk result ((source : List ℕ) → tokens_in source tokens.new.items ≡ tokens_in source tokens.old.items ++ optional_token source kind) }
+    ensures places { OnOk result (places_in tokens.new.items ≡ places_in tokens.old.items ++ optional_place place kind) }
 {
     match kind {
         Some(kind) => tokens.push(Token { kind, place })?,

@@ -1,5 +1,5 @@
 use Rattle.std.proofs.Common.{sym, ◌∙◌}
-use Rattle.hush_words.proofs.FormLemmas.{name-run}
+use Rattle.hush_words.proofs.NameRuns.{name-run}
 use Rattle.hush_words.proofs.forms.name_len.Goals as goal
 
 pub returns-then-goes_on-clause-name : goal.returns-then-goes_on-clause-name

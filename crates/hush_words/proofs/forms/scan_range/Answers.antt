@@ -4,7 +4,8 @@ use Rattle.hush_words.specs.Words.Atom.{Plain}
 use Rattle.hush_words.specs.Forms.{name_from, assignment_from}
 use Rattle.hush_words.specs.Parts.{span_bytes}
 use Rattle.hush_words.specs.Steps.{behind_name, behind_front}
-use Rattle.hush_words.proofs.FormLemmas.{range-on, range-stops, range-splits, span-front, span-behind}
+use Rattle.hush_words.proofs.NameRuns.{range-on, range-stops, range-splits}
+use Rattle.hush_words.proofs.FormLemmas.{span-front, span-behind}
 use Rattle.hush_words.proofs.forms.scan_range.Goals as goal
 
 pub returns-then-len-bytes : goal.returns-then-len-bytes

@@ -13,6 +13,6 @@ returns c =
     let run = c.place_of-end.ensures in
     let whole = single-closes c.args.source.now c.args.place c.place_of-end.result (atoms_of c.args.source.now c.args.parts.now.items) c.requires run c.if-end-source.false in
     let pushed = single-pushed c.args.source.now c.args.parts.now.items c.push.new.parts.items c.push_some.new.parts.items
-    (optional_part c.quoted_part.result) _ c.in_ok-push.ensures c.in_ok-push_some.ensures (c.quoted_part.ensures c.args.source.now) in
+    (optional_part c.quoted_part.result) _ c.in_ok-push.ensures c.in_ok-push_some.ensures (c.quoted_part.ensures.atoms c.args.source.now) in
     let more : c.place_of-end.result ≢ length c.args.source.now = c.if-end-source.false in
     (omega (arith, run.0), omega (arith, run.1), whole ∙ ap (λ l. Some (l, drop (c.place_of-end.result + 1) c.args.source.now)) pushed)

@@ -1,13 +1,14 @@
 use Rattle.std.proofs.Common.{length, ◌-◌, ◌≡◌, ◌≤◌, ◌++◌, drop}
-use Rattle.hush_words.specs.Parts.{tokens_in}
-use Rattle.hush_words.specs.Steps.{lexeme_left, lexeme_end}
+use Rattle.hush_words.specs.Parts.{tokens_in, places_in}
+use Rattle.hush_words.specs.Steps.{lexeme_left, lexeme_end, places_left}
 use Rattle.hush_words.proofs.reading.read_lexemes.Given as goal
 
 abbrev pub invariant-loop-first : goal.invariant-loop-first
 invariant-loop-first l =
     (l.at ≤ length l.source) ×
     (tokens_in l.source l.tokens.items ++ lexeme_left (drop l.at l.source) ≡ lexeme_left l.source) ×
-    (lexeme_end (drop l.at l.source) ≡ lexeme_end l.source)
+    (lexeme_end (drop l.at l.source) ≡ lexeme_end l.source) ×
+    (places_in l.tokens.items ++ places_left l.at (drop l.at l.source) ≡ places_left 0 l.source)
 
 abbrev pub decreases-loop-first : goal.decreases-loop-first
 decreases-loop-first l = length l.source - l.at

@@ -1,7 +1,7 @@
 use Rattle.std.proofs.Common.{rules, ◌≡◌, Err}
 use Rattle.hush_words.specs.Parts.{atoms_of}
 use Rattle.hush_words.proofs.WordLemmas.{word-whole}
-use Rattle.hush_words.proofs.TextLemmas.{word-token, refused-word}
+use Rattle.hush_words.proofs.WordOpens.{word-token, refused-word}
 use Rattle.hush_words.proofs.words.word.Goals as goal
 
 pub returns-in_err-end : goal.returns-in_err-end

@@ -3,7 +3,8 @@ use Rattle.std.proofs.lemmas.Result.{err_from_is_err_and}
 use Rattle.hush_syntax.specs.Trees.{command_of}
 use Rattle.hush_syntax.proofs.ExitLemmas as exit
 use Rattle.hush_syntax.proofs.ExitLemmas.{refuses, refuses_always, tested, if-smaller, if-refused, if-preserved, if-returns, chain-smaller, chain-refused, chain-preserved, list-smaller, list-preserved, list-returns, by_plain, by_form, no_room}
-use Rattle.hush_syntax.proofs.LoopLemmas.{list-none, list-separators, if-otherwise_none}
+use Rattle.hush_syntax.proofs.ListLoop.{list-none, list-separators}
+use Rattle.hush_syntax.proofs.IfLoop.{if-otherwise_none}
 use Rattle.hush_syntax.proofs.parser.Parser.+parsing.Goals as goal
 
 pub branches-returns-in_err-branch : goal.branches-returns-in_err-branch
@@ -65,16 +66,16 @@ list-returns-in_err-chain t c =
 pub list-returns-in_err-separators : goal.list-returns-in_err-separators
 list-returns-in_err-separators t c =
     let p = err_from_is_err_and c.from_residual-in_err-separators.result c.from_residual-in_err-separators.ensures.1 in
-    rw (p.1, p.2) (refuses _ (λ e. list-separators c.args.room _ _ _ _ _ c.loop-chains.invariant c.in_ok-chain.ensures e) (c.in_err-separators.ensures c.args.self.source.now))
+    rw (p.1, p.2) (refuses _ (λ e. list-separators c.args.room _ _ _ _ _ c.loop-chains.invariant c.in_ok-chain.ensures e) (c.in_err-separators.ensures.answered c.args.self.source.now))
 
 pub list-returns-then-closes : goal.list-returns-then-closes
 list-returns-then-closes t c =
-    list-returns c.args.self.source.now c.args.room _ _ c.push.new.self _ _ _ _ c.loop-chains.invariant c.in_ok-chain.ensures (c.in_ok-separators.ensures c.args.self.source.now) (sym c.closes.ensures ∙ c.if-closes.true) c.in_ok-push.ensures.items
+    list-returns c.args.self.source.now c.args.room _ _ c.push.new.self _ _ _ _ c.loop-chains.invariant c.in_ok-chain.ensures (c.in_ok-separators.ensures.answered c.args.self.source.now) (sym c.closes.ensures ∙ c.if-closes.true) c.in_ok-push.ensures.items
 
 pub list-loop-chains-smaller : goal.list-loop-chains-smaller
 list-loop-chains-smaller t c =
-    list-smaller c.args.self.source.now c.args.room _ _ _ _ _ c.in_ok-chain.ensures (c.in_ok-separators.ensures c.args.self.source.now)
+    list-smaller c.args.self.source.now c.args.room _ _ _ _ _ c.in_ok-chain.ensures (c.in_ok-separators.ensures.answered c.args.self.source.now)
 
 pub list-loop-chains-preserved : goal.list-loop-chains-preserved
 list-loop-chains-preserved t c =
-    list-preserved c.args.self.source.now c.args.room _ _ _ _ _ _ _ c.loop-chains.invariant c.in_ok-chain.ensures (c.in_ok-separators.ensures c.args.self.source.now) (sym c.closes.ensures ∙ c.if-closes.false) c.in_ok-push.ensures.items
+    list-preserved c.args.self.source.now c.args.room _ _ _ _ _ _ _ c.loop-chains.invariant c.in_ok-chain.ensures (c.in_ok-separators.ensures.answered c.args.self.source.now) (sym c.closes.ensures ∙ c.if-closes.false) c.in_ok-push.ensures.items

@@ -4,7 +4,9 @@ use Rattle.hush_syntax.specs.declared.keywords.Keyword.TheVariants as keyword
 use Rattle.hush_syntax.specs.Answers.{left_in}
 use Rattle.hush_syntax.specs.Reading.{command, chain, inner, compound}
 use Rattle.hush_syntax.specs.Trees.{chain_of, link_of, branch_of}
-use Rattle.hush_syntax.proofs.LoopLemmas.{ListSoFar, ChainSoFar, IfSoFar}
+use Rattle.hush_syntax.proofs.ListLoop.{ListSoFar}
+use Rattle.hush_syntax.proofs.ChainLoop.{ChainSoFar}
+use Rattle.hush_syntax.proofs.IfLoop.{IfSoFar}
 use Rattle.hush_syntax.proofs.parser.Parser.+parsing.Given as goal
 
 abbrev pub decreases-command : goal.decreases-command

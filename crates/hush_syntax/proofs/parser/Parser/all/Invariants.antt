@@ -2,7 +2,7 @@ use Rattle.std.proofs.Common.{length, map}
 use Rattle.hush_syntax.specs.Answers.{left_in}
 use Rattle.hush_syntax.specs.Reading.{script_of}
 use Rattle.hush_syntax.specs.Trees.{chain_of}
-use Rattle.hush_syntax.proofs.LoopLemmas.{ScriptSoFar}
+use Rattle.hush_syntax.proofs.ScriptLoop.{ScriptSoFar}
 use Rattle.hush_syntax.proofs.parser.Parser.all.Given as goal
 
 abbrev pub invariant-loop-chains : goal.invariant-loop-chains

@@ -1,0 +1,44 @@
+-- The faults of a script that its words and the parser's next token give (docs/scripts.md, "Faults").
+use Rattle.std.specs.Prelude.{ℕ, List, [], ◌∷◌, if◌then◌else◌}
+use Rattle.hush_words.specs.declared.faults.Fault.{Fault}
+use Rattle.hush_words.specs.declared.faults.FaultKind as words
+use Rattle.hush_words.specs.declared.faults.FaultKind.TheVariants as word
+use Rattle.hush_words.specs.declared.tokens.Token.{Token}
+use Rattle.hush_syntax.specs.declared.cursor.Tokens.{Tokens}
+use Rattle.hush_syntax.specs.declared.faults.FaultKind.{FaultKind}
+use Rattle.hush_syntax.specs.declared.faults.FaultKind.TheVariants as fault
+use Rattle.hush_syntax.specs.declared.faults.SyntaxFault.{SyntaxFault}
+use Rattle.hush_syntax.specs.declared.keywords.Keyword.{Keyword}
+use Rattle.hush_syntax.specs.Reading.{is_closing}
+
+-- the fault of a word, or of an operator, by the same name
+abbrev pub word_kind : words.FaultKind → FaultKind
+word_kind word.Quote = fault.Quote
+word_kind word.Backslash = fault.Backslash
+word_kind word.Substitution = fault.Substitution
+word_kind word.Operator = fault.Operator
+word_kind word.Nul = fault.Nul
+
+abbrev pub word_fault : Fault → SyntaxFault
+word_fault f = record { place = f.place; kind = word_kind f.kind }
+
+-- what is wrong where the next token can't stand, or where there is none and something must still come
+abbrev pub first_fault : List Token → SyntaxFault → SyntaxFault
+first_fault [] end = end
+first_fault (t ∷ ts) end = record { place = t.place; kind = fault.Unexpected }
+
+abbrev pub fault_at : Tokens → SyntaxFault
+fault_at tokens = first_fault tokens.left.items tokens.end
+
+-- what is wrong where a text of so many bytes ends and something must still come
+abbrev pub missing_at : ℕ → SyntaxFault
+missing_at len = record { place = len; kind = fault.Missing }
+
+-- what is wrong with a word behind an assignment
+abbrev pub assignment_fault : Tokens → SyntaxFault
+assignment_fault tokens = record { place = (fault_at tokens).place; kind = fault.Assignment }
+
+-- what is wrong with a reserved word for which there is no room: an opening word is too deep, a closing one can't
+-- stand there at all
+abbrev pub nested_kind : Keyword → FaultKind → FaultKind
+nested_kind keyword kind = if is_closing keyword then kind else fault.Nest
