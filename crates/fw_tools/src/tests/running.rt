@@ -1,0 +1,93 @@
+//! What the program answers to its words, and where its streams fail.
+
+use super::{Failing, Narrow, ONE_VARIABLE};
+use crate::{program, words_failed};
+use std::io;
+use std::test::Fail;
+
+#[test]
+fn the_program_without_a_word(rt: HostRuntime) {
+    let mut input = ONE_VARIABLE.as_slice();
+    let mut output = Vec::new(rt.alloc());
+    let mut errors = Vec::new(rt.alloc());
+    let status = program(&rt, &["fwenv"], &mut input, &mut output, &mut errors);
+    assert_eq!(rt; status, 0);
+    assert!(rt; output.as_slice() == b"a=b\n".as_slice());
+    assert!(rt; errors.is_empty());
+}
+
+#[test]
+fn the_program_asked_for_help(rt: HostRuntime) -> Result<(), Fail> {
+    for word in ["--help", "-h"] {
+        let mut input: &[u8] = b"";
+        let mut output = Vec::new(rt.alloc());
+        let mut errors = Vec::new(rt.alloc());
+        let status = program(&rt, &["fwenv", word], &mut input, &mut output, &mut errors);
+        assert_eq!(rt; status, 0);
+        let text = std::str::from_utf8(&output).ok().ok_or("text")?;
+        assert!(rt; text.starts_with("Prints the variables of the U-Boot environment image"));
+        assert!(rt; text.contains("Example:\n"));
+        assert!(rt; errors.is_empty());
+    }
+    Ok(())
+}
+
+#[test]
+fn the_program_with_words_that_it_does_not_know(rt: HostRuntime) {
+    for word in ["list", "--list", "-x", ""] {
+        let mut input = ONE_VARIABLE.as_slice();
+        let mut output = Vec::new(rt.alloc());
+        let mut errors = Vec::new(rt.alloc());
+        let status = program(&rt, &["fwenv", word], &mut input, &mut output, &mut errors);
+        assert_eq!(rt; status, 1);
+        assert!(rt; output.is_empty());
+        assert!(rt; errors.starts_with(b"error: unexpected argument"));
+    }
+}
+
+#[test]
+fn the_program_over_streams_that_fail(rt: HostRuntime) {
+    let mut errors = Vec::new(rt.alloc());
+    let mut output = Vec::new(rt.alloc());
+    let mut input = Failing {
+        rest: &ONE_VARIABLE,
+        step: 3,
+        calls: 0,
+    };
+    assert_eq!(rt;
+        program(&rt, &["fwenv"], &mut input, &mut output, &mut errors),
+        1
+    );
+    assert!(rt; errors.as_slice() == b"fwenv: cannot read standard input\n".as_slice());
+
+    for words in [["fwenv"].as_slice(), ["fwenv", "--help"].as_slice()] {
+        let mut errors = Vec::new(rt.alloc());
+        let mut output = Narrow::new(Vec::new(rt.alloc()), 2, 3, true);
+        let mut input = ONE_VARIABLE.as_slice();
+        assert_eq!(rt;
+            program(&rt, words, &mut input, &mut output, &mut errors),
+            1
+        );
+        assert!(rt; errors.as_slice() == b"fwenv: cannot write standard output\n".as_slice());
+    }
+}
+
+#[test]
+fn words_that_can_not_be_had(rt: HostRuntime) {
+    let kinds: [(io::ErrorKind, &[u8]); 3] = [
+        (io::ErrorKind::OutOfMemory, b"## Error: out of memory\n"),
+        (
+            io::ErrorKind::InvalidData,
+            b"fwenv: a word of the command line is not UTF-8\n",
+        ),
+        (
+            io::ErrorKind::Other,
+            b"fwenv: cannot read the command line\n",
+        ),
+    ];
+    for (kind, text) in kinds {
+        let mut errors = Vec::new(rt.alloc());
+        assert_eq!(rt; words_failed(&io::Error::from(kind), &mut errors), 1);
+        assert!(rt; errors.as_slice() == text);
+    }
+}
