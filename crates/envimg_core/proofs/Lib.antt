@@ -2,6 +2,7 @@ mod ChecksumLemmas
 mod EntryLemmas
 mod Examples
 mod FitLemmas
+mod HalfLemmas
 mod ImageLemmas
 mod LawLemmas
 mod TableLemmas

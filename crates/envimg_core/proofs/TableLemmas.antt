@@ -85,7 +85,7 @@ abbrev first_table : ℕ → ℕ → List ℕ
 first_table i zero = []
 first_table i (suc n) = steps 8 i ∷ first_table (i + 1) n
 
-abbrev made : ℕ → List ℕ → List (List ℕ)
+abbrev pub made : ℕ → List ℕ → List (List ℕ)
 made zero row = []
 made (suc n) row = row ∷ made n (map (steps 8) row)
 
@@ -107,7 +107,7 @@ length-map-steps : (row : List ℕ) → length (map (steps 8) row) ≡ length ro
 length-map-steps [] = refl
 length-map-steps (x ∷ row) = ap suc (length-map-steps row)
 
-get-made : (n k i : ℕ) (row : List ℕ) → k < n → i < length row → get_or (get_or (made n row) k []) i 0 ≡ advance k (get_or row i 0)
+pub get-made : (n k i : ℕ) (row : List ℕ) → k < n → i < length row → get_or (get_or (made n row) k []) i 0 ≡ advance k (get_or row i 0)
 unfolding advance
 get-made zero k i row h l = absurd (omega arith)
 get-made (suc n) zero i row h l = refl
@@ -135,7 +135,7 @@ feed-append [] ys r = refl
 feed-append (x ∷ xs) ys r = feed-append xs ys (steps 8 (bit_xor r x))
 
 -- the register's own part, and that of the bytes
-feed-split : (bs : List ℕ) (r : ℕ) → feed r bs ≡ bit_xor (advance (length bs) r) (mixed 0 bs)
+pub feed-split : (bs : List ℕ) (r : ℕ) → feed r bs ≡ bit_xor (advance (length bs) r) (mixed 0 bs)
 unfolding feed advance
 feed-split [] r = sym (xor_zero_r r)
 feed-split (b ∷ bs) r =
@@ -164,19 +164,22 @@ four_xor n a b c d p q r s =
         ∙ ap (bit_xor (bit_xor (advance (suc k + n) y) (advance (suc k + n) x))) e
         ∙ swap_middle (advance (suc k + n) y) (advance (suc k + n) x) v u
 
-advance-nothing : (n : ℕ) → advance n 0 ≡ 0
+pub advance-nothing : (n : ℕ) → advance n 0 ≡ 0
 unfolding advance steps step
 advance-nothing zero = refl
 advance-nothing (suc n) = advance-nothing n
 
 -- the register as four bytes
-four_bytes : (r : ℕ) → r < 2 ^ 32 → advance 16 r ≡ mixed 12 (r % 256 ∷ r / 256 % 256 ∷ r / 65536 % 256 ∷ r / 16777216 % 256 ∷ [])
-four_bytes r h =
-    advance-low 15 r ∙ ap (bit_xor (advance 16 (r % 256)))
-    (advance-low 14 (r / 256) ∙ ap (bit_xor (advance 15 (r / 256 % 256)))
-    (ap (advance 14) (let e : r / 256 / 256 ≡ r / 65536 = omega arith in e) ∙ advance-low 13 (r / 65536) ∙ ap (bit_xor (advance 14 (r / 65536 % 256)))
-    (ap (advance 13) (let e : r / 65536 / 256 ≡ r / 16777216 = omega arith in e) ∙ advance-low 12 (r / 16777216) ∙ ap (bit_xor (advance 13 (r / 16777216 % 256)))
-    (ap (advance 12) (let e : r / 16777216 / 256 ≡ 0 = omega arith in e) ∙ advance-nothing 12))))
+low_of : (m n x : ℕ) → m ≡ suc n → advance m x ≡ bit_xor (advance m (x % 256)) (advance n (x / 256))
+low_of m n x e = subst (λ k. advance k x ≡ bit_xor (advance k (x % 256)) (advance n (x / 256))) (sym e) (advance-low n x)
+
+pub four_bytes : (n r : ℕ) → r < 2 ^ 32 → advance (4 + n) r ≡ mixed n (r % 256 ∷ r / 256 % 256 ∷ r / 65536 % 256 ∷ r / 16777216 % 256 ∷ [])
+four_bytes n r h =
+    low_of (4 + n) (3 + n) r (omega arith) ∙ ap (bit_xor (advance (4 + n) (r % 256)))
+    (low_of (3 + n) (2 + n) (r / 256) (omega arith) ∙ ap (bit_xor (advance (3 + n) (r / 256 % 256)))
+    (ap (advance (2 + n)) (let e : r / 256 / 256 ≡ r / 65536 = omega arith in e) ∙ low_of (2 + n) (1 + n) (r / 65536) (omega arith) ∙ ap (bit_xor (advance (2 + n) (r / 65536 % 256)))
+    (ap (advance (1 + n)) (let e : r / 65536 / 256 ≡ r / 16777216 = omega arith in e) ∙ low_of (1 + n) n (r / 16777216) (omega arith) ∙ ap (bit_xor (advance (1 + n) (r / 16777216 % 256)))
+    (ap (advance n) (let e : r / 16777216 / 256 ≡ 0 = omega arith in e) ∙ advance-nothing n))))
 
 abbrev pub gets : List ℕ → ℕ → ℕ → List ℕ
 gets xs i zero = []
@@ -201,7 +204,7 @@ block_fed r xs rs h l e =
     let d : List ℕ = gets xs 12 4 in
     let cut : xs ≡ a ++ (b ++ (c ++ d)) = drop-gets xs 0 16 l in
     let whole : feed r xs ≡ bit_xor (mixed 12 (r % 256 ∷ r / 256 % 256 ∷ r / 65536 % 256 ∷ r / 16777216 % 256 ∷ [])) (mixed 0 (a ++ (b ++ (c ++ d)))) =
-    feed-split xs r ∙ ap (λ (n : ℕ). bit_xor (advance n r) (mixed 0 xs)) l ∙ ap (λ (n : ℕ). bit_xor n (mixed 0 xs)) (four_bytes r h) ∙ ap (λ ys. bit_xor (mixed 12 (r % 256 ∷ r / 256 % 256 ∷ r / 65536 % 256 ∷ r / 16777216 % 256 ∷ [])) (mixed 0 ys)) cut in
+    feed-split xs r ∙ ap (λ (n : ℕ). bit_xor (advance n r) (mixed 0 xs)) l ∙ ap (λ (n : ℕ). bit_xor n (mixed 0 xs)) (four_bytes 12 r h) ∙ ap (λ ys. bit_xor (mixed 12 (r % 256 ∷ r / 256 % 256 ∷ r / 65536 % 256 ∷ r / 16777216 % 256 ∷ [])) (mixed 0 ys)) cut in
     let parts : mixed 0 (a ++ (b ++ (c ++ d))) ≡ bit_xor (mixed 12 a) (bit_xor (mixed 8 b) (bit_xor (mixed 4 c) (mixed 0 d))) =
     mixed-append 0 a (b ++ (c ++ d)) ∙ ap (bit_xor (mixed 12 a)) (mixed-append 0 b (c ++ d) ∙ ap (bit_xor (mixed 8 b)) (mixed-append 0 c d)) in
     subst (λ ys. bit_xor (bit_xor (bit_xor (mixed 12 (bit_xor (get_or xs 0 0) (get_or ys 0 0) ∷ bit_xor (get_or xs 1 0) (get_or ys 1 0) ∷ bit_xor (get_or xs 2 0) (get_or ys 2 0) ∷ bit_xor (get_or xs 3 0) (get_or ys 3 0) ∷ [])) (mixed 8 b)) (mixed 4 c)) (mixed 0 d) ≡ feed r xs) (sym e)

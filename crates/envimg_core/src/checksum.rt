@@ -1,15 +1,20 @@
 //! The checksum over a data area.
-ghost use Rattle.std.specs.Prelude.{◌≡◌, bit_xor, ◌+◌, ◌<◌, ◌≤◌, [], ◌∷◌, length};
+ghost use Rattle.std.specs.Prelude.{◌≡◌, bit_xor, ◌+◌, ◌*◌, ◌<◌, ◌≤◌, [], ◌∷◌, length};
 ghost use Rattle.envimg_core.specs.Checksum.{checksum};
 ghost use Rattle.envimg_core.specs.Register.{step, steps, advance, feed, mixed};
 
+mod far_tables;
 mod tables;
 
 use byteorder::{ByteOrder, LittleEndian};
+use far_tables::FAR_TABLES;
 use tables::TABLES;
 
 /// How many bytes the register takes in one go.
 const BLOCK: usize = 16;
+
+/// How many bytes one of two registers takes that go side by side.
+const HALF: usize = 256;
 
 /// The register before the first byte, and what its bits are inverted with behind the last.
 const ALL_ONES: u32 = 0xFFFF_FFFF;
@@ -22,12 +27,12 @@ pub fn crc32(bytes: &[u8]) -> u32
 {
     let mut register = ALL_ONES;
     let mut rest = bytes;
-    while rest.len() >= BLOCK {
-        let (block, behind) = rest.split_at(BLOCK);
-        register = feed_block(register, block);
+    while rest.len() >= 2 * HALF {
+        let (halves, behind) = rest.split_at(2 * HALF);
+        register = feed_halves(register, halves);
         rest = behind;
     }
-    feed_bytes(register, rest) ^ ALL_ONES
+    feed_blocks(register, rest) ^ ALL_ONES
 }
 
 /// The same checksum, bit by bit: the plain program, beside which tests and measurements put [`crc32`].
@@ -80,6 +85,55 @@ fn feed_byte(register: u32, byte: u8) -> u32
 {
     let [low, ..] = register.to_le_bytes();
     advanced(0, low ^ byte) ^ (register >> 8)
+}
+
+/// Two halves go by side by side, since a register waits for its last block, but not for that of another.
+///
+/// The second half goes into an empty register; the first one's is moved on by as many bytes of zeros.
+fn feed_halves(register: u32, halves: &[u8]) -> u32
+    requires { length halves.now ≡ 2 * HALF }
+    ensures { result ≡ feed register halves.now }
+{
+    let (front, back) = halves.split_at(HALF);
+    let mut first = register;
+    let mut second = 0;
+    for i in 0..HALF / BLOCK {
+        let at = i * BLOCK;
+        first = feed_block(first, &front[at..at + BLOCK]);
+        second = feed_block(second, &back[at..at + BLOCK]);
+    }
+    moved_on(first) ^ second
+}
+
+/// What a register is once as many bytes of zeros as a half has have gone by.
+fn moved_on(register: u32) -> u32
+    ensures { result ≡ advance HALF register }
+{
+    let [a, b, c, d] = register.to_le_bytes();
+    advanced_far(3, a) ^ advanced_far(2, b) ^ advanced_far(1, c) ^ advanced_far(0, d)
+}
+
+/// What one byte leaves in an empty register once 252 + `more` bytes of zeros have gone by.
+#[inline(always)]
+fn advanced_far(more: usize, byte: u8) -> u32
+    requires { more < 4 }
+    ensures { result ≡ advance (253 + more) byte }
+{
+    FAR_TABLES[more][usize::from(byte)]
+}
+
+/// Bytes go by, sixteen in one go as long as there are so many.
+fn feed_blocks(register: u32, bytes: &[u8]) -> u32
+    ensures { result ≡ feed register bytes.now }
+{
+    let mut turned = register;
+    let mut rest = bytes;
+    while rest.len() >= BLOCK {
+        let (block, behind) = rest.split_at(BLOCK);
+        turned = feed_block(turned, block);
+        rest = behind;
+    }
+    feed_bytes(turned, rest)
 }
 
 /// Sixteen bytes go by: each byte's part comes from the table for the bytes behind it.

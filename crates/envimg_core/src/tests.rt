@@ -44,7 +44,7 @@ fn both_checksums_agree_at_all_lengths_and_places(rt: HostRuntime) -> Result<(),
             assert_eq!(rt; crc32(part), crc32_bitwise(part));
         }
     }
-    for len in [1000usize, 1023, 1024, 1025, 4091, 4999, 5000] {
+    for len in [511usize, 512, 513, 1000, 1023, 1024, 1025, 4091, 4999, 5000] {
         let part = bytes.get(..len).ok_or("long enough")?;
         assert_eq!(rt; crc32(part), crc32_bitwise(part));
     }
