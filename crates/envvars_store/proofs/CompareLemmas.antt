@@ -1,13 +1,12 @@
 -- Two texts compared from their front.
-use Rattle.std.proofs.Common.{◌≡◌, ◌≢◌, ℕ, zero, suc, ◌+◌, ◌-◌, ◌<◌, ◌≤◌, false, List, [], ◌∷◌, ◌++◌, length, take, drop, get_or, All, Some, Equal, Greater, sym, ap, ◌∙◌, refl, arith, length-take, length-drop, get_or-drop, get_or-take, true, Bool, not, ◌||◌, IsTrue, ⊎_elim}
+use Rattle.std.proofs.Common.{◌≡◌, ◌≢◌, ℕ, zero, suc, ◌+◌, ◌-◌, ◌<◌, ◌≤◌, false, List, [], ◌∷◌, ◌++◌, length, take, drop, get_or, All, Some, Equal, Greater, sym, ap, ◌∙◌, refl, arith, length-take, length-drop, get_or-drop, get_or-take, true, Bool, ⊎_elim}
 use Rattle.std.specs.Ordering.{ordering_then}
 use Rattle.std.specs.Cmp.{nat_cmp_is}
 use Rattle.std.proofs.Math.Seq.{drop-cons, take-add}
 use Rattle.std.proofs.lemmas.List.{drop_all, take-append-drop}
 use Rattle.std.proofs.lemmas.Bool.{cases_lt}
 use Rattle.memchr.specs.Find.{IsFirstByte, is_byte}
-use Rattle.std.specs.List.{list_any}
-use Rattle.envimg_core.specs.Environment.{bytes_cmp, is_empty, is_zero, is_equals, is_name}
+use Rattle.envimg_core.specs.Environment.{bytes_cmp}
 use Rattle.envvars_store.specs.Order.{IsShared}
 
 -- bytes at the front that are the same decide nothing
@@ -70,25 +69,3 @@ least (y ∷ ys) e = cc
 -- a name that comes after another one is not empty
 pub not_empty : (xs ys : List ℕ) (k : ℕ) → bytes_cmp (take k xs) ys ≡ Greater → k ≢ 0
 not_empty xs ys k g e = least ys (sym (ap (λ n. bytes_cmp (take n xs) ys) e) ∙ g)
-
-second_false : (x y : Bool) → (x || y) ≡ false → y ≡ false
-second_false true y e = absurd (cc)
-second_false false y e = e
-
-first_false : (x y : Bool) → (x || y) ≡ false → x ≡ false
-first_false true y e = absurd (cc)
-first_false false y e = refl
-
-not_taken : (b : Bool) → IsTrue (not b) → b ≡ false
-not_taken true t = absurd (cc)
-not_taken false t = refl
-
--- where no byte is a 0 or a '=' none is a '='
-plain : (n : List ℕ) → list_any (λ b. is_zero b || is_equals b) n ≡ false → All (λ b. is_byte 61 b ≡ false) n
-plain [] e k d h = absurd (omega arith)
-plain (b ∷ bs) e zero d h = second_false (is_zero b) (is_equals b) (first_false _ _ e)
-plain (b ∷ bs) e (suc k) d h = plain bs (second_false _ _ e) k d (omega arith)
-
--- a name has no '='
-pub name_plain : (n : List ℕ) → IsTrue (is_name n) → All (λ b. is_byte 61 b ≡ false) n
-name_plain n t = plain n (second_false (is_empty n) _ (not_taken _ t))

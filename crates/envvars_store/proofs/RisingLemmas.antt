@@ -1,12 +1,12 @@
 -- Entries whose names rise: each is put at the end.
-use Rattle.std.proofs.Common.{◌≡◌, ◌≢◌, ℕ, suc, ◌+◌, ◌-◌, ◌<◌, T, List, [], ◌∷◌, ◌++◌, length, take, drop, get_or, fold, filter, All, Some, sym, ap, subst, ◌∙◌, arith, set, Less, Greater, append-nil, append_assoc, slice_range, length-take, get_or-drop, get_or-take, eqb-true}
+use Rattle.std.proofs.Common.{◌≡◌, ◌≢◌, ℕ, suc, ◌+◌, ◌-◌, ◌<◌, T, false, List, [], ◌∷◌, ◌++◌, length, take, drop, get_or, fold, filter, All, Some, sym, ap, subst, ◌∙◌, arith, set, Less, Greater, append-nil, append_assoc, slice_range, length-take, get_or-drop, get_or-take, eqb-true}
 use Rattle.std.specs.FinMap as env
 use Rattle.std.specs.FinMap.Entries.{put, is_sorted}
 use Rattle.std.proofs.lemmas.Cmp.{nat_list_cmp_total}
 use Rattle.std.proofs.lemmas.List.{map-append, drop_all}
 use Rattle.std.proofs.lemmas.List.Elements.{All-push}
 use Rattle.memchr.specs.Find.{IsFirstByte, is_byte}
-use Rattle.envimg_core.specs.Environment.{bytes_cmp, Environment}
+use Rattle.envimg_core.specs.Environment.{is_equals, bytes_cmp, Environment}
 use Rattle.envimg_core.specs.Pieces.{entries_of, entry_of, has_name, after_entry}
 use Rattle.envvars_store.specs.Order.{AllBefore}
 use Rattle.envvars_store.specs.Laying.{pair_of, IsPlaced}
@@ -20,7 +20,7 @@ use Rattle.envvars_store.proofs.MapLemmas.{env_of, env_put, sorted_put}
 use Rattle.envvars_store.proofs.RunLemmas.{flat_cut, flat_set, slots_read}
 use Rattle.envvars_store.specs.Variable.{IsVariable}
 use Rattle.envvars_store.proofs.CompareLemmas.{not_empty}
-use Rattle.envvars_store.proofs.EntryLemmas.{piece_read, piece_long, name_part, place_formed, place_gives}
+use Rattle.envvars_store.proofs.EntryLemmas.{before_at, piece_read, piece_long, name_part, place_formed, place_gives}
 
 -- a slot pushed onto the last run
 pub pushed_last : (runs : List Run) (r : ℕ) (x y : Run) (p : Slot) → r + 1 ≡ length runs → x ≡ get_or runs r x → y.items ≡ x.items ++ p ∷ [] → flat (set runs r y) ≡ flat runs ++ p ∷ []
@@ -92,6 +92,9 @@ next_place_is area s k e last p a b c piece f m g =
       formed = subst (λ x. IsVariable (slice_range area x p.middle, slice_range area (p.middle + 1) p.end)) (sym a)
           (subst (λ x. IsVariable (slice_range area s x, slice_range area (x + 1) p.end)) (sym b)
           (subst (λ x. IsVariable (slice_range area s (s + k), slice_range area (s + k + 1) x)) (sym c) (place_formed area s e k piece f n more)));
+      plain = subst (λ x. All (λ b. is_equals b ≡ false) (slice_range area x p.middle)) (sym a)
+          (subst (λ x. All (λ b. is_equals b ≡ false) (slice_range area s x)) (sym b)
+          (subst (All (λ b. is_equals b ≡ false)) (sym (name_part area s e k (omega arith))) (before_at 61 (slice_range area s e) k f)));
       entry = λ w.
           ap (λ x. fold after_entry w (filter has_name (entry_of (slice_range area x p.end) ∷ []))) a ∙ ap (λ x. fold after_entry w (filter has_name (entry_of (slice_range area s x) ∷ []))) c
           ∙ sym (place_gives w area s e k piece f n more)

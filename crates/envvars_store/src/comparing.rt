@@ -2,7 +2,7 @@
 ghost use Rattle.std.specs.Prelude.{◌≡◌, ◌≤◌, ◌<◌, ◌+◌, false, length, take, All, IfSome, Some};
 ghost use Rattle.std.specs.declared.cmp.Ordering.TheVariants.{Greater};
 ghost use Rattle.memchr.specs.Find.{IsFirstByte, is_byte};
-ghost use Rattle.envimg_core.specs.Environment.{bytes_cmp};
+ghost use Rattle.envimg_core.specs.Environment.{bytes_cmp, is_equals};
 ghost use Rattle.envvars_store.specs.Order.{IsShared};
 
 use memchr::memchr;
@@ -10,7 +10,7 @@ use memchr::memchr;
 /// Where the name of a piece ends at its `=`, if the name comes after another one.
 /// The other has no `=`, so the search for it begins where the two differ.
 pub(crate) fn rising_end(piece: &[u8], last: &[u8]) -> Option<usize>
-    requires { All (λ b. is_byte 61 b ≡ false) last.now }
+    requires { All (λ b. is_equals b ≡ false) last.now }
     ensures found { IfSome result (λ k. IsFirstByte (is_byte 61) piece.now (Some k)) }
     ensures rising { IfSome result (λ k. bytes_cmp (take k piece.now) last.now ≡ Greater) }
 {

@@ -4,7 +4,7 @@ ghost use Rattle.envimg_core.specs.Pieces.{entries_of, vars_of, entry_of, has_na
 ghost use Rattle.std.specs.FinMap as env;
 ghost use Rattle.envvars_store.specs.Pieces.{IsPiece, IsNextPlace};
 ghost use Rattle.envvars_store.specs.Runs.{listed, IsLaid};
-ghost use Rattle.memchr.specs.Find.{is_byte};
+ghost use Rattle.envimg_core.specs.Environment.{is_equals};
 
 use crate::comparing::rising_end;
 use crate::copying::copied;
@@ -75,7 +75,7 @@ fn rising(alloc: Global, area: &[u8], runs: &mut Vec<Run>) -> Result<usize, Allo
 fn next_place(area: &[u8], at: usize, last: &[u8]) -> Option<Place>
     requires within { at ≤ length area.now }
     requires size { length area.now ≤ 1048576 }
-    requires last { All (λ b. is_byte 61 b ≡ false) last.now }
+    requires last { All (λ b. is_equals b ≡ false) last.now }
     ensures { IfSome result (IsNextPlace area.now at last.now) }
 {
     let end = piece_end(area, at)?;

@@ -1,4 +1,4 @@
-//! The tables that move a register on by half a pair of bytes: what one byte leaves in it.
+//! The tables that move a register on by a half of 256 bytes: what one byte leaves in it.
 
 /// `FAR_TABLES[k][b]` is the register, empty before, once the byte `b` and 252 + `k` bytes of zeros have gone by.
 pub(super) static FAR_TABLES: [[u32; 256]; 4] = [

@@ -1,5 +1,5 @@
 use Rattle.std.proofs.Common.{arith, Some, sym, ◌∙◌, ◌+◌, ◌<◌, ◌≤◌, length, drop, length-drop}
-use borrow.Author.Tests.{ltb-true}
+use Rattle.std.proofs.lemmas.Bool.{ltb-true}
 use Rattle.envvars_store.proofs.CompareLemmas.{found_behind, rises_longer, rises_byte}
 use Rattle.envvars_store.proofs.EntryLemmas.{rest_first}
 use Rattle.envvars_store.proofs.comparing.rising_end.Goals as goal

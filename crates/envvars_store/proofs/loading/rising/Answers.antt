@@ -1,7 +1,6 @@
 use Rattle.std.proofs.Common.{ap, refl, ◌∙◌, arith, fold}
 use Rattle.envimg_core.specs.Pieces.{entries_of, after_entry}
 use Rattle.envvars_store.specs.Runs.{listed}
-use Rattle.envvars_store.proofs.CompareLemmas.{name_plain}
 use Rattle.envvars_store.proofs.MapLemmas.{env_of, env_empty}
 use Rattle.envvars_store.proofs.PlaceLemmas.{laid_none, laid_lent}
 use Rattle.envvars_store.proofs.RisingLemmas.{rises_none, risen, risen_left}
@@ -25,7 +24,7 @@ walk-preserved c =
     record {
       within = omega arith;
       laid = r.laid;
-      plain = name_plain _ next.formed.0;
+      plain = next.plain;
       rises = r.rises;
       left = risen_left c.args.area.now c.walk.runs.items c.push.new.runs.items c.walk.at c.walk.last.now c.in-Some.place _ c.walk.invariant.laid next r c.walk.invariant.left;
     }
