@@ -69,15 +69,9 @@ fn show(tree: &Tree, source: &[u8], out: &mut Vec<u8>) -> Result<(), AllocError>
             show(body, source, out)?;
             out.extend_from_slice(b" done")
         }
-        Tree::While { condition, body } => {
-            out.extend_from_slice(b"while ")?;
-            show(condition, source, out)?;
-            out.extend_from_slice(b" do ")?;
-            show(body, source, out)?;
-            out.extend_from_slice(b" done")
-        }
-        Tree::Until { condition, body } => {
-            out.extend_from_slice(b"until ")?;
+        Tree::While { condition, body } | Tree::Until { condition, body } => {
+            let is_while = matches!(tree, Tree::While { .. });
+            out.extend_from_slice(if is_while { b"while " } else { b"until " })?;
             show(condition, source, out)?;
             out.extend_from_slice(b" do ")?;
             show(body, source, out)?;

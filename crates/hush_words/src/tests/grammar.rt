@@ -79,47 +79,20 @@ fn names_are_told(rt: HostRuntime) -> Result<(), Fail> {
 
 #[test]
 fn assignments_are_told(rt: HostRuntime) -> Result<(), Fail> {
-    let alloc = rt.alloc();
-    assert!(rt;
-        only_word(alloc, b"a=")?
-            .ok_or("no word")?
-            .is_assignment(b"a=")
-    );
-    assert!(rt;
-        only_word(alloc, b"a\\\n=1")?
-            .ok_or("no word")?
-            .is_assignment(b"a\\\n=1")
-    );
-    assert!(rt;
-        only_word(alloc, b"_b==c")?
-            .ok_or("no word")?
-            .is_assignment(b"_b==c")
-    );
-    assert!(rt;
-        !only_word(alloc, b"=c")?
-            .ok_or("no word")?
-            .is_assignment(b"=c")
-    );
-    assert!(rt;
-        !only_word(alloc, b"1=c")?
-            .ok_or("no word")?
-            .is_assignment(b"1=c")
-    );
-    assert!(rt;
-        !only_word(alloc, b"a\\=c")?
-            .ok_or("no word")?
-            .is_assignment(b"a\\=c")
-    );
-    assert!(rt;
-        !only_word(alloc, b"'a'=c")?
-            .ok_or("no word")?
-            .is_assignment(b"'a'=c")
-    );
-    assert!(rt;
-        !only_word(alloc, b"$a=c")?
-            .ok_or("no word")?
-            .is_assignment(b"$a=c")
-    );
+    let texts: [(&[u8], bool); 8] = [
+        (b"a=", true),
+        (b"a\\\n=1", true),
+        (b"_b==c", true),
+        (b"=c", false),
+        (b"1=c", false),
+        (b"a\\=c", false),
+        (b"'a'=c", false),
+        (b"$a=c", false),
+    ];
+    for (text, expected) in texts {
+        let word = only_word(rt.alloc(), text)?.ok_or("no word")?;
+        assert_eq!(rt; word.is_assignment(text), expected);
+    }
     Ok(())
 }
 
