@@ -64,3 +64,14 @@ built() {
     fi
     echo "$space/crates/$1/out/$1"
 }
+
+# program_of NAME: the path of the program that the crate NAME is, proved and built where that is needed; what the build
+# says goes to a log.
+program_of() {
+    echo "$(basename "$0"): proving and building $1 (minutes the first time) .." >&2
+    if ! (cd "$top/crates/$1" && ${RT:-rt} run </dev/null) >"$work/$1.log" 2>&1; then
+        tail -n 40 "$work/$1.log" >&2
+        exit 1
+    fi
+    echo "$top/crates/$1/out/$1"
+}
