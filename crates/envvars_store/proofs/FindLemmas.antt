@@ -1,8 +1,8 @@
 -- What the code compares, said of the variables in order.
-use Rattle.std.proofs.Common.{◌≡◌, ℕ, suc, ◌+◌, ◌-◌, ◌<◌, ◌≤◌, T, List, [], ◌∷◌, ◌++◌, length, take, drop, get_or, All, vec_len, sym, ap, subst, ◌∙◌, refl, arith, add-one, append-nil, append_assoc, Ordering, Less, Equal, Greater}
+use Rattle.std.proofs.Common.{◌≡◌, ℕ, suc, ◌+◌, ◌-◌, ◌<◌, ◌≤◌, T, List, [], ◌∷◌, ◌++◌, length, take, drop, get_or, All, vec_len, sym, ap, subst, ◌∙◌, refl, arith, add-one, Ordering, Less, Equal, Greater}
 use Rattle.std.specs.FinMap.Entries.{is_sorted, below_all}
 use Rattle.std.proofs.Math.Seq.{drop-cons, take-suc}
-use Rattle.std.proofs.lemmas.List.{take-append-drop, take_all, drop_all, take-map, drop-map, length-map, get_or-map, map-append}
+use Rattle.std.proofs.lemmas.List.{take-append-drop, take-map, drop-map, length-map, get_or-map, map-append}
 use Rattle.std.proofs.lemmas.List.Elements.{All-cons}
 use Rattle.envimg_core.specs.Environment.{Pair, bytes_cmp}
 use Rattle.envvars_store.specs.Order.{AllBefore, StartsAfter, IsFound, IsGap}
@@ -164,33 +164,6 @@ gap_spot q area runs r k x o at g =
       before = before_spot q area runs r k x o e g.before;
       after = subst (StartsAfter q) (sym (map-append (pair_of area) (drop k (slots_at runs r)) (flat (drop (suc r) runs))))
           (starts_append q (pairs area (drop k (slots_at runs r))) _ (subst (StartsAfter q) (drop-map (pair_of area) k x.items ∙ ap (λ m. pairs area (drop k m)) (sym e)) g.after) o.after);
-    }
-
--- the spot behind all variables
-last_split : (s : List Slot) (k : ℕ) (y : Slot) → k + 1 ≡ length s → y ≡ get_or s k y → s ≡ take k s ++ y ∷ []
-last_split s k y h e =
-    let within : k < length s = omega arith in
-    sym (take-append-drop k s) ∙ ap (λ r. take k s ++ r) (drop-cons s k y within ∙ ap (λ v. v ∷ drop (suc k) s) (sym e) ∙ ap (λ r. y ∷ r) (drop_all (suc k) s (omega arith)))
-
-pub gap_last : (q area : List ℕ) (runs : List Run) (r k : ℕ) (x : Run) (y : Slot) → IsLaid area runs → r + 1 ≡ length runs → x ≡ get_or runs r x → k ≡ vec_len x → y ≡ get_or x.items (k - 1) y → bytes_cmp q (pair_of area y).0 ≡ Greater → IsGapAt q area runs (record { run = r; place = k })
-gap_last q area runs r k x y l h at n is c =
-    let within : r < length runs = omega arith in
-    let filled = run_filled area runs r x l within at in
-    let e : slots_at runs r ≡ x.items = slots_read runs r x within at in
-    let none : drop (suc r) runs ≡ [] = drop_all (suc r) runs (omega arith) in
-    let some : k - 1 + 1 ≡ length x.items = omega (arith, long x) in
-    let split : x.items ≡ take (k - 1) x.items ++ y ∷ [] = last_split x.items (k - 1) y some is in
-    let all : flat (take r runs) ++ take k (slots_at runs r) ≡ (flat (take r runs) ++ take (k - 1) x.items) ++ y ∷ [] =
-    ap (λ m. flat (take r runs) ++ m) (ap (take k) e ∙ take_all k x.items (omega (arith, long x)) ∙ split) ∙ sym (append_assoc (flat (take r runs)) (take (k - 1) x.items) (y ∷ [])) in
-    let listed_all : listed area runs ≡ pairs area (flat (take r runs) ++ take (k - 1) x.items) ++ pair_of area y ∷ [] =
-    ap (pairs area) (run_cut runs r x within at ∙ ap (λ m. flat (take r runs) ++ (x.items ++ flat m)) none ∙ ap (λ m. flat (take r runs) ++ m) (append-nil x.items ∙ split) ∙ sym (append_assoc (flat (take r runs)) (take (k - 1) x.items) (y ∷ [])))
-    ∙ map-append (pair_of area) (flat (take r runs) ++ take (k - 1) x.items) (y ∷ []) in
-    let sorted = subst (λ xs. T (is_sorted bytes_cmp xs)) listed_all l.sorted in
-    let before = all_before_push q _ (pair_of area y) (all_before_greater q (pairs area (flat (take r runs) ++ take (k - 1) x.items)) (pair_of area y) [] sorted c) c in
-    record {
-      place = omega (arith, ap length e, long x);
-      before = subst (AllBefore q) (sym (ap (pairs area) all ∙ map-append (pair_of area) (flat (take r runs) ++ take (k - 1) x.items) (y ∷ []))) before;
-      after = subst (λ xs. StartsAfter q (pairs area xs)) (sym (ap (λ m. drop k (slots_at runs r) ++ flat m) none ∙ append-nil (drop k (slots_at runs r)) ∙ drop_all k (slots_at runs r) (omega (arith, ap length e, long x)))) tt;
     }
 
 -- what holds of a list's elements holds of those behind its first

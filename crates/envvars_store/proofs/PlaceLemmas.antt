@@ -1,20 +1,21 @@
 -- What a write at a spot makes of the variables.
-use Rattle.std.proofs.Common.{◌≡◌, ℕ, zero, suc, ◌<◌, T, List, [], ◌∷◌, ◌++◌, length, drop, get_or, All, vec_len, Some, None, is_some, true, sym, ap, subst, ◌∙◌, refl, arith}
+use Rattle.std.proofs.Common.{◌≡◌, ℕ, zero, suc, ◌-◌, ◌<◌, ◌≤◌, Less, Equal, Greater, append_assoc, take, T, List, [], ◌∷◌, ◌++◌, length, drop, get_or, All, vec_len, Some, None, is_some, true, sym, ap, subst, ◌∙◌, refl, arith}
 use Rattle.std.specs.FinMap as env
 use Rattle.std.specs.FinMap.Entries.{put, find, is_sorted}
-use Rattle.std.proofs.Math.Seq.{drop-cons}
-use Rattle.std.proofs.lemmas.List.{map-append}
+use Rattle.std.proofs.Math.Seq.{drop-cons, take-suc}
+use Rattle.std.proofs.lemmas.List.{map-append, drop_all}
 use Rattle.std.proofs.lemmas.List.Elements.{All-append, All-cons}
 use Rattle.envimg_core.specs.Environment.{Pair, bytes_cmp, Environment}
+use Rattle.envvars_store.specs.Order.{AllBefore, StartsAfter}
 use Rattle.envvars_store.specs.Laying.{pair_of, IsPlaced}
 use Rattle.envvars_store.specs.Variable.{IsVariable}
 use Rattle.envvars_store.specs.Runs.{Run, flat, pairs, listed, slots_at, front, rest, later, IsFilled, IsFormed, IsLaid, IsFoundAt, IsGapAt}
 use Rattle.envvars_store.specs.declared.slots.Slot.{Slot}
 use Rattle.envvars_store.specs.declared.runs.Spot.{Spot}
-use Rattle.envvars_store.proofs.OrderLemmas.{same_name, put_between, put_over, find_at, find_missed, without, without_at, without_missed}
+use Rattle.envvars_store.proofs.OrderLemmas.{all_before_equal, all_before_greater, all_before_push, same_name, put_between, put_over, find_at, find_missed, without, without_at, without_missed}
 use Rattle.envvars_store.proofs.MapLemmas.{env_of, sorted_put, sorted_without, given_put, given_without, given_entries}
-use Rattle.envvars_store.proofs.RunLemmas.{whole, gap_whole, slots_read, slots_long}
-use Rattle.envvars_store.proofs.FindLemmas.{All_front, All_back}
+use Rattle.envvars_store.proofs.RunLemmas.{whole, gap_whole, slots_read, slots_long, long}
+use Rattle.envvars_store.proofs.FindLemmas.{All_front, All_back, pair_read}
 
 -- the slot at a place
 slot_there : (slots : List Slot) (k : ℕ) → k < length slots → (x : Slot) × (x ≡ get_or slots k x)
@@ -189,3 +190,55 @@ got_formed area lent runs s q v x l f e at is =
     let given : v ≡ (pair_of area x).1 = is ∙ ap (λ a. (pair_of a x).1) at in
     let with_name : IsVariable (q, (pair_of area x).1) = subst (λ n. IsVariable (n, (pair_of area x).1)) (sym (same_name q (pair_of area x).0 (f.equal x e))) formed in
     subst (λ w. IsVariable (q, w)) (sym given) with_name
+
+-- a variable that was read at a spot and has the name
+pub found_here : (q area : List ℕ) (runs : List Run) (s : Spot) (r : Run) (x : Slot) → IsLaid area runs → s.run < length runs → r ≡ get_or runs s.run r → x ≡ get_or r.items s.place x → s.place < vec_len r → bytes_cmp q (pair_of area x).0 ≡ Equal → IsFoundAt q area runs s
+found_here q area runs s r x l h at is w eq =
+    let e : slots_at runs s.run ≡ r.items = slots_read runs s.run r h at in
+    let within : s.place < length (slots_at runs s.run) = omega (arith, ap length e, long r) in
+    let there : x ≡ get_or (slots_at runs s.run) s.place x = is ∙ ap (λ m. get_or m s.place x) (sym e) in
+    let sorted = subst (λ xs. T (is_sorted bytes_cmp xs)) (ap (pairs area) (spot_cut runs s x h within there) ∙ pairs_cut area (front runs s) x (later runs s)) l.sorted in
+    record {
+      run = h;
+      place = within;
+      before = all_before_equal q (pairs area (front runs s)) (pair_of area x) (pairs area (later runs s)) sorted eq;
+      equal = λ y f. ap (λ (p : Pair). bytes_cmp q p.0) (sym (pair_read area (slots_at runs s.run) s.place y within f) ∙ pair_read area (slots_at runs s.run) s.place x within there) ∙ eq;
+    }
+
+-- nothing stands in front of the first spot
+pub front_none : (q area : List ℕ) (runs : List Run) (s : Spot) → s.place ≡ 0 → s.run ≡ 0 → AllBefore q (pairs area (front runs s))
+front_none q area runs s p z =
+    let none : front runs s ≡ [] = ap (λ k. flat (take k runs) ++ take s.place (slots_at runs s.run)) z ∙ ap (λ k. take k (slots_at runs s.run)) p in
+    subst (λ xs. AllBefore q (pairs area xs)) (sym none) tt
+
+-- a name behind the variable in front of a spot, and one before the variable at it
+pub behind_here : (q area : List ℕ) (runs : List Run) (s : Spot) (r : Run) (x : Slot) → IsLaid area runs → s.run < length runs → r ≡ get_or runs s.run r → 0 < s.place → s.place ≤ vec_len r → x ≡ get_or r.items (s.place - 1) x → bytes_cmp q (pair_of area x).0 ≡ Greater → AllBefore q (pairs area (front runs s))
+behind_here q area runs s r x l h at some w is c =
+    let slots = slots_at runs s.run in
+    let k = s.place - 1 in
+    let p : Spot = record { run = s.run; place = k } in
+    let e : slots ≡ r.items = slots_read runs s.run r h at in
+    let within : k < length slots = omega (arith, ap length e, long r) in
+    let there : x ≡ get_or slots k x = is ∙ ap (λ m. get_or m k x) (sym e) in
+    let sorted = subst (λ xs. T (is_sorted bytes_cmp xs)) (ap (pairs area) (spot_cut runs p x h within there) ∙ pairs_cut area (front runs p) x (later runs p)) l.sorted in
+    let before = all_before_push q (pairs area (front runs p)) (pair_of area x) (all_before_greater q (pairs area (front runs p)) (pair_of area x) (pairs area (later runs p)) sorted c) c in
+    let up : s.place ≡ suc k = omega arith in
+    let step : front runs s ≡ front runs p ++ x ∷ [] =
+    ap (λ n. flat (take s.run runs) ++ take n slots) up
+    ∙ ap (λ m. flat (take s.run runs) ++ m) (take-suc slots k x within ∙ ap (λ y. take k slots ++ y ∷ []) (sym there))
+    ∙ sym (append_assoc (flat (take s.run runs)) (take k slots) (x ∷ [])) in
+    subst (AllBefore q) (sym (ap (pairs area) step ∙ pairs_cut area (front runs p) x [])) before
+
+pub before_here : (q area : List ℕ) (runs : List Run) (s : Spot) (r : Run) (x : Slot) → s.run < length runs → r ≡ get_or runs s.run r → s.place < vec_len r → x ≡ get_or r.items s.place x → bytes_cmp q (pair_of area x).0 ≡ Less → StartsAfter q (pairs area (rest runs s))
+before_here q area runs s r x h at w is c =
+    let slots = slots_at runs s.run in
+    let e : slots ≡ r.items = slots_read runs s.run r h at in
+    let within : s.place < length slots = omega (arith, ap length e, long r) in
+    let there : x ≡ get_or slots s.place x = is ∙ ap (λ m. get_or m s.place x) (sym e) in
+    subst (λ d. StartsAfter q (pairs area (d ++ flat (drop (suc s.run) runs)))) (sym (drop-cons slots s.place x within ∙ ap (λ v. v ∷ drop (suc s.place) slots) (sym there))) c
+
+pub before_next : (q area : List ℕ) (runs : List Run) (s : Spot) (r : Run) → s.run < length runs → r ≡ get_or runs s.run r → vec_len r ≤ s.place → StartsAfter q (listed area (drop (suc s.run) runs)) → StartsAfter q (pairs area (rest runs s))
+before_next q area runs s r h at w a =
+    let slots = slots_at runs s.run in
+    let e : slots ≡ r.items = slots_read runs s.run r h at in
+    subst (λ d. StartsAfter q (pairs area (d ++ flat (drop (suc s.run) runs)))) (sym (drop_all s.place slots (omega (arith, ap length e, long r)))) a

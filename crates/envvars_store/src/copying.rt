@@ -2,7 +2,7 @@
 ghost use Rattle.std.specs.Prelude.{◌≡◌, IfOk, All};
 ghost use Rattle.envvars_store.specs.Runs.{flat, IsFilled};
 
-use crate::runs::Run;
+use crate::runs::{FEW, Run};
 use crate::slots::Slot;
 use crate::storing::Variables;
 use std::alloc::{AllocError, Global};
@@ -49,10 +49,11 @@ fn copied_runs(alloc: Global, runs: &[Run]) -> Result<Vec<Run>, AllocError>
     Ok(copy)
 }
 
+// One run. A short one gets room to take in its neighbour, as each run has it.
 fn copied_run(alloc: Global, run: &[Slot]) -> Result<Run, AllocError>
     ensures { IfOk result (λ v. v.items ≡ run.now) }
 {
-    let mut copy = Vec::with_capacity(alloc, run.len())?;
+    let mut copy = Vec::with_capacity(alloc, run.len().max(FEW))?;
     'slots: for slot in run {
         copy.push(slot.try_clone(alloc)?)?;
     }

@@ -1,5 +1,5 @@
 // The variables of a data area.
-ghost use Rattle.std.specs.Prelude.{◌≡◌, ◌<◌, ◌≤◌, ◌^◌, length, fold, filter, IfOk, IfSome, OnOk, MatchOption, drop, false, [], ◌∷◌, All, slice_range};
+ghost use Rattle.std.specs.Prelude.{◌≡◌, ◌<◌, ◌≤◌, ◌^◌, length, fold, filter, IfOk, IfSome, OnOk, MatchOption, take, drop, false, [], ◌∷◌, All, slice_range};
 ghost use Rattle.envimg_core.specs.Pieces.{entries_of, vars_of, entry_of, has_name, after_entry};
 ghost use Rattle.std.specs.FinMap as env;
 ghost use Rattle.envvars_store.specs.Pieces.{IsPiece, IsNextPlace};
@@ -9,7 +9,8 @@ ghost use Rattle.envimg_core.specs.Environment.{is_equals};
 use crate::comparing::rising_end;
 use crate::copying::copied;
 use crate::placing::{forget, set};
-use crate::runs::{Run, push};
+use crate::runs::{Run, end_of, push};
+use crate::seeking::{near, rises};
 use crate::slots::{Place, Slot};
 use crate::storing::Variables;
 use memchr::memchr;
@@ -58,21 +59,65 @@ fn rising(alloc: Global, area: &[u8], runs: &mut Vec<Run>) -> Result<usize, Allo
         (entries_of (drop at area.now)) ≡ vars_of (entries_of area.now)) }
 {
     let mut at = 0;
+    let mut from = 0;
     let mut last: &[u8] = &[];
     'walk: loop {
-        match next_place(area, at, last) {
+        match next_place(area, at, from, last) {
             None => return Ok(at),
             Some(place) => {
                 push(alloc, runs, Slot::Placed(place))?;
-                last = &area[place.start as usize..place.middle as usize];
+                from = place.start as usize;
+                last = &area[from..place.middle as usize];
                 at = place.end as usize + 1;
             }
         }
     }
 }
 
-// The place of the entry that begins at a place, if it has a value and its name comes after another.
-fn next_place(area: &[u8], at: usize, last: &[u8]) -> Option<Place>
+// The place of the entry that begins at a place, if it has a value and its name comes after another, which stands before it.
+#[inline(always)]
+fn next_place(area: &[u8], at: usize, from: usize, last: &[u8]) -> Option<Place>
+    requires within { at ≤ length area.now }
+    requires size { length area.now ≤ 1048576 }
+    requires last { All (λ b. is_equals b ≡ false) last.now }
+    requires earlier { from ≤ at }
+    requires front { last.now ≡ take (length last.now) (drop from area.now) }
+    ensures { IfSome result (IsNextPlace area.now at last.now) }
+{
+    match near_place(area, at, from, last) {
+        Some(place) => Some(place),
+        None => far_place(area, at, last),
+    }
+}
+
+// The same, where the entry ends among the next 32 bytes.
+#[inline(always)]
+fn near_place(area: &[u8], at: usize, from: usize, last: &[u8]) -> Option<Place>
+    requires within { at ≤ length area.now }
+    requires size { length area.now ≤ 1048576 }
+    requires earlier { from ≤ at }
+    requires front { last.now ≡ take (length last.now) (drop from area.now) }
+    ensures { IfSome result (IsNextPlace area.now at last.now) }
+{
+    if area.len() - at < 32 {
+        return None;
+    }
+    let text = &area[at..];
+    let end = near(0, text)?;
+    let middle = near(b'=', text)?;
+    if end <= middle + 1 || !rises(text, middle, &area[from..], last.len()) {
+        return None;
+    }
+    Some(Place {
+        start: at as u32,
+        middle: (at + middle) as u32,
+        end: (at + end) as u32,
+    })
+}
+
+// The same, wherever the entry ends.
+#[inline(never)]
+fn far_place(area: &[u8], at: usize, last: &[u8]) -> Option<Place>
     requires within { at ≤ length area.now }
     requires size { length area.now ≤ 1048576 }
     requires last { All (λ b. is_equals b ≡ false) last.now }
@@ -120,16 +165,18 @@ fn read_entry(
 {
     let piece = &area[start..end];
     match memchr(b'=', piece) {
-        None => forget(area, runs, piece),
+        None => forget(area, runs, piece, end_of(runs)),
         Some(0) => {}
-        Some(length) if length + 1 == piece.len() => forget(area, runs, &piece[..length]),
+        Some(length) if length + 1 == piece.len() => {
+            forget(area, runs, &piece[..length], end_of(runs))
+        }
         Some(length) => {
             let place = Place {
                 start: start as u32,
                 middle: (start + length) as u32,
                 end: end as u32,
             };
-            set(alloc, area, runs, Slot::Placed(place))?;
+            set(alloc, area, runs, Slot::Placed(place), end_of(runs))?;
         }
     }
     Ok(())

@@ -9,13 +9,27 @@ use std::alloc::{AllocError, Global};
 pub(crate) type Run = Vec<Slot>;
 
 /// The most slots that a run has. A write moves at most so many.
-const MOST: usize = 512;
+const MOST: usize = 128;
+
+/// Two runs side by side that have no more slots together become one. Each run has room for so many.
+pub(crate) const FEW: usize = 64;
 
 /// Where a slot stands: the number of its run, and its place in the run.
 #[derive(Clone, Copy)]
 pub(crate) struct Spot {
     pub(crate) run: usize,
     pub(crate) place: usize,
+}
+
+/// The spot behind all slots.
+pub(crate) fn end_of(runs: &[Run]) -> Spot {
+    match runs.last() {
+        Some(run) => Spot {
+            run: runs.len() - 1,
+            place: run.len(),
+        },
+        None => Spot { run: 0, place: 0 },
+    }
 }
 
 /// Puts a slot behind all others.
@@ -57,7 +71,7 @@ pub(crate) fn insert_at(
     if length < MOST {
         return insert_in(runs, at, slot);
     }
-    if at.place == length {
+    if at.place == length && at.run + 1 == runs.len() {
         let run = run_of_one(alloc, slot)?;
         runs.insert(at.run + 1, run)?;
         return Ok(());
@@ -137,8 +151,44 @@ pub(crate) fn remove_at(runs: &mut Vec<Run>, at: Spot)
     ensures slots { flat runs.new.items ≡ front runs.old.items at ++ later runs.old.items at }
     ensures filled { All IsFilled runs.new.items }
 {
+    take_at(runs, at);
+    join(runs, at.run);
+    if at.run > 0 {
+        join(runs, at.run - 1);
+    }
+}
+
+// Takes a slot out of its run, and the run away where that was its last.
+fn take_at(runs: &mut Vec<Run>, at: Spot)
+    requires run { at.run < length runs.old.items }
+    requires place { at.place < length (slots_at runs.old.items at.run) }
+    requires filled { All IsFilled runs.old.items }
+    ensures slots { flat runs.new.items ≡ front runs.old.items at ++ later runs.old.items at }
+    ensures filled { All IsFilled runs.new.items }
+{
     let _slot = runs[at.run].remove(at.place);
     if runs[at.run].is_empty() {
         let _run = runs.remove(at.run);
     }
+}
+
+// Makes a run and the one behind it one run, where they are short and it has the room.
+fn join(runs: &mut Vec<Run>, first: usize)
+    requires { All IsFilled runs.old.items }
+    ensures slots { flat runs.new.items ≡ flat runs.old.items }
+    ensures filled { All IsFilled runs.new.items }
+{
+    if runs.len() < 2 || first >= runs.len() - 1 {
+        return;
+    }
+    let length = runs[first].len();
+    let more = runs[first + 1].len();
+    if length > FEW || more > FEW - length || runs[first].capacity() < length + more {
+        return;
+    }
+    let mut behind = runs.remove(first + 1);
+    let run = &mut runs[first];
+    let Ok(()) = run.append(&mut behind) else {
+        unreachable!()
+    };
 }

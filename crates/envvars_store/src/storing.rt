@@ -7,7 +7,7 @@ ghost use Rattle.envvars_store.specs.Variable.{IsVariable, joined};
 use crate::finding::locate;
 use crate::iterating::{Iter, Lines};
 use crate::placing::{forget, set};
-use crate::runs::{Run, replace_at};
+use crate::runs::{Run, Spot, replace_at};
 use crate::slots::Slot;
 use crate::writing::Text;
 use std::alloc::{AllocError, Global};
@@ -38,6 +38,13 @@ impl Model for Variables {
     ghost invariant = { λ v. IsLaid v.area.items v.runs.items };
 }
 
+/// Where a look-up ended: a hint. A write of the same name that is given it needs no search of its own;
+/// given any other it does the same, more slowly.
+#[derive(Clone, Copy)]
+pub struct Near {
+    spot: Spot,
+}
+
 impl Variables {
     /// No variables. It takes no memory.
     pub fn new(alloc: Global) -> Variables
@@ -54,15 +61,28 @@ impl Variables {
         ensures value { option_map (λ v. v.now) result ≡ env.get self.now name.now }
         ensures formed { IfSome result (λ v. IsVariable (name.now, v.now)) }
     {
+        let (value, _) = self.find(name);
+        value
+    }
+
+    /// The value of a name, if it has one, and where it was found or would stand.
+    pub fn find(&self, name: &[u8]) -> (Option<&[u8]>, Near)
+        ensures value { option_map (λ v. v.now) result.0 ≡ env.get self.now name.now }
+        ensures formed { IfSome result.0 (λ v. IsVariable (name.now, v.now)) }
+    {
         match locate(&self.area, &self.runs, name) {
-            Ok(at) => Some(self.runs[at.run][at.place].value(&self.area)),
-            Err(_) => None,
+            Ok(at) => (
+                Some(self.runs[at.run][at.place].value(&self.area)),
+                Near { spot: at },
+            ),
+            Err(spot) => (None, Near { spot }),
         }
     }
 
     /// Gives a name a value. The name is a name and the value a value (docs/images.md).
     /// It is refused only for memory, and then nothing has changed.
-    pub fn insert(&mut self, name: &[u8], value: &[u8]) -> Result<(), AllocError>
+    /// `near` is where a look-up of the name ended.
+    pub fn insert(&mut self, near: Near, name: &[u8], value: &[u8]) -> Result<(), AllocError>
         requires name_form { IsTrue (is_name name.now) }
         requires value_form { IsTrue (is_value value.now) }
         ensures ok { OnOk result (self.new ≡ env.insert self.old name.now value.now) }
@@ -70,14 +90,21 @@ impl Variables {
     {
         let alloc = *self.area.allocator();
         let text = Text::new(alloc, name, value)?;
-        set(alloc, &self.area, &mut self.runs, Slot::Owned(text))
+        set(
+            alloc,
+            &self.area,
+            &mut self.runs,
+            Slot::Owned(text),
+            near.spot,
+        )
     }
 
     /// Takes the variable of a name away, if there is one. It takes no memory.
-    pub fn remove(&mut self, name: &[u8])
+    /// `near` is where a look-up of the name ended.
+    pub fn remove(&mut self, near: Near, name: &[u8])
         ensures { self.new ≡ env.remove self.old name.now }
     {
-        forget(&self.area, &mut self.runs, name);
+        forget(&self.area, &mut self.runs, name, near.spot);
     }
 
     /// Puts a variable in the place of the one that has its name, which takes no memory.

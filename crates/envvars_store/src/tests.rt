@@ -1,5 +1,8 @@
 // What no clause says: that the calls can succeed, and rows worked by hand.
-ghost use Rattle.std.specs.Prelude.{◌≤◌};
+ghost use Rattle.std.specs.Prelude.{◌≤◌, IsTrue};
+ghost use Rattle.envimg_core.specs.Environment.{is_name, is_value};
+
+mod ordered_map;
 
 use crate::{Text, Variables};
 use std::alloc::{AllocError, Global};
@@ -13,6 +16,21 @@ fn listing(alloc: Global, variables: &Variables) -> Result<Vec<u8>, AllocError> 
         text.push(b'\n')?;
     }
     Ok(text)
+}
+
+// A write of a name that has just been looked up.
+fn put(variables: &mut Variables, name: &[u8], value: &[u8]) -> Result<(), AllocError>
+    requires name_form { IsTrue (is_name name.now) }
+    requires value_form { IsTrue (is_value value.now) }
+{
+    let (_, near) = variables.find(name);
+    variables.insert(near, name, value)
+}
+
+// A removal of a name that has just been looked up.
+fn take_out(variables: &mut Variables, name: &[u8]) {
+    let (_, near) = variables.find(name);
+    variables.remove(near, name);
 }
 
 // An area of as many variables, each `vDDDD=DDDD`, in a mixed order.
@@ -57,16 +75,16 @@ fn load_ends_at_the_empty_piece(rt: HostRuntime) -> Result<(), Fail> {
 fn writes_in_any_order_are_listed_ascending(rt: HostRuntime) -> Result<(), Fail> {
     let alloc = rt.alloc();
     let mut variables = Variables::new(alloc);
-    variables.insert(b"b", b"2")?;
-    variables.insert(b"a", b"1")?;
-    variables.insert(b"ab", b"3")?;
-    variables.insert(b"b", b"4")?;
+    put(&mut variables, b"b", b"2")?;
+    put(&mut variables, b"a", b"1")?;
+    put(&mut variables, b"ab", b"3")?;
+    put(&mut variables, b"b", b"4")?;
     assert_eq!(rt;
         listing(alloc, &variables)?.as_slice(),
         b"a=1\nab=3\nb=4\n".as_slice()
     );
-    variables.remove(b"a");
-    variables.remove(b"q");
+    take_out(&mut variables, b"a");
+    take_out(&mut variables, b"q");
     assert_eq!(rt;
         listing(alloc, &variables)?.as_slice(),
         b"ab=3\nb=4\n".as_slice()
@@ -91,7 +109,7 @@ fn a_text_replaces_only_what_is_there(rt: HostRuntime) -> Result<(), Fail> {
     let second = text.try_clone(alloc)?;
     assert!(rt; variables.replace(second).is_ok());
     assert_eq!(rt; variables.get(b"a"), Some(b"22".as_slice()));
-    variables.remove(b"a");
+    take_out(&mut variables, b"a");
     match variables.replace(text) {
         Ok(()) => assert!(rt; false),
         Err(back) => assert_eq!(rt; back.line(), b"a=22".as_slice()),
@@ -104,10 +122,10 @@ fn a_text_replaces_only_what_is_there(rt: HostRuntime) -> Result<(), Fail> {
 fn a_copy_stays_when_its_source_changes(rt: HostRuntime) -> Result<(), Fail> {
     let alloc = rt.alloc();
     let mut variables = Variables::load(alloc, b"a=1\0b=2\0\0")?;
-    variables.insert(b"c", b"3")?;
+    put(&mut variables, b"c", b"3")?;
     let copy = variables.try_clone(alloc)?;
-    variables.insert(b"a", b"9")?;
-    variables.remove(b"c");
+    put(&mut variables, b"a", b"9")?;
+    take_out(&mut variables, b"c");
     assert_eq!(rt;
         listing(alloc, &copy)?.as_slice(),
         b"a=1\nb=2\nc=3\n".as_slice()
@@ -135,7 +153,7 @@ fn many_runs_stay_in_order(rt: HostRuntime) -> Result<(), Fail> {
     for i in 0..3000u32 {
         let name = format!(in alloc; "v{i:04}")?;
         if i % 3 != 0 {
-            variables.remove(name.as_bytes());
+            take_out(&mut variables, name.as_bytes());
         }
     }
     for i in 0..3000u32 {

@@ -1,19 +1,20 @@
 //! Writes: each is checked first, and then the one change is made or nothing is.
 
-ghost use Rattle.std.specs.Prelude.{◌≡◌, ◌≢◌, ◌≤◌, IfSome, IfNone, IfOk, IfErr, OnOk, OnErr, IsOkUnless, IsTrue, [], option_map, option_copied, unwrap_or};
+ghost use Rattle.std.specs.Prelude.{None, Some, List, Option, ℕ, ◌≡◌, ◌≢◌, ◌≤◌, IfSome, IfNone, IfOk, IfErr, OnOk, OnErr, IsOkUnless, IsTrue, [], option_map, option_copied, unwrap_or};
 ghost use Rattle.std.specs.Option.{ForSome};
 ghost use Rattle.std.specs.FinMap as env;
 ghost use Rattle.envimg_core.specs.Environment.{used, is_name, is_value};
 ghost use Rattle.envimg_core.specs.Pieces.{with_value};
 ghost use Rattle.envvars_core.specs.Attributes.{flags_name};
-ghost use Rattle.envvars_core.specs.Refusals.{given, after, refusal, full, answer_of, IsAccepted};
+ghost use Rattle.envvars_core.specs.Refusals.{given, after, access_refusal, refusal, full, answer_of, IsAccepted};
 ghost use Rattle.envvars_core.specs.Variables.{IsWas, IsFormed};
 
 use super::Vars;
+use crate::attributes::Access;
 use crate::checks::{attr_refusal, given, has_form, is_nothing};
 use crate::flags::{FLAGS_NAME, Flags};
 use crate::refusals::{Memory, Refusal};
-use envvars_store::Variables;
+use envvars_store::{Near, Variables};
 use std::alloc::{AllocError, Global};
 
 /// A name and the value that it had before a write.
@@ -65,57 +66,86 @@ fn make_was(alloc: Global, name: &[u8], before: Option<&[u8]>) -> Result<Was, Me
 }
 
 /// The change itself: gives a name a value, or takes its variable away.
-fn change(variables: &mut Variables, name: &[u8], value: Option<&[u8]>) -> Result<(), AllocError>
+fn change(
+    variables: &mut Variables,
+    near: Near,
+    name: &[u8],
+    value: Option<&[u8]>,
+) -> Result<(), AllocError>
     requires name_form { IsTrue (is_name name.now) }
     requires value_form { IfSome (option_copied value) (λ v. IsTrue (is_value v)) }
     ensures ok { OnOk result (variables.new ≡ with_value variables.old name.now (option_copied value.entry)) }
     ensures err { OnErr result (variables.new ≡ variables.old) }
 {
     match value {
-        Some(value) => variables.insert(name, value),
+        Some(value) => variables.insert(near, name, value),
         None => {
-            variables.remove(name);
+            variables.remove(near, name);
             Ok(())
         }
     }
 }
 
+/// The value of the default environment, where an access asks for it.
+fn default_for<'a>(access: Access, defaults: &'a Vars, name: &[u8]) -> Option<&'a [u8]>
+    ensures { (old new : Option (List ℕ)) → access_refusal access old (option_copied result) new
+        ≡ access_refusal access old (env.get defaults.now.env name.now) new }
+{
+    match access {
+        Access::ChangeDefault => defaults.get(name),
+        Access::Any => None,
+        Access::ReadOnly => None,
+        Access::WriteOnce => None,
+    }
+}
+
 impl Vars {
-    /// What the size that a write would leave refuses.
-    fn size_refusal(&self, name: &[u8], old: Option<&[u8]>, value: Option<&[u8]>) -> Option<Refusal>
+    /// The size that a write would leave, where the room holds it.
+    fn fitting_size(
+        &self,
+        name: &[u8],
+        old: Option<&[u8]>,
+        value: Option<&[u8]>,
+    ) -> Result<u32, Refusal>
         requires { option_copied old ≡ env.get self.now.env name.now }
-        ensures { result ≡ full self.now.room (with_value self.now.env name.now (option_copied value.entry)) }
+        ensures size { IfOk result (λ size. size ≡ used (with_value self.now.env name.now (option_copied value.entry))) }
+        ensures fits { OnOk result (full self.now.room (with_value self.now.env name.now (option_copied value.entry)) ≡ None) }
+        ensures full { IfErr result (λ r. full self.now.room (with_value self.now.env name.now (option_copied value.entry)) ≡ Some r) }
     {
         match self.used_after(name, old, value) {
-            Some(_) => None,
-            None => Some(Refusal::Full),
+            Some(size) => Ok(size),
+            None => Err(Refusal::Full),
         }
     }
 
-    /// The first of the checks that refuses a write.
-    fn find_refusal(
+    /// The size that a write leaves, or the first of the checks that refuses it. The old value is given.
+    fn size_left(
         &self,
         name: &[u8],
         new: Option<&[u8]>,
         force: bool,
         defaults: &Vars,
-    ) -> Option<Refusal>
-        ensures { result
-            ≡ refusal self.now.env defaults.now.env self.now.room name.now (option_copied new.entry) force }
+        old: Option<&[u8]>,
+    ) -> Result<u32, Refusal>
+        requires { option_copied old ≡ env.get self.now.env name.now }
+        ensures size { IfOk result (λ size. size ≡ used (after self.now.env name.now (option_copied new.entry))) }
+        ensures accepted { OnOk result
+            (refusal self.now.env defaults.now.env self.now.room name.now (option_copied new.entry) force ≡ None) }
+        ensures refused { IfErr result
+            (λ r. refusal self.now.env defaults.now.env self.now.room name.now (option_copied new.entry) force ≡ Some r) }
     {
         if !has_form(name, new) {
-            return Some(Refusal::BadForm);
+            return Err(Refusal::BadForm);
         }
         let value = given(new);
-        let old = self.get(name);
         if is_nothing(old, value) {
-            return None;
+            return Ok(self.used);
         }
         let attr = self.attributes(name);
-        let default = defaults.get(name);
+        let default = default_for(attr.access, defaults, name);
         match attr_refusal(force, attr, old, default, value) {
-            Some(refusal) => Some(refusal),
-            None => self.size_refusal(name, old, value),
+            Some(refusal) => Err(refusal),
+            None => self.fitting_size(name, old, value),
         }
     }
 
@@ -136,14 +166,21 @@ impl Vars {
         ensures accepted { OnOk result (IsAccepted self.now.env self.now.room name.now (option_copied new.entry)) }
     {
         prove!(self.used <= self.room);
-        match self.find_refusal(name, new, force, defaults) {
-            Some(refusal) => Err(refusal),
-            None => Ok(()),
+        let old = self.get(name);
+        match self.size_left(name, new, force, defaults, old) {
+            Ok(_) => Ok(()),
+            Err(refusal) => Err(refusal),
         }
     }
 
     /// Gives a name a value or takes its variable away, where the name is not `.flags`.
-    fn set_other(&mut self, name: &[u8], value: Option<&[u8]>, size: u32) -> Result<(), Memory>
+    fn set_other(
+        &mut self,
+        near: Near,
+        name: &[u8],
+        value: Option<&[u8]>,
+        size: u32,
+    ) -> Result<(), Memory>
         requires name_form { IsTrue (is_name name.now) }
         requires value_form { IfSome (option_copied value) (λ v. IsTrue (is_value v)) }
         requires other { name.now ≢ flags_name }
@@ -153,13 +190,13 @@ impl Vars {
             ≡ record self.old { env = with_value self.old.env name.now (option_copied value.entry) }) }
         ensures err { OnErr result (self.new ≡ self.old) }
     {
-        change(&mut self.variables, name, value)?;
+        change(&mut self.variables, near, name, value)?;
         self.used = size;
         Ok(())
     }
 
     /// Gives `.flags` a value or takes it away.
-    fn set_flags(&mut self, value: Option<&[u8]>, size: u32) -> Result<(), Memory>
+    fn set_flags(&mut self, near: Near, value: Option<&[u8]>, size: u32) -> Result<(), Memory>
         requires value_form { IfSome (option_copied value) (λ v. IsTrue (is_value v)) }
         requires sized { size ≡ used (with_value self.old.env flags_name (option_copied value)) }
         requires fits { size ≤ self.old.room }
@@ -168,14 +205,20 @@ impl Vars {
         ensures err { OnErr result (self.new ≡ self.old) }
     {
         let flags = Flags::parse(self.alloc, text_of(value))?;
-        change(&mut self.variables, FLAGS_NAME, value)?;
+        change(&mut self.variables, near, FLAGS_NAME, value)?;
         self.flags = flags;
         self.used = size;
         Ok(())
     }
 
     /// Gives a name a value or takes its variable away, which leaves this size.
-    fn set(&mut self, name: &[u8], value: Option<&[u8]>, size: u32) -> Result<(), Memory>
+    fn set(
+        &mut self,
+        near: Near,
+        name: &[u8],
+        value: Option<&[u8]>,
+        size: u32,
+    ) -> Result<(), Memory>
         requires name_form { IsTrue (is_name name.now) }
         requires value_form { IfSome (option_copied value) (λ v. IsTrue (is_value v)) }
         requires sized { size ≡ used (with_value self.old.env name.now (option_copied value)) }
@@ -185,28 +228,10 @@ impl Vars {
         ensures err { OnErr result (self.new ≡ self.old) }
     {
         if name == FLAGS_NAME {
-            self.set_flags(value, size)
+            self.set_flags(near, value, size)
         } else {
-            self.set_other(name, value, size)
+            self.set_other(near, name, value, size)
         }
-    }
-
-    /// Gives a name a value or takes its variable away, and hands out what it was.
-    fn replace(&mut self, name: &[u8], value: Option<&[u8]>) -> Result<Was, Memory>
-        requires name_form { IsTrue (is_name name.now) }
-        requires value_form { IfSome (option_copied value) (λ v. IsTrue (is_value v)) }
-        requires fits { used (with_value self.old.env name.now (option_copied value)) ≤ self.old.room }
-        ensures ok { OnOk result (self.new
-            ≡ record self.old { env = with_value self.old.env name.now (option_copied value.entry) }) }
-        ensures was { IfOk result (λ was. IsWas was name.now (env.get self.old.env name.now)) }
-        ensures formed { IfOk result IsFormed }
-        ensures err { OnErr result (self.new ≡ self.old) }
-    {
-        let old = self.get(name);
-        let size = self.used_after(name, old, value).unwrap();
-        let was = make_was(self.alloc, name, old)?;
-        self.set(name, value, size)?;
-        Ok(was)
     }
 
     /// Writes a new value, or deletes the variable where there is none or an empty one.
@@ -233,8 +258,12 @@ impl Vars {
         ensures formed { IfOk result IsFormed }
         ensures unchanged { OnErr result (self.new ≡ self.old) }
     {
-        self.check(name, new, force, defaults)?;
-        Ok(self.replace(name, given(new))?)
+        prove!(self.used <= self.room);
+        let (old, near) = self.find(name);
+        let size = self.size_left(name, new, force, defaults, old)?;
+        let was = make_was(self.alloc, name, old)?;
+        self.set(near, name, given(new), size)?;
+        Ok(was)
     }
 
     /// Gives the name of a `Was` its value before the write, or none where it had none.
@@ -250,9 +279,9 @@ impl Vars {
         ensures unchanged { OnErr result (self.new ≡ self.old) }
     {
         let before = was.value();
-        let old = self.get(&was.name);
+        let (old, near) = self.find(&was.name);
         let size = self.used_after(&was.name, old, before).unwrap();
-        match self.set(&was.name, before, size) {
+        match self.set(near, &was.name, before, size) {
             Ok(()) => Ok(()),
             Err(memory) => Err((was, memory)),
         }
