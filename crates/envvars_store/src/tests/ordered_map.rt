@@ -24,6 +24,7 @@ fn is_value(value: &[u8]) -> bool
 }
 
 /// Numbers without an order in them, the same in each run.
+#[derive(Drop)]
 struct Numbers {
     state: u32,
 }
@@ -64,6 +65,7 @@ impl Numbers {
 }
 
 /// The store and the plain map, and where a look-up ended some time ago.
+#[derive(Drop)]
 struct Both {
     store: Variables,
     plain: BTreeMap<Vec<u8>, Vec<u8>>,
