@@ -20,12 +20,15 @@ use Rattle.std.proofs.lemmas.List.Sums.{sum_by-cons, take_while-cons, position_o
 use Rattle.envimg_core.specs.Checksum.{add, number, polynomial, divide, bits, dividend, checksum}
 use Rattle.envimg_core.specs.Environment.{Environment, Pair, bytes_cmp, pair_size, used, is_name, is_value, is_zero, is_equals, is_empty}
 use Rattle.envimg_core.specs.Geometry.{Shape, IsSize, head, area_of}
+use Rattle.envimg_core.specs.Order.{stored_checksum}
 use Rattle.envimg_core.specs.Image.{stored_pair, stored_pairs, filled_area, framed}
 use Rattle.envimg_core.specs.Laws.{is_variable, IsFormed, shown_flag, ReadsBack}
 use Rattle.envimg_core.specs.Pieces.{but_last, ended_pieces, is_terminated, Entry, entry_of, value_of, has_name, entries_of, after_entry, vars_of}
-use Rattle.envimg_core.specs.State.{state_of}
+use Rattle.envimg_core.specs.State.{state_of, flag_of}
 use Rattle.envimg_core.specs.declared.geometry.Layout.{Layout}
 use Rattle.envimg_core.specs.declared.geometry.Layout.TheVariants.{Single, Redundant}
+use Rattle.envimg_core.specs.declared.order.Order.{Order}
+use Rattle.envimg_core.specs.declared.order.Order.TheVariants.{Little, Big}
 use Rattle.envimg_core.specs.declared.state.CopyState.{CopyState}
 use Rattle.envimg_core.specs.declared.state.CopyState.TheVariants.{Good, BadLength, BadCrc, Unterminated}
 use Rattle.envimg_core.proofs.EntryLemmas.{split_cons}
@@ -222,11 +225,28 @@ length-filled room xs h =
     ∙ ap (λ (k : ℕ). length xs + suc k) (length-replicate (room - (length xs + 1)) 0)
     ∙ (let e : length xs + suc (room - (length xs + 1)) ≡ room = omega arith in e)
 
-four_numbers : (c : ℕ) → c < 2 ^ 32 → c % 256 + 256 * (c / 256 % 256 + 256 * (c / 65536 % 256 + 256 * (c / 16777216 % 256 + 256 * 0))) ≡ c
-four_numbers c h = omega arith
+low_first_back : (c : ℕ) → c < 2 ^ 32 → c % 256 + 256 * (c / 256 % 256 + 256 * (c / 65536 % 256 + 256 * (c / 16777216 % 256 + 256 * 0))) ≡ c
+low_first_back c h = omega arith
 
-same_number : (a b : ℕ) → a ≡ b → (a == b) ≡ true
-same_number a b e = eq-eqb a b e
+high_first_back : (c : ℕ) → c < 2 ^ 32 → c / 16777216 % 256 * 16777216 + (c / 65536 % 256 * 65536 + (c / 256 % 256 * 256 + (c % 256 * 1 + 0))) ≡ c
+high_first_back c h = omega arith
+
+-- what a frame holds: the checksum, the flag and the area, and nothing more
+record IsFrame (layout : Layout) (order : Order) (flag : ℕ) (area copy : List ℕ) : Type 0 where
+  size : length copy ≡ head layout + length area
+  sum : stored_checksum order copy ≡ checksum area
+  shown : flag_of layout copy ≡ shown_flag layout flag
+  behind : drop (head layout) copy ≡ area
+
+frame_holds : (layout : Layout) (order : Order) (flag : ℕ) (area : List ℕ) → IsFrame layout order flag area (framed layout order flag area)
+frame_holds Single Little flag area =
+    record { size = omega arith; sum = low_first_back (checksum area) (checksum_below area); shown = refl; behind = refl }
+frame_holds Single Big flag area =
+    record { size = omega arith; sum = high_first_back (checksum area) (checksum_below area); shown = refl; behind = refl }
+frame_holds Redundant Little flag area =
+    record { size = omega arith; sum = low_first_back (checksum area) (checksum_below area); shown = refl; behind = refl }
+frame_holds Redundant Big flag area =
+    record { size = omega arith; sum = high_first_back (checksum area) (checksum_below area); shown = refl; behind = refl }
 
 all_tests : (a b c : Bool) (s : CopyState) → a ≡ true → b ≡ true → c ≡ true → cond (not a) BadLength (cond (not b) BadCrc (cond (not c) Unterminated s)) ≡ s
 all_tests true true true s p q r = refl
@@ -234,31 +254,30 @@ all_tests false b c s p q r = cc
 all_tests true false c s p q r = cc
 all_tests true true false s p q r = cc
 
-framed_good : (layout : Layout) (size flag : ℕ) (area : List ℕ) → head layout + length area ≡ size → is_terminated area ≡ true →
-    (state_of (record { layout = layout; size = size }) (framed layout flag area) ≡ Good (shown_flag layout flag)) × (area_of (record { layout = layout; size = size }) (framed layout flag area) ≡ area)
-framed_good Single size flag area e t = (
-  all_tests (suc (suc (suc (suc (length area)))) == size) _ (is_terminated area) (Good 0)
-      (same_number _ size (let k : suc (suc (suc (suc (length area)))) ≡ size = omega arith in k))
-      (same_number _ (checksum area) (four_numbers (checksum area) (checksum_below area))) t,
-  refl,
-)
-framed_good Redundant size flag area e t = (
-  all_tests (suc (suc (suc (suc (suc (length area))))) == size) _ (is_terminated area) (Good flag)
-      (same_number _ size (let k : suc (suc (suc (suc (suc (length area))))) ≡ size = omega arith in k))
-      (same_number _ (checksum area) (four_numbers (checksum area) (checksum_below area))) t,
-  refl,
-)
+framed_good : (shape : Shape) (flag : ℕ) (area : List ℕ) → head shape.layout + length area ≡ shape.size → is_terminated area ≡ true →
+    state_of shape (framed shape.layout shape.order flag area) ≡ Good (shown_flag shape.layout flag)
+framed_good shape flag area e t =
+    let copy : List ℕ = framed shape.layout shape.order flag area in
+    let holds = frame_holds shape.layout shape.order flag area in
+    all_tests (length copy == shape.size) (stored_checksum shape.order copy == checksum (area_of shape copy)) (is_terminated (area_of shape copy)) (Good (flag_of shape.layout copy))
+    (eq-eqb (length copy) shape.size (holds.size ∙ e))
+    (eq-eqb (stored_checksum shape.order copy) (checksum (area_of shape copy)) (holds.sum ∙ ap checksum (sym holds.behind)))
+    (ap is_terminated holds.behind ∙ t)
+    ∙ ap Good holds.shown
 
 is_true : (b : Bool) → IsTrue b → b ≡ true
 is_true b h = h
 
-pub image_back : (layout : Layout) (size flag : ℕ) (m : Environment) → IsSize layout size → IsFormed m → used m ≤ size - head layout → ReadsBack (record { layout = layout; size = size }) flag m
-image_back layout size flag m fits formed small =
+pub image_back : (shape : Shape) (flag : ℕ) (m : Environment) → IsSize shape.layout shape.size → IsFormed m → used m ≤ shape.size - head shape.layout → ReadsBack shape flag m
+image_back shape flag m fits formed small =
     let ps : List Pair = env.entries m in
-    let shape : Shape = record { layout = layout; size = size } in
+    let room : ℕ = shape.size - head shape.layout in
+    let area : List ℕ = filled_area room (stored_pairs ps) in
+    let rest : List ℕ = replicate (room - (length (stored_pairs ps) + 1)) 0 in
     let all : list_all is_variable ps ≡ true = is_true (list_all is_variable ps) formed in
     let stored : length (stored_pairs ps) ≡ sum_by pair_size ps = length-stored ps in
-    let room : length (filled_area (size - head layout) (stored_pairs ps)) ≡ size - head layout = length-filled (size - head layout) (stored_pairs ps) (omega arith) in
-    let ended : is_terminated (filled_area (size - head layout) (stored_pairs ps)) ≡ true = terminated_stored ps (replicate (size - head layout - (length (stored_pairs ps) + 1)) 0) all in
-    let good = framed_good layout size flag (filled_area (size - head layout) (stored_pairs ps)) (let e : head layout + length (filled_area (size - head layout) (stored_pairs ps)) ≡ size = omega (arith, fits.0) in e) ended in
-    (good.0, ap (λ area. vars_of (entries_of area)) good.1 ∙ ap vars_of (entries_stored ps (replicate (size - head layout - (length (stored_pairs ps) + 1)) 0) all) ∙ entries_again m)
+    let whole : length area ≡ room = length-filled room (stored_pairs ps) (omega arith) in
+    let size : head shape.layout + length area ≡ shape.size = omega (arith, fits.0) in (
+      framed_good shape flag area size (terminated_stored ps rest all),
+      ap (λ xs. vars_of (entries_of xs)) (frame_holds shape.layout shape.order flag area).behind ∙ ap vars_of (entries_stored ps rest all) ∙ entries_again m,
+    )

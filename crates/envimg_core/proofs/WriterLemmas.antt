@@ -4,6 +4,7 @@ use Rattle.std.proofs.lemmas.List.{drop-append-le, drop-set, drop-set-lt, drop-t
 use Rattle.std.proofs.Math.Seq.{take-append_seam, drop-append-add}
 use Rattle.envimg_core.specs.Geometry.{Shape, head}
 use Rattle.envimg_core.specs.declared.geometry.Layout.{Layout}
+use Rattle.envimg_core.specs.declared.order.Order.{Order}
 use Rattle.envimg_core.specs.Image.{spliced, stored_pair, framed, filled_area, image_with}
 
 -- a front of n elements
@@ -68,14 +69,15 @@ flag_written flag xs h = drop-set xs 4 flag h
 pub behind_flag : (flag : ℕ) (xs : List ℕ) → drop 5 (set xs 4 flag) ≡ drop 5 xs
 behind_flag flag xs = drop-set-lt 5 xs 4 flag (omega arith)
 
-pub finished : (shape : Shape) (layout : Layout) (flag h s : ℕ) (xs ys zs : List ℕ) →
-    h ≡ head shape.layout → layout ≡ shape.layout → length xs ≡ shape.size → head shape.layout + s + 1 ≤ shape.size →
-    ys ≡ take (h + s) xs ++ replicate (length xs - (h + s)) 0 → zs ≡ framed layout flag (drop (head layout) ys) →
+pub finished : (shape : Shape) (layout : Layout) (order : Order) (flag h s : ℕ) (xs ys zs : List ℕ) →
+    h ≡ head shape.layout → layout ≡ shape.layout → order ≡ shape.order → length xs ≡ shape.size → head shape.layout + s + 1 ≤ shape.size →
+    ys ≡ take (h + s) xs ++ replicate (length xs - (h + s)) 0 → zs ≡ framed layout order flag (drop (head layout) ys) →
     zs ≡ image_with shape flag (take s (drop (head shape.layout) xs))
-finished shape layout flag h s xs ys zs he le e l clear sealed =
+finished shape layout order flag h s xs ys zs he le oe e l clear sealed =
     sealed
-    ∙ ap (λ m. framed m flag (drop (head m) ys)) le
-    ∙ ap (framed shape.layout flag)
+    ∙ ap (λ m. framed m order flag (drop (head m) ys)) le
+    ∙ ap (λ o. framed shape.layout o flag (drop (head shape.layout) ys)) oe
+    ∙ ap (framed shape.layout shape.order flag)
     (ap (drop (head shape.layout)) (clear ∙ ap (λ (k : ℕ). take (k + s) xs ++ replicate (length xs - (k + s)) 0) he)
     ∙ cleared (head shape.layout) s shape.size xs e l)
 

@@ -2,6 +2,7 @@
 use Rattle.std.specs.Prelude.{ℕ, ◌+◌, ◌-◌, ◌≤◌, List, drop}
 use Rattle.envimg_core.specs.declared.geometry.Layout.{Layout}
 use Rattle.envimg_core.specs.declared.geometry.Layout.TheVariants.{Single, Redundant}
+use Rattle.envimg_core.specs.declared.order.Order.{Order}
 
 -- the bytes before the data area: four of checksum, and the flag of a redundant copy
 abbrev pub head : Layout → ℕ
@@ -12,10 +13,11 @@ head Redundant = 5
 abbrev pub IsSize : Layout → ℕ → Type 0
 IsSize layout size = (head layout + 4 ≤ size) × (size ≤ 1048576)
 
--- a layout and the size of one copy, in bytes
+-- a layout, the size of one copy in bytes, and the byte order of its checksum
 pub record Shape : Type 0 where
   pub layout : Layout
   pub size : ℕ
+  pub order : Order
 
 -- the length of the data area
 abbrev pub room_of : Shape → ℕ

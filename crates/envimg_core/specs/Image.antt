@@ -2,12 +2,13 @@
 use Rattle.std.specs.Prelude.{ℕ, ◌+◌, ◌-◌, List, [], ◌∷◌, ◌++◌, length, replicate, take, drop}
 use Rattle.std.specs.List.{flat_map}
 use Rattle.std.specs.FinMap.{entries}
-use Rattle.byteorder.specs.Endian.{little_bytes}
 use Rattle.envimg_core.specs.Checksum.{checksum}
 use Rattle.envimg_core.specs.Environment.{Environment, Pair}
 use Rattle.envimg_core.specs.Geometry.{Shape, room_of}
+use Rattle.envimg_core.specs.Order.{checksum_bytes}
 use Rattle.envimg_core.specs.declared.geometry.Layout.{Layout}
 use Rattle.envimg_core.specs.declared.geometry.Layout.TheVariants.{Single, Redundant}
+use Rattle.envimg_core.specs.declared.order.Order.{Order}
 
 -- an entry as it is stored: name, '=', value, and the 0 that ends it
 abbrev pub stored_pair : Pair → List ℕ
@@ -25,13 +26,13 @@ abbrev pub flag_bytes : Layout → ℕ → List ℕ
 flag_bytes Single flag = []
 flag_bytes Redundant flag = flag ∷ []
 
--- the checksum of the area, little-endian, then the flag, then the area
-abbrev pub framed : Layout → ℕ → List ℕ → List ℕ
-framed layout flag area = little_bytes 4 (checksum area) ++ flag_bytes layout flag ++ area
+-- the checksum of the area in this byte order, then the flag, then the area
+abbrev pub framed : Layout → Order → ℕ → List ℕ → List ℕ
+framed layout order flag area = checksum_bytes order (checksum area) ++ flag_bytes layout flag ++ area
 
 -- the image that holds these entries' bytes
 abbrev pub image_with : Shape → ℕ → List ℕ → List ℕ
-image_with shape flag stored = framed shape.layout flag (filled_area (room_of shape) stored)
+image_with shape flag stored = framed shape.layout shape.order flag (filled_area (room_of shape) stored)
 
 -- the image of an environment: its entries in ascending order of the names' bytes
 abbrev pub image_of : Shape → ℕ → Environment → List ℕ

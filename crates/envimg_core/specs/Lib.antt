@@ -4,6 +4,7 @@ pub mod Geometry
 pub mod Image
 pub mod ImageWriter
 pub mod Laws
+pub mod Order
 pub mod Pieces
 pub mod Register
 pub mod State

@@ -1,8 +1,8 @@
 -- The state of a stored copy, and which of two copies is current (docs/images.md, "State of a copy" and "Choice").
 use Rattle.std.specs.Prelude.{ℕ, ◌==◌, ◌&&◌, Bool, not, nat_lt, if◌then◌else◌, List, length, slice_index}
-use Rattle.byteorder.specs.Endian.{little_number}
 use Rattle.envimg_core.specs.Checksum.{checksum}
 use Rattle.envimg_core.specs.Geometry.{Shape, area_of}
+use Rattle.envimg_core.specs.Order.{stored_checksum}
 use Rattle.envimg_core.specs.Pieces.{is_terminated}
 use Rattle.envimg_core.specs.declared.geometry.Layout.{Layout}
 use Rattle.envimg_core.specs.declared.geometry.Layout.TheVariants.{Single, Redundant}
@@ -17,7 +17,7 @@ flag_of Single copy = 0
 flag_of Redundant copy = slice_index copy 4
 
 abbrev pub has_checksum : Shape → List ℕ → Bool
-has_checksum shape copy = little_number 4 copy == checksum (area_of shape copy)
+has_checksum shape copy = stored_checksum shape.order copy == checksum (area_of shape copy)
 
 -- the first fault that applies, else good
 abbrev pub state_of : Shape → List ℕ → CopyState

@@ -1,7 +1,8 @@
-//! Layouts and sizes of an image.
+//! The geometry of an image: layout, size and byte order.
 ghost use Rattle.std.specs.Prelude.{◌≡◌, ◌≤◌, ◌+◌, ◌^◌, ◌<◌, SomeIff, OnSome, option_map, Some, None, if◌then◌else◌, ◌==◌, length, IsSome, ◌↔◌};
 ghost use Rattle.envimg_core.specs.Geometry.{Shape, IsSize, head, room_of, area_of};
 
+use crate::order::Order;
 use std::marker::Model;
 
 /// How an environment is stored (U-Boot's documentation, "Environment": one copy, or two of which one is current).
@@ -31,11 +32,12 @@ const SIZE_MAX: u32 = 1_048_576;
 /// The shortest data area, in bytes.
 const AREA_MIN: usize = 4;
 
-/// The layout and the size of one copy.
+/// The layout, the size of one copy, and the byte order of its checksum.
 #[derive(Clone, Copy, Debug, PartialEq, Eq)]
 pub struct Geometry {
     layout: Layout,
     size: u32,
+    order: Order,
 }
 
 impl Model for Geometry {
@@ -43,11 +45,11 @@ impl Model for Geometry {
 
     ghost Value = { Shape };
 
-    ghost view = { λ g. record { layout = g.layout; size = g.size } };
+    ghost view = { λ g. record { layout = g.layout; size = g.size; order = g.order } };
 
     ghost invariant = { λ g. IsSize g.layout g.size };
 
-    ghost inverse = { λ s. record { layout = s.layout; size = s.size } };
+    ghost inverse = { λ s. record { layout = s.layout; size = s.size; order = s.order } };
 }
 
 impl Geometry {
@@ -59,15 +61,26 @@ impl Geometry {
         self.layout.head_len()
     }
 
-    /// The geometry of copies of `size` bytes: `None` where the layout has no image of that size, which is below
-    /// 8 bytes (single) or 9 bytes (redundant) and above 1,048,576.
+    /// The geometry of copies of `size` bytes whose checksum stands little-endian: `None` where the layout has no image
+    /// of that size, which is below 8 bytes (single) or 9 bytes (redundant) and above 1,048,576.
     pub fn new(layout: Layout, size: u32) -> Option<Geometry>
-        ensures { SomeIff result (IsSize layout size) (record { layout = layout; size = size }) }
+        ensures { SomeIff result (IsSize layout size) (record { layout = layout; size = size; order = Order.Little }) }
+    {
+        Geometry::with_order(layout, size, Order::Little)
+    }
+
+    /// The same for a checksum in any byte order: `None` exactly where [`Geometry::new`] is.
+    pub fn with_order(layout: Layout, size: u32, order: Order) -> Option<Geometry>
+        ensures { SomeIff result (IsSize layout size) (record { layout = layout; size = size; order = order }) }
     {
         if (size as usize) < layout.head_len() + AREA_MIN || size > SIZE_MAX {
             return None;
         }
-        Some(Geometry { layout, size })
+        Some(Geometry {
+            layout,
+            size,
+            order,
+        })
     }
 
     /// How the copies are laid out.
@@ -83,6 +96,13 @@ impl Geometry {
         ensures in_range { IsSize self.now.layout self.now.size }
     {
         self.size
+    }
+
+    /// The byte order in which the checksum is stored.
+    pub fn order(&self) -> Order
+        ensures { result ≡ self.now.order }
+    {
+        self.order
     }
 
     /// The length of the data area, in bytes.

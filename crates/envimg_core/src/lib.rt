@@ -8,6 +8,7 @@ mod checksum;
 mod choice;
 mod geometry;
 pub mod laws;
+mod order;
 mod pieces;
 mod state;
 #[cfg(test)]
@@ -18,6 +19,7 @@ pub use area::entries;
 pub use checksum::{crc32, crc32_bitwise};
 pub use choice::{Choice, choose};
 pub use geometry::{Geometry, Layout};
+pub use order::Order;
 pub use pieces::{Entries, Entry};
 pub use state::{CopyState, check_copy};
 pub use writer::ImageWriter;

@@ -5,7 +5,6 @@ ghost use Rattle.envimg_core.specs.State.{state_of, flag_of};
 
 use crate::checksum::crc32;
 use crate::geometry::{Geometry, Layout};
-use byteorder::{ByteOrder, LittleEndian};
 
 /// What a stored copy is good for.
 #[derive(Clone, Copy, Debug, PartialEq, Eq)]
@@ -14,7 +13,7 @@ pub enum CopyState {
     Good(u8),
     /// The length is not the geometry's size.
     BadLength,
-    /// The checksum of the data area is another.
+    /// The checksum stored is not that of the data area.
     BadCrc,
     /// The checksum is right, but the list of entries is not ended inside the data area.
     Unterminated,
@@ -27,7 +26,7 @@ pub fn check_copy(geometry: &Geometry, copy: &[u8]) -> CopyState
     let Some(area) = geometry.area(copy) else {
         return CopyState::BadLength;
     };
-    if LittleEndian::read_u32(copy) != crc32(area) {
+    if geometry.order().read_checksum(copy) != crc32(area) {
         return CopyState::BadCrc;
     }
     if !is_ended(area) {

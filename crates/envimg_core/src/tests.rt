@@ -7,12 +7,20 @@ use std::test::Fail;
 
 const ONE_VARIABLE: [u8; 9] = [0xD2, 0x96, 0x62, 0x2B, b'a', b'=', b'b', 0, 0];
 
+const ONE_VARIABLE_BIG_ENDIAN: [u8; 9] = [0x2B, 0x62, 0x96, 0xD2, b'a', b'=', b'b', 0, 0];
+
 const EMPTY: [u8; 8] = [0x1C, 0xDF, 0x44, 0x21, 0, 0, 0, 0];
 
 fn geometry(rt: &impl Abort, layout: Layout, size: u32) -> Geometry
     ensures { (result.layout ≡ layout) × (result.size ≡ size) }
 {
     Geometry::new(layout, size).expect(rt, "a size that the layout allows")
+}
+
+fn big_endian(rt: &impl Abort, layout: Layout, size: u32) -> Geometry
+    ensures { (result.layout ≡ layout) × (result.size ≡ size) }
+{
+    Geometry::with_order(layout, size, Order::Big).expect(rt, "a size that the layout allows")
 }
 
 #[test]
@@ -48,6 +56,14 @@ fn both_checksums_agree_at_all_lengths_and_places(rt: HostRuntime) -> Result<(),
         let part = bytes.get(..len).ok_or("long enough")?;
         assert_eq!(rt; crc32(part), crc32_bitwise(part));
     }
+    for _ in 0..400u32 {
+        x = x.wrapping_mul(1_664_525).wrapping_add(1_013_904_223);
+        let start = (x >> 16) as usize % 2500;
+        x = x.wrapping_mul(1_664_525).wrapping_add(1_013_904_223);
+        let len = (x >> 16) as usize % 2500;
+        let part = bytes.get(start..start + len).ok_or("long enough")?;
+        assert_eq!(rt; crc32(part), crc32_bitwise(part));
+    }
     Ok(())
 }
 
@@ -67,11 +83,19 @@ fn sizes_that_a_layout_allows(rt: HostRuntime) {
     ];
     for (layout, size, some) in allowed {
         assert_eq!(rt; Geometry::new(layout, size).is_some(), some);
+        for order in [Order::Little, Order::Big] {
+            assert_eq!(rt; Geometry::with_order(layout, size, order).is_some(), some);
+        }
     }
     let redundant = geometry(&rt, Layout::Redundant, 100);
     assert_eq!(rt; redundant.layout(), Layout::Redundant);
     assert_eq!(rt; redundant.size(), 100);
     assert_eq!(rt; redundant.room(), 95);
+    assert_eq!(rt; redundant.order(), Order::Little);
+    let other = big_endian(&rt, Layout::Redundant, 100);
+    assert_eq!(rt; other.order(), Order::Big);
+    assert_eq!(rt; other.room(), 95);
+    assert!(rt; other != redundant);
     let single = geometry(&rt, Layout::Single, 9);
     assert_eq!(rt; single.room(), 5);
     let none: Option<&[u8]> = None;
@@ -102,6 +126,27 @@ fn states_of_stored_copies(rt: HostRuntime) {
         check_copy(&geometry(&rt, Layout::Redundant, 9), &erased),
         CopyState::Unterminated
     );
+}
+
+#[test]
+fn states_of_big_endian_copies(rt: HostRuntime) {
+    let single = big_endian(&rt, Layout::Single, 9);
+    assert_eq!(rt;
+        check_copy(&single, &ONE_VARIABLE_BIG_ENDIAN),
+        CopyState::Good(0)
+    );
+    assert_eq!(rt; check_copy(&single, &ONE_VARIABLE), CopyState::BadCrc);
+    assert_eq!(rt;
+        check_copy(&geometry(&rt, Layout::Single, 9), &ONE_VARIABLE_BIG_ENDIAN),
+        CopyState::BadCrc
+    );
+    let redundant = big_endian(&rt, Layout::Redundant, 9);
+    let first = check_copy(&redundant, b"\x21\x44\xDF\x1C\xFF\0\0\0\0");
+    let second = check_copy(&redundant, b"\x21\x44\xDF\x1C\0\0\0\0\0");
+    assert_eq!(rt; first, CopyState::Good(255));
+    assert_eq!(rt; second, CopyState::Good(0));
+    assert_eq!(rt; choose(first, second), Choice::Second);
+    assert_eq!(rt; check_copy(&redundant, &[0xFF; 9]), CopyState::Unterminated);
 }
 
 #[test]
@@ -179,6 +224,18 @@ fn written_images(rt: HostRuntime) {
     assert!(rt; writer.put(b"a", b"b"));
     writer.finish(7);
     assert_eq!(rt; image.as_slice(), b"\xD2\x96\x62\x2B\x07a=b\0\0".as_slice());
+
+    let mut image = [0xAA; 9];
+    let mut writer = ImageWriter::new(&big_endian(&rt, Layout::Single, 9), &mut image);
+    assert!(rt; writer.put(b"a", b"b"));
+    writer.finish(0);
+    assert_eq!(rt; image, ONE_VARIABLE_BIG_ENDIAN);
+
+    let mut image = [0xAA; 10];
+    let mut writer = ImageWriter::new(&big_endian(&rt, Layout::Redundant, 10), &mut image);
+    assert!(rt; writer.put(b"a", b"b"));
+    writer.finish(8);
+    assert_eq!(rt; image.as_slice(), b"\x2B\x62\x96\xD2\x08a=b\0\0".as_slice());
 
     let mut image = [0xAA; 8];
     let mut writer = ImageWriter::new(&geometry(&rt, Layout::Single, 8), &mut image);

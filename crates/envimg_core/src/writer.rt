@@ -1,13 +1,13 @@
 //! Writing an image in place.
 ghost use Rattle.std.specs.Prelude.{◌≡◌, ◌≤◌, ◌+◌, ◌-◌, ◌<◌, ◌↔◌, ◌++◌, [], ◌∷◌, List, IsTrue, if◌then◌else◌, length, take, drop, replicate};
 ghost use Rattle.envimg_core.specs.Geometry.{head, room_of};
-ghost use Rattle.byteorder.specs.Endian.{little_bytes};
 ghost use Rattle.envimg_core.specs.Checksum.{checksum};
 ghost use Rattle.envimg_core.specs.Image.{stored_pair, image_with, framed, spliced};
+ghost use Rattle.envimg_core.specs.Order.{checksum_bytes};
 
 use crate::checksum::crc32;
 use crate::geometry::{Geometry, Layout};
-use byteorder::{ByteOrder, LittleEndian};
+use crate::order::Order;
 
 /// Writes an image into a slice of the image's size: entries one by one, then the end, the flag and the checksum.
 ///
@@ -68,7 +68,7 @@ impl<'a> ImageWriter<'a> {
             stored,
         } = self;
         clear_from(image, geometry.head_len() + stored);
-        seal(image, geometry.layout(), flag);
+        seal(image, geometry.layout(), geometry.order(), flag);
     }
 }
 
@@ -99,25 +99,25 @@ fn clear_from(image: &mut [u8], start: usize)
     image[start..].fill(0);
 }
 
-/// Writes the flag, where the layout has one, and the checksum of the data area.
-fn seal(image: &mut [u8], layout: Layout, flag: u8)
+/// Writes the flag, where the layout has one, and the checksum of the data area in this byte order.
+fn seal(image: &mut [u8], layout: Layout, order: Order, flag: u8)
     requires { 8 ≤ length image.old }
-    ensures { image.new ≡ framed layout flag (drop (head layout) image.old) }
+    ensures { image.new ≡ framed layout order flag (drop (head layout) image.old) }
 {
     match layout {
-        Layout::Single => sign(image, 4),
+        Layout::Single => sign(image, 4, order),
         Layout::Redundant => {
             image[4] = flag;
-            sign(image, 5);
+            sign(image, 5, order);
         }
     }
 }
 
 /// Writes the checksum of what stands from `head` on.
-fn sign(image: &mut [u8], head: usize)
+fn sign(image: &mut [u8], head: usize, order: Order)
     requires { (4 ≤ length image.old) × (head ≤ length image.old) }
-    ensures { image.new ≡ little_bytes 4 (checksum (drop head image.old)) ++ drop 4 image.old }
+    ensures { image.new ≡ checksum_bytes order (checksum (drop head image.old)) ++ drop 4 image.old }
 {
     let checksum = crc32(&image[head..]);
-    LittleEndian::write_u32(image, checksum);
+    order.write_checksum(image, checksum);
 }

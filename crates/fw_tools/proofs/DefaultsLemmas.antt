@@ -1,14 +1,15 @@
 -- One entry more of a default environment.
-use Rattle.std.proofs.Common.{◌≡◌, ℕ, zero, suc, ◌+◌, ◌<◌, ◌++◌, List, [], ◌∷◌, Option, Some, None, Result, Ok, Err, true, length, take, drop, get_or, refl, sym, ap, ◌∙◌, subst, arith, drop-cons}
+use Rattle.std.proofs.Common.{◌≡◌, ℕ, zero, suc, ◌+◌, ◌<◌, ◌++◌, List, [], ◌∷◌, Option, Some, None, Result, Ok, Err, true, cond, length, take, drop, get_or, refl, sym, ap, ◌∙◌, subst, arith, drop-cons}
 use Rattle.std.proofs.lemmas.List.{take-append-drop}
 use Rattle.std.specs.FinMap as env
-use Rattle.envimg_core.specs.Environment.{Environment}
+use Rattle.envimg_core.specs.Environment.{Environment, is_name, used}
 use Rattle.envcfg_core.specs.declared.entry.TextEntry.{TextEntry}
-use Rattle.envvars_core.specs.Refusals.{refusal, after}
+use Rattle.envvars_core.specs.Refusals.{refusal, after, given, first_refusal, has_type_if_some, holds_no_zero}
+use Rattle.envvars_core.specs.Attributes.{attributes}
 use Rattle.envvars_core.specs.declared.refusals.Refusal.{Refusal}
 use Rattle.envvars_core.specs.declared.refusals.Refusal.TheVariants.{BadForm, BadType, NoCreate, NoDelete, NoOverwrite, Full, Memory}
 use Rattle.fw_tools.specs.Defaults.{written, entry_refusal, refused_or, value_of_entry, RanOut, AnswersRefusal}
-use Rattle.std.specs.Prelude.{slice_get, IfSome, IfNone, IsOkUnless, is_ok}
+use Rattle.std.specs.Prelude.{slice_get, IfSome, IfNone, IsOkUnless, Bool, false, ◌&&◌, is_none, nat_lt}
 
 -- a forced write asks no default environment
 pub forced : (m d : Environment) (room : ℕ) (e : TextEntry) → refusal m d room e.name.items (value_of_entry e) true ≡ entry_refusal room m e
@@ -54,22 +55,37 @@ refused_at room i es e m r h is before some =
     ∙ written-append room env.empty m (take i es) (e ∷ drop (i + 1) es) before
     ∙ ap (λ o. refused_or o e.line (written room (after m e.name.items (value_of_entry e)) (drop (i + 1) es))) some
 
-there : (xs : List TextEntry) (k : ℕ) (e : TextEntry) → k < length xs → e ≡ get_or xs k e → IfSome (slice_get xs k) (λ x. x.line ≡ e.line)
-there [] k e l s = absurd (omega arith)
-there (x ∷ xs) zero e l s = ap (λ y. y.line) (sym s)
-there (x ∷ xs) (suc k) e l s = there xs k e (omega arith) s
+-- what holds of the entry at a place
+there : (P : TextEntry → Type 0) (xs : List TextEntry) (k : ℕ) (e : TextEntry) → k < length xs → e ≡ get_or xs k e → P e → IfSome (slice_get xs k) P
+there P [] k e l s p = absurd (omega arith)
+there P (x ∷ xs) zero e l s p = subst P s p
+there P (x ∷ xs) (suc k) e l s p = there P xs k e (omega arith) s p
 
-ran_out : (room i : ℕ) (es : List TextEntry) (e : TextEntry) (m : Environment) → i < length es → e ≡ get_or es i e → written room env.empty (take i es) ≡ Ok m → RanOut room es e.line
-ran_out room i es e m h is before = (i, h, there es i e h is, ap is_ok before)
+ran_out : (room i : ℕ) (es : List TextEntry) (e : TextEntry) (m : Environment) → i < length es → e ≡ get_or es i e → written room env.empty (take i es) ≡ Ok m → entry_refusal room m e ≡ None → RanOut room es e.line
+ran_out room i es e m h is before none = (i, m, h, before, there (λ x. (x.line ≡ e.line) × (entry_refusal room m x ≡ None)) es i e h is (refl, none))
 
-answered : (room : ℕ) (es : List TextEntry) (line : ℕ) (r : Refusal) → RanOut room es line → written room env.empty es ≡ Err (line, r) → AnswersRefusal room es line r
-answered room es line Memory out e = out
-answered room es line BadForm out e = e
-answered room es line BadType out e = e
-answered room es line NoCreate out e = e
-answered room es line NoDelete out e = e
-answered room es line NoOverwrite out e = e
-answered room es line Full out e = e
+-- a forced write is refused by form, type or size
+refused_early : (formed nothing typed full : Bool) → first_refusal formed nothing typed None (cond full (Some Full) None) ≡ Some Memory → ⊥
+refused_early false nothing typed full h = cc
+refused_early true true typed full h = cc
+refused_early true false false full h = cc
+refused_early true false true true h = cc
+refused_early true false true false h = cc
+
+never_memory : (room : ℕ) (m : Environment) (e : TextEntry) → entry_refusal room m e ≡ Some Memory → ⊥
+unfolding refusal
+never_memory room m e h =
+    refused_early (is_name e.name.items && holds_no_zero (value_of_entry e)) (is_none (env.get m e.name.items) && is_none (given (value_of_entry e)))
+    (has_type_if_some (attributes m e.name.items).kind (given (value_of_entry e))) (nat_lt room (used (after m e.name.items (value_of_entry e)))) h
+
+answered : (room : ℕ) (es : List TextEntry) (line : ℕ) (r : Refusal) → (r ≡ Memory → ⊥) → written room env.empty es ≡ Err (line, r) → AnswersRefusal room es line r
+answered room es line Memory never e = absurd (never refl)
+answered room es line BadForm never e = e
+answered room es line BadType never e = e
+answered room es line NoCreate never e = e
+answered room es line NoDelete never e = e
+answered room es line NoOverwrite never e = e
+answered room es line Full never e = e
 
 same_error : (r s : Refusal) → ◌≡◌ {A = Result (Unit {0}) Refusal} (Err r) (Err s) → r ≡ s
 same_error r s e = cc
@@ -79,9 +95,10 @@ pub stopped_at : (room i : ℕ) (es : List TextEntry) (e : TextEntry) (m : Envir
 stopped_at room i es e m r h is before some none = by_refusal (entry_refusal room m e) refl some none
   where
     by_refusal : (o : Option Refusal) → entry_refusal room m e ≡ o → IfSome o (λ s. ◌≡◌ {A = Result (Unit {0}) Refusal} (Err r) (Err s)) → IfNone o (IsOkUnless {T = Unit {0}} (Err r) Memory) → AnswersRefusal room es e.line r
-    by_refusal None k p q = subst (AnswersRefusal room es e.line) (sym q) (ran_out room i es e m h is before)
+    by_refusal None k p q = subst (AnswersRefusal room es e.line) (sym q) (ran_out room i es e m h is before k)
     by_refusal (Some s) k p q =
-        answered room es e.line r (ran_out room i es e m h is before) (refused_at room i es e m s h is before k ∙ ap (λ x. Err (e.line, x)) (sym (same_error r s p)))
+        let same : s ≡ r = sym (same_error r s p) in
+        answered room es e.line r (λ out. never_memory room m e (k ∙ ap (λ x. Some x) (same ∙ out))) (refused_at room i es e m s h is before k ∙ ap (λ x. Err (e.line, x)) same)
 
 -- an accepted entry has no refusal
 accepted_none : (o : Option Refusal) → IfSome o (λ s. ◌≡◌ {A = Result (Unit {0}) Refusal} (Ok tt) (Err s)) → o ≡ None

@@ -1,5 +1,7 @@
 mod DefaultsLemmas
+mod HelpLemmas
 mod ListingLemmas
 mod ShowLemmas
 mod StreamLemmas
+mod WordLemmas
 pub mod Rows

@@ -1,9 +1,8 @@
 //! The program over its words and streams.
 ghost use Rattle.std.specs.Prelude.{◌≡◌, ◌⊎◌, ◌≤◌, map};
 ghost use Rattle.clap.specs.Words.{kind_of};
-ghost use Rattle.fw_tools.specs.Running.{Answers, LacksMemory, Runs, Says};
+ghost use Rattle.fw_tools.specs.Running.{Answers, LacksMemory, Runs, Says, message_without_words};
 ghost use Rattle.fw_tools.specs.Streams.{AppendsFront};
-ghost use Rattle.fw_tools.specs.Words.{faults, message_without_words};
 ghost use Rattle.std.specs.IoError.{error_kind};
 
 use crate::command_line::read_words;
@@ -20,7 +19,8 @@ use std::rt::Files;
 
 /// Runs the program and answers its exit status, 0 or 1. `words` begin with the program's own name.
 ///
-/// Without a further word the variables of the image on `input` are printed ([`show`]). Help goes to `output`, status 0;
+/// Without a further word the variables of the image on `input` are printed ([`show`]), and with `--big-endian` those of
+/// an image of a big-endian board. Help goes to `output`, status 0;
 /// a fault of the command line to `errors`, status 1. docs/tools.md has each text.
 pub fn program<X: Files + AllocGlobal, S: AsStr, R: Read, W: Write, E: Write>(
     rt: &X,
@@ -30,13 +30,13 @@ pub fn program<X: Files + AllocGlobal, S: AsStr, R: Read, W: Write, E: Write>(
     errors: &mut E,
 ) -> u8
     ensures status { result ≤ 1 }
-    ensures runs { Runs (faults (map S.text words.entry.now)) (R.remaining input.old) (R.remaining input.new) (W.contents output.old) (W.contents output.new) (E.contents errors.old) (E.contents errors.new) result }
+    ensures runs { Runs (map S.text words.entry.now) (record { input = R.remaining input.old; output = W.contents output.old; errors = E.contents errors.old }) (record { input = R.remaining input.new; output = W.contents output.new; errors = E.contents errors.new }) result }
 {
     let alloc = rt.alloc();
     match read_words(alloc, words) {
         Err(error) => print_error(alloc, &error, output, errors),
-        Ok(()) => {
-            let end = show(alloc, input, output, errors);
+        Ok(order) => {
+            let end = show(alloc, order, input, output, errors);
             report(end, errors)
         }
     }
@@ -64,7 +64,7 @@ fn print_error<W: Write, E: Write>(
     errors: &mut E,
 ) -> u8
     ensures status { result ≤ 1 }
-    ensures answers { LacksMemory (W.contents output.old) (W.contents output.new) (E.contents errors.old) (E.contents errors.new) result ⊎ Answers (kind_of error.now) (W.contents output.old) (W.contents output.new) (E.contents errors.old) (E.contents errors.new) result }
+    ensures answers { LacksMemory (record { output = W.contents output.old; errors = E.contents errors.old }) (record { output = W.contents output.new; errors = E.contents errors.new }) result ⊎ Answers (kind_of error.now) (record { output = W.contents output.old; errors = E.contents errors.old }) (record { output = W.contents output.new; errors = E.contents errors.new }) result }
 {
     let Ok(text) = error.to_string(alloc) else {
         return report(ToolEnd::stopped(StreamFault::Memory), errors);

@@ -7,7 +7,7 @@ ghost use Rattle.fw_tools.specs.Tool.{Printed, PrintsText, Lists};
 use crate::ending::{StreamFault, ToolEnd};
 use crate::messages::{BAD_CHECKSUM, BAD_LENGTH, UNTERMINATED};
 use crate::streams::{read_up_to, write_text};
-use envimg_core::{CopyState, Geometry, Layout, check_copy};
+use envimg_core::{CopyState, Geometry, Layout, Order, check_copy};
 use envvars_core::{Memory, Vars};
 use std::alloc::Global;
 use std::io::{Read, Write};
@@ -18,35 +18,37 @@ const READ_LIMIT: usize = 1_048_577;
 /// The checksum before the data area of a single image, in bytes.
 const HEAD: usize = 4;
 
-/// Reads one single image and prints its variables, a line `name=value` for each, in ascending order of the names' bytes,
+/// Reads one single image whose checksum stands in this byte order and prints its variables, a line `name=value` for each, in ascending order of the names' bytes,
 /// names that begin with `.` among them. A bad image prints `## Error: bad image: KIND` on `errors`, status 1.
 ///
 /// Reads at most 1,048,577 bytes, the whole of the reader where it has no more. docs/tools.md has the texts.
 pub fn show<R: Read, W: Write, E: Write>(
     alloc: Global,
+    order: Order,
     input: &mut R,
     output: &mut W,
     errors: &mut E,
 ) -> ToolEnd
-    ensures { Shows (R.remaining input.old) (R.remaining input.new) (W.contents output.old) (W.contents output.new) (E.contents errors.old) (E.contents errors.new) result }
+    ensures { Shows order (record { input = R.remaining input.old; output = W.contents output.old; errors = E.contents errors.old }) (record { input = R.remaining input.new; output = W.contents output.new; errors = E.contents errors.new }) result }
 {
     match read_up_to(alloc, input, READ_LIMIT) {
         Err(fault) => ToolEnd::stopped(fault),
-        Ok(bytes) => show_bytes(alloc, &bytes, output, errors),
+        Ok(bytes) => show_bytes(alloc, order, &bytes, output, errors),
     }
 }
 
 /// Prints the variables of these bytes as one single image.
 fn show_bytes<W: Write, E: Write>(
     alloc: Global,
+    order: Order,
     bytes: &[u8],
     output: &mut W,
     errors: &mut E,
 ) -> ToolEnd
-    ensures printed { Printed result.fault (W.contents output.old) (W.contents output.new) (E.contents errors.old) (E.contents errors.new) (shown bytes.now) result.status }
+    ensures printed { Printed result.fault (record { output = W.contents output.old; errors = E.contents errors.old }) (record { output = W.contents output.new; errors = E.contents errors.new }) (shown order bytes.now) result.status }
     ensures late { result.fault ≢ Some StreamFault.Read }
 {
-    match image_state(bytes) {
+    match image_state(order, bytes) {
         CopyState::Good(_) => list(alloc, &bytes[HEAD..], output),
         CopyState::BadLength => print_text(errors, BAD_LENGTH, 1),
         CopyState::BadCrc => print_text(errors, BAD_CHECKSUM, 1),
@@ -55,13 +57,13 @@ fn show_bytes<W: Write, E: Write>(
 }
 
 /// The state of these bytes as one single image; a length that is no size is a bad length.
-fn image_state(bytes: &[u8]) -> CopyState
-    ensures { result ≡ state_shown bytes.now }
+fn image_state(order: Order, bytes: &[u8]) -> CopyState
+    ensures { result ≡ state_shown order bytes.now }
 {
     if bytes.len() >= READ_LIMIT {
         return CopyState::BadLength;
     }
-    match Geometry::new(Layout::Single, bytes.len() as u32) {
+    match Geometry::with_order(Layout::Single, bytes.len() as u32, order) {
         None => CopyState::BadLength,
         Some(geometry) => check_copy(&geometry, bytes),
     }

@@ -1,7 +1,7 @@
 //! Reading to a limit, and writing a whole text.
 ghost use Rattle.std.specs.Prelude.{◌≡◌, ◌≤◌, ℕ, List, MatchBool, MatchResult};
 ghost use Rattle.std.specs.Io.KnownBytes.{Appends};
-ghost use Rattle.fw_tools.specs.Streams.{AppendsFront, Gave, GaveAll};
+ghost use Rattle.fw_tools.specs.Streams.{AppendsPart, Gave, GaveAll};
 ghost use Rattle.fw_tools.specs.Tool.{IsEarly};
 
 use crate::ending::StreamFault;
@@ -37,9 +37,9 @@ pub(crate) fn read_up_to<R: Read>(
 }
 
 /// Writes a text, as often as the writer takes a part of it; false where it fails or takes nothing, with a front of the
-/// text written.
+/// text written and something of it left.
 pub(crate) fn write_text<W: Write>(writer: &mut W, text: &[u8]) -> bool
-    ensures { MatchBool result (Appends (W.contents writer.old) (W.contents writer.new) text.now) (AppendsFront (W.contents writer.old) (W.contents writer.new) text.now) }
+    ensures { MatchBool result (Appends (W.contents writer.old) (W.contents writer.new) text.now) (AppendsPart (W.contents writer.old) (W.contents writer.new) text.now) }
 {
     let mut rest = text;
     while !rest.is_empty() {

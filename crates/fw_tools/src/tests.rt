@@ -9,6 +9,9 @@ use std::io::{self, Read, Write};
 /// An image of the one variable `a=b`.
 const ONE_VARIABLE: [u8; 9] = [0xD2, 0x96, 0x62, 0x2B, b'a', b'=', b'b', 0, 0];
 
+/// The same of a big-endian board.
+const ONE_VARIABLE_BIG_ENDIAN: [u8; 9] = [0x2B, 0x62, 0x96, 0xD2, b'a', b'=', b'b', 0, 0];
+
 /// Gives its bytes, at most `step` a call, and fails where none are left; counts its calls.
 #[derive(Drop)]
 struct Failing<'a> {

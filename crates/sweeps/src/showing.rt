@@ -2,6 +2,7 @@
 ghost use Rattle.std.specs.Prelude.{◌≤◌};
 
 use crate::lines::{refused, row, wrong};
+use envimg_core::Order;
 use fw_tools::{StreamFault, ToolEnd, show};
 use std::alloc::Global;
 use std::io::{self, Write};
@@ -46,7 +47,7 @@ impl Write for Page {
 /// One call over fresh streams.
 fn show_once(alloc: Global, output: &mut Page, errors: &mut Page) -> ToolEnd {
     let mut input = ONE_VARIABLE.as_slice();
-    show(alloc, &mut input, output, errors)
+    show(alloc, Order::Little, &mut input, output, errors)
 }
 
 /// `show` prints the variable; refused, it has written nothing and has status 1, and the call made again prints it.

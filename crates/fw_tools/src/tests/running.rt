@@ -1,6 +1,6 @@
 //! What the program answers to its words, and where its streams fail.
 
-use super::{Failing, Narrow, ONE_VARIABLE};
+use super::{Failing, Narrow, ONE_VARIABLE, ONE_VARIABLE_BIG_ENDIAN};
 use crate::{program, words_failed};
 use std::io;
 use std::test::Fail;
@@ -16,6 +16,49 @@ fn the_program_without_a_word(rt: HostRuntime) {
     assert!(rt; errors.is_empty());
 }
 
+/// What the program answers to these words over an image: output, errors, status.
+fn answered(rt: &HostRuntime, words: &[&str], image: &[u8]) -> (Vec<u8>, Vec<u8>, u8) {
+    let mut input = image;
+    let mut output = Vec::new(rt.alloc());
+    let mut errors = Vec::new(rt.alloc());
+    let status = program(rt, words, &mut input, &mut output, &mut errors);
+    (output, errors, status)
+}
+
+#[test]
+fn the_program_on_images_of_both_orders(rt: HostRuntime) {
+    let answers: [(&[&str], &[u8], &[u8], &[u8], u8); 4] = [
+        (
+            &["fwenv", "--big-endian"],
+            &ONE_VARIABLE_BIG_ENDIAN,
+            b"a=b\n",
+            b"",
+            0,
+        ),
+        (
+            &["fwenv"],
+            &ONE_VARIABLE_BIG_ENDIAN,
+            b"",
+            b"## Error: bad image: BadCrc\n",
+            1,
+        ),
+        (
+            &["fwenv", "--big-endian"],
+            &ONE_VARIABLE,
+            b"",
+            b"## Error: bad image: BadCrc\n",
+            1,
+        ),
+        (&["fwenv"], &ONE_VARIABLE, b"a=b\n", b"", 0),
+    ];
+    for (words, image, text, complaint, expected) in answers {
+        let (output, errors, status) = answered(&rt, words, image);
+        assert!(rt; output.as_slice() == text);
+        assert!(rt; errors.as_slice() == complaint);
+        assert_eq!(rt; status, expected);
+    }
+}
+
 #[test]
 fn the_program_asked_for_help(rt: HostRuntime) -> Result<(), Fail> {
     for word in ["--help", "-h"] {
@@ -27,6 +70,7 @@ fn the_program_asked_for_help(rt: HostRuntime) -> Result<(), Fail> {
         let text = std::str::from_utf8(&output).ok().ok_or("text")?;
         assert!(rt; text.starts_with("Prints the variables of the U-Boot environment image"));
         assert!(rt; text.contains("Example:\n"));
+        assert!(rt; text.contains("--big-endian"));
         assert!(rt; errors.is_empty());
     }
     Ok(())

@@ -1,7 +1,8 @@
 //! What `show` reads, prints and answers.
 
-use super::{Failing, Narrow, ONE_VARIABLE};
+use super::{Failing, Narrow, ONE_VARIABLE, ONE_VARIABLE_BIG_ENDIAN};
 use crate::{StreamFault, ToolEnd, show};
+use envimg_core::Order;
 use std::test::Fail;
 
 /// A checksum, and an area with a name twice, a name without `=` and an empty value.
@@ -22,7 +23,13 @@ fn shown(rt: &HostRuntime, image: &[u8]) -> (Vec<u8>, Vec<u8>, ToolEnd) {
     let mut input = image;
     let mut output = Vec::new(rt.alloc());
     let mut errors = Vec::new(rt.alloc());
-    let end = show(rt.alloc(), &mut input, &mut output, &mut errors);
+    let end = show(
+        rt.alloc(),
+        Order::Little,
+        &mut input,
+        &mut output,
+        &mut errors,
+    );
     (output, errors, end)
 }
 
@@ -62,6 +69,26 @@ fn what_each_image_prints(rt: HostRuntime) {
 }
 
 #[test]
+fn images_of_big_endian_boards(rt: HostRuntime) {
+    let images: [(&[u8], &[u8], &[u8]); 4] = [
+        (&ONE_VARIABLE_BIG_ENDIAN, b"a=b\n", b""),
+        (&ONE_VARIABLE, b"", b"## Error: bad image: BadCrc\n"),
+        (b"\x21\x44\xDF\x1C\0\0\0\0", b"", b""),
+        (b"1234567", b"", b"## Error: bad image: BadLength\n"),
+    ];
+    for (image, text, complaint) in images {
+        let mut input = image;
+        let mut output = Vec::new(rt.alloc());
+        let mut errors = Vec::new(rt.alloc());
+        let end = show(rt.alloc(), Order::Big, &mut input, &mut output, &mut errors);
+        assert!(rt; output.as_slice() == text);
+        assert!(rt; errors.as_slice() == complaint);
+        assert_eq!(rt; end.status, u8::from(!complaint.is_empty()));
+        assert!(rt; end.fault.is_none());
+    }
+}
+
+#[test]
 fn names_in_order_and_those_with_a_dot(rt: HostRuntime) -> Result<(), Fail> {
     let area = b"b=2\0.flags=a:d\0a=1\0\0";
     let mut image = Vec::new(rt.alloc());
@@ -82,7 +109,13 @@ fn one_byte_more_than_the_greatest_image(rt: HostRuntime) -> Result<(), Fail> {
     let mut input = zeros.as_slice();
     let mut output = Vec::new(rt.alloc());
     let mut errors = Vec::new(rt.alloc());
-    let end = show(rt.alloc(), &mut input, &mut output, &mut errors);
+    let end = show(
+        rt.alloc(),
+        Order::Little,
+        &mut input,
+        &mut output,
+        &mut errors,
+    );
     assert_eq!(rt; input.len(), 2, "1,048,577 bytes are read");
     assert!(rt; errors.as_slice() == b"## Error: bad image: BadLength\n".as_slice());
     assert_eq!(rt; end.status, 1);
@@ -100,7 +133,13 @@ fn a_reader_that_fails_after_each_count_of_bytes(rt: HostRuntime) -> Result<(), 
             };
             let mut output = Vec::new(rt.alloc());
             let mut errors = Vec::new(rt.alloc());
-            let end = show(rt.alloc(), &mut input, &mut output, &mut errors);
+            let end = show(
+                rt.alloc(),
+                Order::Little,
+                &mut input,
+                &mut output,
+                &mut errors,
+            );
             assert_eq!(rt;
                 end,
                 ToolEnd {
@@ -131,7 +170,13 @@ fn a_writer_that_takes_a_part_and_fails(rt: HostRuntime) -> Result<(), Fail> {
             let mut input = ONE_VARIABLE.as_slice();
             let mut output = Narrow::new(Vec::new(rt.alloc()), step, room, fails);
             let mut errors = Vec::new(rt.alloc());
-            let end = show(rt.alloc(), &mut input, &mut output, &mut errors);
+            let end = show(
+                rt.alloc(),
+                Order::Little,
+                &mut input,
+                &mut output,
+                &mut errors,
+            );
             let fault = if room < 4 {
                 Some(StreamFault::Write)
             } else {
@@ -156,7 +201,13 @@ fn a_complaint_that_can_not_be_written(rt: HostRuntime) {
     let mut input: &[u8] = b"";
     let mut output = Vec::new(rt.alloc());
     let mut errors = Narrow::new(Vec::new(rt.alloc()), 7, 20, false);
-    let end = show(rt.alloc(), &mut input, &mut output, &mut errors);
+    let end = show(
+        rt.alloc(),
+        Order::Little,
+        &mut input,
+        &mut output,
+        &mut errors,
+    );
     assert_eq!(rt;
         end,
         ToolEnd {
@@ -185,7 +236,13 @@ fn a_large_text_goes_out_in_few_writes(rt: HostRuntime) -> Result<(), Fail> {
     let mut input = image.as_slice();
     let mut output = Narrow::new(Vec::new(rt.alloc()), 16_384, usize::MAX, true);
     let mut errors = Vec::new(rt.alloc());
-    let end = show(rt.alloc(), &mut input, &mut output, &mut errors);
+    let end = show(
+        rt.alloc(),
+        Order::Little,
+        &mut input,
+        &mut output,
+        &mut errors,
+    );
     assert_eq!(rt; end.status, 0);
     assert_eq!(rt; output.taken.len(), 20_000 * 15);
     assert!(rt;
