@@ -32,6 +32,8 @@ enum Calls<'a> {
     Writes(&'a [Name], &'a [u8]),
     /// A check of a write of this value to each name.
     Checks(&'a [Name], &'a [u8]),
+    /// A look-up of each name.
+    Gets(&'a [Name]),
     /// Writes and removals.
     Steps(&'a [Step]),
 }
@@ -58,7 +60,7 @@ fn load(alloc: Global, area: &[u8]) -> io::Result<Vars>
     Vars::load(alloc, area).map_err(|_| Error::from(ErrorKind::OutOfMemory))
 }
 
-/// Makes each call, and counts those that are refused.
+/// Makes each call, and counts those that are refused or find nothing.
 fn make(vars: &mut Vars, defaults: &Vars, calls: Calls<'_>) -> u32 {
     let mut refused = 0u32;
     match calls {
@@ -72,6 +74,11 @@ fn make(vars: &mut Vars, defaults: &Vars, calls: Calls<'_>) -> u32 {
             for name in names {
                 let is_refused = vars.check(name, Some(value), false, defaults).is_err();
                 refused = refused.wrapping_add(u32::from(is_refused));
+            }
+        }
+        Calls::Gets(names) => {
+            for name in names {
+                refused = refused.wrapping_add(u32::from(vars.get(name).is_none()));
             }
         }
         Calls::Steps(steps) => {
@@ -137,6 +144,11 @@ fn measure(rt: &HostRuntime, part: &str, count: &str, wanted: bool) -> io::Resul
             let names = scattered_names(alloc, 40_000, count)?;
             let calls = Calls::Writes(&names, b"another value");
             measure_calls(rt, wanted, load(alloc, data_area(&image)?)?, calls)
+        }
+        "gets" => {
+            let names = scattered_names(alloc, 40_000, count)?;
+            let vars = load(alloc, data_area(&image)?)?;
+            measure_calls(rt, wanted, vars, Calls::Gets(&names))
         }
         "checks" => measure_checks(rt, wanted, &image, count, b"12"),
         "mistyped" => measure_checks(rt, wanted, &image, count, b"1x"),

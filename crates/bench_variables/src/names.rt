@@ -30,7 +30,7 @@ fn scattered(i: u32) -> u32 {
 
 /// The names of the numbers below `count` in scattered order, the first `most` of them.
 pub fn scattered_names(alloc: Global, count: u32, most: u32) -> Result<Vec<Name>, AllocError> {
-    let mut names = Vec::new(alloc);
+    let mut names = Vec::with_capacity(alloc, most as usize)?;
     for i in 0..262_144u32 {
         if scattered(i) < count && names.len() < most as usize {
             names.push(name(scattered(i)))?;
@@ -41,7 +41,7 @@ pub fn scattered_names(alloc: Global, count: u32, most: u32) -> Result<Vec<Name>
 
 /// So many names in scattered order, each of them one of the first 1,000.
 pub fn repeated_names(alloc: Global, count: u32) -> Result<Vec<Name>, AllocError> {
-    let mut names = Vec::new(alloc);
+    let mut names = Vec::with_capacity(alloc, count as usize)?;
     for i in 0..count {
         names.push(name(scattered(i) % 1_000))?;
     }

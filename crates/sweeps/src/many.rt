@@ -36,7 +36,7 @@ fn are(vars: &Vars, count: u32) -> bool {
     let mut found = 0u32;
     let mut last: &[u8] = &[];
     for (name, value) in vars.iter() {
-        if name <= last || value != b"1" {
+        if name <= last || value != b"1".as_slice() {
             return false;
         }
         last = name;

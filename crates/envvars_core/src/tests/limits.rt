@@ -115,16 +115,27 @@ fn one_variable_fills_an_area(rt: HostRuntime) -> Result<(), Fail> {
 #[test]
 fn one_name_fills_an_area(rt: HostRuntime) -> Result<(), Fail> {
     let alloc = rt.alloc();
-    let mut name = filled(alloc, b'n', ROOM - 4)?;
+    let name = filled(alloc, b'n', ROOM - 4)?;
+    let longer = filled(alloc, b'n', ROOM - 3)?;
     let mut vars = Vars::empty(alloc, ROOM);
+    assert!(rt; refusal(alloc, &mut vars, &longer, Some(b"1")) == Some(Refusal::Full));
     assert!(rt; refusal(alloc, &mut vars, &name, Some(b"1")).is_none());
     assert_eq!(rt; vars.used(), ROOM);
     let copy = copied(&rt, &vars)?;
-    assert_eq!(rt; copy.get(&name), Some(b"1".as_slice()));
-    name.push(b'n')?;
-    assert_eq!(rt; copy.get(&name), None);
-    assert!(rt; refusal(alloc, &mut vars, &name, Some(b"1")) == Some(Refusal::Full));
+    assert!(rt; copy.get(&name) == Some(b"1".as_slice()));
+    assert!(rt; copy.get(&longer).is_none());
     Ok(())
+}
+
+/// The first and the last item of an area full of them count, and no name has one that none gives it.
+fn has_items(rt: &impl Abort, vars: &Vars) {
+    let decimal = Attr {
+        kind: Kind::Decimal,
+        access: Access::Any,
+    };
+    assert_eq!(rt; vars.attributes(b"00000"), decimal);
+    assert_eq!(rt; vars.attributes(b"1ffb7"), decimal);
+    assert_eq!(rt; vars.attributes(b"1ffb8").kind, Kind::String);
 }
 
 #[test]
@@ -141,15 +152,10 @@ fn flags_fill_an_area(rt: HostRuntime) -> Result<(), Fail> {
     let vars = loaded(&rt, &entries)?;
     let mut written = Vars::empty(alloc, ROOM);
     assert!(rt; refusal(alloc, &mut written, b".flags", Some(&items)).is_none());
-    let decimal = Attr {
-        kind: Kind::Decimal,
-        access: Access::Any,
-    };
-    for vars in [&vars, &copied(&rt, &vars)?, &written] {
-        assert_eq!(rt; vars.attributes(b"00000"), decimal);
-        assert_eq!(rt; vars.attributes(b"1ffb7"), decimal);
-        assert_eq!(rt; vars.attributes(b"1ffb8").kind, Kind::String);
-    }
+    let copy = copied(&rt, &vars)?;
+    has_items(&rt, &vars);
+    has_items(&rt, &copy);
+    has_items(&rt, &written);
     assert!(rt; refusal(alloc, &mut written, b"1ffb7", Some(b"x")) == Some(Refusal::BadType));
     Ok(())
 }
