@@ -1,6 +1,7 @@
-"""Writes a single image to standard output: make_image.py SIZE COUNT [shuffled] [short] [flags].
+"""Writes a single image to standard output: make_image.py SIZE COUNT [shuffled|descending|runs] [short] [flags].
 
-COUNT variables in ascending order of names, or shuffled (the same order each time): names v000000 and so on with values
+COUNT variables in ascending order of names, shuffled (the same order each time), descending, or the first 512 ascending
+and then the others descending (runs): names v000000 and so on with values
 of 17 bytes, or short ones, names of three bytes with values of one. With flags there is a `.flags` before them with an
 item for each of the first 1,000 names: decimal, any access.
 """
@@ -17,6 +18,10 @@ else:
     entries = [b"v%06d=%s\0" % (i, b"x" * 17) for i in range(count)]
 if "shuffled" in wishes:
     random.Random(1).shuffle(entries)
+if "descending" in wishes:
+    entries.reverse()
+if "runs" in wishes:
+    entries[512:] = entries[:511:-1]
 if "flags" in wishes:
     entries.insert(0, b".flags=" + b",".join(b"v%06d:da" % i for i in range(1000)) + b"\0")
 area = (b"".join(entries) + b"\0").ljust(size - 4, b"\0")

@@ -5,6 +5,7 @@
 mod attributes;
 mod checks;
 mod flags;
+pub mod laws;
 mod refusals;
 mod types;
 mod variables;

@@ -2,6 +2,8 @@
 ghost use Rattle.std.specs.Prelude.{◌≡◌, IsTrue, option_copied};
 ghost use Rattle.envvars_core.specs.Refusals.{given};
 
+mod limits;
+
 use super::*;
 use std::alloc::{AllocError, Global};
 use std::process::Abort;

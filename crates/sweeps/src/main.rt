@@ -7,6 +7,7 @@
 
 mod defaulting;
 mod lines;
+mod many;
 mod scripts;
 mod showing;
 mod texts;
@@ -18,6 +19,7 @@ fn main(rt: HostRuntime) -> io::Result<()> {
     showing::sweep(rt.alloc(), &mut rt.stdout())?;
     texts::sweep(rt.alloc(), &mut rt.stdout())?;
     variables::sweep(rt.alloc(), &mut rt.stdout())?;
+    many::sweep(rt.alloc(), &mut rt.stdout())?;
     defaulting::sweep(rt.alloc(), &mut rt.stdout())?;
     scripts::sweep(rt.alloc(), &mut rt.stdout())
 }

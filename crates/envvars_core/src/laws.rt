@@ -1,0 +1,18 @@
+//! Laws over the definitions alone: each function does nothing, and its contract is the law.
+ghost use Rattle.std.specs.Prelude.{◌≡◌, ◌+◌, ℕ, List, Option};
+ghost use Rattle.std.specs.FinMap as env;
+ghost use Rattle.envimg_core.specs.Environment.{Environment, used};
+ghost use Rattle.envvars_core.specs.Refusals.{given, after};
+ghost use Rattle.envvars_core.specs.Variables.{size_of};
+
+/// A write gives back the bytes of the old value and takes those of the new one.
+pub fn size_after_write()
+    ensures { (m : Environment) (n : List ℕ) (new : Option (List ℕ)) →
+        used (after m n new) + size_of n (env.get m n) ≡ used m + size_of n (given new) }
+{}
+
+/// A removal gives back the bytes of the variable.
+pub fn size_after_removal()
+    ensures { (m : Environment) (n : List ℕ) →
+        used (env.remove m n) + size_of n (env.get m n) ≡ used m }
+{}

@@ -1,0 +1,129 @@
+//! Enough variables that a refused growth meets a run of the store that is cut in two, and one that is new: names are
+//! written one behind another, then between others, taken out again, copied, and written into the copy.
+use crate::lines::{refused, row, wrong};
+use envvars_core::{Refusal, Vars};
+use std::alloc::Global;
+use std::io::{self, Write};
+
+/// More room than the variables take.
+const ROOM: u32 = 4096;
+
+/// `v`, three digits and a letter.
+fn name(i: u32, letter: u8) -> [u8; 5] {
+    [
+        b'v',
+        (i / 100 % 10) as u8 + 48,
+        (i / 10 % 10) as u8 + 48,
+        (i % 10) as u8 + 48,
+        letter,
+    ]
+}
+
+/// A number that is another where the variables are others, but for chance.
+fn digest(vars: &Vars) -> u32 {
+    let mut sum = 0u32;
+    for line in vars.lines() {
+        for byte in line {
+            sum = sum.wrapping_mul(31).wrapping_add(u32::from(*byte));
+        }
+        sum = sum.wrapping_mul(31);
+    }
+    sum
+}
+
+/// Whether there are so many variables, each of 8 bytes, in ascending order.
+fn are(vars: &Vars, count: u32) -> bool {
+    let mut found = 0u32;
+    let mut last: &[u8] = &[];
+    for (name, value) in vars.iter() {
+        if name <= last || value != b"1".as_slice() {
+            return false;
+        }
+        last = name;
+        found = found.wrapping_add(1);
+    }
+    found == count && vars.used() == count.wrapping_mul(8).wrapping_add(1)
+}
+
+/// A write that no check refuses. Refused for memory, it has changed nothing, and made again it writes.
+fn write<W: Write>(
+    out: &mut W,
+    vars: &mut Vars,
+    name: &[u8],
+    new: Option<&[u8]>,
+    defaults: &Vars,
+) -> io::Result<()> {
+    let before = digest(vars);
+    match vars.write(name, new, false, defaults) {
+        Ok(_) => return Ok(()),
+        Err(Refusal::Memory) if digest(vars) == before => refused(out, "write among many")?,
+        Err(_) => return wrong(out, "write among many"),
+    }
+    if vars.write(name, new, false, defaults).is_err() {
+        return wrong(out, "write among many, made again");
+    }
+    Ok(())
+}
+
+/// Gives the names of the numbers from `first` on a value, or takes them out.
+fn write_all<W: Write>(
+    out: &mut W,
+    vars: &mut Vars,
+    numbers: (u32, u32),
+    letter: u8,
+    new: Option<&[u8]>,
+    defaults: &Vars,
+) -> io::Result<()> {
+    for i in numbers.0..numbers.1 {
+        write(out, vars, &name(i, letter), new, defaults)?;
+    }
+    Ok(())
+}
+
+fn count_row<W: Write>(
+    out: &mut W,
+    call: &str,
+    vars: &Vars,
+    count: u32,
+    shown: &[u8],
+) -> io::Result<()> {
+    if !are(vars, count) {
+        return wrong(out, call);
+    }
+    row(out, call, shown)
+}
+
+/// A copy of variables that ROOM holds, made again where memory ran out.
+fn copy<W: Write>(alloc: Global, out: &mut W, vars: &Vars) -> io::Result<Option<Vars>> {
+    let before = digest(vars);
+    if vars.used() > ROOM {
+        return Ok(None);
+    }
+    if let Ok(copy) = vars.copy(alloc, ROOM) {
+        return Ok(Some(copy));
+    }
+    if digest(vars) != before {
+        return Ok(None);
+    }
+    refused(out, "copy of many")?;
+    Ok(vars.copy(alloc, ROOM).ok())
+}
+
+/// Writes, removals, and a copy of what they leave, with writes into it.
+pub fn sweep<W: Write>(alloc: Global, out: &mut W) -> io::Result<()> {
+    let one = Some(b"1".as_slice());
+    let defaults = Vars::empty(alloc, 1);
+    let mut vars = Vars::empty(alloc, ROOM);
+    write_all(out, &mut vars, (0, 130), b'a', one, &defaults)?;
+    count_row(out, "many written", &vars, 130, b"130 variables")?;
+    write_all(out, &mut vars, (95, 105), b'b', one, &defaults)?;
+    count_row(out, "written between", &vars, 140, b"140 variables")?;
+    write_all(out, &mut vars, (5, 105), b'a', None, &defaults)?;
+    count_row(out, "taken out", &vars, 40, b"40 variables")?;
+    let Some(mut copied) = copy(alloc, out, &vars)? else {
+        return wrong(out, "copy of many");
+    };
+    write_all(out, &mut copied, (0, 40), b'c', one, &defaults)?;
+    count_row(out, "written into a copy", &copied, 80, b"80 variables")?;
+    count_row(out, "copied from", &vars, 40, b"40 variables")
+}
