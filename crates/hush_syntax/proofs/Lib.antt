@@ -14,3 +14,4 @@ pub mod ScriptLoop
 pub mod ExitLemmas
 pub mod Rows
 pub mod Walks
+pub mod TextRows

@@ -8,7 +8,7 @@ mod faults;
 mod hostile;
 mod trees;
 
-use crate::{Branch, Link, Node, NodeId, Operator, Part, Script, Word};
+use crate::{Branch, Link, Node, NodeId, Operator, Part, Script, Text, Word};
 use std::alloc::{AllocError, Global};
 
 /// A tree in a line: `{..}` is a list, `(..)` a simple command, `'..'` quoted bytes, `"` a mark, `$` a substitution.
@@ -32,7 +32,7 @@ fn show(script: &Script, id: NodeId, room: u32, out: &mut Vec<u8>) -> Result<(),
         return out.extend_from_slice(b"..");
     }
     let room = room - 1;
-    let source = script.source();
+    let text = script.text();
     match script.node(id) {
         Node::List(chains) => show_list(script, chains, room, out),
         Node::Chain(links) => show_chain(script, links, room, out),
@@ -49,9 +49,9 @@ fn show(script: &Script, id: NodeId, room: u32, out: &mut Vec<u8>) -> Result<(),
         }
         Node::For { name, words, body } => {
             out.extend_from_slice(b"for ")?;
-            show_word(name, source, out)?;
+            show_word(*name, text, out)?;
             out.extend_from_slice(b" in ")?;
-            show_words(script.words(*words), source, out)?;
+            show_words(script.words(*words), text, out)?;
             show_body(script, *body, room, out)
         }
         Node::While { condition, body } => {
@@ -65,12 +65,12 @@ fn show(script: &Script, id: NodeId, room: u32, out: &mut Vec<u8>) -> Result<(),
             show_body(script, *body, room, out)
         }
         Node::Assign { name, value } => {
-            show_word(name, source, out)?;
+            show_word(*name, text, out)?;
             out.extend_from_slice(b":=(")?;
-            show_word(value, source, out)?;
+            show_word(*value, text, out)?;
             out.extend_from_slice(b")")
         }
-        Node::Simple { words } => show_words(script.words(*words), source, out),
+        Node::Simple { words } => show_words(script.words(*words), text, out),
     }
 }
 
@@ -137,12 +137,7 @@ fn show_branches(
 }
 
 #[cycle(showing)]
-fn show_body(
-    script: &Script,
-    body: NodeId,
-    room: u32,
-    out: &mut Vec<u8>,
-) -> Result<(), AllocError>
+fn show_body(script: &Script, body: NodeId, room: u32, out: &mut Vec<u8>) -> Result<(), AllocError>
     requires { IsSome (sub_at script.now body) }
 {
     out.extend_from_slice(b" do ")?;
@@ -150,29 +145,29 @@ fn show_body(
     out.extend_from_slice(b" done")
 }
 
-fn show_words(words: &[Word], source: &[u8], out: &mut Vec<u8>) -> Result<(), AllocError> {
+fn show_words(words: &[Word], text: &Text, out: &mut Vec<u8>) -> Result<(), AllocError> {
     out.extend_from_slice(b"(")?;
     let mut is_first = true;
-    for word in words {
+    for word in words.iter() {
         if !is_first {
             out.extend_from_slice(b" ")?;
         }
         is_first = false;
-        show_word(word, source, out)?;
+        show_word(*word, text, out)?;
     }
     out.extend_from_slice(b")")
 }
 
-fn show_word(word: &Word, source: &[u8], out: &mut Vec<u8>) -> Result<(), AllocError> {
-    for part in &word.parts {
+fn show_word(word: Word, text: &Text, out: &mut Vec<u8>) -> Result<(), AllocError> {
+    for part in text.parts(word).iter() {
         match part {
-            Part::Plain(span) => out.extend_from_slice(span.bytes(source))?,
-            Part::Quoted(span) => show_quoted(b"", span.bytes(source), out)?,
+            Part::Plain(span) => out.extend_from_slice(text.bytes(*span))?,
+            Part::Quoted(span) => show_quoted(b"", text.bytes(*span), out)?,
             Part::Mark => out.extend_from_slice(b"\"")?,
-            Part::Value(span, true) => show_quoted(b"$", span.bytes(source), out)?,
+            Part::Value(span, true) => show_quoted(b"$", text.bytes(*span), out)?,
             Part::Value(span, false) => {
                 out.extend_from_slice(b"$")?;
-                out.extend_from_slice(span.bytes(source))?;
+                out.extend_from_slice(text.bytes(*span))?;
             }
             Part::Status(true) => show_quoted(b"$", b"?", out)?,
             Part::Status(false) => out.extend_from_slice(b"$?")?,
