@@ -2,7 +2,7 @@
 use Rattle.std.proofs.Common.{◌≡◌, ℕ, List, [], ◌∷◌, ◌++◌, map, codes, refl, Some, None}
 use Rattle.hush_words.specs.Words.{Atom, is_blank, ends_word, begins_name, is_in_name, is_in_braces, follows_dollar, is_special, is_bare, is_inner, is_escaped}
 use Rattle.hush_words.specs.Words.Atom.{Plain}
-use Rattle.hush_words.specs.Reading.{dollar_at, inner_escape, inner_at, escape_at, single_at, double_at, piece_at, passed_at, lexeme_at, tokens_of}
+use Rattle.hush_words.specs.Reading.{dollar_at, inner_escape, inner_at, double_at, piece_at, passed_at, lexeme_at, tokens_of}
 use Rattle.hush_words.specs.Forms.{is_plain, name_of, assignment_of}
 use Rattle.hush_syntax.specs.Keywords.{keyword_of}
 use Rattle.hush_syntax.specs.Grammar.{Command, Simple, While, First, End, Chains, Last}

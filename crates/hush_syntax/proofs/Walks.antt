@@ -1,5 +1,5 @@
 -- The children of a node are nodes of the same table.
-use Rattle.std.proofs.Common.{◌≡◌, true, List, [], ◌∷◌, Option, Some, None, refl, ap, ◌∙◌, is_some}
+use Rattle.std.proofs.Common.{◌≡◌, List, [], ◌∷◌, Option, Some, refl}
 use Rattle.std.specs.Prelude.{All, IsSome}
 use Rattle.std.proofs.lemmas.List.Elements.{All-nil, All-cons}
 use Rattle.hush_syntax.specs.declared.nodes.NodeId.{NodeId}
@@ -8,7 +8,7 @@ use Rattle.hush_syntax.specs.declared.nodes.Branch as branch
 use Rattle.hush_syntax.specs.Grammar.{Chain, Chains, Last, More, First, Links, End, Link, Branches, Elif, Else, Fi}
 use Rattle.hush_syntax.specs.Nodes.{At, Sub, OfChain, OfChains, OfCommand, AreChains, AreLinks, IsChain, AreBranches}
 
-known : (o : Option Sub) (s : Sub) → o ≡ Some s → IsSome o
+pub known : (o : Option Sub) (s : Sub) → o ≡ Some s → IsSome o
 known o s e = rw e refl
 
 module _ (at : At) where

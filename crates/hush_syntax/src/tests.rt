@@ -43,34 +43,34 @@ fn show(script: &Script, id: NodeId, room: u32, out: &mut Vec<u8>) -> Result<(),
             show_branches(script, branches, room, out)?;
             if let Some(body) = otherwise {
                 out.extend_from_slice(b" else ")?;
-                show(script, *body, room, out)?;
+                show(script, body, room, out)?;
             }
             out.extend_from_slice(b" fi")
         }
         Node::For { name, words, body } => {
             out.extend_from_slice(b"for ")?;
-            show_word(*name, text, out)?;
+            show_word(name, text, out)?;
             out.extend_from_slice(b" in ")?;
-            show_words(script.words(*words), text, out)?;
-            show_body(script, *body, room, out)
+            show_words(words, text, out)?;
+            show_body(script, body, room, out)
         }
         Node::While { condition, body } => {
             out.extend_from_slice(b"while ")?;
-            show(script, *condition, room, out)?;
-            show_body(script, *body, room, out)
+            show(script, condition, room, out)?;
+            show_body(script, body, room, out)
         }
         Node::Until { condition, body } => {
             out.extend_from_slice(b"until ")?;
-            show(script, *condition, room, out)?;
-            show_body(script, *body, room, out)
+            show(script, condition, room, out)?;
+            show_body(script, body, room, out)
         }
         Node::Assign { name, value } => {
-            show_word(*name, text, out)?;
+            show_word(name, text, out)?;
             out.extend_from_slice(b":=(")?;
-            show_word(*value, text, out)?;
+            show_word(value, text, out)?;
             out.extend_from_slice(b")")
         }
-        Node::Simple { words } => show_words(script.words(*words), text, out),
+        Node::Simple { words } => show_words(words, text, out),
     }
 }
 
