@@ -3,7 +3,8 @@ pub mod FindParts
 pub mod Finds
 pub mod SoundParts
 pub mod Sound
-pub mod TreeLemmas
+pub mod Tables
+pub mod Building
 pub mod Told
 pub mod Shorter
 pub mod ListLoop
@@ -12,3 +13,5 @@ pub mod IfLoop
 pub mod ScriptLoop
 pub mod ExitLemmas
 pub mod Rows
+pub mod Walks
+pub mod TextRows

@@ -1,7 +1,7 @@
 ghost use Rattle.std.specs.Prelude.{◌≡◌};
 ghost use Rattle.hush_words.specs.Parts.{word_atoms};
 
-use hush_words::Word;
+use hush_words::{Text, Word};
 
 /// The reserved words: each stands for itself where a command may begin, in unquoted bytes alone.
 #[derive(Clone, Copy, Debug, PartialEq, Eq)]
@@ -54,13 +54,13 @@ impl Keyword {
 
     /// The reserved word that a word would be where a command may begin.
     #[tactic(auto, unfolding(crate::specs::Keywords::keyword_of))]
-    pub(crate) fn of(word: &Word, source: &[u8]) -> Option<Keyword>
-        ensures { result ≡ keyword_of (word_atoms source.now word.now) }
+    pub(crate) fn of(word: Word, text: &Text) -> Option<Keyword>
+        ensures { result ≡ keyword_of (word_atoms text.now word) }
     {
         Keyword::ALL
             .iter()
             .copied()
-            .find(|keyword| word.is_plain(source, keyword.text()))
+            .find(|keyword| word.is_plain(text, keyword.text()))
     }
 
     /// It ends a list of chains.

@@ -1,7 +1,7 @@
 -- The forms of a word, read part by part.
-use Rattle.std.specs.Prelude.{◌≡◌, ℕ, suc, ◌+◌, ◌-◌, ◌<◌, ◌≤◌, ◌==◌, Bool, true, false, List, [], ◌∷◌, ◌++◌, map, length, take, drop, Option, Some, None, is_some}
+use Rattle.std.specs.Prelude.{◌≡◌, ℕ, zero, suc, ◌+◌, ◌-◌, ◌<◌, ◌==◌, Bool, true, false, List, [], ◌∷◌, ◌++◌, map, length, take, drop, Option, Some, None, is_some}
 use Rattle.std.specs.Option.{option_map}
-use Rattle.std.proofs.Common.{refl, sym, ◌∙◌, ap, arith, append_assoc, length-take, length-drop, get_or, inl, inr, nat_eq}
+use Rattle.std.proofs.Common.{refl, sym, ◌∙◌, ap, arith, append_assoc, append-nil, length-take, length-drop, get_or, inl, inr, nat_eq}
 use Rattle.std.proofs.lemmas.Bool.{cases_Bool, and_left, both_ways, ne_eqb, and_parts}
 use Rattle.std.proofs.lemmas.List.{map-append, drop-take, drop-drop, take-take}
 use Rattle.std.proofs.Math.Seq.{drop-cons, take-suc}
@@ -9,10 +9,8 @@ use lib.Pointwise.{pointwise}
 use Rattle.hush_words.specs.Words.{Atom}
 use Rattle.hush_words.specs.Words.Atom.{Plain, Quoted, Mark, Value, Status}
 use Rattle.hush_words.specs.Forms.{is_plain, name_from, name_of, assignment_from, assignment_of, split_of}
-use Rattle.hush_words.specs.Parts.{span_bytes, part_atoms, atoms_of}
+use Rattle.hush_words.specs.Parts.{part_atoms, atoms_of}
 use Rattle.hush_words.specs.declared.parts.Part.{Part}
-use Rattle.hush_words.specs.declared.parts.Part.TheVariants as part
-use Rattle.hush_words.specs.declared.steps.Equals.{Equals}
 use Rattle.hush_words.specs.Reading.{front}
 use Rattle.hush_words.specs.Steps.{begins_otherwise, behind_front, PartAt, SplitsAt}
 use Rattle.hush_words.proofs.WordLemmas.{pushed-one}
@@ -73,29 +71,6 @@ pub nothing-plain : (text : List ℕ) → is_plain text [] ≡ (length text == 0
 unfolding is_plain
 nothing-plain [] = refl
 nothing-plain (t ∷ text) = sym (ne_eqb (length (t ∷ text)) 0 (λ e. omega arith))
-
--- the ranges before and behind a byte of a range
-pub span-front : (source : List ℕ) (start end len : ℕ) → len < length (take (end - start) (drop start source)) →
-    take (start + len - start) (drop start source) ≡ take len (take (end - start) (drop start source))
-span-front source start end len lt =
-    let xs : List ℕ = drop start source in
-    let small : len ≤ end - start = omega (arith, length-take (end - start) xs) in
-    let m : start + len - start ≡ len = omega arith in
-    ap (λ n. take n xs) m ∙ sym (take-take len (end - start) xs small)
-
-pub span-behind : (source : List ℕ) (start end len : ℕ) → len < length (take (end - start) (drop start source)) →
-    take (end - (start + len + 1)) (drop (start + len + 1) source) ≡ drop (len + 1) (take (end - start) (drop start source))
-span-behind source start end len lt =
-    let xs : List ℕ = drop start source in
-    let small : len < end - start = omega (arith, length-take (end - start) xs) in
-    let sum' : len + 1 + (end - (start + len + 1)) ≡ end - start = omega arith in
-    let at : start + (len + 1) ≡ start + len + 1 = omega arith in
-    sym (ap (λ n. drop (len + 1) (take n xs)) (sym sum') ∙ drop-take (len + 1) (end - (start + len + 1)) xs
-    ∙ ap (λ l. take (end - (start + len + 1)) l) (drop-drop (len + 1) start source ∙ ap (λ n. drop n source) at))
-
-pub span-fits : (source : List ℕ) (start end len : ℕ) → len < length (take (end - start) (drop start source)) → start + len < length source
-span-fits source start end len lt =
-    omega (arith, length-take (end - start) (drop start source), length-drop start source)
 
 -- through the parts of a word
 begun-some : (begun : Bool) → is_some (name_from begun []) ≡ begun
@@ -160,29 +135,55 @@ unfolding assignment_of
 equals-none source parts index begun front none kept =
     kept ∙ ap (λ l. behind_front front (assignment_from begun (atoms_of source l))) none
 
-pub equals-found : (source : List ℕ) (parts : List Part) (index : ℕ) (part : Part) (begun : Bool) (front : List ℕ) (name value : List ℕ) →
+pub equals-found : (source : List ℕ) (parts : List Part) (index : ℕ) (part : Part) (begun : Bool) (front : List ℕ) →
     PartAt parts index (Some part) → atoms_of source (take index parts) ≡ map Plain front →
     assignment_from false (atoms_of source parts) ≡ behind_front front (assignment_from begun (atoms_of source (drop index parts))) →
-    ((more : List Atom) → assignment_from begun (part_atoms source part ++ more) ≡ Some (name, map Plain value ++ more)) →
-    (n : List ℕ) × (atoms_of source (take index parts) ++ map Plain name ≡ map Plain n) ×
-    (assignment_of (atoms_of source parts) ≡ Some (n, map Plain value ++ atoms_of source (drop (index + 1) parts)))
+    ((more : List Atom) → assignment_from begun (part_atoms source part ++ more) ≡ Some ([], more)) →
+    (n : List ℕ) × (atoms_of source (take index parts) ≡ map Plain n) ×
+    (assignment_of (atoms_of source parts) ≡ Some (n, atoms_of source (drop (index + 1) parts)))
 unfolding assignment_of
-equals-found source parts index part begun front name value here read kept there = (
-  front ++ name,
-  ap (λ l. l ++ map Plain name) read ∙ sym (map-append Plain front name),
+equals-found source parts index part begun front here read kept there = (
+  front,
+  read,
   kept ∙ ap (λ l. behind_front front (assignment_from begun (atoms_of source l))) here.1
-      ∙ ap (behind_front front) (there (atoms_of source (drop (index + 1) parts))),
+      ∙ ap (behind_front front) (there (atoms_of source (drop (index + 1) parts)))
+      ∙ ap (λ l. Some (l, atoms_of source (drop (index + 1) parts))) (append-nil front),
 )
 
-pub sides : (source : List ℕ) (parts name value : List Part) (e : Equals) → SplitsAt source parts (Some e) →
-    name ≡ take e.part parts ++ part.Plain e.name ∷ [] → value ≡ part.Plain e.value ∷ drop (e.part + 1) parts →
+-- a word's two sides, as ranges of the same table
+pub sides : (source : List ℕ) (parts name value : List Part) (index : ℕ) → SplitsAt source parts (Some index) →
+    name ≡ take index parts → value ≡ drop (index + 1) parts →
     ◌≡◌ {A = Option (Option (List ℕ) × List Atom)} (Some (name_of (atoms_of source name), atoms_of source value)) (split_of (atoms_of source parts))
-sides source parts name value e (within, n, read, split) en ev =
-    let is = (assignment-told n (map Plain (span_bytes source e.value) ++ atoms_of source (drop (e.part + 1) parts)) (atoms_of source parts)).0 split in
-    let plain : atoms_of source name ≡ map Plain n = pushed-one source (take e.part parts) name (part.Plain e.name) en ∙ read in
-    let named : name_of (atoms_of source name) ≡ Some n = (name-told n (atoms_of source name)).1 (is.0, plain) in
+sides source parts name value index (within, n, read, split) en ev =
+    let is = (assignment-told n (atoms_of source (drop (index + 1) parts)) (atoms_of source parts)).0 split in
+    let named : name_of (atoms_of source name) ≡ Some n = (name-told n (atoms_of source name)).1 (is.0, ap (atoms_of source) en ∙ read) in
     ap (λ o. Some (o, atoms_of source value)) named ∙ ap (λ l. Some (Some n, l)) (ap (atoms_of source) ev)
     ∙ ap (λ o. option_map (λ f. (Some f.0, f.1)) o) (sym split)
 
-pub is-assignment : (source : List ℕ) (parts : List Part) (e : Equals) → SplitsAt source parts (Some e) → true ≡ is_some (assignment_of (atoms_of source parts))
-is-assignment source parts e (within, n, read, split) = sym (ap (λ o. is_some o) split)
+pub front-range : (table : List Part) (first len index : ℕ) → index < length (take len (drop first table)) →
+    take index (drop first table) ≡ take index (take len (drop first table))
+front-range table first len index lt =
+    sym (take-take index len (drop first table) (omega (arith, lt, length-take len (drop first table))))
+
+pub rest-range : (table : List Part) (first len index : ℕ) → index < length (take len (drop first table)) →
+    take (length (take len (drop first table)) - index - 1) (drop (first + index + 1) table) ≡ drop (index + 1) (take len (drop first table))
+rest-range table first len index lt =
+    let xs : List Part = drop first table in
+    let k : ℕ = length (take len xs) in
+    let size = length-take len xs in
+    let whole : take len xs ≡ take k xs = take-length len xs in
+    let sum' : index + 1 + (k - index - 1) ≡ k = omega (arith, lt) in
+    let at : first + (index + 1) ≡ first + index + 1 = omega arith in
+    sym (ap (drop (index + 1)) whole ∙ ap (λ n. drop (index + 1) (take n xs)) (sym sum') ∙ drop-take (index + 1) (k - index - 1) xs
+    ∙ ap (take (k - index - 1)) (drop-drop (index + 1) first table ∙ ap (λ n. drop n table) at))
+  where
+    take-length : (n : ℕ) (ys : List Part) → take n ys ≡ take (length (take n ys)) ys
+    take-length zero ys = refl
+    take-length (suc n) [] = refl
+    take-length (suc n) (y ∷ ys) = ap (λ l. y ∷ l) (take-length n ys)
+
+pub within-table : (table : List Part) (first len index : ℕ) → index < length (take len (drop first table)) → first + index < length table
+within-table table first len index lt = omega (arith, lt, length-take len (drop first table), length-drop first table)
+
+pub is-assignment : (source : List ℕ) (parts : List Part) (index : ℕ) → SplitsAt source parts (Some index) → true ≡ is_some (assignment_of (atoms_of source parts))
+is-assignment source parts index (within, n, read, split) = sym (ap (λ o. is_some o) split)

@@ -16,3 +16,5 @@ pub mod WordOpens
 pub mod NameRuns
 pub mod FormLemmas
 pub mod Rows
+pub mod RangeLemmas
+pub mod PlainRuns

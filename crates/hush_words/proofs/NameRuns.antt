@@ -1,8 +1,9 @@
 -- What a range of plain bytes is to a name and to an assignment.
 use Rattle.std.specs.Prelude.{◌≡◌, ℕ, suc, ◌+◌, ◌-◌, ◌<◌, ◌≤◌, ◌==◌, ◌||◌, ◌&&◌, Bool, true, false, not, List, [], ◌∷◌, ◌++◌, map, length, take, drop, Option, Some, None}
+use Rattle.std.specs.List.{list_all}
 use Rattle.std.specs.Option.{option_map}
-use Rattle.std.proofs.Common.{refl, sym, ◌∙◌, ap, subst, arith, append-nil, length-take, get_or, inl, inr}
-use Rattle.std.proofs.lemmas.Bool.{cases_Bool, not-true, ne_eqb, cond-true, cond-false}
+use Rattle.std.proofs.Common.{refl, sym, ◌∙◌, ap, subst, arith, length-take, get_or, inl, inr}
+use Rattle.std.proofs.lemmas.Bool.{cases_Bool, not-true, ne_eqb, cond-true, cond-false, and_right}
 use Rattle.std.proofs.lemmas.List.{take_all, drop_all}
 use Rattle.std.proofs.Math.Seq.{drop-cons}
 use Rattle.hush_words.specs.Words.{Atom, is_in_name, next}
@@ -12,6 +13,7 @@ use Rattle.hush_words.specs.Reading.{front, behind}
 use Rattle.hush_words.specs.Steps.{name_front, name_behind, behind_front, behind_name, StandsAt, IsRun}
 use Rattle.hush_words.proofs.DollarLemmas.{in_name}
 use Rattle.hush_words.proofs.Fronts.{behind-next}
+use Rattle.hush_words.proofs.RangeLemmas.{none-there}
 
 -- names
 shifted-name : (b : ℕ) (front : List ℕ) (o : Option (List ℕ)) → option_map (λ n. b ∷ n) (behind_name front o) ≡ behind_name (b ∷ front) o
@@ -173,7 +175,7 @@ stopped begun goes bytes len ek er within short is more =
           ∙ ap (behind_front (take len bytes)) (cond-false (goes_on goes c) (option_map (with_byte c) (assignment_from true back)) (value_from goes c back) off),
     )
 
-pub range-stops : (begun goes : Bool) (bytes : List ℕ) (len : ℕ) → take len bytes ≡ name_front begun bytes → drop len bytes ≡ name_behind begun bytes →
+range-stops : (begun goes : Bool) (bytes : List ℕ) (len : ℕ) → take len bytes ≡ name_front begun bytes → drop len bytes ≡ name_behind begun bytes →
     len ≤ length bytes → (len ≡ length bytes → ⊥) → goes ≡ begun || not (len == 0) → goes && get_or bytes len 0 == 61 ≡ false →
     ((more : List Atom) → name_from begun (map Plain bytes ++ more) ≡ None) × ((more : List Atom) → assignment_from begun (map Plain bytes ++ more) ≡ None)
 range-stops begun goes bytes len ek er within short is no' = (
@@ -182,18 +184,12 @@ range-stops begun goes bytes len ek er within short is no' = (
       ∙ ap (behind_front (take len bytes)) (cond-false (goes && get_or bytes len 0 == 61) (Some ([], map Plain (drop (len + 1) bytes) ++ more)) None no'),
 )
 
-pub range-splits : (begun goes : Bool) (bytes : List ℕ) (len : ℕ) (name value : List ℕ) → take len bytes ≡ name_front begun bytes →
-    drop len bytes ≡ name_behind begun bytes → len ≤ length bytes → (len ≡ length bytes → ⊥) → goes ≡ begun || not (len == 0) →
-    goes && get_or bytes len 0 == 61 ≡ true → name ≡ take len bytes → value ≡ drop (len + 1) bytes →
-    ((more : List Atom) → name_from begun (map Plain bytes ++ more) ≡ None) ×
-    ((more : List Atom) → assignment_from begun (map Plain bytes ++ more) ≡ Some (name, map Plain value ++ more))
-range-splits begun goes bytes len name value ek er within short is yes' en ev = (
-  λ more. (stopped begun goes bytes len ek er within short is more).0,
-  λ more. (stopped begun goes bytes len ek er within short is more).1
-      ∙ ap (behind_front (take len bytes)) (cond-true (goes && get_or bytes len 0 == 61) (Some ([], map Plain (drop (len + 1) bytes) ++ more)) None yes')
-      ∙ ap (λ l. Some (l, map Plain (drop (len + 1) bytes) ++ more)) (append-nil (take len bytes) ∙ sym en)
-      ∙ ap (λ l. Some (name, map Plain l ++ more)) (sym ev),
-)
+pub no_equals-stops : (begun : Bool) (bytes : List ℕ) (len : ℕ) → list_all (λ b. not (b == 61)) bytes ≡ true → take len bytes ≡ name_front begun bytes →
+    drop len bytes ≡ name_behind begun bytes → len ≤ length bytes → (len ≡ length bytes → ⊥) →
+    ((more : List Atom) → name_from begun (map Plain bytes ++ more) ≡ None) × ((more : List Atom) → assignment_from begun (map Plain bytes ++ more) ≡ None)
+no_equals-stops begun bytes len none ek er within short =
+    let goes : Bool = begun || not (len == 0) in
+    range-stops begun goes bytes len ek er within short refl (and_right goes (get_or bytes len 0 == 61) (none-there bytes len (omega (arith, within, short)) none))
 
 -- the first byte that goes on with a name is one of a name
 pub front-run : (begun : Bool) (b : ℕ) (bs : List ℕ) → goes_on begun b ≡ true →

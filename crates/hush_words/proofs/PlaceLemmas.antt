@@ -4,6 +4,7 @@ use Rattle.std.specs.Option.{option_map}
 use Rattle.std.proofs.Common.{refl, sym, ◌∙◌, ap, subst, arith, append-nil, length-append, length-drop}
 use Rattle.hush_words.specs.Tokens.{Token, Lexeme, lexeme_text, lexeme_tokens, FitsLexeme, has_no_nul}
 use Rattle.hush_words.specs.Reading.{Found, found, all, lexeme_at, places_from, token_places}
+use Rattle.hush_words.specs.Parts.{Written}
 use Rattle.hush_words.specs.Steps.{lexeme_read, optional_token, optional_place, places_left}
 use Rattle.hush_words.specs.declared.tokens.TokenKind.{TokenKind}
 use Rattle.hush_words.proofs.Many.{FoundFits, all-some, all-none}
@@ -30,16 +31,16 @@ places-found source at end ts (Some f) e lt within h =
     ∙ ap (λ n. map (λ (t : Token). at) (lexeme_tokens f.0) ++ places_from n (all lexeme_at f.1).0) sum
     ∙ ap (λ v. map (λ (t : Token). at) v.0 ++ places_from end (all lexeme_at v.1).0) w
 
-one-place : (source : List ℕ) (at : ℕ) (kind : Option TokenKind) → map (λ (t : Token). at) (optional_token source kind) ≡ optional_place at kind
-one-place source at None = refl
-one-place source at (Some kind) = refl
+one-place : (text : Written) (at : ℕ) (kind : Option TokenKind) → map (λ (t : Token). at) (optional_token text kind) ≡ optional_place at kind
+one-place text at None = refl
+one-place text at (Some kind) = refl
 
-pub places-read : (source : List ℕ) (at end : ℕ) (kind : Option TokenKind) → at < end → end ≤ length source →
-    option_map lexeme_read (lexeme_at (drop at source)) ≡ Some (optional_token source kind, drop end source) →
+pub places-read : (source : List ℕ) (text : Written) (at end : ℕ) (kind : Option TokenKind) → at < end → end ≤ length source →
+    option_map lexeme_read (lexeme_at (drop at source)) ≡ Some (optional_token text kind, drop end source) →
     places_left at (drop at source) ≡ optional_place at kind ++ places_left end (drop end source)
-places-read source at end kind lt within h =
-    places-found source at end (optional_token source kind) (lexeme_at (drop at source)) refl lt within h
-    ∙ ap (λ l. l ++ places_left end (drop end source)) (one-place source at kind)
+places-read source text at end kind lt within h =
+    places-found source at end (optional_token text kind) (lexeme_at (drop at source)) refl lt within h
+    ∙ ap (λ l. l ++ places_left end (drop end source)) (one-place text at kind)
 
 -- the places of a whole text
 places-whole : (source : List ℕ) → has_no_nul source ≡ true → token_places source ≡ places_left 0 source

@@ -1,9 +1,9 @@
 -- What is left to read of a text, by what stands at a place.
-use Rattle.std.specs.Prelude.{◌≡◌, ℕ, zero, suc, ◌+◌, ◌<◌, ◌==◌, ◌&&◌, Bool, true, false, not, List, [], ◌∷◌, ◌++◌, length, drop, Some, None}
+use Rattle.std.specs.Prelude.{◌≡◌, ℕ, zero, suc, ◌+◌, ◌<◌, ◌==◌, ◌&&◌, ◌||◌, Bool, true, false, not, List, [], ◌∷◌, ◌++◌, length, drop, Some, None, ◌⊎◌}
 use Rattle.std.specs.List.{flat_map, list_all}
 use Rattle.std.specs.Option.{option_map}
-use Rattle.std.proofs.Common.{refl, sym, ◌∙◌, ap, subst, arith, append_assoc, append-nil, get_or}
-use Rattle.std.proofs.lemmas.Bool.{ne_eqb, not_from_true, and_parts, and_left, and_right}
+use Rattle.std.proofs.Common.{refl, sym, ◌∙◌, ap, subst, arith, append_assoc, append-nil, get_or, inl, inr}
+use Rattle.std.proofs.lemmas.Bool.{ne_eqb, eqb-true, eq-eqb, both_ways, or_cases, or_parts, not_from_true, and_parts, and_left, and_right}
 use Rattle.std.proofs.lemmas.List.{take_all}
 use Rattle.memchr.specs.Find.{IsFirstByte, is_byte}
 use Rattle.hush_words.proofs.Runs.{found-none}
@@ -66,13 +66,13 @@ and-twice source at e =
     let two : at + 1 + 1 ≡ at + 2 = omega arith in
     closed-here 38 And source (at + 1) e ∙ ap (λ n. found And (drop n source)) two
 
-pub and-there : (source : List ℕ) (at : ℕ) → StandsAt source at 38 → begins 38 (drop (at + 1) source) ≡ true →
+and-there : (source : List ℕ) (at : ℕ) → StandsAt source at 38 → begins 38 (drop (at + 1) source) ≡ true →
     option_map lexeme_read (lexeme_at (drop at source)) ≡ Some (Token.AndIf ∷ [], drop (at + 2) source)
 and-there source at here e =
     ap (λ l. option_map lexeme_read (lexeme_at l)) here.1
     ∙ ap (λ o. option_map lexeme_read o) (lexeme-and (drop (at + 1) source) ∙ and-twice source at e)
 
-pub and-single : (source : List ℕ) (at : ℕ) → StandsAt source at 38 → begins 38 (drop (at + 1) source) ≡ false → lexeme_at (drop at source) ≡ None
+and-single : (source : List ℕ) (at : ℕ) → StandsAt source at 38 → begins 38 (drop (at + 1) source) ≡ false → lexeme_at (drop at source) ≡ None
 and-single source at here e = ap lexeme_at here.1 ∙ lexeme-and (drop (at + 1) source) ∙ closed-not 38 And (drop (at + 1) source) e
 
 or-twice : (source : List ℕ) (at : ℕ) → begins 124 (drop (at + 1) source) ≡ true → closed 124 Or (drop (at + 1) source) ≡ found Or (drop (at + 2) source)
@@ -80,14 +80,49 @@ or-twice source at e =
     let two : at + 1 + 1 ≡ at + 2 = omega arith in
     closed-here 124 Or source (at + 1) e ∙ ap (λ n. found Or (drop n source)) two
 
-pub or-there : (source : List ℕ) (at : ℕ) → StandsAt source at 124 → begins 124 (drop (at + 1) source) ≡ true →
+or-there : (source : List ℕ) (at : ℕ) → StandsAt source at 124 → begins 124 (drop (at + 1) source) ≡ true →
     option_map lexeme_read (lexeme_at (drop at source)) ≡ Some (Token.OrIf ∷ [], drop (at + 2) source)
 or-there source at here e =
     ap (λ l. option_map lexeme_read (lexeme_at l)) here.1
     ∙ ap (λ o. option_map lexeme_read o) (lexeme-or (drop (at + 1) source) ∙ or-twice source at e)
 
-pub or-single : (source : List ℕ) (at : ℕ) → StandsAt source at 124 → begins 124 (drop (at + 1) source) ≡ false → lexeme_at (drop at source) ≡ None
+or-single : (source : List ℕ) (at : ℕ) → StandsAt source at 124 → begins 124 (drop (at + 1) source) ≡ false → lexeme_at (drop at source) ≡ None
 or-single source at here e = ap lexeme_at here.1 ∙ lexeme-or (drop (at + 1) source) ∙ closed-not 124 Or (drop (at + 1) source) e
+
+-- `&&` and `||`
+operator-by : (b : ℕ) → (b == 38 || b == 124) ≡ true → (b ≡ 38) ⊎ (b ≡ 124)
+operator-by b e = elim (or_cases (b == 38) (b == 124) e) [ inl h ↦ inl (eqb-true b 38 h) | inr h ↦ inr (eqb-true b 124 h) ]
+
+pub no-operator : (b : ℕ) → (b == 38 || b == 124) ≡ false → (b ≡ 38 → ⊥) × (b ≡ 124 → ⊥)
+no-operator b e =
+    let p = or_parts (b == 38) (b == 124) e in
+    (λ h. both_ways (b == 38) p.0 (eq-eqb b 38 h), λ h. both_ways (b == 124) p.1 (eq-eqb b 124 h))
+
+single-by : (source : List ℕ) (at b : ℕ) → StandsAt source at b → (b ≡ 38) ⊎ (b ≡ 124) → begins b (drop (at + 1) source) ≡ false →
+    lexeme_at (drop at source) ≡ None
+single-by source at b here (inl e) stop =
+    and-single source at (subst (StandsAt source at) e here) (ap (λ k. begins k (drop (at + 1) source)) (sym e) ∙ stop)
+single-by source at b here (inr e) stop =
+    or-single source at (subst (StandsAt source at) e here) (ap (λ k. begins k (drop (at + 1) source)) (sym e) ∙ stop)
+
+pub and-read : (source : List ℕ) (at b : ℕ) → StandsAt source at b → b ≡ 38 → begins b (drop (at + 1) source) ≡ true →
+    option_map lexeme_read (lexeme_at (drop at source)) ≡ Some (Token.AndIf ∷ [], drop (at + 2) source)
+and-read source at b here e twice =
+    and-there source at (subst (StandsAt source at) e here) (ap (λ k. begins k (drop (at + 1) source)) (sym e) ∙ twice)
+
+or-by : (source : List ℕ) (at b : ℕ) → StandsAt source at b → (b ≡ 38) ⊎ (b ≡ 124) → (b ≡ 38 → ⊥) → begins b (drop (at + 1) source) ≡ true →
+    option_map lexeme_read (lexeme_at (drop at source)) ≡ Some (Token.OrIf ∷ [], drop (at + 2) source)
+or-by source at b here (inl e) other twice = absurd (other e)
+or-by source at b here (inr e) other twice =
+    or-there source at (subst (StandsAt source at) e here) (ap (λ k. begins k (drop (at + 1) source)) (sym e) ∙ twice)
+
+pub operator-single : (source : List ℕ) (at b : ℕ) → StandsAt source at b → (b == 38 || b == 124) ≡ true → begins b (drop (at + 1) source) ≡ false →
+    lexeme_at (drop at source) ≡ None
+operator-single source at b here is stop = single-by source at b here (operator-by b is) stop
+
+pub or-read : (source : List ℕ) (at b : ℕ) → StandsAt source at b → (b == 38 || b == 124) ≡ true → (b ≡ 38 → ⊥) → begins b (drop (at + 1) source) ≡ true →
+    option_map lexeme_read (lexeme_at (drop at source)) ≡ Some (Token.OrIf ∷ [], drop (at + 2) source)
+or-read source at b here is other twice = or-by source at b here (operator-by b is) other twice
 
 pub comment-there : (source : List ℕ) (at b end : ℕ) → StandsAt source at b → b ≡ 35 → IsRun (λ k. not (k == 10)) source (at + 1) end →
     option_map lexeme_read (lexeme_at (drop at source)) ≡ Some ([], drop end source)

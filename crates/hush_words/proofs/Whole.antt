@@ -1,13 +1,14 @@
 -- The tokens of a text are those that are read of it.
-use Rattle.std.specs.Prelude.{◌≡◌, ℕ, true, List, [], ◌∷◌, ◌++◌, Some, None, length}
+use Rattle.std.specs.Prelude.{◌≡◌, ℕ, true, List, [], ◌∷◌, ◌++◌, Option, Some, None, length}
 use Rattle.std.specs.List.{flat_map}
 use Rattle.std.proofs.Common.{refl, sym, ◌∙◌, ap, subst, arith, append-nil}
 use Rattle.hush_words.specs.Words.{FitAll}
 use Rattle.hush_words.specs.Tokens.{Token, Lexeme, lexeme_text, FitsLexeme, HasTokens, has_no_nul}
-use Rattle.hush_words.specs.Reading.{all, lexeme_at, passed_at, tokens_if_whole, tokens_of}
+use Rattle.hush_words.specs.Laws.{FrontIsRead}
+use Rattle.hush_words.specs.Reading.{all, lexeme_at, passed_at, tokens_if_whole, tokens_of, tokens_before_fault, token_places}
 use Rattle.hush_words.proofs.Fronts.{on_test}
-use Rattle.hush_words.proofs.Many.{many-list, many-fits, Fitting}
-use Rattle.hush_words.proofs.Lexemes.{lexeme-heads, lexeme-takes, lexeme-finds}
+use Rattle.hush_words.proofs.Many.{many-list, many-fits, many-stops, Fitting}
+use Rattle.hush_words.proofs.Lexemes.{lexeme-heads, lexeme-takes, lexeme-finds, lexeme-shortens}
 
 nothing-at : lexeme_at [] ≡ None
 unfolding lexeme_at passed_at
@@ -42,3 +43,18 @@ both-lists text ts us h k =
     let e = tokens-found text ts h in
     let f = tokens-found text us k in
     cc
+
+pub front-told : FrontIsRead
+unfolding tokens_before_fault token_places
+front-told text clean =
+    let q : List Lexeme × List ℕ = all lexeme_at text in
+    let fit : Fitting lexeme_text FitsLexeme text q = many-fits lexeme_text FitsLexeme lexeme_at lexeme-finds (length text) text in
+    let stops : lexeme_at q.1 ≡ None = many-stops lexeme_at lexeme-shortens (length text) text (omega arith) in (
+      q.0,
+      q.1,
+      fit.0,
+      fit.1,
+      λ l after e f. let there : lexeme_at q.1 ≡ Some (l, after) = ap lexeme_at e ∙ lexeme-heads l after f in absurd (let none : ◌≡◌ {A = Option (Lexeme × List ℕ)} None (Some (l, after)) = sym stops ∙ there in cc),
+      rw clean refl,
+      rw clean refl,
+    )

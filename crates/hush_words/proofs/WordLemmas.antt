@@ -1,15 +1,16 @@
 -- What is left to read of a word.
-use Rattle.std.specs.Prelude.{◌≡◌, ℕ, ◌+◌, ◌-◌, ◌==◌, true, false, List, [], ◌∷◌, ◌++◌, map, take, drop, Some, None, Ok}
-use Rattle.std.specs.List.{flat_map}
+use Rattle.std.specs.Prelude.{◌≡◌, ℕ, ◌+◌, ◌-◌, ◌≤◌, ◌==◌, true, false, List, [], ◌∷◌, ◌++◌, map, take, drop, Some, None, Ok}
+use Rattle.std.specs.List.{flat_map, list_all}
 use Rattle.std.specs.Option.{option_map}
 use Rattle.std.proofs.Common.{refl, sym, ◌∙◌, ap, arith, append_assoc, append-nil, inl, inr}
-use Rattle.std.proofs.lemmas.Bool.{cases_Bool, ne_eqb, not_from_false, or_from, or_cases, eqb-true, both_ways}
+use Rattle.std.proofs.lemmas.Bool.{and_parts, ne_eqb, not_from_false, or_from, or_cases, eqb-true, both_ways}
+use Rattle.std.proofs.lemmas.List.{drop-drop, take-append-drop, append_cancel_left}
 use Rattle.hush_words.specs.Words.{Atom, Piece, Dollar, dollar_atom, piece_atoms, is_bare, is_special, ends_word, next}
 use Rattle.hush_words.specs.Words.Atom.{Plain}
 use Rattle.hush_words.specs.Words.Piece.{Bare, Escaped, Joined}
-use Rattle.hush_words.specs.Reading.{Found, found, front, behind, as_piece, dollar_at, escape_at, piece_at}
+use Rattle.hush_words.specs.Reading.{Found, found, as_piece, dollar_at, escape_at, piece_at}
 use Rattle.hush_words.specs.Parts.{part_atoms, atoms_of}
-use Rattle.hush_words.specs.Steps.{StandsAt, IsRun, dollar_read, piece_read, piece_left, piece_end, ReadsPieces}
+use Rattle.hush_words.specs.Steps.{StandsAt, dollar_read, piece_read, piece_left, piece_end, ReadsPieces}
 use Rattle.hush_words.specs.declared.parts.Part.{Part}
 use Rattle.hush_words.proofs.Many.{all-some, all-none}
 use Rattle.hush_words.proofs.Pieces.{piece-shortens, piece-bare, piece-dollar, piece-backslash, escape-other, escape-newline}
@@ -28,17 +29,15 @@ piece-none bs e =
     let q = all-none piece_at bs e in
     (ap (λ w. flat_map piece_atoms w.0) q, ap (λ w. w.1) q)
 
-pub piece-run : (bs : List ℕ) →
-    (piece_left bs ≡ map Plain (front is_bare bs) ++ piece_left (behind is_bare bs)) × (piece_end bs ≡ piece_end (behind is_bare bs))
-piece-run [] = (refl, refl)
-piece-run (b ∷ bs) =
-    elim (cases_Bool (is_bare b)) [
-      | inl e ↦
-          let one = piece-one (b ∷ bs) (Bare b) bs (piece-bare b bs e) in
-          let more = piece-run bs in
-          (rw e (one.0 ∙ ap (λ l. Plain b ∷ l) more.0), rw e (one.1 ∙ more.1))
-      | inr e ↦ (rw e refl, rw e refl)
-    ]
+-- bytes that stand for themselves, one piece each
+pub piece-run : (run rest : List ℕ) → list_all is_bare run ≡ true →
+    (piece_left (run ++ rest) ≡ map Plain run ++ piece_left rest) × (piece_end (run ++ rest) ≡ piece_end rest)
+piece-run [] rest all = (refl, refl)
+piece-run (b ∷ bs) rest all =
+    let p = and_parts (is_bare b) (list_all is_bare bs) all in
+    let one = piece-one (b ∷ bs ++ rest) (Bare b) (bs ++ rest) (piece-bare b (bs ++ rest) p.0) in
+    let more = piece-run bs rest p.1 in
+    (one.0 ∙ ap (λ l. Plain b ∷ l) more.0, one.1 ∙ more.1)
 
 pieces-found : (old new : List Atom) (bs rest : List ℕ) (o : Found Piece) → piece_at bs ≡ o →
     option_map (piece_read old) o ≡ Some (new, rest) →
@@ -61,19 +60,18 @@ pushed-one source old new p e =
     ap (atoms_of source) e ∙ atoms-append source old (p ∷ []) ∙ ap (λ l. atoms_of source old ++ l) (append-nil (part_atoms source p))
 
 -- a run of bare bytes as one part
-pub run-pushed : (source : List ℕ) (start end : ℕ) (old new : List Atom) → IsRun is_bare source start end →
+pub run-pushed : (source : List ℕ) (start end : ℕ) (old new : List Atom) → start ≤ end → list_all is_bare (take (end - start) (drop start source)) ≡ true →
     new ≡ old ++ map Plain (take (end - start) (drop start source)) →
     (new ++ piece_left (drop end source) ≡ old ++ piece_left (drop start source)) × (piece_end (drop end source) ≡ piece_end (drop start source))
-run-pushed source start end old new run e =
-    let r = piece-run (drop start source) in
-    let same : take (end - start) (drop start source) ≡ front is_bare (drop start source) = run.2 in
-    let rest : drop end source ≡ behind is_bare (drop start source) = run.3 in (
-      ap (λ l. l ++ piece_left (drop end source)) e
-          ∙ append_assoc old (map Plain (take (end - start) (drop start source))) (piece_left (drop end source))
-          ∙ ap (λ l. old ++ (map Plain l ++ piece_left (drop end source))) same
-          ∙ ap (λ l. old ++ (map Plain (front is_bare (drop start source)) ++ piece_left l)) rest
-          ∙ ap (λ l. old ++ l) (sym r.0),
-      ap piece_end rest ∙ sym r.1,
+run-pushed source start end old new ordered bare e =
+    let run : List ℕ = take (end - start) (drop start source) in
+    let r = piece-run run (drop end source) bare in
+    let place : start + (end - start) ≡ end = omega arith in
+    let whole : run ++ drop end source ≡ drop start source =
+    ap (λ l. run ++ l) (sym (drop-drop (end - start) start source ∙ ap (λ n. drop n source) place)) ∙ take-append-drop (end - start) (drop start source) in (
+      ap (λ l. l ++ piece_left (drop end source)) e ∙ append_assoc old (map Plain run) (piece_left (drop end source))
+          ∙ ap (λ l. old ++ l) (sym r.0 ∙ ap piece_left whole),
+      sym r.1 ∙ ap piece_end whole,
     )
 
 pub bare-by : (b : ℕ) → ends_word b ≡ false → is_special b ≡ false → is_bare b ≡ true
@@ -136,9 +134,13 @@ last-special b e d s q =
     let rest = rw (f, h) at e in
     elim (or_cases (b == 34) _ rest) [ inl w ↦ eqb-true b 34 w | inr w ↦ absurd (both_ways _ (or_from (b == 92) false g refl) w) ]
 
-pub word-whole : (source : List ℕ) (start at : ℕ) (old new : List Atom) → ReadsPieces source at old new (Ok None) →
-    old ++ piece_left (drop at source) ≡ piece_left (drop start source) → piece_end (drop at source) ≡ piece_end (drop start source) →
-    (new ≡ piece_left (drop start source)) × (piece_end (drop start source) ≡ drop at source) × (next ends_word (drop at source) ≡ true)
-word-whole source start at old new h read ends =
+-- where a word ends, all of it is read
+pub word-whole : (source : List ℕ) (start at : ℕ) (first new : List Part) (old : List Atom) → ReadsPieces source at old (atoms_of source new) (Ok None) →
+    (tail : List Part) → new ≡ first ++ tail →
+    old ++ piece_left (drop at source) ≡ atoms_of source first ++ piece_left (drop start source) → piece_end (drop at source) ≡ piece_end (drop start source) →
+    (atoms_of source tail ≡ piece_left (drop start source)) × (piece_end (drop start source) ≡ drop at source) × (next ends_word (drop at source) ≡ true)
+word-whole source start at first new old h tail e read ends =
     let none = piece-none (drop at source) h.1 in
-    (h.0 ∙ sym (append-nil old) ∙ ap (λ l. old ++ l) (sym none.0) ∙ read, sym ends ∙ none.1, h.2)
+    let whole : atoms_of source first ++ atoms_of source tail ≡ atoms_of source first ++ piece_left (drop start source) =
+    sym (ap (atoms_of source) e ∙ atoms-append source first tail) ∙ h.0 ∙ sym (append-nil old) ∙ ap (λ l. old ++ l) (sym none.0) ∙ read in
+    (append_cancel_left (atoms_of source first) (atoms_of source tail) (piece_left (drop start source)) whole, sym ends ∙ none.1, h.2)

@@ -10,6 +10,7 @@ use Rattle.hush_words.specs.Tokens.{Token, Lexeme, lexeme_tokens, opens_word}
 use Rattle.hush_words.specs.Tokens.Token.{Word}
 use Rattle.hush_words.specs.Reading.{Found, found, front, behind, all, closed, as_piece, dollar_at, inner_at, escape_at, single_at, double_at, piece_at, word_of, joined_line, passed_at, lexeme_at}
 use Rattle.hush_words.specs.Steps.{begins, StandsAt, lexeme_read, piece_left, piece_end, ReadsPieces, ReadsLexeme}
+use Rattle.hush_words.specs.declared.parts.Part.{Part}
 use Rattle.hush_words.specs.declared.steps.Stop.{Stop}
 use Rattle.hush_words.specs.declared.steps.Stop.TheVariants as stop
 use Rattle.hush_words.proofs.Fronts.{on_test}
@@ -155,8 +156,8 @@ no-word-token source at b here inside comment line going =
     word-not (drop at source) (piece_at (drop at source)) refl opens passed going
 
 pub refused-word : (source : List ℕ) (at b : ℕ) → StandsAt source at b → ends_word b ≡ false → (b ≡ 35 → ⊥) →
-    begins 92 (drop at source) && begins 10 (drop (at + 1) source) ≡ false → (here : ℕ) (old new : List Atom) (s : Stop) →
-    ReadsPieces source here old new (Err s) → piece_end (drop here source) ≡ piece_end (drop at source) → ReadsLexeme source at (Err s)
-refused-word source at b stands inside comment line here old new (stop.Fault f) h e =
+    begins 92 (drop at source) && begins 10 (drop (at + 1) source) ≡ false → (here : ℕ) (old new : List Atom) (parts : List Part) (s : Stop) →
+    ReadsPieces source here old new (Err s) → piece_end (drop here source) ≡ piece_end (drop at source) → ReadsLexeme source at parts (Err s)
+refused-word source at b stands inside comment line here old new parts (stop.Fault f) h e =
     no-word-token source at b stands inside comment line (ap (next ends_word) (sym e ∙ (piece-none (drop here source) h.0).1) ∙ h.1)
-refused-word source at b stands inside comment line here old new (stop.Memory m) h e = tt
+refused-word source at b stands inside comment line here old new parts (stop.Memory m) h e = tt

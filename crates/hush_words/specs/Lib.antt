@@ -2,6 +2,8 @@ pub mod Words
 pub mod Tokens
 pub mod Reading
 pub mod Parts
+pub mod Ranges
+pub mod Views
 pub mod Laws
 pub mod Forms
 pub mod Steps

@@ -1,7 +1,7 @@
 -- What the readers of this crate promise each other: a reader stands at a place of the source, and says what was
 -- read there and where it went on from.
-use Rattle.std.specs.Prelude.{◌≡◌, ℕ, ◌+◌, ◌-◌, ◌<◌, ◌≤◌, ◌==◌, Bool, true, false, if◌then◌else◌, List, [], ◌∷◌, ◌++◌, map, Option, Some, None, Result, Ok, Err, length, take, drop}
-use Rattle.std.specs.List.{flat_map}
+use Rattle.std.specs.Prelude.{◌≡◌, ℕ, ◌+◌, ◌-◌, ◌<◌, ◌≤◌, ◌==◌, Bool, true, false, not, ◌&&◌, if◌then◌else◌, List, [], ◌∷◌, ◌++◌, map, Option, Some, None, Result, Ok, Err, length, take, drop}
+use Rattle.std.specs.List.{flat_map, list_all}
 use Rattle.std.specs.Option.{option_map}
 use Rattle.hush_words.specs.Words.{Atom, Piece, Dollar, byte_atom, dollar_atom, inner_atoms, piece_atoms, ends_word, is_in_name, is_in_braces, is_bare, is_inner, next}
 use Rattle.hush_words.specs.Tokens.{Lexeme, lexeme_tokens}
@@ -9,7 +9,9 @@ use Rattle.hush_words.specs.Tokens as tokens
 use Rattle.hush_words.specs.Reading.{Found, front, behind, all, braces, dollar_at, inner_at, piece_at, lexeme_at, places_from}
 use Rattle.hush_words.specs.Words.Atom.{Plain, Quoted, Mark, Value, Status}
 use Rattle.hush_words.specs.Forms.{is_plain, goes_on, name_from, assignment_from, assignment_of}
-use Rattle.hush_words.specs.Parts.{span_bytes, part_atoms, atoms_of, kind_token}
+use Rattle.hush_words.specs.Parts.{Written, written, span_bytes, part_atoms, atoms_of}
+use Rattle.hush_words.specs.Views.{kind_token}
+use Rattle.hush_words.specs.Ranges.{IsWithin, IsSplit, AllFit}
 use Rattle.hush_words.specs.declared.classes.Class.{Class}
 use Rattle.hush_words.specs.declared.classes.Class.TheVariants as class
 use Rattle.hush_words.specs.declared.parts.Part.{Part}
@@ -19,13 +21,12 @@ use Rattle.hush_words.specs.declared.steps.Stop.TheVariants as stop
 use Rattle.hush_words.specs.declared.steps.PartRead.{PartRead}
 use Rattle.hush_words.specs.declared.steps.InnerRead.{InnerRead}
 use Rattle.hush_words.specs.declared.steps.LexemeRead.{LexemeRead}
-use Rattle.hush_words.specs.declared.steps.Equals.{Equals}
 use Rattle.hush_words.specs.declared.steps.Scan.{Scan}
 use Rattle.hush_words.specs.declared.steps.Scan.TheVariants as scan
 use Rattle.hush_words.specs.declared.parts.Span.{Span}
 
 abbrev pub passes : Class → ℕ → Bool
-passes class.Bare b = is_bare b
+passes class.Bare b = is_bare b && not (b == 61)
 passes class.Inner b = is_inner b
 passes class.Name b = is_in_name b
 passes class.Braces b = is_in_braces b
@@ -120,6 +121,30 @@ abbrev pub optional_part : Option Part → List Part
 optional_part None = []
 optional_part (Some part) = part ∷ []
 
+-- parts of this source came behind those that were there
+abbrev pub Added : List ℕ → List Part → List Part → Type 0
+Added source old new = (more : List Part) × (new ≡ old ++ more) × AllFit source more
+
+-- the same where the reader came to an end, or to a fault
+abbrev pub Adds : {X : Type 0} → List ℕ → List Part → List Part → Result X Stop → Type 0
+Adds source old new (Ok x) = Added source old new
+Adds source old new (Err (stop.Fault f)) = Added source old new
+Adds source old new (Err (stop.Memory e)) = Unit {0}
+
+abbrev pub FitsInner : List ℕ → Option InnerRead → Type 0
+FitsInner source None = Unit {0}
+FitsInner source (Some r) = AllFit source (optional_part r.part)
+
+-- bytes that stand for themselves, as one part
+abbrev pub IsPlainRun : List ℕ → ℕ → ℕ → Type 0
+IsPlainRun source start end =
+    (start < end) × (end ≤ length source) × (list_all is_bare (take (end - start) (drop start source)) ≡ true) ×
+    IsSplit (take (end - start) (drop start source))
+
+-- a range of plain bytes
+abbrev pub IsSplitRange : List ℕ → Span → Type 0
+IsSplitRange source span = IsWithin source span × IsSplit (span_bytes source span)
+
 -- the pieces at a place; none where the word ends, a fault where something else stands
 abbrev pub ReadsPieces : List ℕ → ℕ → List Atom → List Atom → Result (Option ℕ) Stop → Type 0
 ReadsPieces source at old new (Ok (Some end)) =
@@ -132,9 +157,9 @@ ReadsPieces source at old new (Err (stop.Fault f)) =
     (piece_at (drop at source) ≡ None) × (next ends_word (drop at source) ≡ false)
 ReadsPieces source at old new (Err (stop.Memory e)) = Unit {0}
 
-abbrev pub optional_token : List ℕ → Option TokenKind → List tokens.Token
-optional_token source None = []
-optional_token source (Some kind) = kind_token source kind ∷ []
+abbrev pub optional_token : Written → Option TokenKind → List tokens.Token
+optional_token text None = []
+optional_token text (Some kind) = kind_token text kind ∷ []
 
 abbrev pub optional_place : ℕ → Option TokenKind → List ℕ
 optional_place at None = []
@@ -143,12 +168,16 @@ optional_place at (Some kind) = at ∷ []
 abbrev pub lexeme_read : Lexeme × List ℕ → List tokens.Token × List ℕ
 lexeme_read f = (lexeme_tokens f.0, f.1)
 
-abbrev pub ReadsLexeme : List ℕ → ℕ → Result LexemeRead Stop → Type 0
-ReadsLexeme source at (Ok r) =
+-- a lexeme, whatever parts come behind those of its word
+abbrev pub ReadsLexeme : List ℕ → ℕ → List Part → Result LexemeRead Stop → Type 0
+ReadsLexeme source at parts (Ok r) =
     (at < r.end) × (r.end ≤ length source) ×
-    (option_map lexeme_read (lexeme_at (drop at source)) ≡ Some (optional_token source r.kind, drop r.end source))
-ReadsLexeme source at (Err (stop.Fault f)) = lexeme_at (drop at source) ≡ None
-ReadsLexeme source at (Err (stop.Memory e)) = Unit {0}
+    ((more : List Part) → option_map lexeme_read (lexeme_at (drop at source)) ≡ Some (optional_token (written source (parts ++ more)) r.kind, drop r.end source))
+ReadsLexeme source at parts (Err (stop.Fault f)) = lexeme_at (drop at source) ≡ None
+ReadsLexeme source at parts (Err (stop.Memory e)) = Unit {0}
+
+abbrev pub ReadsOperator : List ℕ → ℕ → Result LexemeRead Stop → Type 0
+ReadsOperator source at r = (parts : List Part) → ReadsLexeme source at parts r
 
 -- what is left to read of a text, and where that ends
 unfoldable pub lexeme_left : List ℕ → List tokens.Token
@@ -185,11 +214,11 @@ name_behind begun [] = []
 name_behind begun (b ∷ bs) = if goes_on begun b then behind is_in_name bs else b ∷ bs
 
 -- the parts before the `=` and those behind it
-abbrev pub SplitsAt : List ℕ → List Part → Option Equals → Type 0
+abbrev pub SplitsAt : List ℕ → List Part → Option ℕ → Type 0
 SplitsAt source parts None = assignment_of (atoms_of source parts) ≡ None
-SplitsAt source parts (Some e) =
-    (e.part < length parts) × (name : List ℕ) × (atoms_of source (take e.part parts) ++ map Plain (span_bytes source e.name) ≡ map Plain name) ×
-    (assignment_of (atoms_of source parts) ≡ Some (name, map Plain (span_bytes source e.value) ++ atoms_of source (drop (e.part + 1) parts)))
+SplitsAt source parts (Some index) =
+    (index < length parts) × (name : List ℕ) × (atoms_of source (take index parts) ≡ map Plain name) ×
+    (assignment_of (atoms_of source parts) ≡ Some (name, atoms_of source (drop (index + 1) parts)))
 
 -- the assignment of a name that has begun so
 abbrev pub behind_front : List ℕ → Option (List ℕ × List Atom) → Option (List ℕ × List Atom)
@@ -208,16 +237,18 @@ abbrev pub behind_name : List ℕ → Option (List ℕ) → Option (List ℕ)
 behind_name front n = option_map (λ m. front ++ m) n
 
 -- what atoms are to a name, whatever stands behind them
-abbrev pub ScanIs : List ℕ → List Atom → (begun : Bool) → Scan → Type 0
-ScanIs source atoms begun (scan.GoesOn now) =
+abbrev pub ScanIs : List Atom → (begun : Bool) → Scan → Type 0
+ScanIs atoms begun (scan.GoesOn now) =
     (front : List ℕ) × (atoms ≡ map Plain front) ×
     ((more : List Atom) → name_from begun (atoms ++ more) ≡ behind_name front (name_from now more)) ×
     ((more : List Atom) → assignment_from begun (atoms ++ more) ≡ behind_front front (assignment_from now more))
-ScanIs source atoms begun (scan.Equals name value) =
-    ((more : List Atom) → name_from begun (atoms ++ more) ≡ None) ×
-    ((more : List Atom) → assignment_from begun (atoms ++ more) ≡ Some (span_bytes source name, map Plain (span_bytes source value) ++ more))
-ScanIs source atoms begun scan.Stops =
+ScanIs atoms begun scan.Equals =
+    ((more : List Atom) → name_from begun (atoms ++ more) ≡ None) × ((more : List Atom) → assignment_from begun (atoms ++ more) ≡ Some ([], more))
+ScanIs atoms begun scan.Stops =
     ((more : List Atom) → name_from begun (atoms ++ more) ≡ None) × ((more : List Atom) → assignment_from begun (atoms ++ more) ≡ None)
 
 abbrev pub RangeIs : List ℕ → Span → (begun : Bool) → Scan → Type 0
-RangeIs source span begun s = ScanIs source (map Plain (span_bytes source span)) begun s
+RangeIs source span begun s = ScanIs (map Plain (span_bytes source span)) begun s
+
+abbrev pub EqualsIs : (begun : Bool) → Scan → Type 0
+EqualsIs begun s = ScanIs (Plain 61 ∷ []) begun s

@@ -9,7 +9,7 @@ use memchr::memchr;
 /// What a run of bytes can be made of (docs/scripts.md, "Words").
 #[derive(Clone, Copy)]
 pub(crate) enum Class {
-    /// Bytes that stand for themselves in a word.
+    /// Bytes that stand for themselves in a word, but `=`, which is a part of its own.
     Bare,
     /// Bytes that stand for themselves between double quotes.
     Inner,
@@ -25,7 +25,7 @@ impl Class {
         ensures { result ≡ passes self b }
     {
         match self {
-            Class::Bare => is_bare(b),
+            Class::Bare => is_bare(b) && b != b'=',
             Class::Inner => is_inner(b),
             Class::Name => is_in_name(b),
             Class::Braces => is_in_braces(b),

@@ -1,6 +1,7 @@
 //! What a `$` begins (docs/scripts.md, "Words").
 
-ghost use Rattle.std.specs.Prelude.{◌≡◌, ◌+◌, ◌<◌, ◌≤◌, length};
+ghost use Rattle.std.specs.Prelude.{◌≡◌, ◌+◌, ◌<◌, ◌≤◌, length, IfSome, ℕ, List, false, ◌==◌};
+ghost use Rattle.hush_words.specs.Ranges.{Fits};
 ghost use Rattle.hush_words.specs.Steps.{StandsAt, ReadsByte, ReadsBraces, ReadsDollar};
 
 use crate::classes::{Class, begins_name, byte_at, follows_dollar, run_end, stands_at};
@@ -10,7 +11,8 @@ use crate::{Part, Span};
 /// Reads what the `$` at the place begins; none where it can't stand there.
 pub(crate) fn dollar(source: &[u8], place: usize, quoted: bool) -> Option<PartRead>
     requires { StandsAt source.now place 36 }
-    ensures { ReadsDollar source.now (place + 1) quoted result }
+    ensures reads { ReadsDollar source.now (place + 1) quoted result }
+    ensures fits { IfSome result (λ read. Fits source.now read.part) }
 {
     match byte_at(source, place + 1) {
         Some(next) => dollar_before(source, place, next, quoted),
@@ -22,7 +24,8 @@ pub(crate) fn dollar(source: &[u8], place: usize, quoted: bool) -> Option<PartRe
 fn dollar_before(source: &[u8], place: usize, next: u8, quoted: bool) -> Option<PartRead>
     requires dollar { StandsAt source.now place 36 }
     requires next { StandsAt source.now (place + 1) next }
-    ensures { ReadsDollar source.now (place + 1) quoted result }
+    ensures reads { ReadsDollar source.now (place + 1) quoted result }
+    ensures fits { IfSome result (λ read. Fits source.now read.part) }
 {
     let start = place + 1;
     if begins_name(next) {
@@ -48,7 +51,8 @@ fn dollar_before(source: &[u8], place: usize, next: u8, quoted: bool) -> Option<
 /// Reads a name and the brace that closes it, from behind the opening brace.
 fn braces(source: &[u8], start: usize, quoted: bool) -> Option<PartRead>
     requires { start ≤ length source.now }
-    ensures { ReadsBraces source.now start quoted result }
+    ensures reads { ReadsBraces source.now start quoted result }
+    ensures fits { IfSome result (λ read. Fits source.now read.part) }
 {
     let end = run_end(Class::Braces, source, start);
     if start < end && stands_at(source, end, b'}') {
@@ -64,7 +68,8 @@ fn braces(source: &[u8], start: usize, quoted: bool) -> Option<PartRead>
 /// The byte at the place as itself.
 pub(crate) fn byte_part(place: usize, quoted: bool) -> PartRead
     requires { place < usize.MAX }
-    ensures { ReadsByte place quoted result }
+    ensures reads { ReadsByte place quoted result }
+    ensures fits { (source : List ℕ) (b : ℕ) → StandsAt source place b → (quoted ≡ false → (b == 61) ≡ false) → Fits source result.part }
 {
     let end = place + 1;
     let span = Span { start: place, end };

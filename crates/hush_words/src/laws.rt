@@ -1,7 +1,7 @@
 //! What holds of the definitions of words and tokens for every text. The functions do nothing; their contracts are
 //! the laws.
 
-ghost use Rattle.hush_words.specs.Laws.{TokensAreRead, OneTokenList, PlainIsTold, NameIsTold, AssignmentIsTold};
+ghost use Rattle.hush_words.specs.Laws.{TokensAreRead, OneTokenList, FrontIsRead, PlainIsTold, NameIsTold, AssignmentIsTold};
 
 /// The tokens that are read of a text are exactly those that it has.
 pub fn tokens_are_read()
@@ -11,6 +11,12 @@ pub fn tokens_are_read()
 /// A text has at most one list of tokens.
 pub fn one_token_list()
     ensures { OneTokenList }
+{}
+
+/// The tokens that are read before a fault, and their places, are those of the lexemes at the front of the text, up to
+/// where no lexeme can stand.
+pub fn front_is_read()
+    ensures { FrontIsRead }
 {}
 
 /// `is_plain` tells exactly the words that are a text in unquoted plain bytes alone.

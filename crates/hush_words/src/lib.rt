@@ -11,6 +11,7 @@ mod parts;
 mod quotes;
 mod reading;
 mod steps;
+mod text;
 mod tokens;
 mod words;
 
@@ -18,6 +19,7 @@ pub use faults::{Fault, FaultKind};
 pub use forms::Assignment;
 pub use parts::{Part, Span, Word};
 pub use reading::read;
+pub use text::Text;
 pub use tokens::{Lexed, Token, TokenKind};
 
 #[cfg(test)]

@@ -1,9 +1,8 @@
-ghost use Rattle.std.specs.Prelude.{◌≡◌, IfOk};
+ghost use Rattle.std.specs.Prelude.{◌≡◌, IfSome};
 ghost use Rattle.std.specs.Option.{option_map};
 ghost use Rattle.hush_words.specs.Parts.{part_atoms, span_bytes};
-ghost use Rattle.hush_words.specs.Steps.{ArePlain};
-
-use std::alloc::{AllocError, Global};
+ghost use Rattle.hush_words.specs.Ranges.{IsWithin, Fits};
+ghost use Rattle.hush_words.specs.Steps.{ArePlain, IsSplitRange};
 
 /// A range of the source: the bytes from `start` up to `end`, `end` not among them.
 #[derive(Clone, Copy, Debug, PartialEq, Eq)]
@@ -17,7 +16,7 @@ pub struct Span {
 /// A part of a word (docs/scripts.md, "Words").
 #[derive(Clone, Copy, Debug, PartialEq, Eq)]
 pub enum Part {
-    /// Bytes that stand for themselves, outside of quotes.
+    /// Bytes that stand for themselves, outside of quotes: one `=`, or bytes without `=`.
     Plain(Span),
     /// Bytes that stand for themselves, in quotes or behind a `\`.
     Quoted(Span),
@@ -29,36 +28,36 @@ pub enum Part {
     Status(bool),
 }
 
-/// A word: parts that stand next to each other in the source.
-#[derive(Debug, PartialEq, Eq, Drop)]
+/// A word: parts that stand one behind the other in the table of its text.
+#[derive(Clone, Copy, Debug, PartialEq, Eq)]
 pub struct Word {
-    /// The parts in the order of the source, at least one.
-    pub parts: Vec<Part>,
+    /// How many parts stand before its first.
+    pub first: usize,
+    /// How many parts it has.
+    pub len: usize,
 }
 
 impl Span {
-    /// The bytes of the range, as far as the source has them.
-    pub fn bytes(self, source: &[u8]) -> &[u8]
+    /// The bytes of the range.
+    pub(crate) fn of(self, source: &[u8]) -> &[u8]
+        requires { IsWithin source.now self }
         ensures { result.now ≡ span_bytes source.now self }
     {
-        let end = self.end.min(source.len());
-        if self.start < end {
-            &source[self.start..end]
-        } else {
-            &[]
-        }
+        &source[self.start..self.end]
     }
 }
 
 impl Part {
     /// The range of a part that is plain bytes alone, or no bytes at all.
     pub(crate) fn plain(self, source: &[u8]) -> Option<Span>
-        ensures { ArePlain (part_atoms source.now self) (option_map (span_bytes source.now) result) }
+        requires { Fits source.now self }
+        ensures plain { ArePlain (part_atoms source.now self) (option_map (span_bytes source.now) result) }
+        ensures range { IfSome result (IsSplitRange source.now) }
     {
         match self {
             Part::Plain(span) => Some(span),
             Part::Quoted(span) => {
-                if span.bytes(source).is_empty() {
+                if span.of(source).is_empty() {
                     Some(span)
                 } else {
                     None
@@ -66,17 +65,5 @@ impl Part {
             }
             Part::Mark | Part::Value(_, _) | Part::Status(_) => None,
         }
-    }
-}
-
-impl Word {
-    /// A word of the same parts.
-    ///
-    /// An error only where memory for them was refused.
-    pub fn try_clone(&self, alloc: Global) -> Result<Word, AllocError>
-        ensures { IfOk result (λ word. word.parts.items ≡ self.now.parts.items) }
-    {
-        let parts = Vec::from_slice(alloc, self.parts.as_slice())?;
-        Ok(Word { parts })
     }
 }

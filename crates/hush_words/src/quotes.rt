@@ -1,9 +1,10 @@
 //! Pairs of quotes (docs/scripts.md, "Words").
 
-ghost use Rattle.std.specs.Prelude.{◌≡◌, ℕ, ◌+◌, ◌-◌, ◌≤◌, List, [], ◌∷◌, Some, None, map, take, drop};
+ghost use Rattle.std.specs.Prelude.{◌≡◌, ℕ, ◌+◌, ◌-◌, ◌≤◌, List, [], ◌∷◌, Some, None, map, take, drop, length};
 ghost use Rattle.hush_words.specs.Words.Atom.{Quoted};
 ghost use Rattle.hush_words.specs.Parts.{atoms_of};
-ghost use Rattle.hush_words.specs.Steps.{StandsAt, ReadsInner, ReadsPiece, Pushed, optional_part};
+ghost use Rattle.hush_words.specs.Ranges.{AllFit};
+ghost use Rattle.hush_words.specs.Steps.{StandsAt, ReadsInner, ReadsPiece, Pushed, Adds, FitsInner, optional_part};
 
 use crate::classes::{Class, byte_at, is_escaped, place_of, run_end, stands_at};
 use crate::dollars::{byte_part, dollar};
@@ -35,6 +36,7 @@ fn push_some(parts: &mut Vec<Part>, part: Option<Part>) -> Result<(), Stop>
 fn quoted_part(start: usize, end: usize) -> Option<Part>
     ensures atoms { (source : List ℕ) → atoms_of source (optional_part result) ≡ map Quoted (take (end - start) (drop start source)) }
     ensures none { end ≤ start → result ≡ None }
+    ensures fits { (source : List ℕ) → end ≤ length source → AllFit source (optional_part result) }
 {
     if start < end {
         Some(Part::Quoted(Span { start, end }))
@@ -46,7 +48,8 @@ fn quoted_part(start: usize, end: usize) -> Option<Part>
 /// Reads a pair of single quotes, from the one that opens it.
 pub(crate) fn single(source: &[u8], place: usize, parts: &mut Vec<Part>) -> Result<usize, Stop>
     requires { StandsAt source.now place 39 }
-    ensures { ReadsPiece source.now place (atoms_of source.now parts.old.items) (atoms_of source.now parts.new.items) result }
+    ensures reads { ReadsPiece source.now place (atoms_of source.now parts.old.items) (atoms_of source.now parts.new.items) result }
+    ensures adds { Adds source.now parts.old.items parts.new.items result }
 {
     let start = place + 1;
     let end = place_of(b'\'', source, start);
@@ -64,7 +67,8 @@ pub(crate) fn single(source: &[u8], place: usize, parts: &mut Vec<Part>) -> Resu
 /// Reads a pair of double quotes, from the one that opens it.
 pub(crate) fn double(source: &[u8], place: usize, parts: &mut Vec<Part>) -> Result<usize, Stop>
     requires { StandsAt source.now place 34 }
-    ensures { ReadsPiece source.now place (atoms_of source.now parts.old.items) (atoms_of source.now parts.new.items) result }
+    ensures reads { ReadsPiece source.now place (atoms_of source.now parts.old.items) (atoms_of source.now parts.new.items) result }
+    ensures adds { Adds source.now parts.old.items parts.new.items result }
 {
     push(parts, Part::Mark)?;
     let mut at = place + 1;
@@ -89,7 +93,8 @@ pub(crate) fn double(source: &[u8], place: usize, parts: &mut Vec<Part>) -> Resu
 
 /// Reads what stands at the place between double quotes; none where nothing can.
 fn inner(source: &[u8], at: usize) -> Option<InnerRead>
-    ensures { ReadsInner source.now at result }
+    ensures reads { ReadsInner source.now at result }
+    ensures fits { FitsInner source.now result }
 {
     match byte_at(source, at) {
         Some(first) => inner_from(source, at, first),
@@ -100,7 +105,8 @@ fn inner(source: &[u8], at: usize) -> Option<InnerRead>
 /// Reads what begins with this byte between double quotes.
 fn inner_from(source: &[u8], at: usize, first: u8) -> Option<InnerRead>
     requires { StandsAt source.now at first }
-    ensures { ReadsInner source.now at result }
+    ensures reads { ReadsInner source.now at result }
+    ensures fits { FitsInner source.now result }
 {
     if first == b'$' {
         match dollar(source, at, true) {
@@ -126,7 +132,8 @@ fn inner_from(source: &[u8], at: usize, first: u8) -> Option<InnerRead>
 /// Reads a `\` between double quotes, and the byte behind it where it vanishes before that.
 fn backslash(source: &[u8], at: usize) -> InnerRead
     requires { StandsAt source.now at 92 }
-    ensures { ReadsInner source.now at (Some result) }
+    ensures reads { ReadsInner source.now at (Some result) }
+    ensures fits { FitsInner source.now (Some result) }
 {
     match byte_at(source, at + 1) {
         Some(next) => backslash_before(source, at, next),
@@ -141,7 +148,8 @@ fn backslash(source: &[u8], at: usize) -> InnerRead
 fn backslash_before(source: &[u8], at: usize, next: u8) -> InnerRead
     requires backslash { StandsAt source.now at 92 }
     requires next { StandsAt source.now (at + 1) next }
-    ensures { ReadsInner source.now at (Some result) }
+    ensures reads { ReadsInner source.now at (Some result) }
+    ensures fits { FitsInner source.now (Some result) }
 {
     let start = at + 1;
     if is_escaped(next) {

@@ -1,15 +1,17 @@
 //! The tokens of a text (docs/scripts.md, "Words").
 
-ghost use Rattle.std.specs.Prelude.{◌≡◌, ◌+◌, ◌&&◌, ◌++◌, ◌<◌, ℕ, List, IfOk, OnOk, Bool, true, drop};
+ghost use Rattle.std.specs.Prelude.{◌≡◌, ◌+◌, ◌&&◌, ◌++◌, ◌<◌, ℕ, List, IfOk, OnOk, Bool, true, drop, [], ◌==◌, ◌||◌};
 ghost use Rattle.hush_words.specs.Tokens.{has_no_nul};
 ghost use Rattle.hush_words.specs.Reading.{tokens_of, tokens_before_fault, token_places};
-ghost use Rattle.hush_words.specs.Parts.{tokens_in, places_in, tokens_read};
-ghost use Rattle.hush_words.specs.Steps.{begins, optional_token, optional_place, StandsAt, ReadsLexeme};
+ghost use Rattle.hush_words.specs.Parts.{Written, written};
+ghost use Rattle.hush_words.specs.Views.{tokens_in, tokens_to, places_in, tokens_read};
+ghost use Rattle.hush_words.specs.Ranges.{AllFit};
+ghost use Rattle.hush_words.specs.Steps.{begins, optional_token, optional_place, StandsAt, ReadsLexeme, ReadsOperator, Adds};
 
 use crate::classes::{byte_at, is_blank, place_of, stands_at};
 use crate::steps::{LexemeRead, Stop};
 use crate::words::word;
-use crate::{Fault, FaultKind, Lexed, Token, TokenKind};
+use crate::{Fault, FaultKind, Lexed, Part, Text, Token, TokenKind};
 use memchr::memchr;
 use std::alloc::{AllocError, Global};
 
@@ -18,49 +20,70 @@ use std::alloc::{AllocError, Global};
 /// bytes.
 ///
 /// An error only where memory for the tokens or their parts was refused.
-pub fn read(alloc: Global, source: &[u8]) -> Result<Lexed, AllocError>
-    ensures whole { IfOk result (λ lexed. tokens_of source.now ≡ tokens_read source.now lexed) }
-    ensures front { IfOk result (λ lexed. tokens_in source.now lexed.tokens.items ≡ tokens_before_fault source.now) }
-    ensures places { IfOk result (λ lexed. places_in lexed.tokens.items ≡ token_places source.now) }
+pub fn read(alloc: Global, source: Vec<u8>) -> Result<Lexed, AllocError>
+    ensures text { IfOk result (λ lexed. lexed.text.source ≡ source.items) }
+    ensures whole { IfOk result (λ lexed. tokens_of source.items ≡ tokens_read lexed) }
+    ensures front { IfOk result (λ lexed. tokens_in lexed.text lexed.tokens.items ≡ tokens_before_fault source.items) }
+    ensures places { IfOk result (λ lexed. places_in lexed.tokens.items ≡ token_places source.items) }
+{
+    let mut tokens = Vec::new(alloc);
+    let mut parts = Vec::new(alloc);
+    let fault = read_text(source.as_slice(), &mut tokens, &mut parts)?;
+    Ok(Lexed {
+        text: Text::new(source, parts),
+        tokens,
+        fault,
+    })
+}
+
+/// Puts the tokens of a text and the parts of their words into tables that are empty, and answers its first fault.
+fn read_text(
+    source: &[u8],
+    tokens: &mut Vec<Token>,
+    parts: &mut Vec<Part>,
+) -> Result<Option<Fault>, AllocError>
+    requires tokens { tokens.old.items ≡ [] }
+    requires parts { parts.old.items ≡ [] }
+    ensures ranges { IfOk result (λ _. AllFit source.now parts.new.items) }
+    ensures whole { IfOk result (λ fault. tokens_of source.now ≡ tokens_to (written source.now parts.new.items) tokens.new.items fault) }
+    ensures front { IfOk result (λ _. tokens_in (written source.now parts.new.items) tokens.new.items ≡ tokens_before_fault source.now) }
+    ensures places { IfOk result (λ _. places_in tokens.new.items ≡ token_places source.now) }
 {
     match memchr(0, source) {
-        Some(place) => Ok(Lexed {
-            tokens: Vec::new(alloc),
-            fault: Some(Fault {
-                kind: FaultKind::Nul,
-                place,
-            }),
-        }),
-        None => read_lexemes(alloc, source),
+        Some(place) => Ok(Some(Fault {
+            kind: FaultKind::Nul,
+            place,
+        })),
+        None => read_lexemes(source, tokens, parts),
     }
 }
 
 /// Reads the tokens of a text without 0.
-fn read_lexemes(alloc: Global, source: &[u8]) -> Result<Lexed, AllocError>
-    requires { has_no_nul source.now ≡ true }
-    ensures whole { IfOk result (λ lexed. tokens_of source.now ≡ tokens_read source.now lexed) }
-    ensures front { IfOk result (λ lexed. tokens_in source.now lexed.tokens.items ≡ tokens_before_fault source.now) }
-    ensures places { IfOk result (λ lexed. places_in lexed.tokens.items ≡ token_places source.now) }
+fn read_lexemes(
+    source: &[u8],
+    tokens: &mut Vec<Token>,
+    parts: &mut Vec<Part>,
+) -> Result<Option<Fault>, AllocError>
+    requires clean { has_no_nul source.now ≡ true }
+    requires tokens { tokens.old.items ≡ [] }
+    requires parts { parts.old.items ≡ [] }
+    ensures ranges { IfOk result (λ _. AllFit source.now parts.new.items) }
+    ensures whole { IfOk result (λ fault. tokens_of source.now ≡ tokens_to (written source.now parts.new.items) tokens.new.items fault) }
+    ensures front { IfOk result (λ _. tokens_in (written source.now parts.new.items) tokens.new.items ≡ tokens_before_fault source.now) }
+    ensures places { IfOk result (λ _. places_in tokens.new.items ≡ token_places source.now) }
 {
-    let mut tokens = Vec::new(alloc);
     let mut at = 0;
     while let Some(first) = byte_at(source, at) {
-        match lexeme(alloc, source, at, first) {
+        match lexeme(source, at, first, parts) {
             Ok(LexemeRead { kind, end }) => {
-                push_token(&mut tokens, kind, at)?;
+                push_token(tokens, kind, at)?;
                 at = end;
             }
-            Err(Stop::Fault(fault)) => return Ok(Lexed {
-                tokens,
-                fault: Some(fault),
-            }),
+            Err(Stop::Fault(fault)) => return Ok(Some(fault)),
             Err(Stop::Memory(error)) => return Err(error),
         }
     }
-    Ok(Lexed {
-        tokens,
-        fault: None,
-    })
+    Ok(None)
 }
 
 /// Puts the token behind the others, if there is one.
@@ -69,7 +92,7 @@ fn push_token(
     kind: Option<TokenKind>,
     place: usize,
 ) -> Result<(), AllocError>
-    ensures tokens { OnOk result ((source : List ℕ) → tokens_in source tokens.new.items ≡ tokens_in source tokens.old.items ++ optional_token source kind) }
+    ensures tokens { OnOk result ((text : Written) → tokens_in text tokens.new.items ≡ tokens_in text tokens.old.items ++ optional_token text kind) }
     ensures places { OnOk result (places_in tokens.new.items ≡ places_in tokens.old.items ++ optional_place place kind) }
 {
     match kind {
@@ -80,9 +103,10 @@ fn push_token(
 }
 
 /// Reads what begins with this byte where no word is open.
-fn lexeme(alloc: Global, source: &[u8], at: usize, first: u8) -> Result<LexemeRead, Stop>
+fn lexeme(source: &[u8], at: usize, first: u8, parts: &mut Vec<Part>) -> Result<LexemeRead, Stop>
     requires { StandsAt source.now at first }
-    ensures { ReadsLexeme source.now at result }
+    ensures reads { ReadsLexeme source.now at parts.new.items result }
+    ensures adds { Adds source.now parts.old.items parts.new.items result }
 {
     let end = at + 1;
     if is_blank(first) {
@@ -97,10 +121,8 @@ fn lexeme(alloc: Global, source: &[u8], at: usize, first: u8) -> Result<LexemeRe
             kind: Some(TokenKind::Semicolon),
             end,
         })
-    } else if first == b'&' {
-        and_if(source, at)
-    } else if first == b'|' {
-        or_if(source, at)
+    } else if begins_operator(first) {
+        operator(source, at, first)
     } else if first == b'#' {
         Ok(LexemeRead {
             kind: None,
@@ -112,7 +134,7 @@ fn lexeme(alloc: Global, source: &[u8], at: usize, first: u8) -> Result<LexemeRe
             end: end + 1,
         })
     } else {
-        word(alloc, source, at, first)
+        word(source, at, first, parts)
     }
 }
 
@@ -124,38 +146,31 @@ fn is_joined_line(source: &[u8], at: usize) -> bool
     stands_at(source, at, b'\\') && stands_at(source, at + 1, b'\n')
 }
 
-/// Reads `&&`.
-fn and_if(source: &[u8], at: usize) -> Result<LexemeRead, Stop>
-    requires { StandsAt source.now at 38 }
-    ensures { ReadsLexeme source.now at result }
+/// `&` or `|`.
+fn begins_operator(b: u8) -> bool
+    ensures { result ≡ (b == 38 || b == 124) }
 {
-    if stands_at(source, at + 1, b'&') {
-        Ok(LexemeRead {
-            kind: Some(TokenKind::AndIf),
-            end: at + 2,
-        })
-    } else {
-        Err(Stop::Fault(Fault {
-            kind: FaultKind::Operator,
-            place: at,
-        }))
-    }
+    b == b'&' || b == b'|'
 }
 
-/// Reads `||`.
-fn or_if(source: &[u8], at: usize) -> Result<LexemeRead, Stop>
-    requires { StandsAt source.now at 124 }
-    ensures { ReadsLexeme source.now at result }
+/// Reads `&&` or `||`, which begins with this byte.
+fn operator(source: &[u8], at: usize, first: u8) -> Result<LexemeRead, Stop>
+    requires here { StandsAt source.now at first }
+    requires operator { first == 38 || first == 124 ≡ true }
+    ensures { ReadsOperator source.now at result }
 {
-    if stands_at(source, at + 1, b'|') {
-        Ok(LexemeRead {
-            kind: Some(TokenKind::OrIf),
-            end: at + 2,
-        })
-    } else {
-        Err(Stop::Fault(Fault {
+    if !stands_at(source, at + 1, first) {
+        return Err(Stop::Fault(Fault {
             kind: FaultKind::Operator,
             place: at,
-        }))
+        }));
     }
+    Ok(LexemeRead {
+        kind: Some(if first == b'&' {
+            TokenKind::AndIf
+        } else {
+            TokenKind::OrIf
+        }),
+        end: at + 2,
+    })
 }

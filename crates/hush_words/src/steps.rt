@@ -1,6 +1,6 @@
 //! What the readers answer.
 
-use crate::{Fault, Part, Span, TokenKind};
+use crate::{Fault, Part, TokenKind};
 use std::alloc::AllocError;
 
 /// Why a reader stops.
@@ -27,18 +27,10 @@ pub(crate) struct InnerRead {
 }
 
 /// What stands at a place where no word is open: a token, or none for what is passed over, and where it ends.
-#[derive(Drop)]
+#[derive(Clone, Copy)]
 pub(crate) struct LexemeRead {
     pub(crate) kind: Option<TokenKind>,
     pub(crate) end: usize,
-}
-
-/// Where the `=` of an assignment stands: in this part, behind this range of it and before this one.
-#[derive(Clone, Copy)]
-pub(crate) struct Equals {
-    pub(crate) part: usize,
-    pub(crate) name: Span,
-    pub(crate) value: Span,
 }
 
 /// What a part is to the name of an assignment.
@@ -46,8 +38,8 @@ pub(crate) struct Equals {
 pub(crate) enum Scan {
     /// It goes on with the name, or holds nothing: whether the name has begun now.
     GoesOn(bool),
-    /// The `=` stands in it, behind the first range and before the second.
-    Equals(Span, Span),
+    /// It is the `=` behind the name.
+    Equals,
     /// It is no part of such a name.
     Stops,
 }

@@ -25,11 +25,16 @@ fn quoted_value(start: usize, end: usize) -> Part {
     Part::Value(Span { start, end }, true)
 }
 
+/// What is read of a copy of the text.
+fn read_copy(alloc: Global, source: &[u8]) -> Result<Lexed, AllocError> {
+    read(alloc, source.to_vec(alloc)?)
+}
+
 /// Whether the token with this number is a word of these parts at this place.
 fn is_word(lexed: &Lexed, index: usize, place: usize, parts: &[Part]) -> bool {
     match lexed.tokens.get(index) {
         Some(token) => match &token.kind {
-            TokenKind::Word(word) => token.place == place && word.parts.as_slice() == parts,
+            TokenKind::Word(word) => token.place == place && lexed.text.parts(*word) == parts,
             _ => false,
         },
         None => false,
@@ -51,7 +56,7 @@ fn has_tokens(lexed: &Lexed, count: usize) -> bool {
 
 /// Whether the text is one word of these parts.
 fn is_one_word(alloc: Global, source: &[u8], parts: &[Part]) -> Result<bool, AllocError> {
-    let lexed = read(alloc, source)?;
+    let lexed = read_copy(alloc, source)?;
     Ok(has_tokens(&lexed, 1) && is_word(&lexed, 0, 0, parts))
 }
 
@@ -62,6 +67,6 @@ fn is_fault(
     kind: FaultKind,
     place: usize,
 ) -> Result<bool, AllocError> {
-    let lexed = read(alloc, source)?;
+    let lexed = read_copy(alloc, source)?;
     Ok(lexed.fault == Some(Fault { kind, place }))
 }

@@ -1,7 +1,7 @@
-use crate::{Fault, Word};
+use crate::{Fault, Text, Word};
 
 /// What a token is.
-#[derive(Debug, PartialEq, Eq, Drop)]
+#[derive(Clone, Copy, Debug, PartialEq, Eq)]
 pub enum TokenKind {
     /// A word.
     Word(Word),
@@ -16,7 +16,7 @@ pub enum TokenKind {
 }
 
 /// A token, and where it begins.
-#[derive(Debug, PartialEq, Eq, Drop)]
+#[derive(Clone, Copy, Debug, PartialEq, Eq)]
 pub struct Token {
     /// What it is.
     pub kind: TokenKind,
@@ -25,8 +25,10 @@ pub struct Token {
 }
 
 /// What was read of a text.
-#[derive(Debug, PartialEq, Eq, Drop)]
+#[derive(Debug, Drop)]
 pub struct Lexed {
+    /// The text, and the parts of the words of its tokens.
+    pub text: Text,
     /// The tokens up to the end, or up to the fault.
     pub tokens: Vec<Token>,
     /// The first fault of a word or an operator, if there is one.

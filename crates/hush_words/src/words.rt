@@ -1,44 +1,64 @@
 //! Words, a piece behind the other (docs/scripts.md, "Words").
 
-ghost use Rattle.std.specs.Prelude.{◌≡◌, ◌+◌, ◌&&◌, true, false, drop};
-ghost use Rattle.hush_words.specs.Words.{ends_word, is_special};
+ghost use Rattle.std.specs.Prelude.{◌≡◌, ◌+◌, ◌-◌, ◌≤◌, ◌&&◌, true, false, length, drop};
+ghost use Rattle.hush_words.specs.Words.{ends_word, is_special, is_bare};
 ghost use Rattle.hush_words.specs.Parts.{atoms_of};
-ghost use Rattle.hush_words.specs.Steps.{StandsAt, ReadsPiece, ReadsPieces, ReadsLexeme, begins};
+ghost use Rattle.hush_words.specs.Steps.{StandsAt, ReadsPiece, ReadsPieces, ReadsLexeme, Adds, IsPlainRun, begins};
 
 use crate::classes::{Class, byte_at, ends_word, is_special, run_end};
 use crate::dollars::{byte_part, dollar};
 use crate::quotes::{double, push, single};
 use crate::steps::{LexemeRead, Stop};
 use crate::{Fault, FaultKind, Part, Span, TokenKind, Word};
-use std::alloc::Global;
 
-/// Reads a word, which opens with this byte.
+/// Reads a word, which opens with this byte, and puts its parts behind the others.
 pub(crate) fn word(
-    alloc: Global,
     source: &[u8],
     start: usize,
     first: u8,
+    parts: &mut Vec<Part>,
 ) -> Result<LexemeRead, Stop>
     requires here { StandsAt source.now start first }
     requires inside { ends_word first ≡ false }
     requires no_comment { first ≡ 35 → ⊥ }
     requires no_line { begins 92 (drop start source.now) && begins 10 (drop (start + 1) source.now) ≡ false }
-    ensures { ReadsLexeme source.now start result }
+    ensures reads { ReadsLexeme source.now start parts.new.items result }
+    ensures adds { Adds source.now parts.old.items parts.new.items result }
 {
-    let mut parts = Vec::new(alloc);
+    let before = count(parts);
     let mut at = start;
-    while let Some(end) = pieces(source, at, &mut parts)? {
+    while let Some(end) = pieces(source, at, parts)? {
         at = end;
     }
     Ok(LexemeRead {
-        kind: Some(TokenKind::Word(Word { parts })),
+        kind: Some(TokenKind::Word(word_from(before, parts))),
         end: at,
     })
 }
 
+/// How many parts there are.
+fn count(parts: &Vec<Part>) -> usize
+    ensures { result ≡ length parts.now.items }
+{
+    parts.len()
+}
+
+/// The word of the parts from this one on.
+fn word_from(first: usize, parts: &Vec<Part>) -> Word
+    requires { first ≤ length parts.now.items }
+    ensures first { result.first ≡ first }
+    ensures len { result.len ≡ length parts.now.items - first }
+{
+    Word {
+        first,
+        len: parts.len() - first,
+    }
+}
+
 /// Reads the pieces at the place; none where the word ends there.
 fn pieces(source: &[u8], at: usize, parts: &mut Vec<Part>) -> Result<Option<usize>, Stop>
-    ensures { ReadsPieces source.now at (atoms_of source.now parts.old.items) (atoms_of source.now parts.new.items) result }
+    ensures reads { ReadsPieces source.now at (atoms_of source.now parts.old.items) (atoms_of source.now parts.new.items) result }
+    ensures adds { Adds source.now parts.old.items parts.new.items result }
 {
     match byte_at(source, at) {
         Some(first) => pieces_from(source, at, first, parts),
@@ -54,7 +74,8 @@ fn pieces_from(
     parts: &mut Vec<Part>,
 ) -> Result<Option<usize>, Stop>
     requires { StandsAt source.now at first }
-    ensures { ReadsPieces source.now at (atoms_of source.now parts.old.items) (atoms_of source.now parts.new.items) result }
+    ensures reads { ReadsPieces source.now at (atoms_of source.now parts.old.items) (atoms_of source.now parts.new.items) result }
+    ensures adds { Adds source.now parts.old.items parts.new.items result }
 {
     if ends_word(first) {
         Ok(None)
@@ -62,9 +83,22 @@ fn pieces_from(
         let end = piece(source, at, first, parts)?;
         Ok(Some(end))
     } else {
-        let end = run_end(Class::Bare, source, at);
+        let end = plain_end(source, at, first);
         push(parts, Part::Plain(Span { start: at, end }))?;
         Ok(Some(end))
+    }
+}
+
+/// Where the plain bytes end that begin with this one: a `=` is a part of its own, and others end before one.
+fn plain_end(source: &[u8], at: usize, first: u8) -> usize
+    requires here { StandsAt source.now at first }
+    requires bare { is_bare first ≡ true }
+    ensures { IsPlainRun source.now at result }
+{
+    if first == b'=' {
+        at + 1
+    } else {
+        run_end(Class::Bare, source, at)
     }
 }
 
@@ -72,7 +106,8 @@ fn pieces_from(
 fn piece(source: &[u8], at: usize, first: u8, parts: &mut Vec<Part>) -> Result<usize, Stop>
     requires here { StandsAt source.now at first }
     requires special { is_special first ≡ true }
-    ensures { ReadsPiece source.now at (atoms_of source.now parts.old.items) (atoms_of source.now parts.new.items) result }
+    ensures reads { ReadsPiece source.now at (atoms_of source.now parts.old.items) (atoms_of source.now parts.new.items) result }
+    ensures adds { Adds source.now parts.old.items parts.new.items result }
 {
     if first == b'$' {
         dollar_piece(source, at, parts)
@@ -88,7 +123,8 @@ fn piece(source: &[u8], at: usize, first: u8, parts: &mut Vec<Part>) -> Result<u
 /// Reads what an unquoted `$` begins.
 fn dollar_piece(source: &[u8], at: usize, parts: &mut Vec<Part>) -> Result<usize, Stop>
     requires { StandsAt source.now at 36 }
-    ensures { ReadsPiece source.now at (atoms_of source.now parts.old.items) (atoms_of source.now parts.new.items) result }
+    ensures reads { ReadsPiece source.now at (atoms_of source.now parts.old.items) (atoms_of source.now parts.new.items) result }
+    ensures adds { Adds source.now parts.old.items parts.new.items result }
 {
     match dollar(source, at, false) {
         Some(read) => {
@@ -105,7 +141,8 @@ fn dollar_piece(source: &[u8], at: usize, parts: &mut Vec<Part>) -> Result<usize
 /// Reads an unquoted `\` and the byte behind it.
 fn backslash(source: &[u8], at: usize, parts: &mut Vec<Part>) -> Result<usize, Stop>
     requires { StandsAt source.now at 92 }
-    ensures { ReadsPiece source.now at (atoms_of source.now parts.old.items) (atoms_of source.now parts.new.items) result }
+    ensures reads { ReadsPiece source.now at (atoms_of source.now parts.old.items) (atoms_of source.now parts.new.items) result }
+    ensures adds { Adds source.now parts.old.items parts.new.items result }
 {
     let start = at + 1;
     match byte_at(source, start) {
@@ -126,7 +163,8 @@ fn backslash_before(
 ) -> Result<usize, Stop>
     requires backslash { StandsAt source.now at 92 }
     requires next { StandsAt source.now (at + 1) next }
-    ensures { ReadsPiece source.now at (atoms_of source.now parts.old.items) (atoms_of source.now parts.new.items) result }
+    ensures reads { ReadsPiece source.now at (atoms_of source.now parts.old.items) (atoms_of source.now parts.new.items) result }
+    ensures adds { Adds source.now parts.old.items parts.new.items result }
 {
     let end = at + 2;
     if next == b'\n' {

@@ -28,7 +28,7 @@ pub fn sweep<W: Write>(alloc: Global, out: &mut W) -> io::Result<()> {
         parsed = parse_once(alloc);
     }
     match parsed {
-        Some(Ok(script)) if script.source() == EVERY_FORM && script.tree().is_some() => {
+        Some(Ok(script)) if script.source() == EVERY_FORM && script.root().is_some() => {
             row(out, "script", b"parsed")
         }
         _ => wrong(out, "Script::parse"),

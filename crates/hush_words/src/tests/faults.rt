@@ -1,7 +1,7 @@
 //! Texts with a fault, each with its kind and its place.
 
-use super::{is_fault, is_token, is_word, plain};
-use crate::{Fault, FaultKind, TokenKind, read};
+use super::{is_fault, is_token, is_word, plain, read_copy};
+use crate::{Fault, FaultKind, TokenKind};
 use std::test::Fail;
 
 #[test]
@@ -57,7 +57,7 @@ fn a_byte_0_comes_before_all_other_faults(rt: HostRuntime) -> Result<(), Fail> {
 
 #[test]
 fn tokens_before_a_fault_are_kept(rt: HostRuntime) -> Result<(), Fail> {
-    let lexed = read(rt.alloc(), b"a; 'b")?;
+    let lexed = read_copy(rt.alloc(), b"a; 'b")?;
     assert_eq!(rt;
         lexed.fault,
         Some(Fault {

@@ -1,7 +1,7 @@
 //! The parts of words.
 
-use super::{has_tokens, is_one_word, is_word, plain, quoted, quoted_value, value};
-use crate::{Part, Span, read};
+use super::{has_tokens, is_one_word, is_word, plain, quoted, quoted_value, read_copy, value};
+use crate::{Part, TokenKind};
 use std::test::Fail;
 
 #[test]
@@ -105,7 +105,7 @@ fn dollars_stand_for_themselves(rt: HostRuntime) -> Result<(), Fail> {
         )?
     );
     assert!(rt; is_one_word(rt.alloc(), b"$\\\na", &[plain(0, 1), plain(3, 4)])?);
-    let lexed = read(rt.alloc(), b"$ a")?;
+    let lexed = read_copy(rt.alloc(), b"$ a")?;
     assert!(rt; has_tokens(&lexed, 2));
     assert!(rt; is_word(&lexed, 0, 0, &[plain(0, 1)]));
     Ok(())
@@ -113,16 +113,46 @@ fn dollars_stand_for_themselves(rt: HostRuntime) -> Result<(), Fail> {
 
 #[test]
 fn other_bytes_are_plain(rt: HostRuntime) -> Result<(), Fail> {
-    assert!(rt; is_one_word(rt.alloc(), b"<>()*[]{}`%,:=", &[plain(0, 14)])?);
+    assert!(rt; is_one_word(rt.alloc(), b"<>()*[]{}`%,:", &[plain(0, 13)])?);
     assert!(rt; is_one_word(rt.alloc(), b"a\rb", &[plain(0, 3)])?);
     assert!(rt; is_one_word(rt.alloc(), b"\xff\x01", &[plain(0, 2)])?);
     Ok(())
 }
 
 #[test]
-fn ranges_end_with_the_source(rt: HostRuntime) -> Result<(), Fail> {
-    assert_eq!(rt; Span { start: 1, end: 3 }.bytes(b"abcd"), b"bc".as_slice());
-    assert_eq!(rt; Span { start: 3, end: 9 }.bytes(b"abcd"), b"d".as_slice());
-    assert!(rt; Span { start: 7, end: 9 }.bytes(b"abcd").is_empty());
+fn equals_signs_are_parts_of_their_own(rt: HostRuntime) -> Result<(), Fail> {
+    assert!(rt; is_one_word(rt.alloc(), b"=", &[plain(0, 1)])?);
+    assert!(rt;
+        is_one_word(
+            rt.alloc(),
+            b"a==b",
+            &[plain(0, 1), plain(1, 2), plain(2, 3), plain(3, 4)]
+        )?
+    );
+    assert!(rt;
+        is_one_word(
+            rt.alloc(),
+            b"a'='\\=",
+            &[plain(0, 1), Part::Mark, quoted(2, 3), quoted(5, 6)]
+        )?
+    );
+    Ok(())
+}
+
+#[test]
+fn ranges_are_bytes_of_their_text(rt: HostRuntime) -> Result<(), Fail> {
+    let lexed = read_copy(rt.alloc(), b"a ${bc}")?;
+    match lexed.tokens.last() {
+        Some(token) => match token.kind {
+            TokenKind::Word(word) => match lexed.text.parts(word) {
+                [Part::Value(range, false)] => {
+                    assert_eq!(rt; lexed.text.bytes(*range), b"bc".as_slice())
+                }
+                _ => assert!(rt; false),
+            },
+            _ => assert!(rt; false),
+        },
+        None => assert!(rt; false),
+    }
     Ok(())
 }

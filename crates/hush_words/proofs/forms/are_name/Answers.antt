@@ -1,4 +1,5 @@
 use Rattle.hush_words.proofs.FormLemmas.{name-ended, name-whole}
+use Rattle.hush_words.proofs.RangeLemmas.{fit-at}
 use Rattle.hush_words.proofs.forms.are_name.Goals as goal
 
 pub returns-in-Equals : goal.returns-in-Equals
@@ -11,3 +12,6 @@ returns-in-Stops c =
 
 pub returns : goal.returns
 returns c = name-whole c.args.source.now c.args.parts.now c.loop-part.index c.loop-part.begun c.in_default.ensures c.loop-part.invariant
+
+pub scan-requires : goal.scan-requires
+scan-requires c = fit-at c.args.source.now c.args.parts.now c.loop-part.index c.in-Some.part c.requires c.in-Some.ensures

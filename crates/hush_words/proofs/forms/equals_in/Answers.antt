@@ -1,5 +1,5 @@
-use Rattle.hush_words.specs.Parts.{span_bytes}
 use Rattle.hush_words.proofs.FormLemmas.{equals-on, equals-stop, equals-none, equals-found}
+use Rattle.hush_words.proofs.RangeLemmas.{fit-at}
 use Rattle.hush_words.proofs.forms.equals_in.Goals as goal
 
 pub loop-part-preserved : goal.loop-part-preserved
@@ -12,7 +12,7 @@ pub returns-in-Equals : goal.returns-in-Equals
 returns-in-Equals c =
     let source = c.args.source.now in
     let r = equals-found source c.args.parts.now c.loop-part.index c.in-Some.part c.loop-part.begun c.loop-part.invariant.0
-    (span_bytes source c.in-Equals.name) (span_bytes source c.in-Equals.value) c.in-Some.ensures c.loop-part.invariant.1 c.loop-part.invariant.2 c.in-Equals.ensures.1 in
+    c.in-Some.ensures c.loop-part.invariant.1 c.loop-part.invariant.2 c.in-Equals.ensures.1 in
     (c.in-Some.ensures.0, r.0, r.1, r.2)
 
 pub returns-in-Stops : goal.returns-in-Stops
@@ -23,3 +23,6 @@ returns-in-Stops c =
 pub returns : goal.returns
 returns c =
     equals-none c.args.source.now c.args.parts.now c.loop-part.index c.loop-part.begun c.loop-part.invariant.0 c.in_default.ensures c.loop-part.invariant.2
+
+pub scan-requires : goal.scan-requires
+scan-requires c = fit-at c.args.source.now c.args.parts.now c.loop-part.index c.in-Some.part c.requires c.in-Some.ensures

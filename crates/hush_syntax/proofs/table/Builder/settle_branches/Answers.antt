@@ -1,0 +1,13 @@
+use Rattle.std.proofs.Common.{refl, sym, ap, append-nil}
+use Rattle.hush_syntax.specs.Builders.{waits_of}
+use Rattle.hush_syntax.proofs.Building.{same-members}
+use Rattle.hush_syntax.proofs.table.Builder.settle_branches.Goals as goal
+
+pub returns : goal.returns
+returns c = (
+  c.in_ok-block.ensures.first,
+  c.in_ok-block.ensures.len,
+  refl,
+  same-members _ _ _ _ _ _ _ _ (sym (append-nil c.args.self.now.table.words.items)) (sym (append-nil c.args.self.now.table.chains.items)) (sym (append-nil c.args.self.now.table.links.items)) c.in_ok-block.ensures.table,
+  ap (λ l. waits_of c.args.self.now.chains.items c.args.self.now.links.items l) c.in_ok-block.ensures.waiting,
+)

@@ -1,0 +1,137 @@
+-- What a function of the parser puts into the tables.
+use Rattle.std.specs.Prelude.{◌≡◌, ℕ, ◌-◌, length, take, drop, List, [], ◌∷◌, ◌++◌, Option, Some, None, Result, Ok, Err}
+use Rattle.hush_words.specs.Parts.{Written}
+use Rattle.hush_words.specs.Tokens.{Token}
+use Rattle.hush_words.specs.declared.parts.Word.{Word}
+use Rattle.hush_syntax.specs.declared.faults.SyntaxFault.{SyntaxFault}
+use Rattle.hush_syntax.specs.declared.nodes.NodeId.{NodeId}
+use Rattle.hush_syntax.specs.declared.nodes.Operator.{Operator}
+use Rattle.hush_syntax.specs.declared.nodes.Link as link
+use Rattle.hush_syntax.specs.declared.nodes.Branch as branch
+use Rattle.hush_syntax.specs.declared.table.Block.{Block}
+use Rattle.hush_syntax.specs.declared.table.Stored.{Stored}
+use Rattle.hush_syntax.specs.declared.table.Table.{Table}
+use Rattle.hush_syntax.specs.declared.table.Builder.{Builder}
+use Rattle.hush_syntax.specs.Answers.{Refuses}
+use Rattle.hush_syntax.specs.Grammar.{Command, Chain, Chains}
+use Rattle.hush_syntax.specs.Nodes.{OfChains, OfChain, OfCommand, At, Members, sub_in, RootAt}
+
+abbrev pub members : List Word → List NodeId → List link.Link → List branch.Branch → Members
+members words chains links branches = record { words = words; chains = chains; links = links; branches = branches }
+
+abbrev pub members_of : Table → Members
+members_of t = members t.words.items t.chains.items t.links.items t.branches.items
+
+-- members, and more behind them
+abbrev pub followed : Members → Members → Members
+followed m n = members (m.words ++ n.words) (m.chains ++ n.chains) (m.links ++ n.links) (m.branches ++ n.branches)
+
+abbrev pub none : Members
+none = members [] [] [] []
+
+abbrev pub only_words : List Word → Members
+only_words xs = members xs [] [] []
+
+abbrev pub only_chains : List NodeId → Members
+only_chains xs = members [] xs [] []
+
+abbrev pub only_links : List link.Link → Members
+only_links xs = members [] [] xs []
+
+abbrev pub only_branches : List branch.Branch → Members
+only_branches xs = members [] [] [] xs
+
+-- the members whose nodes aren't whole
+pub record Waiting : Type 0 where
+  pub chains : List NodeId
+  pub links : List link.Link
+  pub branches : List branch.Branch
+
+abbrev pub waits_of : List NodeId → List link.Link → List branch.Branch → Waiting
+waits_of chains links branches = record { chains = chains; links = links; branches = branches }
+
+abbrev pub waiting : Builder → Waiting
+waiting b = waits_of b.chains.items b.links.items b.branches.items
+
+abbrev pub add_chains : Waiting → List NodeId → Waiting
+add_chains w xs = waits_of (w.chains ++ xs) w.links w.branches
+
+abbrev pub add_links : Waiting → List link.Link → Waiting
+add_links w xs = waits_of w.chains (w.links ++ xs) w.branches
+
+abbrev pub add_branches : Waiting → List branch.Branch → Waiting
+add_branches w xs = waits_of w.chains w.links (w.branches ++ xs)
+
+-- a member waits, and the table stays
+abbrev pub Adds : {X : Type 0} → (Waiting → List X → Waiting) → Builder → Builder → X → Type 0
+Adds add old new x = (new.table ≡ old.table) × (waiting new ≡ add (waiting old) (x ∷ []))
+
+-- a node was put, and no member
+abbrev pub Put : Builder → Builder → Stored → NodeId → Type 0
+Put old new n id =
+    (id.index ≡ length old.table.nodes.items) × (new.table.nodes.items ≡ old.table.nodes.items ++ n ∷ []) ×
+    (members_of new.table ≡ members_of old.table) × (waiting new ≡ waiting old)
+
+-- the members that waited, from the mark on, are in the table, as this block
+abbrev pub SettlesChains : Builder → Builder → ℕ → Block → Type 0
+SettlesChains old new mark block =
+    (block.first ≡ length old.table.chains.items) × (block.len ≡ length old.chains.items - mark) × (new.table.nodes.items ≡ old.table.nodes.items) ×
+    (members_of new.table ≡ followed (members_of old.table) (only_chains (drop mark old.chains.items))) ×
+    (waiting new ≡ waits_of (take mark old.chains.items) old.links.items old.branches.items)
+
+abbrev pub SettlesLinks : Builder → Builder → ℕ → Block → Type 0
+SettlesLinks old new mark block =
+    (block.first ≡ length old.table.links.items) × (block.len ≡ length old.links.items - mark) × (new.table.nodes.items ≡ old.table.nodes.items) ×
+    (members_of new.table ≡ followed (members_of old.table) (only_links (drop mark old.links.items))) ×
+    (waiting new ≡ waits_of old.chains.items (take mark old.links.items) old.branches.items)
+
+abbrev pub SettlesBranches : Builder → Builder → ℕ → Block → Type 0
+SettlesBranches old new mark block =
+    (block.first ≡ length old.table.branches.items) × (block.len ≡ length old.branches.items - mark) × (new.table.nodes.items ≡ old.table.nodes.items) ×
+    (members_of new.table ≡ followed (members_of old.table) (only_branches (drop mark old.branches.items))) ×
+    (waiting new ≡ waits_of old.chains.items old.links.items (take mark old.branches.items))
+
+-- what the nodes of a table stand for where its members go on with more
+abbrev pub later : Written → Table → Members → At
+later text t more = sub_in text (followed (members_of t) more) t.nodes.items
+
+-- what stood stands still
+abbrev pub Grows : Table → Table → Type 0
+Grows old new =
+    (nodes : List Stored) × (more : Members) × (new.nodes.items ≡ old.nodes.items ++ nodes) × (members_of new ≡ followed (members_of old) more)
+
+-- what the parts that a function of the parser answers stand for
+abbrev pub ChainsAt : At → Chains → NodeId → Type 0
+ChainsAt at cs id = at id ≡ Some (OfChains cs)
+
+abbrev pub ChainAt : At → Chain → NodeId → Type 0
+ChainAt at c id = at id ≡ Some (OfChain c)
+
+abbrev pub CommandAt : At → Command → NodeId → Type 0
+CommandAt at c id = at id ≡ Some (OfCommand c)
+
+abbrev pub LinkAt : At → Option Operator × Command → link.Link → Type 0
+LinkAt at x l = (l.operator ≡ x.0) × (at l.command ≡ Some (OfCommand x.1))
+
+abbrev pub BranchAt : At → Chains × Chains → branch.Branch → Type 0
+BranchAt at x b = (at b.condition ≡ Some (OfChains x.0)) × (at b.body ≡ Some (OfChains x.1))
+
+abbrev pub OtherwiseAt : At → Option Chains → Option NodeId → Type 0
+OtherwiseAt at None None = Unit {0}
+OtherwiseAt at None (Some id) = ⊥
+OtherwiseAt at (Some d) None = ⊥
+OtherwiseAt at (Some d) (Some id) = at id ≡ Some (OfChains d)
+
+abbrev pub LoopAt : (Chains → Chains → Command) → At → Command → NodeId × NodeId → Type 0
+LoopAt form at x p = (c d : Chains) × (x ≡ form c d) × (at p.0 ≡ Some (OfChains c)) × (at p.1 ≡ Some (OfChains d))
+
+-- what the reader found is what was put behind what stood, with the same tokens left and no member waiting; or it
+-- found nothing
+abbrev pub Builds : {X Y : Type 0} → (At → X → Y → Type 0) → Written → Builder → Builder → Option (X × List Token) → List Token → Result Y SyntaxFault → Type 0
+Builds {X} Is text old new found left (Ok y) =
+    (x : X) × (found ≡ Some (x, left)) × Grows old.table new.table × ((more : Members) → Is (later text new.table more) x y) × (waiting new ≡ waiting old)
+Builds Is text old new found left (Err f) = Refuses f.kind (found ≡ None)
+
+abbrev pub BuildsScript : Written → Builder → Option (Option Chains) → Result (Option NodeId) SyntaxFault → Type 0
+BuildsScript text builder found (Ok root) = (x : Option Chains) × (found ≡ Some x) × ((more : Members) → RootAt (later text builder.table more) x root)
+BuildsScript text builder found (Err f) = Refuses f.kind (found ≡ None)

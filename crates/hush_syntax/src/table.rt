@@ -1,0 +1,223 @@
+//! The tables that hold a script's nodes.
+
+ghost use Rattle.std.specs.Prelude.{◌≡◌, ◌≤◌, ◌-◌, ◌++◌, length, take, drop, IfOk, IfErr, OnOk};
+ghost use Rattle.hush_syntax.specs.declared.faults.FaultKind.TheVariants.{Memory};
+
+use crate::SyntaxFault;
+use crate::cursor::Tokens;
+use crate::nodes::{Branch, Link, NodeId};
+use hush_words::Word;
+use std::alloc::{AllocError, Global};
+
+/// Members of a table that stand one behind the other: from this one on, so many.
+#[derive(Clone, Copy, Debug)]
+pub(crate) struct Block {
+    pub(crate) first: usize,
+    pub(crate) len: usize,
+}
+
+/// A node, whose members stand in the other tables.
+#[derive(Clone, Copy, Debug)]
+pub(crate) enum Stored {
+    List(Block),
+    Chain(Block),
+    If {
+        branches: Block,
+        otherwise: Option<NodeId>,
+    },
+    For {
+        name: Word,
+        words: Block,
+        body: NodeId,
+    },
+    While {
+        condition: NodeId,
+        body: NodeId,
+    },
+    Until {
+        condition: NodeId,
+        body: NodeId,
+    },
+    Assign {
+        name: Word,
+        value: Word,
+    },
+    Simple {
+        words: Block,
+    },
+}
+
+/// The nodes of a script and their members, a table of each kind.
+#[derive(Debug, Drop)]
+pub(crate) struct Table {
+    pub(crate) nodes: Vec<Stored>,
+    pub(crate) words: Vec<Word>,
+    pub(crate) chains: Vec<NodeId>,
+    pub(crate) links: Vec<Link>,
+    pub(crate) branches: Vec<Branch>,
+}
+
+/// A table that is made, and the members of the nodes that aren't whole yet: those of an inner node behind those of the
+/// node that it stands in.
+#[derive(Debug, Drop)]
+pub(crate) struct Builder {
+    pub(crate) table: Table,
+    pub(crate) chains: Vec<NodeId>,
+    pub(crate) links: Vec<Link>,
+    pub(crate) branches: Vec<Branch>,
+}
+
+impl Builder {
+    ghost use Rattle.hush_words.specs.Parts.{Written};
+    ghost use Rattle.hush_syntax.specs.Answers.{left_in};
+    ghost use Rattle.hush_syntax.specs.Builders.{Put, Adds, SettlesChains, SettlesLinks, SettlesBranches, Grows, waiting, add_chains, add_links, add_branches};
+    ghost use Rattle.hush_syntax.specs.Nodes.{Members, block_of};
+    ghost use Rattle.hush_syntax.specs.Reading.{skip, is_word, words_at};
+    ghost use Rattle.hush_syntax.specs.Trees.{words_in};
+
+    pub(crate) fn new(alloc: Global) -> Builder {
+        Builder {
+            table: Table {
+                nodes: Vec::new(alloc),
+                words: Vec::new(alloc),
+                chains: Vec::new(alloc),
+                links: Vec::new(alloc),
+                branches: Vec::new(alloc),
+            },
+            chains: Vec::new(alloc),
+            links: Vec::new(alloc),
+            branches: Vec::new(alloc),
+        }
+    }
+
+    /// Puts a node behind the others.
+    pub(crate) fn put(&mut self, node: Stored) -> Result<NodeId, AllocError>
+        ensures { IfOk result (λ id. Put self.old self.new node id) }
+    {
+        let index = self.table.nodes.len();
+        self.table.nodes.push(node)?;
+        Ok(NodeId { index })
+    }
+
+    /// Takes the words that come next into the table.
+    pub(crate) fn take_words(&mut self, tokens: &mut Tokens) -> Result<Block, SyntaxFault>
+        ensures words { IfOk result (λ block. (text : Written) (more : Members) → words_in text (block_of block (self.new.table.words.items ++ more.words)) ≡ words_at (left_in text tokens.old)) }
+        ensures grows { OnOk result (Grows self.old.table self.new.table) }
+        ensures waits { OnOk result (waiting self.new ≡ waiting self.old) }
+        ensures left { OnOk result ((text : Written) → left_in text tokens.new ≡ skip is_word (left_in text tokens.old)) }
+        ensures refused { IfErr result (λ f. f.kind ≡ Memory) }
+    {
+        let first = count(&self.table.words);
+        tokens.words(&mut self.table.words)?;
+        Ok(block_from(first, &self.table.words))
+    }
+
+    /// How many chains wait for their list.
+    pub(crate) fn waiting_chains(&self) -> usize
+        ensures { result ≡ length self.now.chains.items }
+    {
+        self.chains.len()
+    }
+
+    /// How many links wait for their chain.
+    pub(crate) fn waiting_links(&self) -> usize
+        ensures { result ≡ length self.now.links.items }
+    {
+        self.links.len()
+    }
+
+    /// How many branches wait for their `if`.
+    pub(crate) fn waiting_branches(&self) -> usize
+        ensures { result ≡ length self.now.branches.items }
+    {
+        self.branches.len()
+    }
+
+    /// Lets a chain wait for its list.
+    pub(crate) fn push_chain(&mut self, chain: NodeId) -> Result<(), AllocError>
+        ensures { OnOk result (Adds add_chains self.old self.new chain) }
+    {
+        self.chains.push(chain)?;
+        Ok(())
+    }
+
+    /// Lets a link wait for its chain.
+    pub(crate) fn push_link(&mut self, link: Link) -> Result<(), AllocError>
+        ensures { OnOk result (Adds add_links self.old self.new link) }
+    {
+        self.links.push(link)?;
+        Ok(())
+    }
+
+    /// Lets a branch wait for its `if`.
+    pub(crate) fn push_branch(&mut self, branch: Branch) -> Result<(), AllocError>
+        ensures { OnOk result (Adds add_branches self.old self.new branch) }
+    {
+        self.branches.push(branch)?;
+        Ok(())
+    }
+
+    /// Puts the chains that wait, from this one on, into the table.
+    pub(crate) fn settle_chains(&mut self, mark: usize) -> Result<Block, AllocError>
+        requires { mark ≤ length self.old.chains.items }
+        ensures { IfOk result (λ block. SettlesChains self.old self.new mark block) }
+    {
+        let block = settle(&mut self.table.chains, &mut self.chains, mark)?;
+        Ok(block)
+    }
+
+    /// Puts the links that wait, from this one on, into the table.
+    pub(crate) fn settle_links(&mut self, mark: usize) -> Result<Block, AllocError>
+        requires { mark ≤ length self.old.links.items }
+        ensures { IfOk result (λ block. SettlesLinks self.old self.new mark block) }
+    {
+        let block = settle(&mut self.table.links, &mut self.links, mark)?;
+        Ok(block)
+    }
+
+    /// Puts the branches that wait, from this one on, into the table.
+    pub(crate) fn settle_branches(&mut self, mark: usize) -> Result<Block, AllocError>
+        requires { mark ≤ length self.old.branches.items }
+        ensures { IfOk result (λ block. SettlesBranches self.old self.new mark block) }
+    {
+        let block = settle(&mut self.table.branches, &mut self.branches, mark)?;
+        Ok(block)
+    }
+}
+
+/// How many members a table has.
+fn count<T>(members: &Vec<T>) -> usize
+    ensures { result ≡ length members.now.items }
+{
+    members.len()
+}
+
+/// The members from this one on.
+fn block_from<T>(first: usize, members: &Vec<T>) -> Block
+    requires { first ≤ length members.now.items }
+    ensures first { result.first ≡ first }
+    ensures len { result.len ≡ length members.now.items - first }
+{
+    Block {
+        first,
+        len: members.len() - first,
+    }
+}
+
+/// Moves the members that wait, from this one on, behind those that a table has.
+fn settle<T: Copy>(
+    table: &mut Vec<T>,
+    waiting: &mut Vec<T>,
+    mark: usize,
+) -> Result<Block, AllocError>
+    requires { mark ≤ length waiting.old.items }
+    ensures first { IfOk result (λ block. block.first ≡ length table.old.items) }
+    ensures len { IfOk result (λ block. block.len ≡ length waiting.old.items - mark) }
+    ensures table { OnOk result (table.new.items ≡ table.old.items ++ drop mark waiting.old.items) }
+    ensures waiting { OnOk result (waiting.new.items ≡ take mark waiting.old.items) }
+{
+    let first = count(table);
+    table.extend_from_slice(&waiting.as_slice()[mark..])?;
+    waiting.truncate(mark);
+    Ok(block_from(first, table))
+}
