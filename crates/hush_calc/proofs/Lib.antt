@@ -1,0 +1,5 @@
+pub mod HexLemmas
+pub mod TermLemmas
+pub mod LawLemmas
+pub mod ExpressionLemmas
+pub mod Rows

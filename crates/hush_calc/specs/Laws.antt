@@ -1,0 +1,14 @@
+-- What the definitions come to.
+use Rattle.std.specs.Prelude.{◌≡◌, ℕ, ◌<◌, Some}
+use Rattle.hush_calc.specs.Numbers.{modulus, value_of}
+use Rattle.hush_calc.specs.Hexadecimal.{hexadecimal}
+use Rattle.hush_calc.specs.Test.{expression_of}
+use Rattle.hush_calc.specs.Expressions.{Expression, IsExpression, words_of, value}
+
+-- the text of a value is read as that value
+abbrev pub HexadecimalReadsBack : Type 0
+HexadecimalReadsBack = (n : ℕ) → n < modulus → value_of (hexadecimal n) ≡ n
+
+-- the words of an expression come to its value
+abbrev pub ExpressionsAreRead : Type 0
+ExpressionsAreRead = (e : Expression) → IsExpression e → expression_of (words_of e) ≡ Some (value e)
