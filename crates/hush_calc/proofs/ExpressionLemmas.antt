@@ -1,5 +1,5 @@
 -- The words of an expression come to its value.
-use Rattle.std.proofs.Common.{◌≡◌, ℕ, Bool, true, false, not, List, [], ◌∷◌, ◌++◌, Option, None, Some, refl, sym, ap, ◌∙◌, append_assoc}
+use Rattle.std.proofs.Common.{◌≡◌, ℕ, Bool, true, false, not, List, [], ◌∷◌, ◌++◌, Option, Some, refl, sym, ap, ◌∙◌, append_assoc}
 use Rattle.std.proofs.lemmas.List.{append-nil}
 use Rattle.std.specs.Option.{option_and_then}
 use Rattle.hush_calc.specs.declared.comparison.Comparison.{Comparison}
@@ -7,8 +7,8 @@ use Rattle.hush_calc.specs.declared.comparison.Comparison.TheVariants.{Same, Dif
 use Rattle.hush_calc.specs.declared.comparison.Opening.TheVariants.{Word}
 use Rattle.hush_calc.specs.declared.comparison.Joint.{Joint}
 use Rattle.hush_calc.specs.declared.comparison.Joint.TheVariants.{And, Or}
-use Rattle.hush_calc.specs.Test.{spelling, comparison_of, holds, joint_of, joined, signed, from_term, from_comparison, from_operand, from_joint, expression_of}
-use Rattle.hush_calc.specs.Expressions.{Primary, Term, Expression, Filled, Empty, Compared, Plain, Negated, First, Joined, primary_words, term_words, joint_word, words_of, primary_value, term_value, value, IsPrimary, IsTerm, IsExpression}
+use Rattle.hush_calc.specs.Test.{spelling, comparison_of, holds, joint_of, joined, signed, from_term, from_operand, from_joint, expression_of}
+use Rattle.hush_calc.specs.Expressions.{Term, Expression, Filled, Empty, Compared, Plain, Negated, First, Joined, term_words, joint_word, words_of, term_value, value, IsTerm, IsExpression}
 use Rattle.hush_calc.proofs.TermLemmas.{term-cons}
 
 comparison-spelled : (c : Comparison) → comparison_of (spelling c) ≡ Some c
@@ -27,7 +27,7 @@ joint-spelled : (j : Joint) → joint_of (joint_word j) ≡ Some j
 joint-spelled And = refl
 joint-spelled Or = refl
 
-signed-not : (odd b : Bool) → signed (not odd) b ≡ signed odd (not b)
+pub signed-not : (odd b : Bool) → signed (not odd) b ≡ signed odd (not b)
 signed-not true true = refl
 signed-not true false = refl
 signed-not false true = refl

@@ -1,14 +1,14 @@
 -- The text of a value is read as that value.
-use Rattle.std.proofs.Common.{◌≡◌, ℕ, zero, suc, ◌+◌, ◌*◌, ◌/◌, ◌%◌, ◌^◌, ◌<◌, ◌≤◌, ◌&&◌, ◌||◌, Bool, true, false, eqb, ltb, cond, List, [], ◌∷◌, ◌++◌, None, Some, Option, take_while, refl, sym, ap, ◌∙◌, subst, ⊎_elim, arith}
+use Rattle.std.proofs.Common.{◌≡◌, ℕ, zero, suc, ◌+◌, ◌*◌, ◌/◌, ◌%◌, ◌^◌, ◌<◌, ◌&&◌, ◌||◌, Bool, true, false, eqb, ltb, cond, List, [], ◌∷◌, None, Some, Option, take_while, refl, sym, ap, ◌∙◌, ⊎_elim, arith}
 use Rattle.std.specs.List.{list_all}
 use Rattle.std.specs.Option.{option_map_or}
-use Rattle.std.proofs.lemmas.Bool.{cases_Bool, cond-true, cond-false, eqb-true, ne_eqb}
+use Rattle.std.proofs.lemmas.Bool.{cases_Bool, cond-true, cond-false, eqb-true}
 use Rattle.std.proofs.lemmas.Bool.Decides.{nat_tests}
 use Rattle.std.proofs.lemmas.List.Folds.{list_all-append}
 use Rattle.std.proofs.lemmas.List.Sums.{fold_push, take_while-cons}
 use Rattle.std.proofs.lemmas.Nat.{div_below, div-add-mod'}
 use Rattle.std.proofs.Math.Nat.{mod-eq_of_lt, pow-suc}
-use Rattle.hush_calc.specs.Numbers.{digit_value, is_digit, number, digits_in_front, front_number, behind_0x, modulus, value_of}
+use Rattle.hush_calc.specs.Numbers.{digit_value, is_digit, number, front_number, behind_0x, modulus, value_of}
 use Rattle.hush_calc.specs.Hexadecimal.{digit_of, digits_of, hexadecimal}
 
 digit-counts : (d : ℕ) → d < 16 → digit_value (digit_of d) ≡ d

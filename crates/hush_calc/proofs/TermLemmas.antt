@@ -1,5 +1,5 @@
 -- Terms under their negations.
-use Rattle.std.proofs.Common.{◌≡◌, ℕ, Bool, true, false, not, List, [], ◌∷◌, Option, Some, None, option_map, ap, sym, ◌∙◌}
+use Rattle.std.proofs.Common.{◌≡◌, ℕ, Bool, not, List, ◌∷◌, Option, Some, None, option_map, ap, sym, ◌∙◌}
 use Rattle.hush_calc.specs.declared.comparison.Opening.{Opening}
 use Rattle.hush_calc.specs.declared.comparison.Opening.TheVariants.{Not, Filled, Empty, Word}
 use Rattle.hush_calc.specs.Test.{opening_of, signed, is_empty, from_term, from_operand, from_comparison}

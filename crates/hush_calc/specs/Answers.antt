@@ -1,5 +1,5 @@
 -- What the answer of `setexpr` says.
-use Rattle.std.specs.Prelude.{ℕ, List, Result, Ok, Err}
+use Rattle.std.specs.Prelude.{Result, Ok, Err}
 use Rattle.hush_calc.specs.declared.calculation.Calculated.{Calculated}
 use Rattle.hush_calc.specs.declared.calculation.SetexprFault.{SetexprFault}
 use Rattle.hush_calc.specs.Setexpr.{Answer}

@@ -63,3 +63,10 @@ IsTerm (Negated term) = IsTerm term
 abbrev pub IsExpression : Expression → Type 0
 IsExpression (First term) = IsTerm term
 IsExpression (Joined expression joint term) = IsExpression expression × IsTerm term
+
+-- the words are those of an expression that has this value
+pub record IsWritten (words : List (List ℕ)) (v : Bool) : Type 0 where
+  pub expression : Expression
+  pub is_expression : IsExpression expression
+  pub written : words_of expression ≡ words
+  pub comes_to : value expression ≡ v

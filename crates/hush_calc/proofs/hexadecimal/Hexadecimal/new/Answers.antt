@@ -1,4 +1,4 @@
-use Rattle.std.proofs.Common.{◌-◌, length, set, arith, ◌∙◌}
+use Rattle.std.proofs.Common.{◌-◌, arith, ◌∙◌}
 use Rattle.std.proofs.Math.ListN.{length-set}
 use Rattle.hush_calc.proofs.HexLemmas.{buffer-step, text-whole, none-from-rest, none-from-place}
 use Rattle.hush_calc.proofs.hexadecimal.Hexadecimal.new.Goals as goal
