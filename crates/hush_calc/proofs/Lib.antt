@@ -1,0 +1,6 @@
+pub mod HexLemmas
+pub mod TermLemmas
+pub mod LawLemmas
+pub mod ExpressionLemmas
+pub mod WrittenLemmas
+pub mod Rows

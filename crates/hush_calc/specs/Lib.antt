@@ -1,0 +1,9 @@
+pub mod Fields
+pub mod Numbers
+pub mod Hexadecimal
+pub mod Setexpr
+pub mod Test
+pub mod Reading
+pub mod Answers
+pub mod Laws
+pub mod Expressions

@@ -1,0 +1,154 @@
+//! The words of a test, and the comparisons (docs/commands.md, "test").
+ghost use Rattle.std.specs.Prelude.{◌≡◌};
+ghost use Rattle.std.specs.Str.{bytes_eq};
+
+use crate::numbers::integer_of;
+
+/// A comparison of two words: the first four of their bytes, the others of the numbers in them.
+#[derive(Clone, Copy)]
+pub(crate) enum Comparison {
+    Same,
+    Differs,
+    Before,
+    After,
+    Equal,
+    NotEqual,
+    Less,
+    LessOrEqual,
+    Greater,
+    GreaterOrEqual,
+}
+
+impl Comparison {
+    ghost use Rattle.hush_calc.specs.Test.{spelling, comparison_of, holds};
+
+    const ALL: [Comparison; 10] = [
+        Comparison::Same,
+        Comparison::Differs,
+        Comparison::Before,
+        Comparison::After,
+        Comparison::Equal,
+        Comparison::NotEqual,
+        Comparison::Less,
+        Comparison::LessOrEqual,
+        Comparison::Greater,
+        Comparison::GreaterOrEqual,
+    ];
+
+    fn text(self) -> &'static [u8]
+        ensures { result.now ≡ spelling self }
+    {
+        match self {
+            Comparison::Same => b"=",
+            Comparison::Differs => b"!=",
+            Comparison::Before => b"<",
+            Comparison::After => b">",
+            Comparison::Equal => b"-eq",
+            Comparison::NotEqual => b"-ne",
+            Comparison::Less => b"-lt",
+            Comparison::LessOrEqual => b"-le",
+            Comparison::Greater => b"-gt",
+            Comparison::GreaterOrEqual => b"-ge",
+        }
+    }
+
+    /// The comparison that a word is.
+    pub(crate) fn of(word: &[u8]) -> Option<Comparison>
+        ensures { result ≡ comparison_of word.now }
+    {
+        Comparison::ALL
+            .iter()
+            .copied()
+            .find(|comparison| is_text(word, comparison.text()))
+    }
+
+    /// Whether it holds between two words. Bytes are compared as unsigned numbers, a front before the longer word.
+    pub(crate) fn holds(self, left: &[u8], right: &[u8]) -> bool
+        ensures { result ≡ holds self left.now right.now }
+    {
+        match self {
+            Comparison::Same => left == right,
+            Comparison::Differs => left != right,
+            Comparison::Before => left.cmp(right).is_lt(),
+            Comparison::After => left.cmp(right).is_gt(),
+            Comparison::Equal => integer_of(left) == integer_of(right),
+            Comparison::NotEqual => integer_of(left) != integer_of(right),
+            Comparison::Less => integer_of(left) < integer_of(right),
+            Comparison::LessOrEqual => integer_of(left) <= integer_of(right),
+            Comparison::Greater => integer_of(left) > integer_of(right),
+            Comparison::GreaterOrEqual => integer_of(left) >= integer_of(right),
+        }
+    }
+}
+
+/// What a word is where a primary may begin.
+#[derive(Clone, Copy)]
+pub(crate) enum Opening {
+    /// `!`: a negation.
+    Not,
+    /// `-n`: the word behind it has to have bytes.
+    Filled,
+    /// `-z`: the word behind it has to be empty.
+    Empty,
+    /// Any other word: the first of a comparison.
+    Word,
+}
+
+impl Opening {
+    ghost use Rattle.hush_calc.specs.Test.{opening_of};
+
+    pub(crate) fn of(word: &[u8]) -> Opening
+        ensures { result ≡ opening_of word.now }
+    {
+        if is_text(word, b"!") {
+            Opening::Not
+        } else if is_text(word, b"-n") {
+            Opening::Filled
+        } else if is_text(word, b"-z") {
+            Opening::Empty
+        } else {
+            Opening::Word
+        }
+    }
+}
+
+/// What joins two terms.
+#[derive(Clone, Copy)]
+pub(crate) enum Joint {
+    /// `-a`: both.
+    And,
+    /// `-o`: one of them at least.
+    Or,
+}
+
+impl Joint {
+    ghost use Rattle.hush_calc.specs.Test.{joint_of, joined};
+
+    pub(crate) fn of(word: &[u8]) -> Option<Joint>
+        ensures { result ≡ joint_of word.now }
+    {
+        if is_text(word, b"-a") {
+            Some(Joint::And)
+        } else if is_text(word, b"-o") {
+            Some(Joint::Or)
+        } else {
+            None
+        }
+    }
+
+    pub(crate) fn joined(self, left: bool, right: bool) -> bool
+        ensures { result ≡ joined self left right }
+    {
+        match self {
+            Joint::And => left && right,
+            Joint::Or => left || right,
+        }
+    }
+}
+
+/// Whether a word is this text.
+pub(crate) fn is_text(word: &[u8], text: &[u8]) -> bool
+    ensures { result ≡ bytes_eq text.now word.now }
+{
+    text == word
+}

@@ -1,0 +1,20 @@
+//! The two commands that compute, over the fields of a command: `test` and `setexpr`.
+//! docs/commands.md states their rules.
+#![tactic(auto)]
+
+mod calculation;
+mod comparison;
+mod expression;
+mod fields;
+mod hexadecimal;
+pub mod laws;
+mod numbers;
+mod operator;
+
+pub use calculation::{Calculated, SetexprFault, setexpr};
+pub use expression::test;
+pub use fields::Fields;
+pub use hexadecimal::Hexadecimal;
+
+#[cfg(test)]
+mod tests;
