@@ -258,6 +258,6 @@ fn a_write_hands_out_the_value_before_it(rt: HostRuntime) -> Result<(), Fail> {
     assert!(rt; first.before.is_none());
     let second = vars.write(b"k", None, false, &defaults)?;
     assert_eq!(rt; second.name.as_slice(), b"k".as_slice());
-    assert!(rt; matches!(&second.before, Some(value) if value.as_slice() == b"1"));
+    assert!(rt; matches!(&second.before, Some(value) if value.as_slice() == b"1".as_slice()));
     Ok(())
 }

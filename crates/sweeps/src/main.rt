@@ -6,6 +6,7 @@
 #![tactic(auto)]
 
 mod defaulting;
+mod keeping;
 mod lines;
 mod scripts;
 mod showing;

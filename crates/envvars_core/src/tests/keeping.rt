@@ -1,7 +1,6 @@
 //! Kept values: what is kept of which writes, and what comes back.
 ghost use Rattle.std.specs.Prelude.{◌≡◌, ◌≤◌};
-ghost use Rattle.envimg_core.specs.Environment.{used};
-ghost use Rattle.envvars_core.specs.Olds.{restored};
+ghost use Rattle.envvars_core.specs.Olds.{restored, RestoredFits};
 
 use super::{bytes, has, has_attr, name_of, read_step};
 use crate::laws::nothing_restored;
@@ -24,7 +23,12 @@ fn keep(rt: &impl Abort, vars: &mut Vars, olds: &mut Olds, defaults: &Vars, step
 }
 
 /// Variables into which the writes of some lines are made, and then kept ones that are brought back.
-fn back_after(rt: &HostRuntime, room: u32, first: &str, kept: &str) -> Result<Vars, Fail>
+fn back_after(
+    rt: &(impl Abort + AllocGlobal),
+    room: u32,
+    first: &str,
+    kept: &str,
+) -> Result<Vars, Fail>
     requires { 1 ≤ room }
 {
     let mut vars = Vars::empty(rt.alloc(), room);

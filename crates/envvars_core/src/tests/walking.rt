@@ -1,7 +1,6 @@
 //! Many writes at random, marks and ways back, beside a map that is changed alike by rules of its own.
 ghost use Rattle.std.specs.Prelude.{◌≡◌, ◌≤◌, ◌<◌};
-ghost use Rattle.envimg_core.specs.Environment.{used};
-ghost use Rattle.envvars_core.specs.Olds.{restored};
+ghost use Rattle.envvars_core.specs.Olds.{restored, RestoredFits};
 
 use super::{name_of, text};
 use crate::laws::nothing_restored;
@@ -18,6 +17,7 @@ const LETTERS: &[u8] = b"0123456789abcdefghijklmn";
 type Names = BTreeMap<Vec<u8>, Vec<u8>>;
 
 /// A sequence of numbers: the linear congruential generator of Knuth's MMIX, of which the high bits are taken.
+#[derive(Drop)]
 struct Random(u64);
 
 impl Random {
@@ -103,6 +103,7 @@ fn write(alloc: Global, names: &mut Names, name: &[u8], value: &[u8]) -> Result<
 }
 
 /// Variables with what is kept of them, and the map with a copy of what it was.
+#[derive(Drop)]
 struct Walk {
     vars: Vars,
     olds: Olds,
@@ -114,7 +115,7 @@ struct Walk {
 impl Walk {
     fn write(
         &mut self,
-        rt: &HostRuntime,
+        rt: &(impl Abort + AllocGlobal),
         name: &[u8],
         value: &[u8],
         force: bool,
@@ -140,8 +141,8 @@ impl Walk {
     }
 
     /// What is there from now on comes back.
-    fn mark(&mut self, rt: &HostRuntime) -> Result<(), Fail>
-        ensures fits { used (restored self.new.vars.env self.new.olds) ≤ self.new.vars.room }
+    fn mark(&mut self, rt: &(impl Abort + AllocGlobal)) -> Result<(), Fail>
+        ensures fits { RestoredFits self.new.vars self.new.olds }
     {
         self.before = copy_of(rt.alloc(), &self.names)?;
         self.olds = Olds::new(rt.alloc());
@@ -150,9 +151,9 @@ impl Walk {
         Ok(())
     }
 
-    fn restore(&mut self, rt: &HostRuntime) -> Result<(), Fail>
-        requires fits { used (restored self.old.vars.env self.old.olds) ≤ self.old.vars.room }
-        ensures fits { used (restored self.new.vars.env self.new.olds) ≤ self.new.vars.room }
+    fn restore(&mut self, rt: &(impl Abort + AllocGlobal)) -> Result<(), Fail>
+        requires fits { RestoredFits self.old.vars self.old.olds }
+        ensures fits { RestoredFits self.new.vars self.new.olds }
     {
         self.vars.restore(&mut self.olds)?;
         self.names = copy_of(rt.alloc(), &self.before)?;
@@ -161,7 +162,7 @@ impl Walk {
         self.compare(rt)
     }
 
-    fn compare(&self, rt: &HostRuntime) -> Result<(), Fail> {
+    fn compare(&self, rt: &(impl Abort + AllocGlobal)) -> Result<(), Fail> {
         let found = text(rt.alloc(), &self.vars)?;
         let wanted = text_of(rt.alloc(), &self.names)?;
         assert_eq!(rt; found.as_slice(), wanted.as_slice());
@@ -171,9 +172,9 @@ impl Walk {
 }
 
 /// One write, mark or way back, by chance.
-fn step(rt: &HostRuntime, walk: &mut Walk, random: &mut Random) -> Result<(), Fail>
-    requires fits { used (restored walk.old.vars.env walk.old.olds) ≤ walk.old.vars.room }
-    ensures fits { used (restored walk.new.vars.env walk.new.olds) ≤ walk.new.vars.room }
+fn step(rt: &(impl Abort + AllocGlobal), walk: &mut Walk, random: &mut Random) -> Result<(), Fail>
+    requires fits { RestoredFits walk.old.vars walk.old.olds }
+    ensures fits { RestoredFits walk.new.vars walk.new.olds }
 {
     let letter = b'a' + random.below(8) as u8;
     let digit = b'0' + random.below(5) as u8;

@@ -6,7 +6,7 @@ ghost use Rattle.envimg_core.specs.Environment.{used, is_name, is_value};
 ghost use Rattle.envimg_core.specs.Pieces.{with_value};
 ghost use Rattle.envvars_core.specs.Refusals.{given, after, refusal};
 ghost use Rattle.envvars_core.specs.Variables.{size_of};
-ghost use Rattle.envvars_core.specs.Olds.{same_value, kept, kept_by, restored, goes_in_place, HavePlaces};
+ghost use Rattle.envvars_core.specs.Olds.{same_value, kept, kept_by, restored, goes_in_place, HavePlaces, RestoredFits};
 
 use super::{Vars, size_of_all};
 use crate::checks::{given, same_value};
@@ -111,7 +111,7 @@ impl Vars {
     /// It is refused only for memory, and then nothing has changed. It takes no memory where every name that is kept
     /// with a value is there and `.flags` isn't kept.
     pub fn restore(&mut self, olds: &mut Olds) -> Result<(), Memory>
-        requires fits { used (restored self.old.env olds.old) ≤ self.old.room }
+        requires fits { RestoredFits self.old olds.old }
         ensures restored { OnOk result (self.new ≡ record self.old { env = restored self.old.env olds.old }) }
         ensures emptied { OnOk result (olds.new ≡ env.empty) }
         ensures unchanged { OnErr result (self.new ≡ self.old) }
@@ -136,7 +136,7 @@ impl Vars {
     /// Brings back every kept value in its place, which takes no memory.
     fn swap_in(&mut self, olds: &mut Olds)
         requires in_place { IsTrue (goes_in_place self.old.env olds.old) }
-        requires fits { used (restored self.old.env olds.old) ≤ self.old.room }
+        requires fits { RestoredFits self.old olds.old }
         ensures restored { self.new ≡ record self.old { env = restored self.old.env olds.old } }
         ensures emptied { olds.new ≡ env.empty }
     {
@@ -147,7 +147,7 @@ impl Vars {
 
     /// Brings back every kept value in new variables, which then take the place of the present ones.
     fn build_anew(&mut self, olds: &mut Olds) -> Result<(), Memory>
-        requires fits { used (restored self.old.env olds.old) ≤ self.old.room }
+        requires fits { RestoredFits self.old olds.old }
         ensures restored { OnOk result (self.new ≡ record self.old { env = restored self.old.env olds.old }) }
         ensures emptied { OnOk result (olds.new ≡ env.empty) }
         ensures unchanged { OnErr result (self.new ≡ self.old) }
