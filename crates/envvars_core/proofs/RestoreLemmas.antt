@@ -186,6 +186,15 @@ remove-insert olds n v e = env.same_map nat_list_cmp_total same_name _ _ (λ q.
     absent None e = refl
     absent (Some x) e = absurd (false≢true (sym e))
 
+pub kept_forgotten : (olds : OldValues) (n : List ℕ) (old : Option (List ℕ)) (added : Bool) → added ≡ not (env.contains_key olds n) → cond added (env.remove (kept olds n old) n) (kept olds n old) ≡ olds
+unfolding kept
+kept_forgotten olds n old added is =
+    ap (λ b. cond b (env.remove (kept olds n old) n) (kept olds n old)) is
+    ∙ elim (env.contains_key olds n) as (λ b. env.contains_key olds n ≡ b → cond (not b) (env.remove (cond b olds (env.insert olds n old)) n) (cond b olds (env.insert olds n old)) ≡ olds) [
+      | true ↦ λ e. refl
+      | false ↦ λ e. remove-insert olds n old e
+    ] refl
+
 pub places-first : (m : Environment) (e : Entry) (es : List Entry) (v : List ℕ) → HavePlaces m (e ∷ es) → e.1 ≡ Some v → IsSome (env.get m e.0)
 places-first m e es v h is = h e.0 v (ap (λ o. cond o (Some e.1) (find bytes_cmp e.0 es)) (tied e.0) ∙ ap Some is)
   where

@@ -1,11 +1,11 @@
 //! What is kept of variables that change, so that they can be brought back.
 
-ghost use Rattle.std.specs.Prelude.{◌≡◌, ◌∷◌, [], ℕ, List, length, map, fold, Some, None, is_none, IfOk, OnOk, OnErr, IfSome, IfNone, IsTrue, MatchOption, option_copied, option_map};
+ghost use Rattle.std.specs.Prelude.{◌≡◌, ◌∷◌, [], ℕ, List, length, map, fold, Some, None, is_none, not, if◌then◌else◌, IfOk, OnOk, OnErr, IfSome, IfNone, IsTrue, MatchOption, option_copied, option_map};
 ghost use Rattle.std.specs.List.{list_all, AllByRecursion};
 ghost use Rattle.std.specs.FinMap as env;
 ghost use Rattle.envimg_core.specs.Environment.{is_name, is_value};
 ghost use Rattle.envimg_core.specs.Pieces.{with_value, after_entry};
-ghost use Rattle.envvars_core.specs.Olds.{restored, has_place};
+ghost use Rattle.envvars_core.specs.Olds.{kept, restored, has_place};
 ghost use Rattle.envvars_core.specs.Kept.{kept_entry, kept_entries, IsNamed};
 
 use crate::refusals::Memory;
@@ -74,8 +74,24 @@ impl Olds {
         self.kept.contains_key(name)
     }
 
+    /// Keeps the old value of a name, unless one is kept already, and answers whether it is kept only now.
+    /// Where memory runs out, nothing has changed.
+    pub(crate) fn keep(&mut self, name: &[u8], old: Option<&[u8]>) -> Result<bool, Memory>
+        requires name_form { IsTrue (is_name name.now) }
+        requires value_form { IfSome (option_copied old) (λ v. IsTrue (is_value v)) }
+        ensures kept { OnOk result (self.new ≡ kept self.old name.now (option_copied old.entry)) }
+        ensures added { IfOk result (λ added. added ≡ not (env.contains_key self.old name.now)) }
+        ensures unchanged { OnErr result (self.new ≡ self.old) }
+    {
+        if self.has(name) {
+            return Ok(false);
+        }
+        self.add(name, old)?;
+        Ok(true)
+    }
+
     /// Keeps the old value of a name that isn't kept yet. Where memory runs out, nothing has changed.
-    pub(crate) fn keep(&mut self, name: &[u8], old: Option<&[u8]>) -> Result<(), Memory>
+    fn add(&mut self, name: &[u8], old: Option<&[u8]>) -> Result<(), Memory>
         requires name_form { IsTrue (is_name name.now) }
         requires value_form { IfSome (option_copied old) (λ v. IsTrue (is_value v)) }
         ensures ok { OnOk result (self.new ≡ env.insert self.old name.now (option_copied old.entry)) }
@@ -87,8 +103,16 @@ impl Olds {
         Ok(())
     }
 
-    /// Keeps a name no more. It takes no memory.
-    pub(crate) fn forget(&mut self, name: &[u8])
+    /// Keeps a name no more, where it was kept only now. It takes no memory.
+    pub(crate) fn forget(&mut self, name: &[u8], added: bool)
+        ensures { self.new ≡ (if added then env.remove self.old name.now else self.old) }
+    {
+        if added {
+            self.take_out(name);
+        }
+    }
+
+    fn take_out(&mut self, name: &[u8])
         ensures { self.new ≡ env.remove self.old name.now }
     {
         let _text = self.kept.remove(name);
@@ -174,8 +198,14 @@ fn put_back_one(variables: &mut Variables, name: &[u8], text: &Option<Text>) -> 
     ensures { OnOk result (variables.new ≡ with_value variables.old name.now (option_map (λ t. t.1) text.now)) }
 {
     match text {
-        Some(text) => variables.insert(text.name(), text.value())?,
-        None => variables.remove(name),
+        Some(text) => {
+            let (_, near) = variables.find(name);
+            variables.insert(near, text.name(), text.value())?;
+        }
+        None => {
+            let (_, near) = variables.find(name);
+            variables.remove(near, name);
+        }
     }
     Ok(())
 }

@@ -9,6 +9,7 @@ mod defaulting;
 mod keeping;
 mod lines;
 mod scripts;
+mod sessions;
 mod showing;
 mod texts;
 mod variables;
@@ -20,5 +21,6 @@ fn main(rt: HostRuntime) -> io::Result<()> {
     texts::sweep(rt.alloc(), &mut rt.stdout())?;
     variables::sweep(rt.alloc(), &mut rt.stdout())?;
     defaulting::sweep(rt.alloc(), &mut rt.stdout())?;
+    sessions::sweep(rt.alloc(), &mut rt.stdout())?;
     scripts::sweep(rt.alloc(), &mut rt.stdout())
 }

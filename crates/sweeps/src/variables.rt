@@ -44,7 +44,7 @@ const WITH_FLAGS: State = State {
 };
 
 /// What is left of `text` behind `line` and a semicolon, if it begins so.
-fn behind<'a>(text: &'a [u8], line: &[u8]) -> Option<&'a [u8]> {
+pub fn begins_with<'a>(text: &'a [u8], line: &[u8]) -> Option<&'a [u8]> {
     match text.strip_prefix(line)? {
         [b';', rest @ ..] => Some(rest),
         _ => None,
@@ -55,7 +55,7 @@ fn behind<'a>(text: &'a [u8], line: &[u8]) -> Option<&'a [u8]> {
 pub fn is_in(vars: &Vars, state: &State) -> bool {
     let mut text = state.lines;
     for line in vars.lines() {
-        match behind(text, line) {
+        match begins_with(text, line) {
             Some(rest) => text = rest,
             None => return false,
         }

@@ -1,5 +1,5 @@
 //! Many writes at random, marks and ways back, beside a map that is changed alike by rules of its own.
-ghost use Rattle.std.specs.Prelude.{◌≡◌, ◌≤◌, ◌<◌};
+ghost use Rattle.std.specs.Prelude.{◌≡◌, ◌<◌, OnOk};
 ghost use Rattle.envvars_core.specs.Olds.{restored, RestoredFits};
 
 use super::{name_of, text};
@@ -142,7 +142,7 @@ impl Walk {
 
     /// What is there from now on comes back.
     fn mark(&mut self, rt: &(impl Abort + AllocGlobal)) -> Result<(), Fail>
-        ensures fits { RestoredFits self.new.vars self.new.olds }
+        ensures fits { OnOk result (RestoredFits self.new.vars self.new.olds) }
     {
         self.before = copy_of(rt.alloc(), &self.names)?;
         self.olds = Olds::new(rt.alloc());
@@ -153,7 +153,7 @@ impl Walk {
 
     fn restore(&mut self, rt: &(impl Abort + AllocGlobal)) -> Result<(), Fail>
         requires fits { RestoredFits self.old.vars self.old.olds }
-        ensures fits { RestoredFits self.new.vars self.new.olds }
+        ensures fits { OnOk result (RestoredFits self.new.vars self.new.olds) }
     {
         self.vars.restore(&mut self.olds)?;
         self.names = copy_of(rt.alloc(), &self.before)?;
@@ -174,7 +174,7 @@ impl Walk {
 /// One write, mark or way back, by chance.
 fn step(rt: &(impl Abort + AllocGlobal), walk: &mut Walk, random: &mut Random) -> Result<(), Fail>
     requires fits { RestoredFits walk.old.vars walk.old.olds }
-    ensures fits { RestoredFits walk.new.vars walk.new.olds }
+    ensures fits { OnOk result (RestoredFits walk.new.vars walk.new.olds) }
 {
     let letter = b'a' + random.below(8) as u8;
     let digit = b'0' + random.below(5) as u8;
@@ -203,7 +203,7 @@ fn a_hundred_thousand_writes_marks_and_ways_back(rt: HostRuntime) -> Result<(), 
     };
     nothing_restored();
     let _fits = walk.vars.used();
-    for _ in 0..100_000u32 {
+    'steps: for _ in 0..100_000u32 {
         step(&rt, &mut walk, &mut random)?;
     }
     walk.restore(&rt)

@@ -47,63 +47,21 @@ impl Vars {
         ensures brings_back { restored self.new.env olds.new ≡ restored self.old.env olds.old }
         ensures room { self.new.room ≡ self.old.room }
     {
-        self.check(name, new, force, defaults)?;
+        prove!(self.used <= self.room);
+        let (old, near) = self.find(name);
+        let size = self.size_left(name, new, force, defaults, old)?;
         let value = given(new);
-        if self.has_value(name, value) {
+        if same_value(old, value) {
             return Ok(());
         }
-        Ok(self.change_kept(name, value, olds)?)
-    }
-
-    /// Whether a name has this value, or none.
-    fn has_value(&self, name: &[u8], value: Option<&[u8]>) -> bool
-        ensures { result ≡ same_value (env.get self.now.env name.now) (option_copied value.entry) }
-    {
-        same_value(self.get(name), value)
-    }
-
-    /// Keeps the old value of a name, and gives it another or takes its variable away.
-    fn change_kept(
-        &mut self,
-        name: &[u8],
-        value: Option<&[u8]>,
-        olds: &mut Olds,
-    ) -> Result<(), Memory>
-        requires name_form { IsTrue (is_name name.now) }
-        requires value_form { IfSome (option_copied value) (λ v. IsTrue (is_value v)) }
-        requires fits { used (with_value self.old.env name.now (option_copied value)) ≤ self.old.room }
-        ensures ok { OnOk result (self.new
-            ≡ record self.old { env = with_value self.old.env name.now (option_copied value.entry) }) }
-        ensures kept { OnOk result (olds.new ≡ kept olds.old name.now (env.get self.old.env name.now)) }
-        ensures err { OnErr result (self.new ≡ self.old) }
-        ensures olds_err { OnErr result (olds.new ≡ olds.old) }
-    {
-        if olds.has(name) {
-            return self.change(name, value);
-        }
-        let old = self.get(name);
-        olds.keep(name, old)?;
-        match self.change(name, value) {
+        let added = olds.keep(name, old)?;
+        match self.set(near, name, value, size) {
             Ok(()) => Ok(()),
-            Err(memory) => {
-                olds.forget(name);
-                Err(memory)
+            Err(Memory) => {
+                olds.forget(name, added);
+                Err(Refusal::Memory)
             }
         }
-    }
-
-    /// Gives a name a value or takes its variable away.
-    fn change(&mut self, name: &[u8], value: Option<&[u8]>) -> Result<(), Memory>
-        requires name_form { IsTrue (is_name name.now) }
-        requires value_form { IfSome (option_copied value) (λ v. IsTrue (is_value v)) }
-        requires fits { used (with_value self.old.env name.now (option_copied value)) ≤ self.old.room }
-        ensures ok { OnOk result (self.new
-            ≡ record self.old { env = with_value self.old.env name.now (option_copied value.entry) }) }
-        ensures err { OnErr result (self.new ≡ self.old) }
-    {
-        let old = self.get(name);
-        let size = self.used_after(name, old, value).unwrap();
-        self.set(name, value, size)
     }
 
     /// Brings back every kept value, and keeps nothing any more. What that leaves fits the room.
@@ -190,13 +148,14 @@ fn swap_one(variables: &mut Variables, name: &[u8], text: Option<Text>, size: us
     ensures swapped { variables.new ≡ with_value variables.old name.now (option_map (λ t. t.1) text) }
     ensures sized { result ≡ used (with_value variables.old name.now (option_map (λ t. t.1) text)) % 2 ^ 64 }
 {
-    let present = size_of(name, variables.get(name));
+    let (present, near) = variables.find(name);
+    let present = size_of(name, present);
     let kept = size_of(name, value_of(&text));
     match text {
         Some(text) => {
             let _swapped = variables.replace(text);
         }
-        None => variables.remove(name),
+        None => variables.remove(near, name),
     }
     size.wrapping_sub(present).wrapping_add(kept)
 }
