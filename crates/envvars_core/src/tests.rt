@@ -1,6 +1,6 @@
 //! Worked values, and each call on its happy path.
-ghost use Rattle.std.specs.Prelude.{◌≡◌, IsTrue, option_copied};
-ghost use Rattle.envvars_core.specs.Refusals.{given};
+mod keeping;
+mod walking;
 
 mod limits;
 
@@ -251,43 +251,15 @@ fn the_last_of_a_thousand_items_decides(rt: HostRuntime) -> Result<(), Fail> {
     Ok(())
 }
 
-/// Whether a write takes this value as it is.
-fn is_given(value: Option<&[u8]>) -> bool
-    ensures { IsTrue result → given (option_copied value.entry) ≡ option_copied value.entry }
-{
-    match value {
-        Some([]) => false,
-        Some(_) | None => true,
-    }
-}
-
-/// Puts a value back which a forced write would take.
-fn put_back(rt: &impl Abort, vars: &mut Vars, defaults: &Vars, was: Was) {
-    let before = was.value();
-    assert!(rt; is_given(before));
-    assert!(rt; vars.check(&was.name, before, true, defaults).is_ok());
-    assert!(rt; vars.put_back(was).is_ok());
-}
-
 #[test]
-fn writes_put_back_from_the_last_to_the_first(rt: HostRuntime) -> Result<(), Fail> {
+fn a_write_hands_out_the_value_before_it(rt: HostRuntime) -> Result<(), Fail> {
     let mut vars = Vars::empty(rt.alloc(), 4092);
     let defaults = Vars::empty(rt.alloc(), 4092);
-    let flags = vars.write(b".flags", Some(b"k:so"), false, &defaults)?;
     let first = vars.write(b"k", Some(b"1"), false, &defaults)?;
-    make(&rt, &mut vars, &defaults, "k=2|NoOverwrite");
-    let second = vars.write(b"k", Some(b"3"), true, &defaults)?;
-    make(&rt, &mut vars, &defaults, "k|NoDelete");
+    assert_eq!(rt; first.name.as_slice(), b"k".as_slice());
+    assert!(rt; first.before.is_none());
+    let second = vars.write(b"k", None, false, &defaults)?;
     assert_eq!(rt; second.name.as_slice(), b"k".as_slice());
-    assert_eq!(rt; second.value(), Some(b"1".as_slice()));
-    assert_eq!(rt; first.value(), None);
-    put_back(&rt, &mut vars, &defaults, second);
-    has(&rt, &vars, ".flags=k:so;k=1;")?;
-    put_back(&rt, &mut vars, &defaults, first);
-    has(&rt, &vars, ".flags=k:so;")?;
-    put_back(&rt, &mut vars, &defaults, flags);
-    has(&rt, &vars, "")?;
-    assert_eq!(rt; vars.used(), 1);
-    has_attr(&rt, &vars, "k", Kind::String, Access::Any);
+    assert!(rt; matches!(&second.before, Some(value) if value.as_slice() == b"1".as_slice()));
     Ok(())
 }

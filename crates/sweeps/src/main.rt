@@ -6,9 +6,11 @@
 #![tactic(auto)]
 
 mod defaulting;
+mod keeping;
 mod lines;
 mod many;
 mod scripts;
+mod sessions;
 mod showing;
 mod texts;
 mod variables;
@@ -21,5 +23,6 @@ fn main(rt: HostRuntime) -> io::Result<()> {
     variables::sweep(rt.alloc(), &mut rt.stdout())?;
     many::sweep(rt.alloc(), &mut rt.stdout())?;
     defaulting::sweep(rt.alloc(), &mut rt.stdout())?;
+    sessions::sweep(rt.alloc(), &mut rt.stdout())?;
     scripts::sweep(rt.alloc(), &mut rt.stdout())
 }

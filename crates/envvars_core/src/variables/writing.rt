@@ -26,18 +26,6 @@ pub struct Was {
     pub before: Option<Vec<u8>>,
 }
 
-impl Was {
-    /// The value before the write.
-    pub(crate) fn value(&self) -> Option<&[u8]>
-        ensures { option_copied result ≡ option_map (λ v. v.items) self.now.before }
-    {
-        match &self.before {
-            Some(value) => Some(value),
-            None => None,
-        }
-    }
-}
-
 fn copied(alloc: Global, value: Option<&[u8]>) -> Result<Option<Vec<u8>>, AllocError>
     ensures { IfOk result (λ copy. option_map (λ v. v.items) copy ≡ option_copied value.entry) }
 {
@@ -119,7 +107,7 @@ impl Vars {
     }
 
     /// The size that a write leaves, or the first of the checks that refuses it. The old value is given.
-    fn size_left(
+    pub(super) fn size_left(
         &self,
         name: &[u8],
         new: Option<&[u8]>,
@@ -212,7 +200,7 @@ impl Vars {
     }
 
     /// Gives a name a value or takes its variable away, which leaves this size.
-    fn set(
+    pub(super) fn set(
         &mut self,
         near: Near,
         name: &[u8],
@@ -264,26 +252,5 @@ impl Vars {
         let was = make_was(self.alloc, name, old)?;
         self.set(near, name, given(new), size)?;
         Ok(was)
-    }
-
-    /// Gives the name of a `Was` its value before the write, or none where it had none.
-    /// Types and access are not checked; the room holds what that leaves. Where memory runs out,
-    /// nothing has changed and the `Was` comes back.
-    pub fn put_back(&mut self, was: Was) -> Result<(), (Was, Memory)>
-        requires formed { IsFormed was }
-        requires fits { used (with_value self.old.env was.name.items (option_map (λ v. v.items) was.before))
-            ≤ self.old.room }
-        ensures put_back { OnOk result (self.new
-            ≡ record self.old { env = with_value self.old.env was.name.items (option_map (λ v. v.items) was.before) }) }
-        ensures handed_back { IfErr result (λ e. e.0 ≡ was) }
-        ensures unchanged { OnErr result (self.new ≡ self.old) }
-    {
-        let before = was.value();
-        let (old, near) = self.find(&was.name);
-        let size = self.used_after(&was.name, old, before).unwrap();
-        match self.set(near, &was.name, before, size) {
-            Ok(()) => Ok(()),
-            Err(memory) => Err((was, memory)),
-        }
     }
 }

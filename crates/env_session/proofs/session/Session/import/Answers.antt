@@ -1,0 +1,20 @@
+use Rattle.std.proofs.Common.{◌≡◌, ℕ, ◌+◌, ◌<◌, length, take, map, cond, refl, sym, ap, subst, ◌∙◌, arith}
+use Rattle.env_session.specs.Session.{Held}
+use Rattle.env_session.specs.Requests.{entry_in, tally, imported}
+use Rattle.env_session.proofs.LawLemmas.{imported_none, imported_more}
+use Rattle.env_session.proofs.session.Session.import.Goals as goal
+
+pub entries-init : goal.entries-init
+entries-init c = record { count = refl; fewer = omega arith; session = imported_none c.args.self.now }
+
+pub entries-preserved : goal.entries-preserved
+entries-preserved c =
+    let now : Held × ℕ = (c.entries.self, c.entries.refused) in
+    let counted = c.counted-refused.ensures.count ∙ ap (λ b. cond b 1 0) c.in-Ok.ensures.refused in
+    record {
+      count = omega (arith, c.entries.invariant.count);
+      fewer = omega (arith, c.entries.invariant.fewer, c.counted-refused.ensures.few);
+      session =
+          (λ i. (c.in-Ok.ensures.done i, c.entries.refused + counted i))
+          ∙ imported_more now c.args.self.now c.args.entries.now c.entries.done c.entry-item.result (omega (arith, c.entries.invariant.count, c.entries-test.true)) (subst (λ (k : ℕ). c.entry-item.result ≡ Rattle.std.proofs.Common.get_or c.args.entries.now k c.entry-item.result) (sym c.entries.invariant.count) c.entry-item.is) c.entries.invariant.session;
+    }

@@ -1,0 +1,146 @@
+//! The start of a session.
+
+ghost use Rattle.std.specs.Prelude.{◌≡◌, ◌<◌, ◌≤◌, ◌==◌, ◌&&◌, ℕ, length, slice_index_or, IfOk, OnOk, IsTrue, Result};
+ghost use Rattle.std.specs.List.{AllByRecursion};
+ghost use Rattle.envimg_core.specs.Environment.{used};
+ghost use Rattle.envimg_core.specs.Geometry.{room_of, area_of};
+ghost use Rattle.envimg_core.specs.Pieces.{vars_of, entries_of};
+ghost use Rattle.envimg_core.specs.State.{state_of};
+ghost use Rattle.env_session.specs.Session.{bytes_of, has_lengths, has_second, second_state, opening_choice, opening_env, StartsAs};
+ghost use Rattle.env_session.specs.Holding.{IsFresh, IsBlank};
+ghost use Rattle.env_session.specs.Opening.{is_good};
+
+use crate::faults::StartFault;
+use crate::session::Session;
+use crate::spans::{Span, begin};
+use crate::stored::Stored;
+use envimg_core::{Choice, CopyState, Geometry, Layout, check_copy, choose};
+use envvars_core::{Memory, Olds, Vars};
+use std::alloc::Global;
+use std::array;
+
+impl Session {
+    /// A session over stored copies. A refusal hands them back.
+    pub fn start(
+        alloc: Global,
+        stored: Stored,
+        defaults: Vars,
+    ) -> Result<Session, (Stored, StartFault)>
+        ensures { StartsAs stored defaults result }
+    {
+        if !has_lengths(&stored) {
+            return Err((stored, StartFault::Length));
+        }
+        if defaults.used() > stored.geometry.room() {
+            return Err((stored, StartFault::DefaultTooBig));
+        }
+        match opened(alloc, &stored, &defaults) {
+            Ok((vars, current)) => {
+                let _size = vars.used();
+                Ok(Session {
+                    alloc,
+                    stored,
+                    defaults,
+                    vars,
+                    current,
+                    spans: fresh_spans(alloc, current),
+                    marks: 0,
+                })
+            }
+            Err(Memory) => Err((stored, StartFault::Memory)),
+        }
+    }
+}
+
+/// Whether the copies have the lengths that the geometry wants.
+fn has_lengths(stored: &Stored) -> bool
+    ensures { result ≡ has_lengths stored.now.geometry stored.now.first.items (bytes_of stored.now.second) }
+{
+    let size = stored.geometry.size() as usize;
+    stored.first.len() == size && has_second(stored.geometry.layout(), size, stored)
+}
+
+fn has_second(layout: Layout, size: usize, stored: &Stored) -> bool
+    ensures { result ≡ has_second layout size (bytes_of stored.now.second) }
+{
+    match (layout, &stored.second) {
+        (Layout::Single, None) => true,
+        (Layout::Single, Some(_)) => false,
+        (Layout::Redundant, None) => false,
+        (Layout::Redundant, Some(copy)) => copy.len() == size,
+    }
+}
+
+/// The spans of a session that begins.
+fn fresh_spans(alloc: Global, current: Choice) -> [Span; 65]
+    ensures first { (d : _) → IsFresh current (slice_index_or result 0 d) }
+    ensures blank { AllByRecursion IsBlank result }
+    ensures many { length result ≡ 65 }
+{
+    let mut spans = blank_spans(alloc);
+    begin(&mut spans, 0, current);
+    spans
+}
+
+/// Spans in which nothing is kept.
+fn blank_spans(alloc: Global) -> [Span; 65]
+    ensures blank { (i : ℕ) (d : _) → i < 65 → IsBlank (slice_index_or result i d) }
+    ensures many { length result ≡ 65 }
+{
+    array::from_fn(|_index| blank_span(alloc))
+}
+
+fn blank_span(alloc: Global) -> Span
+    ensures { IsBlank result }
+{
+    Span {
+        olds: Olds::new(alloc),
+        first: None,
+        second: None,
+        current: Choice::Neither,
+    }
+}
+
+/// The variables and the choice with which a session begins.
+fn opened(alloc: Global, stored: &Stored, defaults: &Vars) -> Result<(Vars, Choice), Memory>
+    requires fits { used defaults.now.env ≤ room_of stored.now.geometry }
+    ensures current { IfOk result (λ r. r.1 ≡ opening_choice stored.now.geometry stored.now.first.items (bytes_of stored.now.second)) }
+    ensures vars { IfOk result (λ r. r.0 ≡ record {
+      env = opening_env stored.now.geometry stored.now.first.items (bytes_of stored.now.second) defaults.now.env r.1;
+      room = room_of stored.now.geometry;
+    }) }
+{
+    let first = check_copy(&stored.geometry, &stored.first);
+    let second = state_of_second(stored);
+    let current = choose(first, second);
+    let vars = match current {
+        Choice::First => load_copy(alloc, &stored.geometry, &stored.first)?,
+        Choice::Second => match &stored.second {
+            Some(copy) => load_copy(alloc, &stored.geometry, copy)?,
+            None => unreachable!(),
+        },
+        Choice::Neither => defaults.copy(alloc, stored.geometry.room())?,
+    };
+    Ok((vars, current))
+}
+
+/// The state of the second copy; where there is none its length is wrong.
+fn state_of_second(stored: &Stored) -> CopyState
+    ensures { result ≡ second_state stored.now.geometry (bytes_of stored.now.second) }
+{
+    match &stored.second {
+        Some(copy) => check_copy(&stored.geometry, copy),
+        None => CopyState::BadLength,
+    }
+}
+
+/// The variables of a good copy.
+fn load_copy(alloc: Global, geometry: &Geometry, copy: &[u8]) -> Result<Vars, Memory>
+    requires { IsTrue (is_good (state_of geometry.now copy.now)) }
+    ensures { IfOk result (λ vars. vars ≡ record { env = vars_of (entries_of (area_of geometry.now copy.now)); room = room_of geometry.now }) }
+{
+    match geometry.area(copy) {
+        Some(area) => Vars::load(alloc, area),
+        None => unreachable!(),
+    }
+}

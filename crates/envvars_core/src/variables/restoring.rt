@@ -1,0 +1,180 @@
+//! Writes whose old values are kept, and bringing those back.
+
+ghost use Rattle.std.specs.Prelude.{◌≡◌, ◌≤◌, ◌%◌, ◌^◌, ◌∷◌, [], IfSome, IfNone, IfOk, OnOk, OnErr, IsOk, IsOkUnless, IsTrue, IsSome, not, option_map, option_copied};
+ghost use Rattle.std.specs.FinMap as env;
+ghost use Rattle.envimg_core.specs.Environment.{used, is_name, is_value};
+ghost use Rattle.envimg_core.specs.Pieces.{with_value};
+ghost use Rattle.envvars_core.specs.Refusals.{given, after, refusal};
+ghost use Rattle.envvars_core.specs.Variables.{size_of};
+ghost use Rattle.envvars_core.specs.Olds.{same_value, kept, kept_by, restored, goes_in_place, HavePlaces, RestoredFits};
+
+use super::{Vars, size_of_all};
+use crate::checks::{given, same_value};
+use crate::flags::{FLAGS_NAME, Flags};
+use crate::olds::Olds;
+use crate::refusals::{Memory, Refusal};
+use envvars_store::{Text, Variables};
+
+impl Vars {
+    /// Writes a new value, or deletes the variable where there is none or an empty one, and keeps the old value
+    /// where the value changes and the name isn't kept yet.
+    ///
+    /// A write that is refused has changed nothing, neither here nor in what is kept. It is refused for memory only
+    /// where no check refuses it and the value changes. Either way `restore` would bring back the same as before it.
+    pub fn write_kept(
+        &mut self,
+        name: &[u8],
+        new: Option<&[u8]>,
+        force: bool,
+        defaults: &Vars,
+        olds: &mut Olds,
+    ) -> Result<(), Refusal>
+        ensures refused { IfSome
+            (refusal self.old.env defaults.now.env self.old.room name.now (option_copied new.entry) force)
+            (λ r. result ≡ Err r) }
+        ensures accepted { IfNone
+            (refusal self.old.env defaults.now.env self.old.room name.now (option_copied new.entry) force)
+            (IsOkUnless result Refusal.Memory) }
+        ensures idle { IfNone
+            (refusal self.old.env defaults.now.env self.old.room name.now (option_copied new.entry) force)
+            (IsTrue (same_value (env.get self.old.env name.now) (given (option_copied new.entry))) → IsOk result) }
+        ensures written { OnOk result
+            (self.new ≡ record self.old { env = after self.old.env name.now (option_copied new.entry) }) }
+        ensures kept { OnOk result
+            (olds.new ≡ kept_by self.old.env name.now (option_copied new.entry) olds.old) }
+        ensures unchanged { OnErr result (self.new ≡ self.old) }
+        ensures olds_unchanged { OnErr result (olds.new ≡ olds.old) }
+        ensures brings_back { restored self.new.env olds.new ≡ restored self.old.env olds.old }
+        ensures room { self.new.room ≡ self.old.room }
+    {
+        prove!(self.used <= self.room);
+        let (old, near) = self.find(name);
+        let size = self.size_left(name, new, force, defaults, old)?;
+        let value = given(new);
+        if same_value(old, value) {
+            return Ok(());
+        }
+        let added = olds.keep(name, old)?;
+        match self.set(near, name, value, size) {
+            Ok(()) => Ok(()),
+            Err(Memory) => {
+                olds.forget(name, added);
+                Err(Refusal::Memory)
+            }
+        }
+    }
+
+    /// Brings back every kept value, and keeps nothing any more. What that leaves fits the room.
+    ///
+    /// It is refused only for memory, and then nothing has changed. It takes no memory where every name that is kept
+    /// with a value is there and `.flags` isn't kept.
+    pub fn restore(&mut self, olds: &mut Olds) -> Result<(), Memory>
+        requires fits { RestoredFits self.old olds.old }
+        ensures restored { OnOk result (self.new ≡ record self.old { env = restored self.old.env olds.old }) }
+        ensures emptied { OnOk result (olds.new ≡ env.empty) }
+        ensures unchanged { OnErr result (self.new ≡ self.old) }
+        ensures olds_unchanged { OnErr result (olds.new ≡ olds.old) }
+        ensures refused_only { OnErr result (IsTrue (not (goes_in_place self.old.env olds.old))) }
+    {
+        if self.goes_in_place(olds) {
+            self.swap_in(olds);
+            Ok(())
+        } else {
+            self.build_anew(olds)
+        }
+    }
+
+    /// Whether what is kept goes back without memory.
+    fn goes_in_place(&self, olds: &Olds) -> bool
+        ensures { result ≡ goes_in_place self.now.env olds.now }
+    {
+        !olds.has(FLAGS_NAME) && olds.have_places(&self.variables)
+    }
+
+    /// Brings back every kept value in its place, which takes no memory.
+    fn swap_in(&mut self, olds: &mut Olds)
+        requires in_place { IsTrue (goes_in_place self.old.env olds.old) }
+        requires fits { RestoredFits self.old olds.old }
+        ensures restored { self.new ≡ record self.old { env = restored self.old.env olds.old } }
+        ensures emptied { olds.new ≡ env.empty }
+    {
+        prove!(self.used <= self.room);
+        let size = swap_all(&mut self.variables, olds, self.used as usize);
+        self.used = size as u32;
+    }
+
+    /// Brings back every kept value in new variables, which then take the place of the present ones.
+    fn build_anew(&mut self, olds: &mut Olds) -> Result<(), Memory>
+        requires fits { RestoredFits self.old olds.old }
+        ensures restored { OnOk result (self.new ≡ record self.old { env = restored self.old.env olds.old }) }
+        ensures emptied { OnOk result (olds.new ≡ env.empty) }
+        ensures unchanged { OnErr result (self.new ≡ self.old) }
+        ensures olds_unchanged { OnErr result (olds.new ≡ olds.old) }
+    {
+        let mut variables = self.variables.try_clone(self.alloc)?;
+        olds.put_back(&mut variables)?;
+        let flags = Flags::of(self.alloc, &variables)?;
+        let used = size_of_all(&variables);
+        self.variables = variables;
+        self.flags = flags;
+        self.used = used;
+        olds.clear();
+        Ok(())
+    }
+}
+
+/// Swaps every kept value in, or takes away the variable of a name that had none. The size of the variables may pass
+/// any number on the way, so it is counted modulo 2^64, in which it comes out right at the end.
+fn swap_all(variables: &mut Variables, olds: &mut Olds, mut size: usize) -> usize
+    requires places { HavePlaces variables.old (env.entries olds.old) }
+    requires sized { size ≡ used variables.old % 2 ^ 64 }
+    ensures restored { variables.new ≡ restored variables.old olds.old }
+    ensures emptied { olds.new ≡ env.empty }
+    ensures sized { result ≡ used (restored variables.old olds.old) % 2 ^ 64 }
+{
+    'kept: loop {
+        match olds.pop() {
+            None => return size,
+            Some((name, text)) => size = swap_one(variables, &name, text, size),
+        }
+    }
+}
+
+/// Swaps one kept value in, and counts what it takes in place of the present one.
+fn swap_one(variables: &mut Variables, name: &[u8], text: Option<Text>, size: usize) -> usize
+    requires named { IfSome text (λ t. t.0 ≡ name.now) }
+    requires place { IfSome text (λ t. IsSome (env.get variables.old t.0)) }
+    requires sized { size ≡ used variables.old % 2 ^ 64 }
+    ensures swapped { variables.new ≡ with_value variables.old name.now (option_map (λ t. t.1) text) }
+    ensures sized { result ≡ used (with_value variables.old name.now (option_map (λ t. t.1) text)) % 2 ^ 64 }
+{
+    let (present, near) = variables.find(name);
+    let present = size_of(name, present);
+    let kept = size_of(name, value_of(&text));
+    match text {
+        Some(text) => {
+            let _swapped = variables.replace(text);
+        }
+        None => variables.remove(near, name),
+    }
+    size.wrapping_sub(present).wrapping_add(kept)
+}
+
+fn value_of(text: &Option<Text>) -> Option<&[u8]>
+    ensures { option_copied result ≡ option_map (λ t. t.1) text.now }
+{
+    match text {
+        Some(text) => Some(text.value()),
+        None => None,
+    }
+}
+
+/// What the variable of a name takes, modulo 2^64.
+fn size_of(name: &[u8], value: Option<&[u8]>) -> usize
+    ensures { result ≡ size_of name.now (option_copied value.entry) % 2 ^ 64 }
+{
+    match value {
+        Some(value) => name.len().wrapping_add(value.len()).wrapping_add(2),
+        None => 0,
+    }
+}
