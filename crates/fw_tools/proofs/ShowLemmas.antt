@@ -11,12 +11,10 @@ use Rattle.envimg_core.specs.declared.state.CopyState.TheVariants.{Good}
 use Rattle.fw_tools.specs.Shown.{shown, shown_in, state_shown, listing}
 use Rattle.fw_tools.specs.Streams.{AppendsFront, AppendsPart}
 use Rattle.fw_tools.specs.Tool.{Printed, PrintsText, Lists}
+use Rattle.fw_tools.proofs.WriteLemmas.{nothing}
 use Rattle.fw_tools.specs.declared.ending.ToolEnd.{ToolEnd}
 use Rattle.fw_tools.specs.declared.ending.StreamFault.{StreamFault}
 use Rattle.fw_tools.specs.declared.ending.StreamFault.TheVariants.{Write, Memory}
-
-nothing : (a : Option (List ℕ)) → AppendsFront a a []
-nothing a = ([], [], refl, Appends-nil a)
 
 listed : (f : Option StreamFault) (s : ℕ) (w w' e : Option (List ℕ)) (text : List ℕ) →
     MatchOption f (Appends w w' text × (s ≡ 0)) (λ fault. (fault ≡ Write) × AppendsPart w w' text × (s ≡ 1)) ⊎ ((f ≡ Some Memory) × Keeps w w' × (s ≡ 1)) →

@@ -1,5 +1,9 @@
 pub mod Defaults
+pub mod Exporting
+pub mod Messages
+pub mod Printing
 pub mod Running
+pub mod Setting
 pub mod Shown
 pub mod Streams
 pub mod Tool

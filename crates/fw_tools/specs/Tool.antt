@@ -40,6 +40,11 @@ Printed (Some Write) old new texts status = WritesPart old new texts × (status 
 Printed (Some Read) old new texts status = WritesNothing old new × (status ≡ 1)
 Printed (Some Memory) old new texts status = WritesNothing old new × (status ≡ 1)
 
+-- the same of a tool that neither reads nor takes memory
+abbrev pub Prints : Writers → Writers → Texts → ToolEnd → Type 0
+Prints old new texts end =
+    MatchOption end.fault (Writes old new texts × (end.status ≡ texts.status)) (λ fault. (fault ≡ Write) × WritesPart old new texts × (end.status ≡ 1))
+
 -- a fault that comes before anything is written
 abbrev pub IsEarly : StreamFault → Type 0
 IsEarly Read = Unit {0}

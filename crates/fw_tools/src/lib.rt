@@ -2,10 +2,15 @@
 #![tactic(auto)]
 
 mod command_line;
+mod counting;
 mod defaulting;
 mod ending;
+mod exporting;
 mod messages;
+mod printing;
 mod running;
+mod saying;
+mod setting;
 mod showing;
 mod streams;
 #[cfg(test)]
@@ -13,5 +18,8 @@ mod tests;
 
 pub use defaulting::defaults;
 pub use ending::{StreamFault, ToolEnd};
+pub use exporting::export;
+pub use printing::printenv;
 pub use running::{program, words_failed};
+pub use setting::{import, set_script, setenv};
 pub use showing::show;

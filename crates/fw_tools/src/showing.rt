@@ -2,11 +2,12 @@
 ghost use Rattle.std.specs.Prelude.{◌≡◌, ◌≢◌, ◌≤◌, IfOk, IsTrue, length, Some};
 ghost use Rattle.envimg_core.specs.Pieces.{entries_of, is_terminated, vars_of};
 ghost use Rattle.fw_tools.specs.Shown.{Shows, listing, shown, state_shown};
-ghost use Rattle.fw_tools.specs.Tool.{Printed, PrintsText, Lists};
+ghost use Rattle.fw_tools.specs.Tool.{Printed, Lists};
 
 use crate::ending::{StreamFault, ToolEnd};
 use crate::messages::{BAD_CHECKSUM, BAD_LENGTH, UNTERMINATED};
-use crate::streams::{read_up_to, write_text};
+use crate::saying::print_text;
+use crate::streams::read_up_to;
 use envimg_core::{CopyState, Geometry, Layout, Order, check_copy};
 use envvars_core::{Memory, Vars};
 use std::alloc::Global;
@@ -94,15 +95,4 @@ fn lines_of(alloc: Global, area: &[u8]) -> Result<Vec<u8>, Memory>
         text.push(b'\n')?;
     }
     Ok(text)
-}
-
-/// Writes a whole text, and ends with this status.
-fn print_text<W: Write>(writer: &mut W, text: &[u8], status: u8) -> ToolEnd
-    ensures { PrintsText (W.contents writer.old) (W.contents writer.new) text.now status result }
-{
-    if write_text(writer, text) {
-        ToolEnd::done(status)
-    } else {
-        ToolEnd::stopped(StreamFault::Write)
-    }
 }

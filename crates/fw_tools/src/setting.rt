@@ -1,0 +1,170 @@
+//! The variables of a session, set and saved.
+ghost use Rattle.std.specs.Prelude.{◌≡◌, [], ◌∷◌, map, option_copied, false, IfOk, OnErr, Some, MatchOption};
+ghost use Rattle.env_session.specs.Requests.{entry_in, refusal_in, write_done};
+ghost use Rattle.env_session.specs.Session.{bytes_of, saved};
+ghost use Rattle.fw_tools.specs.Messages.{refusal_front, refusal_text};
+ghost use Rattle.fw_tools.specs.Setting.{Changes, import_effect, joined, script_effect, set_effect};
+ghost use Rattle.fw_tools.specs.Tool.{PrintsText};
+
+use crate::counting::print_count;
+use crate::ending::{StreamFault, ToolEnd};
+use crate::messages::{BAD_FORM, BAD_TYPE, FULL, NO_CREATE, NO_DELETE, NO_OVERWRITE, QUOTE};
+use crate::saying::write_three;
+use env_session::{ImportEnding, Session};
+use envcfg_core::TextEntry;
+use envvars_core::{Memory, Refusal};
+use std::alloc::Global;
+use std::io::Write;
+
+/// Writes the words, joined by one space, as the value of a name, and saves; without words the variable is deleted. The
+/// write is unforced. An accepted one is saved also where it changed nothing; a refused one prints its text on `errors`,
+/// status 1, and nothing is saved.
+///
+/// At the fault `Memory` nothing is printed, no copy has changed, and the write may stand.
+pub fn setenv<E: Write>(
+    alloc: Global,
+    session: &mut Session,
+    name: &[u8],
+    words: &[&[u8]],
+    errors: &mut E,
+) -> ToolEnd
+    ensures { Changes (record { session = session.old; errors = E.contents errors.old }) (record { session = session.new; errors = E.contents errors.new }) (set_effect session.old name.now (joined (map (λ w. w.now) words.now))) ((name.now, Some (joined (map (λ w. w.now) words.now))) ∷ []) result }
+{
+    match join(alloc, words) {
+        Err(_) => ToolEnd::stopped(StreamFault::Memory),
+        Ok(value) => set_value(session, name, &value, errors),
+    }
+}
+
+/// Takes the lines of a set script in their order as unforced writes, and saves once at the end, also where there is no
+/// line. The first refusal ends it: its text is printed on `errors`, status 1, nothing is saved, and the lines before it
+/// stand in the session's variables.
+///
+/// At the fault `Memory` nothing is printed, no copy has changed, and some first lines stand.
+pub fn set_script<E: Write>(session: &mut Session, entries: &[TextEntry], errors: &mut E) -> ToolEnd
+    ensures { Changes (record { session = session.old; errors = E.contents errors.old }) (record { session = session.new; errors = E.contents errors.new }) (script_effect session.old (map entry_in entries.now)) (map entry_in entries.now) result }
+{
+    for entry in entries {
+        match write_entry(session, entry) {
+            Err(_) => return ToolEnd::stopped(StreamFault::Memory),
+            Ok(Some(refusal)) => return print_refusal(errors, refusal, &entry.name),
+            Ok(None) => {}
+        }
+    }
+    save(session)
+}
+
+/// Takes each entry in its order as an unforced write, saves, and says on `errors` how many were refused, if any were;
+/// the status is then 1.
+///
+/// At the fault `Memory` nothing is printed, no copy has changed, and some first entries stand.
+pub fn import<E: Write>(session: &mut Session, entries: &[TextEntry], errors: &mut E) -> ToolEnd
+    ensures { Changes (record { session = session.old; errors = E.contents errors.old }) (record { session = session.new; errors = E.contents errors.new }) (import_effect session.old (map entry_in entries.now)) (map entry_in entries.now) result }
+{
+    let report = session.import(entries);
+    match report.ending {
+        ImportEnding::Memory => ToolEnd::stopped(StreamFault::Memory),
+        ImportEnding::Done => match session.save() {
+            Err(_) => ToolEnd::stopped(StreamFault::Memory),
+            Ok(_side) => print_count(errors, report.refused),
+        },
+    }
+}
+
+/// Writes a value and saves.
+fn set_value<E: Write>(session: &mut Session, name: &[u8], value: &[u8], errors: &mut E) -> ToolEnd
+    ensures { Changes (record { session = session.old; errors = E.contents errors.old }) (record { session = session.new; errors = E.contents errors.new }) (set_effect session.old name.now value.now) ((name.now, Some value.now) ∷ []) result }
+{
+    match write(session, name, Some(value)) {
+        Err(_) => ToolEnd::stopped(StreamFault::Memory),
+        Ok(Some(refusal)) => print_refusal(errors, refusal, name),
+        Ok(None) => save(session),
+    }
+}
+
+/// An unforced write, and what refuses it, if anything does.
+fn write(session: &mut Session, name: &[u8], new: Option<&[u8]>) -> Result<Option<Refusal>, Memory>
+    ensures refusal { IfOk result (λ r. r ≡ refusal_in session.old name.now (option_copied new.entry) false) }
+    ensures done { IfOk result (λ _. session.new ≡ write_done session.old name.now (option_copied new.entry) false) }
+    ensures unchanged { OnErr result (session.new ≡ session.old) }
+{
+    match session.write(name, new, false) {
+        Ok(()) => Ok(None),
+        Err(Refusal::Memory) => Err(Memory),
+        Err(refusal) => Ok(Some(refusal)),
+    }
+}
+
+/// One entry as an unforced write, and what refuses it, if anything does.
+fn write_entry(session: &mut Session, entry: &TextEntry) -> Result<Option<Refusal>, Memory>
+    ensures refusal { IfOk result (λ r. r ≡ refusal_in session.old (entry_in entry.now).0 (entry_in entry.now).1 false) }
+    ensures done { IfOk result (λ _. session.new ≡ write_done session.old (entry_in entry.now).0 (entry_in entry.now).1 false) }
+    ensures unchanged { OnErr result (session.new ≡ session.old) }
+{
+    match write(session, &entry.name, value_of(entry)) {
+        Ok(refusal) => Ok(refusal),
+        Err(Memory) => Err(Memory),
+    }
+}
+
+/// Saves, and prints nothing.
+fn save(session: &mut Session) -> ToolEnd
+    ensures { MatchOption result.fault ((session.new ≡ saved session.old) × (result.status ≡ 0)) (λ fault. (fault ≡ StreamFault.Memory) × (session.new ≡ session.old) × (result.status ≡ 1)) }
+{
+    match session.save() {
+        Err(_) => ToolEnd::stopped(StreamFault::Memory),
+        Ok(_side) => ToolEnd::done(0),
+    }
+}
+
+/// The entry's value, if it has one.
+fn value_of(entry: &TextEntry) -> Option<&[u8]>
+    ensures { option_copied result ≡ bytes_of entry.now.value }
+{
+    match &entry.value {
+        Some(value) => Some(value),
+        None => None,
+    }
+}
+
+/// The words joined by one space.
+fn join(alloc: Global, words: &[&[u8]]) -> Result<Vec<u8>, Memory>
+    ensures { IfOk result (λ text. text.items ≡ joined (map (λ w. w.now) words.now)) }
+{
+    let mut text = Vec::new(alloc);
+    let Some((first, others)) = words.split_first() else {
+        return Ok(text);
+    };
+    text.extend_from_slice(first)?;
+    for word in others {
+        text.push(b' ')?;
+        text.extend_from_slice(word)?;
+    }
+    Ok(text)
+}
+
+/// Prints a refusal's text, status 1.
+fn print_refusal<E: Write>(errors: &mut E, refusal: Refusal, name: &[u8]) -> ToolEnd
+    ensures { PrintsText (E.contents errors.old) (E.contents errors.new) (refusal_text refusal name.now) 1 result }
+{
+    if write_three(errors, front_of(refusal), name, QUOTE) {
+        ToolEnd::done(1)
+    } else {
+        ToolEnd::stopped(StreamFault::Write)
+    }
+}
+
+/// What stands before the name in a refusal's text.
+fn front_of(refusal: Refusal) -> &'static [u8]
+    ensures { result.now ≡ refusal_front refusal }
+{
+    match refusal {
+        Refusal::BadForm => BAD_FORM,
+        Refusal::BadType => BAD_TYPE,
+        Refusal::NoCreate => NO_CREATE,
+        Refusal::NoDelete => NO_DELETE,
+        Refusal::NoOverwrite => NO_OVERWRITE,
+        Refusal::Full => FULL,
+        Refusal::Memory => b"",
+    }
+}
