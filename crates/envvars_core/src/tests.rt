@@ -1,8 +1,7 @@
 //! Worked values, and each call on its happy path.
 mod keeping;
-mod walking;
-
 mod limits;
+mod walking;
 
 use super::*;
 use std::alloc::{AllocError, Global};
