@@ -1,0 +1,15 @@
+//! The calls that take memory, each with as much as it may be given and ample memory for it: texts of 16 MiB, images of
+//! 1 MiB, values of 1 MiB. It prints a line for each call. What there has to stand was worked out by hand, so a call that
+//! gives up where there is memory fails the gate.
+#![tactic(auto)]
+
+mod building;
+mod images;
+mod texts;
+
+use std::io;
+
+fn main(rt: HostRuntime) -> io::Result<()> {
+    texts::rows(&rt)?;
+    images::rows(&rt)
+}
