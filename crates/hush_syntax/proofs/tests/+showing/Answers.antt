@@ -16,12 +16,11 @@ show-show_chain-requires t c =
 
 pub show-show_branches-requires : goal.show-show_branches-requires
 show-show_branches-requires t c =
-    let h = rw c.in-If.is at c.node.ensures in (
+    let node_at = sub_at c.args.script.now in
+    let h = rw c.in-If.is at c.node.ensures in
+    let b = Elif h.0 h.1 h.2 in (
       omega (arith, c.if-room-eq0.false),
-      record {
-        conditions = conditions-known (sub_at c.args.script.now) c.in-If.branches.now c.in-If.otherwise (Elif h.0 h.1 h.2) h.4;
-        bodies = bodies-known (sub_at c.args.script.now) c.in-If.branches.now c.in-If.otherwise (Elif h.0 h.1 h.2) h.4;
-      },
+      (conditions-known node_at c.in-If.branches.now c.in-If.otherwise b h.4, bodies-known node_at c.in-If.branches.now c.in-If.otherwise b h.4),
     )
 
 pub show-show-requires : goal.show-show-requires
