@@ -93,6 +93,9 @@ fn opened(
     } else {
         Layout::Single
     };
+    if first.len() > 1_000 {
+        return Err(Fail::from("a small image"));
+    }
     let geometry = Geometry::new(layout, first.len() as u32).ok_or("a size")?;
     let entries = parse_import(alloc, default)?;
     let Ok(given) = defaults(alloc, geometry.room(), &entries) else {
