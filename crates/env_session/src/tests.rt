@@ -3,7 +3,6 @@
 mod fields;
 mod openings;
 mod undoing;
-mod walking;
 
 use super::*;
 use envimg_core::{Geometry, Layout, Order};

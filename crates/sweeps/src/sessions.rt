@@ -188,11 +188,11 @@ fn delete_all<W: Write>(out: &mut W, session: &mut Session) -> io::Result<()> {
     session_row(out, "three deletes", session, b"")
 }
 
-/// An undo to the start. Refused in the span of a mark, the spans above it are undone and the marks up to it stand;
-/// made again it gives the opening.
-fn undo<W: Write>(out: &mut W, session: &mut Session) -> io::Result<()> {
+/// An undo to the start. Refused in the span of a mark, the spans above it are undone and the marks up to it stand,
+/// and the variables are those that `left` has at the mark; made again it gives the opening.
+fn undo<W: Write>(out: &mut W, session: &mut Session, left: &[&[u8]]) -> io::Result<()> {
     if let Err(fault) = session.undo_to(0) {
-        match LEFT_AT.get(session.marks() as usize) {
+        match left.get(session.marks() as usize) {
             Some(lines) if fault == UndoFault::Memory && shows(session, lines) => {
                 refused(out, "undo_to")?
             }
@@ -220,8 +220,8 @@ pub fn sweep<W: Write>(alloc: Global, out: &mut W) -> io::Result<()> {
     };
     session_row(out, "start", &session, ALL)?;
     delete_all(out, &mut session)?;
-    undo(out, &mut session)?;
+    undo(out, &mut session, &LEFT_AT)?;
     import(out, &mut session, &entries)?;
     session_row(out, "import", &session, IMPORTED[3])?;
-    undo(out, &mut session)
+    undo(out, &mut session, &[IMPORTED[3]])
 }
