@@ -1,6 +1,7 @@
 //! The store beside a plain ordered map of std: the same loads, writes, removals, look-ups and copies in both.
-ghost use Rattle.std.specs.Prelude.{◌≡◌, ◌≤◌, IsTrue, length};
-ghost use Rattle.envimg_core.specs.Environment.{is_name, is_value};
+ghost use Rattle.std.specs.Prelude.{◌≡◌, ◌≤◌, ◌||◌, IsTrue, length};
+ghost use Rattle.std.specs.List.{list_any};
+ghost use Rattle.envimg_core.specs.Environment.{is_equals, is_name, is_value, is_zero};
 
 use crate::{Near, Variables};
 use std::alloc::{AllocError, Global};
@@ -11,16 +12,28 @@ use std::test::Fail;
 /// Few enough that most of them come again and again, and enough for several runs.
 const NAMES: u32 = 700;
 
+fn holds_zero(bytes: &[u8]) -> bool
+    ensures { result ≡ list_any is_zero bytes.now }
+{
+    bytes.iter().any(|b| *b == 0)
+}
+
+fn holds_zero_or_equals(bytes: &[u8]) -> bool
+    ensures { result ≡ list_any (λ b. is_zero b || is_equals b) bytes.now }
+{
+    bytes.iter().any(|b| *b == 0 || *b == b'=')
+}
+
 fn is_name(name: &[u8]) -> bool
     ensures { result ≡ is_name name.now }
 {
-    !name.is_empty() && !name.iter().any(|b| *b == 0 || *b == b'=')
+    !name.is_empty() && !holds_zero_or_equals(name)
 }
 
 fn is_value(value: &[u8]) -> bool
     ensures { result ≡ is_value value.now }
 {
-    !value.is_empty() && !value.iter().any(|b| *b == 0)
+    !value.is_empty() && !holds_zero(value)
 }
 
 /// Numbers without an order in them, the same in each run.
