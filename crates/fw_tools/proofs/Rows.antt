@@ -1,7 +1,7 @@
 -- What clap's rules say of some words, computed by the checker.
 use Rattle.std.proofs.Common.{◌≡◌, [], ◌∷◌, codes, refl}
 use Rattle.clap.proofs.OnLiterals.{clap_on_literals}
-use Rattle.clap.specs.declared.error.kind.ErrorKind.TheVariants.{ArgumentConflict, DisplayHelp, TooManyValues, UnknownArgument}
+use Rattle.clap.specs.declared.error.kind.ErrorKind.TheVariants.{ArgumentConflict, DisplayHelp, DisplayVersion, TooManyValues, UnknownArgument}
 use Rattle.envimg_core.specs.declared.order.Order.TheVariants.{Little, Big}
 use Rattle.fw_tools.specs.Words.{faults, order_of}
 
@@ -22,6 +22,15 @@ long_help = refl
 pub short_help : faults (codes "fwenv" ∷ codes "-h" ∷ []) ≡ DisplayHelp ∷ []
 unfolding clap_on_literals
 short_help = refl
+
+-- a call for the version
+pub long_version : faults (codes "fwenv" ∷ codes "--version" ∷ []) ≡ DisplayVersion ∷ []
+unfolding clap_on_literals
+long_version = refl
+
+pub short_version : faults (codes "fwenv" ∷ codes "-V" ∷ []) ≡ DisplayVersion ∷ []
+unfolding clap_on_literals
+short_version = refl
 
 -- a word, and an option
 pub unknown_word : faults (codes "fwenv" ∷ codes "bootcmd" ∷ []) ≡ UnknownArgument ∷ []

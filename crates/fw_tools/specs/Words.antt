@@ -1,8 +1,9 @@
 -- The words of the command line, as clap's rules see them (docs/tools.md, "The command line").
-use Rattle.std.specs.Prelude.{List, Option, Some, codes, find}
+use Rattle.std.specs.Prelude.{List, [], Option, Some, codes, find, true}
 use Rattle.std.specs.Option.{option_and_then}
 use Rattle.std.specs.Str.{bytes_eq}
-use Rattle.clap.specs.Words.{App, Kinds, Row, Rule, Text, fault_of, matches_of, new_app, new_rule, with_rule}
+use Rattle.clap.specs.Simple.{new_shape}
+use Rattle.clap.specs.Words.{App, Kinds, Row, Rule, Text, fault_of, matches_of, new_rule, with_rule}
 use Rattle.clap.specs.declared.builder.action.ArgAction.TheVariants.{SetTrue}
 use Rattle.clap.specs.declared.parser.matches.ValueSource.{ValueSource}
 use Rattle.clap.specs.declared.parser.matches.ValueSource.TheVariants.{CommandLine}
@@ -13,9 +14,9 @@ use Rattle.envimg_core.specs.declared.order.Order.TheVariants.{Little, Big}
 abbrev pub big_endian : Rule
 big_endian = record (new_rule (codes "big-endian")) { long = Some (codes "big-endian"); action = Some SetTrue }
 
--- the command
+-- the command, which has a version to print
 abbrev pub fwenv : App
-fwenv = with_rule (new_app (codes "fwenv")) big_endian
+fwenv = with_rule (record { top = record (new_shape (codes "fwenv")) { has_version = true }; subs = [] }) big_endian
 
 -- what clap's rules say of the words: nothing, or the kind of what is wrong with them
 abbrev pub faults : List Text → Kinds

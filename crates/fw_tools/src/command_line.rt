@@ -16,6 +16,9 @@ const ABOUT: &str =
 /// An example for the end of the help.
 const EXAMPLE: &str = "Example:\n  dd if=/dev/mtd1 bs=64k count=1 | fwenv";
 
+/// What `--version` prints behind the program's name.
+const VERSION: &str = "0.1.0";
+
 /// The flag for images of big-endian boards, and what the help says of it.
 const BIG_ENDIAN: &str = "big-endian";
 
@@ -23,7 +26,7 @@ const BIG_ENDIAN_HELP: &str =
     "The image is a big-endian board's: its checksum has the highest byte first";
 
 /// Reads the words of the command line, the program's own name first: the byte order that they choose. At an error its
-/// text is the help, or says what is wrong with the words.
+/// text is the help or the version, or says what is wrong with the words.
 pub(crate) fn read_words<'a, S: AsStr>(alloc: Global, words: &'a [S]) -> Result<Order, Error>
     ensures fails { FailsBy (faults (map S.text words.entry.now)) result }
     ensures order { IfOk result (λ order. order ≡ order_of (map S.text words.entry.now)) }
@@ -43,6 +46,7 @@ fn command<'a>(alloc: Global) -> Result<Command<'a>, AllocError>
         .help(BIG_ENDIAN_HELP);
     Command::new(alloc, "fwenv")
         .about(ABOUT)
+        .version(VERSION)
         .after_help(EXAMPLE)
         .arg(big_endian)
 }

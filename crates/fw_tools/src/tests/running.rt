@@ -77,6 +77,16 @@ fn the_program_asked_for_help(rt: HostRuntime) -> Result<(), Fail> {
 }
 
 #[test]
+fn the_program_asked_for_its_version(rt: HostRuntime) {
+    for word in ["--version", "-V"] {
+        let (output, errors, status) = answered(&rt, &["fwenv", word], &ONE_VARIABLE);
+        assert_eq!(rt; status, 0);
+        assert!(rt; output.as_slice() == b"fwenv 0.1.0\n".as_slice());
+        assert!(rt; errors.is_empty());
+    }
+}
+
+#[test]
 fn the_program_with_words_that_it_does_not_know(rt: HostRuntime) {
     for word in ["list", "--list", "-x", ""] {
         let mut input = ONE_VARIABLE.as_slice();
