@@ -1,6 +1,5 @@
 //! Worked values, and each call on its happy path.
 mod keeping;
-mod limits;
 mod walking;
 
 use super::*;
