@@ -1,18 +1,10 @@
 //! The tools over streams in memory, and over streams that fail.
 
 mod defaulting;
-mod exporting;
-mod printing;
 mod running;
-mod setting;
 mod showing;
 
-use crate::{StreamFault, ToolEnd, defaults};
-use env_session::{Session, Stored};
-use envcfg_core::parse_import;
-use envimg_core::{Geometry, Layout};
 use std::io::{self, Read, Write};
-use std::test::Fail;
 
 /// An image of the one variable `a=b`.
 const ONE_VARIABLE: [u8; 9] = [0xD2, 0x96, 0x62, 0x2B, b'a', b'=', b'b', 0, 0];
@@ -77,62 +69,5 @@ impl Write for Narrow {
 
     fn flush(&mut self) -> io::Result<()> {
         Ok(())
-    }
-}
-
-/// A session over these copies, one or two, with the entries of a text as its default environment.
-fn opened(
-    rt: &HostRuntime,
-    first: &[u8],
-    second: Option<&[u8]>,
-    default: &[u8],
-) -> Result<Session, Fail> {
-    let alloc = rt.alloc();
-    let layout = if second.is_some() {
-        Layout::Redundant
-    } else {
-        Layout::Single
-    };
-    if first.len() > 1_000 {
-        return Err(Fail::from("a small image"));
-    }
-    let geometry = Geometry::new(layout, first.len() as u32).ok_or("a size")?;
-    let entries = parse_import(alloc, default)?;
-    let Ok(given) = defaults(alloc, geometry.room(), &entries) else {
-        return Err(Fail::from("defaults"));
-    };
-    let second = match second {
-        None => None,
-        Some(copy) => Some(Vec::from_slice(alloc, copy)?),
-    };
-    let stored = Stored {
-        geometry,
-        first: Vec::from_slice(alloc, first)?,
-        second,
-    };
-    match Session::start(alloc, stored, given) {
-        Ok(session) => Ok(session),
-        Err(_) => Err(Fail::from("a start")),
-    }
-}
-
-/// Two copies of which the first, `a=b`, is current: their flags are equal.
-const FIRST_OF_TWO: [u8; 10] = [0xD2, 0x96, 0x62, 0x2B, 7, b'a', b'=', b'b', 0, 0];
-
-const SECOND_OF_TWO: [u8; 10] = [0x1D, 0xF7, 0x22, 0xC6, 7, 0, 0, 0, 0, 0];
-
-/// An end by itself.
-fn done(status: u8) -> ToolEnd {
-    ToolEnd {
-        status,
-        fault: None,
-    }
-}
-
-/// An end by a writer's fault.
-fn stopped_writing() -> ToolEnd {
-    ToolEnd {
-        status: 1,
-        fault: Some(StreamFault::Write),
     }
 }
