@@ -1,3 +1,4 @@
+pub mod Copies
 pub mod Defaults
 pub mod Exporting
 pub mod Messages

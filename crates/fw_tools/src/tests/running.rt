@@ -78,14 +78,19 @@ fn the_program_asked_for_help(rt: HostRuntime) -> Result<(), Fail> {
 
 #[test]
 fn the_program_with_words_that_it_does_not_know(rt: HostRuntime) {
-    for word in ["list", "--list", "-x", ""] {
+    for (word, complaint) in [
+        ("list", "error: unrecognized subcommand 'list'"),
+        ("", "error: unrecognized subcommand ''"),
+        ("--list", "error: unexpected argument '--list'"),
+        ("-x", "error: unexpected argument '-x'"),
+    ] {
         let mut input = ONE_VARIABLE.as_slice();
         let mut output = Vec::new(rt.alloc());
         let mut errors = Vec::new(rt.alloc());
         let status = program(&rt, &["fwenv", word], &mut input, &mut output, &mut errors);
         assert_eq!(rt; status, 1);
         assert!(rt; output.is_empty());
-        assert!(rt; errors.starts_with(b"error: unexpected argument"));
+        assert!(rt; errors.starts_with(complaint.as_bytes()));
     }
 }
 
