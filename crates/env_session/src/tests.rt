@@ -3,6 +3,7 @@
 mod fields;
 mod openings;
 mod undoing;
+mod walking;
 
 use super::*;
 use envimg_core::{Geometry, Layout, Order};
