@@ -12,8 +12,10 @@ use Rattle.hush_syntax.specs.declared.table.Block.{Block}
 use Rattle.hush_syntax.specs.declared.table.Stored.{Stored}
 use Rattle.hush_syntax.specs.declared.table.Table.{Table}
 use Rattle.hush_syntax.specs.declared.table.Builder.{Builder}
-use Rattle.hush_syntax.specs.Answers.{Refuses}
+use Rattle.hush_syntax.specs.declared.cursor.Tokens.{Tokens}
+use Rattle.hush_syntax.specs.Answers.{Refuses, left_in}
 use Rattle.hush_syntax.specs.Grammar.{Command, Chain, Chains}
+use Rattle.hush_syntax.specs.Reading.{Reader}
 use Rattle.hush_syntax.specs.Nodes.{OfChains, OfChain, OfCommand, At, Members, sub_in, RootAt}
 
 abbrev pub members : List Word → List NodeId → List link.Link → List branch.Branch → Members
@@ -131,6 +133,10 @@ abbrev pub Builds : {X Y : Type 0} → (At → X → Y → Type 0) → Written �
 Builds {X} Is text old new found left (Ok y) =
     (x : X) × (found ≡ Some (x, left)) × Grows old.table new.table × ((more : Members) → Is (later text new.table more) x y) × (waiting new ≡ waiting old)
 Builds Is text old new found left (Err f) = Refuses f.kind (found ≡ None)
+
+-- the same by the reader, which begins at the tokens that were left before and ends at those that are left after
+abbrev pub Parses : {X Y : Type 0} → (At → X → Y → Type 0) → Written → Reader X → Builder → Builder → Tokens → Tokens → Result Y SyntaxFault → Type 0
+Parses Is text reader old new before after result = Builds Is text old new (reader (left_in text before)) (left_in text after) result
 
 abbrev pub BuildsScript : Written → Builder → Option (Option Chains) → Result (Option NodeId) SyntaxFault → Type 0
 BuildsScript text builder found (Ok root) = (x : Option Chains) × (found ≡ Some x) × ((more : Members) → RootAt (later text builder.table more) x root)
