@@ -8,6 +8,9 @@ use Rattle.hush_words.specs.declared.parts.Part.{Part}
 use Rattle.hush_words.specs.declared.parts.Part.TheVariants as part
 use Rattle.hush_words.specs.declared.parts.Word.{Word}
 
+abbrev pub span_of : ℕ → ℕ → Span
+span_of start end = record { start = start; end = end }
+
 -- the bytes of a range
 abbrev pub span_bytes : List ℕ → Span → List ℕ
 span_bytes source s = take (s.end - s.start) (drop s.start source)

@@ -6,6 +6,10 @@ use Rattle.hush_words.specs.declared.parts.Span.{Span}
 use Rattle.hush_words.specs.declared.parts.Part.{Part}
 use Rattle.hush_words.specs.declared.parts.Part.TheVariants as part
 
+-- a source whose places are numbers of 32 bits
+abbrev pub IsShort : List ℕ → Type 0
+IsShort source = length source ≤ 4294967295
+
 -- a range of this source
 abbrev pub IsWithin : List ℕ → Span → Type 0
 IsWithin source s = (s.start ≤ s.end) × (s.end ≤ length source)

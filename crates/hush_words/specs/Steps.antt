@@ -117,6 +117,11 @@ Pushed old new more (Ok u) = new ≡ old ++ more
 Pushed old new more (Err (stop.Fault f)) = ⊥
 Pushed old new more (Err (stop.Memory e)) = Unit {0}
 
+-- a growth was refused
+abbrev pub IsMemory : Stop → Type 0
+IsMemory (stop.Fault f) = ⊥
+IsMemory (stop.Memory e) = Unit {0}
+
 abbrev pub optional_part : Option Part → List Part
 optional_part None = []
 optional_part (Some part) = part ∷ []

@@ -1,7 +1,7 @@
 //! What a `$` begins (docs/scripts.md, "Words").
 
 ghost use Rattle.std.specs.Prelude.{◌≡◌, ◌+◌, ◌<◌, ◌≤◌, length, IfSome, ℕ, List, false, ◌==◌};
-ghost use Rattle.hush_words.specs.Ranges.{Fits};
+ghost use Rattle.hush_words.specs.Ranges.{IsShort, Fits};
 ghost use Rattle.hush_words.specs.Steps.{StandsAt, ReadsByte, ReadsBraces, ReadsDollar};
 
 use crate::classes::{Class, begins_name, byte_at, follows_dollar, run_end, stands_at};
@@ -10,7 +10,8 @@ use crate::{Part, Span};
 
 /// Reads what the `$` at the place begins; none where it can't stand there.
 pub(crate) fn dollar(source: &[u8], place: usize, quoted: bool) -> Option<PartRead>
-    requires { StandsAt source.now place 36 }
+    requires few { IsShort source.now }
+    requires here { StandsAt source.now place 36 }
     ensures reads { ReadsDollar source.now (place + 1) quoted result }
     ensures fits { IfSome result (λ read. Fits source.now read.part) }
 {
@@ -22,6 +23,7 @@ pub(crate) fn dollar(source: &[u8], place: usize, quoted: bool) -> Option<PartRe
 
 /// Reads what the `$` at the place begins before this byte.
 fn dollar_before(source: &[u8], place: usize, next: u8, quoted: bool) -> Option<PartRead>
+    requires few { IsShort source.now }
     requires dollar { StandsAt source.now place 36 }
     requires next { StandsAt source.now (place + 1) next }
     ensures reads { ReadsDollar source.now (place + 1) quoted result }
@@ -31,7 +33,7 @@ fn dollar_before(source: &[u8], place: usize, next: u8, quoted: bool) -> Option<
     if begins_name(next) {
         let end = run_end(Class::Name, source, start);
         Some(PartRead {
-            part: Part::Value(Span { start, end }, quoted),
+            part: Part::Value(Span::new(start, end), quoted),
             end,
         })
     } else if next == b'{' {
@@ -50,14 +52,15 @@ fn dollar_before(source: &[u8], place: usize, next: u8, quoted: bool) -> Option<
 
 /// Reads a name and the brace that closes it, from behind the opening brace.
 fn braces(source: &[u8], start: usize, quoted: bool) -> Option<PartRead>
-    requires { start ≤ length source.now }
+    requires few { IsShort source.now }
+    requires within { start ≤ length source.now }
     ensures reads { ReadsBraces source.now start quoted result }
     ensures fits { IfSome result (λ read. Fits source.now read.part) }
 {
     let end = run_end(Class::Braces, source, start);
     if start < end && stands_at(source, end, b'}') {
         Some(PartRead {
-            part: Part::Value(Span { start, end }, quoted),
+            part: Part::Value(Span::new(start, end), quoted),
             end: end + 1,
         })
     } else {
@@ -67,12 +70,12 @@ fn braces(source: &[u8], start: usize, quoted: bool) -> Option<PartRead>
 
 /// The byte at the place as itself.
 pub(crate) fn byte_part(place: usize, quoted: bool) -> PartRead
-    requires { place < usize.MAX }
+    requires { place < u32.MAX }
     ensures reads { ReadsByte place quoted result }
     ensures fits { (source : List ℕ) (b : ℕ) → StandsAt source place b → (quoted ≡ false → (b == 61) ≡ false) → Fits source result.part }
 {
     let end = place + 1;
-    let span = Span { start: place, end };
+    let span = Span::new(place, end);
     PartRead {
         part: if quoted {
             Part::Quoted(span)

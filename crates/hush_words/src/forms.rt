@@ -55,11 +55,11 @@ impl Word {
             Some(index) => Some(Assignment {
                 name: Word {
                     first: self.first,
-                    len: index,
+                    len: index as u32,
                 },
                 value: Word {
-                    first: self.first + index + 1,
-                    len: parts.len() - index - 1,
+                    first: self.first + index as u32 + 1,
+                    len: (parts.len() - index - 1) as u32,
                 },
             }),
             None => None,

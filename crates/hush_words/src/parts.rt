@@ -1,6 +1,6 @@
-ghost use Rattle.std.specs.Prelude.{◌≡◌, IfSome};
+ghost use Rattle.std.specs.Prelude.{◌≡◌, ◌≤◌, IfSome};
 ghost use Rattle.std.specs.Option.{option_map};
-ghost use Rattle.hush_words.specs.Parts.{part_atoms, span_bytes};
+ghost use Rattle.hush_words.specs.Parts.{span_of, part_atoms, span_bytes};
 ghost use Rattle.hush_words.specs.Ranges.{IsWithin, Fits};
 ghost use Rattle.hush_words.specs.Steps.{ArePlain, IsSplitRange};
 
@@ -8,9 +8,9 @@ ghost use Rattle.hush_words.specs.Steps.{ArePlain, IsSplitRange};
 #[derive(Clone, Copy, Debug, PartialEq, Eq)]
 pub struct Span {
     /// How many bytes stand before the range.
-    pub start: usize,
+    pub start: u32,
     /// How many bytes stand before what follows the range.
-    pub end: usize,
+    pub end: u32,
 }
 
 /// A part of a word (docs/scripts.md, "Words").
@@ -32,18 +32,30 @@ pub enum Part {
 #[derive(Clone, Copy, Debug, PartialEq, Eq)]
 pub struct Word {
     /// How many parts stand before its first.
-    pub first: usize,
+    pub first: u32,
     /// How many parts it has.
-    pub len: usize,
+    pub len: u32,
 }
 
 impl Span {
+    /// The range of these bounds.
+    pub(crate) fn new(start: usize, end: usize) -> Span
+        requires start { start ≤ u32.MAX }
+        requires end { end ≤ u32.MAX }
+        ensures { result ≡ span_of start end }
+    {
+        Span {
+            start: start as u32,
+            end: end as u32,
+        }
+    }
+
     /// The bytes of the range.
     pub(crate) fn of(self, source: &[u8]) -> &[u8]
         requires { IsWithin source.now self }
         ensures { result.now ≡ span_bytes source.now self }
     {
-        &source[self.start..self.end]
+        &source[self.start as usize..self.end as usize]
     }
 }
 

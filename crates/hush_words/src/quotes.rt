@@ -3,7 +3,7 @@
 ghost use Rattle.std.specs.Prelude.{◌≡◌, ℕ, ◌+◌, ◌-◌, ◌≤◌, List, [], ◌∷◌, Some, None, map, take, drop, length};
 ghost use Rattle.hush_words.specs.Words.Atom.{Quoted};
 ghost use Rattle.hush_words.specs.Parts.{atoms_of};
-ghost use Rattle.hush_words.specs.Ranges.{AllFit};
+ghost use Rattle.hush_words.specs.Ranges.{IsShort, AllFit};
 ghost use Rattle.hush_words.specs.Steps.{StandsAt, ReadsInner, ReadsPiece, Pushed, Adds, FitsInner, optional_part};
 
 use crate::classes::{Class, byte_at, is_escaped, place_of, run_end, stands_at};
@@ -34,12 +34,13 @@ fn push_some(parts: &mut Vec<Part>, part: Option<Part>) -> Result<(), Stop>
 
 /// The bytes of the range as a part, if there are any.
 fn quoted_part(start: usize, end: usize) -> Option<Part>
+    requires { end ≤ u32.MAX }
     ensures atoms { (source : List ℕ) → atoms_of source (optional_part result) ≡ map Quoted (take (end - start) (drop start source)) }
     ensures none { end ≤ start → result ≡ None }
     ensures fits { (source : List ℕ) → end ≤ length source → AllFit source (optional_part result) }
 {
     if start < end {
-        Some(Part::Quoted(Span { start, end }))
+        Some(Part::Quoted(Span::new(start, end)))
     } else {
         None
     }
@@ -47,7 +48,8 @@ fn quoted_part(start: usize, end: usize) -> Option<Part>
 
 /// Reads a pair of single quotes, from the one that opens it.
 pub(crate) fn single(source: &[u8], place: usize, parts: &mut Vec<Part>) -> Result<usize, Stop>
-    requires { StandsAt source.now place 39 }
+    requires few { IsShort source.now }
+    requires here { StandsAt source.now place 39 }
     ensures reads { ReadsPiece source.now place (atoms_of source.now parts.old.items) (atoms_of source.now parts.new.items) result }
     ensures adds { Adds source.now parts.old.items parts.new.items result }
 {
@@ -66,7 +68,8 @@ pub(crate) fn single(source: &[u8], place: usize, parts: &mut Vec<Part>) -> Resu
 
 /// Reads a pair of double quotes, from the one that opens it.
 pub(crate) fn double(source: &[u8], place: usize, parts: &mut Vec<Part>) -> Result<usize, Stop>
-    requires { StandsAt source.now place 34 }
+    requires few { IsShort source.now }
+    requires here { StandsAt source.now place 34 }
     ensures reads { ReadsPiece source.now place (atoms_of source.now parts.old.items) (atoms_of source.now parts.new.items) result }
     ensures adds { Adds source.now parts.old.items parts.new.items result }
 {
@@ -93,6 +96,7 @@ pub(crate) fn double(source: &[u8], place: usize, parts: &mut Vec<Part>) -> Resu
 
 /// Reads what stands at the place between double quotes; none where nothing can.
 fn inner(source: &[u8], at: usize) -> Option<InnerRead>
+    requires few { IsShort source.now }
     ensures reads { ReadsInner source.now at result }
     ensures fits { FitsInner source.now result }
 {
@@ -104,7 +108,8 @@ fn inner(source: &[u8], at: usize) -> Option<InnerRead>
 
 /// Reads what begins with this byte between double quotes.
 fn inner_from(source: &[u8], at: usize, first: u8) -> Option<InnerRead>
-    requires { StandsAt source.now at first }
+    requires few { IsShort source.now }
+    requires here { StandsAt source.now at first }
     ensures reads { ReadsInner source.now at result }
     ensures fits { FitsInner source.now result }
 {
@@ -123,7 +128,7 @@ fn inner_from(source: &[u8], at: usize, first: u8) -> Option<InnerRead>
     } else {
         let end = run_end(Class::Inner, source, at);
         Some(InnerRead {
-            part: Some(Part::Quoted(Span { start: at, end })),
+            part: Some(Part::Quoted(Span::new(at, end))),
             end,
         })
     }
@@ -131,7 +136,8 @@ fn inner_from(source: &[u8], at: usize, first: u8) -> Option<InnerRead>
 
 /// Reads a `\` between double quotes, and the byte behind it where it vanishes before that.
 fn backslash(source: &[u8], at: usize) -> InnerRead
-    requires { StandsAt source.now at 92 }
+    requires few { IsShort source.now }
+    requires here { StandsAt source.now at 92 }
     ensures reads { ReadsInner source.now at (Some result) }
     ensures fits { FitsInner source.now (Some result) }
 {
@@ -146,6 +152,7 @@ fn backslash(source: &[u8], at: usize) -> InnerRead
 
 /// Reads a `\` between double quotes before this byte.
 fn backslash_before(source: &[u8], at: usize, next: u8) -> InnerRead
+    requires few { IsShort source.now }
     requires backslash { StandsAt source.now at 92 }
     requires next { StandsAt source.now (at + 1) next }
     ensures reads { ReadsInner source.now at (Some result) }

@@ -1,11 +1,11 @@
 //! The tokens of a text (docs/scripts.md, "Words").
 
-ghost use Rattle.std.specs.Prelude.{◌≡◌, ◌+◌, ◌&&◌, ◌++◌, ◌<◌, ℕ, List, IfOk, OnOk, Bool, true, drop, [], ◌==◌, ◌||◌};
+ghost use Rattle.std.specs.Prelude.{◌≡◌, ◌+◌, ◌&&◌, ◌++◌, ◌<◌, ◌≤◌, ℕ, List, IfOk, OnOk, Bool, true, drop, [], ◌==◌, ◌||◌};
 ghost use Rattle.hush_words.specs.Tokens.{has_no_nul};
 ghost use Rattle.hush_words.specs.Reading.{tokens_of, tokens_before_fault, token_places};
 ghost use Rattle.hush_words.specs.Parts.{Written, written};
 ghost use Rattle.hush_words.specs.Views.{tokens_in, tokens_to, places_in, tokens_read};
-ghost use Rattle.hush_words.specs.Ranges.{AllFit};
+ghost use Rattle.hush_words.specs.Ranges.{IsShort, AllFit};
 ghost use Rattle.hush_words.specs.Steps.{begins, optional_token, optional_place, StandsAt, ReadsLexeme, ReadsOperator, Adds};
 
 use crate::classes::{byte_at, is_blank, place_of, stands_at};
@@ -19,7 +19,8 @@ use std::alloc::{AllocError, Global};
 /// for before all else. The words of the tokens are ranges of this text. One pass, of as many steps as the text has
 /// bytes.
 ///
-/// An error only where memory for the tokens or their parts was refused.
+/// An error only where memory for the tokens or their parts was refused, or where there are more bytes or parts than a
+/// number of 32 bits can count.
 pub fn read(alloc: Global, source: Vec<u8>) -> Result<Lexed, AllocError>
     ensures text { IfOk result (λ lexed. lexed.text.source ≡ source.items) }
     ensures whole { IfOk result (λ lexed. tokens_of source.items ≡ tokens_read lexed) }
@@ -28,7 +29,13 @@ pub fn read(alloc: Global, source: Vec<u8>) -> Result<Lexed, AllocError>
 {
     let mut tokens = Vec::new(alloc);
     let mut parts = Vec::new(alloc);
+    if source.len() > u32::MAX as usize {
+        return Err(AllocError);
+    }
     let fault = read_text(source.as_slice(), &mut tokens, &mut parts)?;
+    if parts.len() > u32::MAX as usize {
+        return Err(AllocError);
+    }
     Ok(Lexed {
         text: Text::new(source, parts),
         tokens,
@@ -42,6 +49,7 @@ fn read_text(
     tokens: &mut Vec<Token>,
     parts: &mut Vec<Part>,
 ) -> Result<Option<Fault>, AllocError>
+    requires few { IsShort source.now }
     requires tokens { tokens.old.items ≡ [] }
     requires parts { parts.old.items ≡ [] }
     ensures ranges { IfOk result (λ _. AllFit source.now parts.new.items) }
@@ -64,6 +72,7 @@ fn read_lexemes(
     tokens: &mut Vec<Token>,
     parts: &mut Vec<Part>,
 ) -> Result<Option<Fault>, AllocError>
+    requires few { IsShort source.now }
     requires clean { has_no_nul source.now ≡ true }
     requires tokens { tokens.old.items ≡ [] }
     requires parts { parts.old.items ≡ [] }
@@ -92,11 +101,15 @@ fn push_token(
     kind: Option<TokenKind>,
     place: usize,
 ) -> Result<(), AllocError>
+    requires { place ≤ u32.MAX }
     ensures tokens { OnOk result ((text : Written) → tokens_in text tokens.new.items ≡ tokens_in text tokens.old.items ++ optional_token text kind) }
     ensures places { OnOk result (places_in tokens.new.items ≡ places_in tokens.old.items ++ optional_place place kind) }
 {
     match kind {
-        Some(kind) => tokens.push(Token { kind, place })?,
+        Some(kind) => tokens.push(Token {
+            kind,
+            place: place as u32,
+        })?,
         None => {}
     }
     Ok(())
@@ -104,7 +117,8 @@ fn push_token(
 
 /// Reads what begins with this byte where no word is open.
 fn lexeme(source: &[u8], at: usize, first: u8, parts: &mut Vec<Part>) -> Result<LexemeRead, Stop>
-    requires { StandsAt source.now at first }
+    requires few { IsShort source.now }
+    requires here { StandsAt source.now at first }
     ensures reads { ReadsLexeme source.now at parts.new.items result }
     ensures adds { Adds source.now parts.old.items parts.new.items result }
 {

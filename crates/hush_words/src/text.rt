@@ -1,4 +1,4 @@
-ghost use Rattle.std.specs.Prelude.{◌≡◌, ◌<◌, All, length};
+ghost use Rattle.std.specs.Prelude.{◌≡◌, ◌≤◌, All, length};
 ghost use Rattle.hush_words.specs.Parts.{written, span_bytes, word_parts};
 ghost use Rattle.hush_words.specs.Ranges.{IsWithin, Fits, AllFit};
 
@@ -13,6 +13,7 @@ pub struct Text {
 }
 
 impl Model for Text {
+    ghost use Rattle.std.specs.Prelude.{◌≤◌, length};
     ghost use Rattle.hush_words.specs.Parts.{Written};
     ghost use Rattle.hush_words.specs.Ranges.{AllFit};
 
@@ -20,13 +21,14 @@ impl Model for Text {
 
     ghost view = { λ t. record { source = t.source.items; parts = t.parts.items } };
 
-    ghost invariant = { λ t. AllFit t.source.items t.parts.items };
+    ghost invariant = { λ t. (length t.parts.items ≤ 4294967295) × AllFit t.source.items t.parts.items };
 }
 
 impl Text {
     /// A text with these parts of its words.
     pub(crate) fn new(source: Vec<u8>, parts: Vec<Part>) -> Text
-        requires { AllFit source.items parts.items }
+        requires few { length parts.items ≤ u32.MAX }
+        requires ranges { AllFit source.items parts.items }
         ensures { result ≡ written source.items parts.items }
     {
         Text { source, parts }
@@ -42,12 +44,12 @@ impl Text {
     /// The parts of a word of this text.
     pub fn parts(&self, word: Word) -> &[Part]
         ensures parts { result.now ≡ word_parts self.now.parts word }
-        ensures few { length self.now.parts < usize.MAX }
+        ensures few { length self.now.parts ≤ u32.MAX }
         ensures ranges { All (Fits self.now.source) result.now }
     {
         let parts = self.parts.as_slice();
-        let rest = &parts[word.first.min(parts.len())..];
-        &rest[..word.len.min(rest.len())]
+        let rest = &parts[(word.first as usize).min(parts.len())..];
+        &rest[..(word.len as usize).min(rest.len())]
     }
 
     /// The bytes of a range of this text, as those of its parts are.

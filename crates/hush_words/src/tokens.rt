@@ -21,7 +21,7 @@ pub struct Token {
     /// What it is.
     pub kind: TokenKind,
     /// How many bytes of the source stand before its first byte.
-    pub place: usize,
+    pub place: u32,
 }
 
 /// What was read of a text.

@@ -1,15 +1,17 @@
 //! Words, a piece behind the other (docs/scripts.md, "Words").
 
-ghost use Rattle.std.specs.Prelude.{◌≡◌, ◌+◌, ◌-◌, ◌≤◌, ◌&&◌, true, false, length, drop};
+ghost use Rattle.std.specs.Prelude.{◌≡◌, IfOk, IfErr, ◌+◌, ◌-◌, ◌≤◌, ◌&&◌, true, false, length, drop};
 ghost use Rattle.hush_words.specs.Words.{ends_word, is_special, is_bare};
 ghost use Rattle.hush_words.specs.Parts.{atoms_of};
-ghost use Rattle.hush_words.specs.Steps.{StandsAt, ReadsPiece, ReadsPieces, ReadsLexeme, Adds, IsPlainRun, begins};
+ghost use Rattle.hush_words.specs.Ranges.{IsShort};
+ghost use Rattle.hush_words.specs.Steps.{StandsAt, ReadsPiece, ReadsPieces, ReadsLexeme, Adds, IsPlainRun, IsMemory, begins};
 
 use crate::classes::{Class, byte_at, ends_word, is_special, run_end};
 use crate::dollars::{byte_part, dollar};
 use crate::quotes::{double, push, single};
 use crate::steps::{LexemeRead, Stop};
 use crate::{Fault, FaultKind, Part, Span, TokenKind, Word};
+use std::alloc::AllocError;
 
 /// Reads a word, which opens with this byte, and puts its parts behind the others.
 pub(crate) fn word(
@@ -18,6 +20,7 @@ pub(crate) fn word(
     first: u8,
     parts: &mut Vec<Part>,
 ) -> Result<LexemeRead, Stop>
+    requires few { IsShort source.now }
     requires here { StandsAt source.now start first }
     requires inside { ends_word first ≡ false }
     requires no_comment { first ≡ 35 → ⊥ }
@@ -30,8 +33,9 @@ pub(crate) fn word(
     while let Some(end) = pieces(source, at, parts)? {
         at = end;
     }
+    let whole = word_from(before, parts)?;
     Ok(LexemeRead {
-        kind: Some(TokenKind::Word(word_from(before, parts))),
+        kind: Some(TokenKind::Word(whole)),
         end: at,
     })
 }
@@ -43,20 +47,25 @@ fn count(parts: &Vec<Part>) -> usize
     parts.len()
 }
 
-/// The word of the parts from this one on.
-fn word_from(first: usize, parts: &Vec<Part>) -> Word
+/// The word of the parts from this one on; none where there are more than the table can number.
+fn word_from(first: usize, parts: &Vec<Part>) -> Result<Word, Stop>
     requires { first ≤ length parts.now.items }
-    ensures first { result.first ≡ first }
-    ensures len { result.len ≡ length parts.now.items - first }
+    ensures first { IfOk result (λ word. word.first ≡ first) }
+    ensures len { IfOk result (λ word. word.len ≡ length parts.now.items - first) }
+    ensures refused { IfErr result IsMemory }
 {
-    Word {
-        first,
-        len: parts.len() - first,
+    if parts.len() > u32::MAX as usize {
+        return Err(Stop::Memory(AllocError));
     }
+    Ok(Word {
+        first: first as u32,
+        len: (parts.len() - first) as u32,
+    })
 }
 
 /// Reads the pieces at the place; none where the word ends there.
 fn pieces(source: &[u8], at: usize, parts: &mut Vec<Part>) -> Result<Option<usize>, Stop>
+    requires few { IsShort source.now }
     ensures reads { ReadsPieces source.now at (atoms_of source.now parts.old.items) (atoms_of source.now parts.new.items) result }
     ensures adds { Adds source.now parts.old.items parts.new.items result }
 {
@@ -73,7 +82,8 @@ fn pieces_from(
     first: u8,
     parts: &mut Vec<Part>,
 ) -> Result<Option<usize>, Stop>
-    requires { StandsAt source.now at first }
+    requires few { IsShort source.now }
+    requires here { StandsAt source.now at first }
     ensures reads { ReadsPieces source.now at (atoms_of source.now parts.old.items) (atoms_of source.now parts.new.items) result }
     ensures adds { Adds source.now parts.old.items parts.new.items result }
 {
@@ -84,7 +94,7 @@ fn pieces_from(
         Ok(Some(end))
     } else {
         let end = plain_end(source, at, first);
-        push(parts, Part::Plain(Span { start: at, end }))?;
+        push(parts, Part::Plain(Span::new(at, end)))?;
         Ok(Some(end))
     }
 }
@@ -104,6 +114,7 @@ fn plain_end(source: &[u8], at: usize, first: u8) -> usize
 
 /// Reads the piece that begins with this byte, one of `$`, `\` and the quotes.
 fn piece(source: &[u8], at: usize, first: u8, parts: &mut Vec<Part>) -> Result<usize, Stop>
+    requires few { IsShort source.now }
     requires here { StandsAt source.now at first }
     requires special { is_special first ≡ true }
     ensures reads { ReadsPiece source.now at (atoms_of source.now parts.old.items) (atoms_of source.now parts.new.items) result }
@@ -122,7 +133,8 @@ fn piece(source: &[u8], at: usize, first: u8, parts: &mut Vec<Part>) -> Result<u
 
 /// Reads what an unquoted `$` begins.
 fn dollar_piece(source: &[u8], at: usize, parts: &mut Vec<Part>) -> Result<usize, Stop>
-    requires { StandsAt source.now at 36 }
+    requires few { IsShort source.now }
+    requires here { StandsAt source.now at 36 }
     ensures reads { ReadsPiece source.now at (atoms_of source.now parts.old.items) (atoms_of source.now parts.new.items) result }
     ensures adds { Adds source.now parts.old.items parts.new.items result }
 {
@@ -140,7 +152,8 @@ fn dollar_piece(source: &[u8], at: usize, parts: &mut Vec<Part>) -> Result<usize
 
 /// Reads an unquoted `\` and the byte behind it.
 fn backslash(source: &[u8], at: usize, parts: &mut Vec<Part>) -> Result<usize, Stop>
-    requires { StandsAt source.now at 92 }
+    requires few { IsShort source.now }
+    requires here { StandsAt source.now at 92 }
     ensures reads { ReadsPiece source.now at (atoms_of source.now parts.old.items) (atoms_of source.now parts.new.items) result }
     ensures adds { Adds source.now parts.old.items parts.new.items result }
 {
@@ -161,6 +174,7 @@ fn backslash_before(
     next: u8,
     parts: &mut Vec<Part>,
 ) -> Result<usize, Stop>
+    requires few { IsShort source.now }
     requires backslash { StandsAt source.now at 92 }
     requires next { StandsAt source.now (at + 1) next }
     ensures reads { ReadsPiece source.now at (atoms_of source.now parts.old.items) (atoms_of source.now parts.new.items) result }

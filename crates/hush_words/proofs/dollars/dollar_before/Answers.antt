@@ -6,7 +6,7 @@ use Rattle.hush_words.proofs.DollarLemmas.{read-name, read-alone, behind-bad, be
 use Rattle.hush_words.proofs.dollars.dollar_before.Goals as goal
 
 pub returns-then-begins_name-clause-reads : goal.returns-then-begins_name-clause-reads
-returns-then-begins_name-clause-reads c = (
+returns-then-begins_name-clause-reads c = rw c.new.ensures (
   c.run_end-end.ensures.0,
   c.run_end-end.ensures.1,
   read-name _ _ _ c.args.next _ c.requires.next (sym c.begins_name.ensures ∙ c.if-begins_name.true) c.run_end-end.ensures,
@@ -35,7 +35,7 @@ returns-else-follows_dollar-clause-reads c =
     ∙ ap (λ l. found Alone l) (sym c.requires.next.1))
 
 pub returns-then-begins_name-clause-fits : goal.returns-then-begins_name-clause-fits
-returns-then-begins_name-clause-fits c = (c.run_end-end.ensures.0, c.run_end-end.ensures.1)
+returns-then-begins_name-clause-fits c = rw c.new.ensures (c.run_end-end.ensures.0, c.run_end-end.ensures.1)
 
 pub returns-else-follows_dollar-clause-fits : goal.returns-else-follows_dollar-clause-fits
 returns-else-follows_dollar-clause-fits c = c.byte_part.ensures.fits c.args.source.now 36 c.requires.dollar (λ q. refl)

@@ -7,9 +7,9 @@ use Rattle.hush_words.proofs.quotes.backslash.Goals as goal
 pub returns-in-None-clause-reads : goal.returns-in-None-clause-reads
 returns-in-None-clause-reads c =
     let r = one-inner c.args.source.now c.args.at (c.args.at + 1) Backslash _
-    (at-last c.args.source.now c.args.at c.requires c.in-None.ensures)
-    (sym (c.byte_part.ensures.reads.1 c.args.source.now 92 c.requires)) in
-    (omega arith, omega (arith, c.requires.0), r.0, r.1)
+    (at-last c.args.source.now c.args.at c.requires.here c.in-None.ensures)
+    (sym (c.byte_part.ensures.reads.1 c.args.source.now 92 c.requires.here)) in
+    (omega arith, omega (arith, c.requires.here.0), r.0, r.1)
 
 pub returns-in-None-clause-fits : goal.returns-in-None-clause-fits
-returns-in-None-clause-fits c = (c.byte_part.ensures.fits c.args.source.now 92 c.requires (λ q. absurd (both_ways true q refl)), tt)
+returns-in-None-clause-fits c = (c.byte_part.ensures.fits c.args.source.now 92 c.requires.here (λ q. absurd (both_ways true q refl)), tt)

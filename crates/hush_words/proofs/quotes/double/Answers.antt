@@ -13,16 +13,16 @@ returns-then-stands_at-clause-reads c =
     let here = begins-here 34 c.args.source.now c.loop-read.at e in (
       omega (arith, c.loop-read.invariant.0),
       omega (arith, here.0),
-      double-closes _ _ _ _ _ c.requires c.in_default.ensures.reads e c.loop-read.invariant.2 c.loop-read.invariant.3,
+      double-closes _ _ _ _ _ c.requires.here c.in_default.ensures.reads e c.loop-read.invariant.2 c.loop-read.invariant.3,
     )
 
 pub returns-then-at-source-clause-reads : goal.returns-then-at-source-clause-reads
 returns-then-at-source-clause-reads c =
-    double-open c.args.source.now c.args.place c.loop-read.at c.requires c.in_default.ensures.reads (sym c.stands_at.ensures ∙ c.if-stands_at.false) c.loop-read.invariant.3
+    double-open c.args.source.now c.args.place c.loop-read.at c.requires.here c.in_default.ensures.reads (sym c.stands_at.ensures ∙ c.if-stands_at.false) c.loop-read.invariant.3
 
 pub returns-else-at-source-clause-reads : goal.returns-else-at-source-clause-reads
 returns-else-at-source-clause-reads c =
-    double-open c.args.source.now c.args.place c.loop-read.at c.requires c.in_default.ensures.reads (sym c.stands_at.ensures ∙ c.if-stands_at.false) c.loop-read.invariant.3
+    double-open c.args.source.now c.args.place c.loop-read.at c.requires.here c.in_default.ensures.reads (sym c.stands_at.ensures ∙ c.if-stands_at.false) c.loop-read.invariant.3
 
 pub returns-then-stands_at-clause-adds : goal.returns-then-stands_at-clause-adds
 returns-then-stands_at-clause-adds c = c.loop-read.invariant.4
@@ -31,7 +31,7 @@ pub loop-read-init : goal.loop-read-init
 loop-read-init c =
     let source = c.args.source.now in (
       omega arith,
-      omega (arith, c.requires.0),
+      omega (arith, c.requires.here.0),
       ap (λ l. l ++ inner_left (drop (c.args.place + 1) source)) (pushed-one source c.args.parts.now.items c.push.new.parts.items part.Mark c.in_ok-push.ensures),
       refl,
       added-one source c.args.parts.now.items c.push.new.parts.items part.Mark c.in_ok-push.ensures tt,

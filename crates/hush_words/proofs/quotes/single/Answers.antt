@@ -8,12 +8,12 @@ use Rattle.hush_words.proofs.quotes.single.Goals as goal
 
 pub returns-then-end-source-clause-reads : goal.returns-then-end-source-clause-reads
 returns-then-end-source-clause-reads c =
-    single-open c.args.source.now c.args.place c.place_of-end.result c.requires c.place_of-end.ensures c.if-end-source.true
+    single-open c.args.source.now c.args.place c.place_of-end.result c.requires.here c.place_of-end.ensures c.if-end-source.true
 
 pub returns-clause-reads : goal.returns-clause-reads
 returns-clause-reads c =
     let run = c.place_of-end.ensures in
-    let whole = single-closes c.args.source.now c.args.place c.place_of-end.result (atoms_of c.args.source.now c.args.parts.now.items) c.requires run c.if-end-source.false in
+    let whole = single-closes c.args.source.now c.args.place c.place_of-end.result (atoms_of c.args.source.now c.args.parts.now.items) c.requires.here run c.if-end-source.false in
     let pushed = single-pushed c.args.source.now c.args.parts.now.items c.push.new.parts.items c.push_some.new.parts.items
     (optional_part c.quoted_part.result) _ c.in_ok-push.ensures c.in_ok-push_some.ensures (c.quoted_part.ensures.atoms c.args.source.now) in
     let more : c.place_of-end.result ≢ length c.args.source.now = c.if-end-source.false in

@@ -5,21 +5,21 @@ use Rattle.hush_words.proofs.reading.lexeme.Goals as goal
 
 pub returns-then-is_blank-clause-reads : goal.returns-then-is_blank-clause-reads
 returns-then-is_blank-clause-reads c =
-    (omega arith, omega (arith, c.requires.0), λ more. blank-there c.args.source.now c.args.at c.args.first c.requires (sym c.is_blank.ensures ∙ c.if-is_blank.true))
+    (omega arith, omega (arith, c.requires.here.0), λ more. blank-there c.args.source.now c.args.at c.args.first c.requires.here (sym c.is_blank.ensures ∙ c.if-is_blank.true))
 
 pub returns-then-first-eq10-clause-reads : goal.returns-then-first-eq10-clause-reads
 returns-then-first-eq10-clause-reads c =
-    (omega arith, omega (arith, c.requires.0), λ more. newline-there c.args.source.now c.args.at c.args.first c.requires c.if-first-eq10.true)
+    (omega arith, omega (arith, c.requires.here.0), λ more. newline-there c.args.source.now c.args.at c.args.first c.requires.here c.if-first-eq10.true)
 
 pub returns-then-first-eq59-clause-reads : goal.returns-then-first-eq59-clause-reads
 returns-then-first-eq59-clause-reads c =
-    (omega arith, omega (arith, c.requires.0), λ more. semicolon-there c.args.source.now c.args.at c.args.first c.requires c.if-first-eq59.true)
+    (omega arith, omega (arith, c.requires.here.0), λ more. semicolon-there c.args.source.now c.args.at c.args.first c.requires.here c.if-first-eq59.true)
 
 pub returns-then-first-eq35-clause-reads : goal.returns-then-first-eq35-clause-reads
 returns-then-first-eq35-clause-reads c = (
   omega (arith, c.place_of.ensures.0),
   c.place_of.ensures.1,
-  λ more. comment-there c.args.source.now c.args.at c.args.first c.place_of.result c.requires c.if-first-eq35.true c.place_of.ensures,
+  λ more. comment-there c.args.source.now c.args.at c.args.first c.place_of.result c.requires.here c.if-first-eq35.true c.place_of.ensures,
 )
 
 pub returns-then-is_joined_line-clause-reads : goal.returns-then-is_joined_line-clause-reads

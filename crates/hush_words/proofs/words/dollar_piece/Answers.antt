@@ -9,13 +9,13 @@ returns-in_ok-push-in-Some-clause-reads c =
     let source = c.args.source.now in (
       omega (arith, c.in-Some.ensures.reads.0),
       c.in-Some.ensures.reads.1,
-      read-dollar-piece source c.args.at c.in-Some.read.end (atoms_of source c.args.parts.now.items) _ c.requires c.in-Some.ensures.reads.2
+      read-dollar-piece source c.args.at c.in-Some.read.end (atoms_of source c.args.parts.now.items) _ c.requires.here c.in-Some.ensures.reads.2
           ∙ ap (λ l. Some (l, drop c.in-Some.read.end source))
           (sym (pushed-one source c.args.parts.now.items c.push.new.parts.items c.in-Some.read.part c.in_ok-push-in-Some.ensures)),
     )
 
 pub returns-in-None-clause-reads : goal.returns-in-None-clause-reads
-returns-in-None-clause-reads c = no-dollar-piece c.args.source.now c.args.at c.requires c.in-None.ensures.reads
+returns-in-None-clause-reads c = no-dollar-piece c.args.source.now c.args.at c.requires.here c.in-None.ensures.reads
 
 pub returns-in_ok-push-in-Some-clause-adds : goal.returns-in_ok-push-in-Some-clause-adds
 returns-in_ok-push-in-Some-clause-adds c =

@@ -3,7 +3,7 @@ use Rattle.hush_words.specs.Steps.{StandsAt}
 use Rattle.hush_words.proofs.WordLemmas.{last-special}
 use Rattle.hush_words.proofs.words.piece.Goals as goal
 
-pub double-requires : goal.double-requires
-double-requires c =
+pub double-requires-clause-here : goal.double-requires-clause-here
+double-requires-clause-here c =
     subst (StandsAt c.args.source.now c.args.at)
     (last-special c.args.first c.requires.special c.if-first-eq36.false c.if-first-eq92.false c.if-first-eq39.false) c.requires.here

@@ -10,7 +10,7 @@ use Rattle.hush_words.proofs.words.pieces_from.Goals as goal
 pub returns-then-ends_word-clause-reads : goal.returns-then-ends_word-clause-reads
 returns-then-ends_word-clause-reads c =
     let e = sym c.ends_word.ensures ∙ c.if-ends_word.true in
-    (refl, ap piece_at c.requires.1 ∙ end-no_piece c.args.first (drop (c.args.at + 1) c.args.source.now) e, ap (next ends_word) c.requires.1 ∙ e)
+    (refl, ap piece_at c.requires.here.1 ∙ end-no_piece c.args.first (drop (c.args.at + 1) c.args.source.now) e, ap (next ends_word) c.requires.here.1 ∙ e)
 
 pub returns-in_ok-end-clause-reads : goal.returns-in_ok-end-clause-reads
 returns-in_ok-end-clause-reads c =
@@ -21,7 +21,7 @@ pub returns-in_ok-push-clause-reads : goal.returns-in_ok-push-clause-reads
 returns-in_ok-push-clause-reads c =
     let source = c.args.source.now in
     let run = run-pushed source c.args.at c.plain_end-end.result (atoms_of source c.args.parts.now.items) (atoms_of source c.push.new.parts.items)
-    (omega (arith, c.plain_end-end.ensures.0)) c.plain_end-end.ensures.2 (pushed-one source c.args.parts.now.items c.push.new.parts.items _ c.in_ok-push.ensures) in
+    (omega (arith, c.plain_end-end.ensures.0)) c.plain_end-end.ensures.2 (rw c.new.ensures at (pushed-one source c.args.parts.now.items c.push.new.parts.items _ c.in_ok-push.ensures)) in
     (c.plain_end-end.ensures.0, c.plain_end-end.ensures.1, run.0, run.1)
 
 pub plain_end-end-requires-clause-bare : goal.plain_end-end-requires-clause-bare
@@ -34,4 +34,4 @@ returns-then-ends_word-clause-adds c = added-none c.args.source.now c.args.parts
 pub returns-in_ok-push-clause-adds : goal.returns-in_ok-push-clause-adds
 returns-in_ok-push-clause-adds c =
     let run = c.plain_end-end.ensures in
-    added-one c.args.source.now c.args.parts.now.items c.push.new.parts.items _ c.in_ok-push.ensures ((omega (arith, run.0), run.1), run.3)
+    added-one c.args.source.now c.args.parts.now.items c.push.new.parts.items _ c.in_ok-push.ensures (rw c.new.ensures ((omega (arith, run.0), run.1), run.3))

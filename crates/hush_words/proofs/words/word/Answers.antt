@@ -58,7 +58,7 @@ returns-clause-reads c =
       token.0,
       token.1,
       λ more. token.2 ∙ ap (λ (l : List Atom). Some (Word l ∷ [], drop c.loop-end.at source))
-          (sym (last-word source old new tail.0 more c.word_from.result tail.1 (c.word_from.ensures.first ∙ c.count-before.ensures) (c.word_from.ensures.len ∙ ap (λ n. length new - n) (sym c.word_from.ensures.first)))),
+          (sym (last-word source old new tail.0 more c.in_ok-whole.whole tail.1 (c.in_ok-whole.ensures.first ∙ c.count-before.ensures) (c.in_ok-whole.ensures.len ∙ ap (λ n. length new - n) (sym c.in_ok-whole.ensures.first)))),
     )
 
 pub returns-clause-adds : goal.returns-clause-adds

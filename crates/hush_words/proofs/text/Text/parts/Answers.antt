@@ -1,4 +1,4 @@
-use Rattle.std.proofs.Common.{List, sym, subst, take, drop, ◌-◌, length, ◌<◌, arith}
+use Rattle.std.proofs.Common.{List, sym, subst, take, drop, ◌-◌, length, ◌≤◌}
 use Rattle.std.specs.Prelude.{All}
 use Rattle.hush_words.specs.Parts.{Written}
 use Rattle.hush_words.specs.declared.parts.Part.{Part}
@@ -10,12 +10,9 @@ pub returns-clause-ranges : goal.returns-clause-ranges
 returns-clause-ranges c =
     let source = c.self.inside.source.items in
     let parts = c.as_slice-parts.result.now in
-    let all : AllFit source parts = subst (AllFit source) (sym c.as_slice-parts.ensures.value) c.self.invariant in
+    let all : AllFit source parts = subst (AllFit source) (sym c.as_slice-parts.ensures.value) c.self.invariant.1 in
     subst (λ (w : Written). All (Fits w.source) (take c.min-2.result (take (length parts - c.min.result) (drop c.min.result parts)))) c.self.view_is
     (fits-all source _ (fit-take source c.min-2.result _ (fit-take source (length parts - c.min.result) _ (fit-drop source c.min.result parts all))))
 
 pub returns-clause-few : goal.returns-clause-few
-returns-clause-few c =
-    let few : length c.as_slice-parts.result.now < 18446744073709551615 = omega (arith, c.as_slice-parts.type_inv.0, c.as_slice-parts.type_inv.1) in
-    subst (λ (w : Written). length w.parts < 18446744073709551615) c.self.view_is
-    (subst (λ (l : List Part). length l < 18446744073709551615) c.as_slice-parts.ensures.value few)
+returns-clause-few c = subst (λ (w : Written). length w.parts ≤ 4294967295) c.self.view_is c.self.invariant.0
