@@ -12,8 +12,8 @@ use std::alloc::{AllocError, Global};
 /// Members of a table that stand one behind the other: from this one on, so many.
 #[derive(Clone, Copy, Debug)]
 pub(crate) struct Block {
-    pub(crate) first: usize,
-    pub(crate) len: usize,
+    pub(crate) first: u32,
+    pub(crate) len: u32,
 }
 
 /// A node, whose members stand in the other tables.
@@ -94,7 +94,7 @@ impl Builder {
     pub(crate) fn put(&mut self, node: Stored) -> Result<NodeId, AllocError>
         ensures { IfOk result (λ id. Put self.old self.new node id) }
     {
-        let index = self.table.nodes.len();
+        let index = number(self.table.nodes.len())?;
         self.table.nodes.push(node)?;
         Ok(NodeId { index })
     }
@@ -109,7 +109,8 @@ impl Builder {
     {
         let first = count(&self.table.words);
         tokens.words(&mut self.table.words)?;
-        Ok(block_from(first, &self.table.words))
+        let block = block_from(first, &self.table.words)?;
+        Ok(block)
     }
 
     /// How many chains wait for their list.
@@ -192,16 +193,25 @@ fn count<T>(members: &Vec<T>) -> usize
     members.len()
 }
 
-/// The members from this one on.
-fn block_from<T>(first: usize, members: &Vec<T>) -> Block
-    requires { first ≤ length members.now.items }
-    ensures first { result.first ≡ first }
-    ensures len { result.len ≡ length members.now.items - first }
+/// A count as a number of 32 bits. One that is larger is answered as want of memory.
+fn number(count: usize) -> Result<u32, AllocError>
+    ensures { IfOk result (λ number. number ≡ count) }
 {
-    Block {
-        first,
-        len: members.len() - first,
+    match u32::try_from(count) {
+        Ok(number) => Ok(number),
+        Err(_) => Err(AllocError),
     }
+}
+
+/// The members from this one on.
+fn block_from<T>(first: usize, members: &Vec<T>) -> Result<Block, AllocError>
+    requires { first ≤ length members.now.items }
+    ensures first { IfOk result (λ block. block.first ≡ first) }
+    ensures len { IfOk result (λ block. block.len ≡ length members.now.items - first) }
+{
+    let len = number(members.len() - first)?;
+    let first = number(first)?;
+    Ok(Block { first, len })
 }
 
 /// Moves the members that wait, from this one on, behind those that a table has.
@@ -219,5 +229,6 @@ fn settle<T: Copy>(
     let first = count(table);
     table.extend_from_slice(&waiting.as_slice()[mark..])?;
     waiting.truncate(mark);
-    Ok(block_from(first, table))
+    let block = block_from(first, table)?;
+    Ok(block)
 }

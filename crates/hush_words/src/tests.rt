@@ -9,19 +9,19 @@ mod pieces;
 use crate::{Fault, FaultKind, Lexed, Part, Span, Token, TokenKind, read};
 use std::alloc::{AllocError, Global};
 
-fn plain(start: usize, end: usize) -> Part {
+fn plain(start: u32, end: u32) -> Part {
     Part::Plain(Span { start, end })
 }
 
-fn quoted(start: usize, end: usize) -> Part {
+fn quoted(start: u32, end: u32) -> Part {
     Part::Quoted(Span { start, end })
 }
 
-fn value(start: usize, end: usize) -> Part {
+fn value(start: u32, end: u32) -> Part {
     Part::Value(Span { start, end }, false)
 }
 
-fn quoted_value(start: usize, end: usize) -> Part {
+fn quoted_value(start: u32, end: u32) -> Part {
     Part::Value(Span { start, end }, true)
 }
 
@@ -31,7 +31,7 @@ fn read_copy(alloc: Global, source: &[u8]) -> Result<Lexed, AllocError> {
 }
 
 /// Whether the token with this number is a word of these parts at this place.
-fn is_word(lexed: &Lexed, index: usize, place: usize, parts: &[Part]) -> bool {
+fn is_word(lexed: &Lexed, index: usize, place: u32, parts: &[Part]) -> bool {
     match lexed.tokens.get(index) {
         Some(token) => match &token.kind {
             TokenKind::Word(word) => token.place == place && lexed.text.parts(*word) == parts,
@@ -42,7 +42,7 @@ fn is_word(lexed: &Lexed, index: usize, place: usize, parts: &[Part]) -> bool {
 }
 
 /// Whether the token with this number is this one at this place.
-fn is_token(lexed: &Lexed, index: usize, place: usize, kind: TokenKind) -> bool {
+fn is_token(lexed: &Lexed, index: usize, place: u32, kind: TokenKind) -> bool {
     match lexed.tokens.get(index) {
         Some(token) => *token == Token { kind, place },
         None => false,

@@ -9,8 +9,8 @@ use Rattle.hush_syntax.proofs.table.Builder.take_words.Goals as goal
 pub returns-clause-words : goal.returns-clause-words
 returns-clause-words c = λ text more.
     let grown = c.in_ok-words.ensures.grown in
-    block-told text c.args.self.now.table.words.items c.words.new.words.items grown.0 (words_at (left_in text c.args.tokens.now)) c.block_from.result more.words grown.1 (c.in_ok-words.ensures.taken text)
-    (c.block_from.ensures.first ∙ c.count-first.ensures) (c.block_from.ensures.len ∙ ap (λ n. length c.words.new.words.items - n) (sym c.block_from.ensures.first))
+    block-told text c.args.self.now.table.words.items c.words.new.words.items grown.0 (words_at (left_in text c.args.tokens.now)) c.in_ok-block.block more.words grown.1 (c.in_ok-words.ensures.taken text)
+    (c.in_ok-block.ensures.first ∙ c.count-first.ensures) (c.in_ok-block.ensures.len ∙ ap (λ n. length c.words.new.words.items - n) (sym c.in_ok-block.ensures.first))
 
 pub returns-clause-grows : goal.returns-clause-grows
 returns-clause-grows c =

@@ -1,7 +1,6 @@
-use Rattle.std.proofs.Common.{List, sym, subst, take, drop, ◌-◌, length, ◌≤◌}
+use Rattle.std.proofs.Common.{sym, subst, take, drop, ◌-◌, length, ◌≤◌}
 use Rattle.std.specs.Prelude.{All}
 use Rattle.hush_words.specs.Parts.{Written}
-use Rattle.hush_words.specs.declared.parts.Part.{Part}
 use Rattle.hush_words.specs.Ranges.{Fits, AllFit}
 use Rattle.hush_words.proofs.RangeLemmas.{fit-take, fit-drop, fits-all}
 use Rattle.hush_words.proofs.text.Text.parts.Goals as goal
