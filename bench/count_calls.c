@@ -1,5 +1,5 @@
-/* Preloaded before a program: counts its calls of malloc, calloc and realloc, and at its end writes the number to the file
-   that COUNT_CALLS names. */
+/* Preloaded before a program: counts the blocks that it allocates, by malloc, calloc and realloc of nothing, and how often a
+   block grows or shrinks, by realloc. At its end it writes both numbers to the file that COUNT_CALLS names. */
 #include <stddef.h>
 #include <stdio.h>
 #include <stdlib.h>
@@ -8,29 +8,32 @@ void *__libc_malloc(size_t size);
 void *__libc_calloc(size_t count, size_t size);
 void *__libc_realloc(void *old, size_t size);
 
-static unsigned long calls;
+static unsigned long blocks, growths;
 
 void *malloc(size_t size) {
-    calls++;
+    blocks++;
     return __libc_malloc(size);
 }
 
 void *calloc(size_t count, size_t size) {
-    calls++;
+    blocks++;
     return __libc_calloc(count, size);
 }
 
 void *realloc(void *old, size_t size) {
-    calls++;
+    if (old)
+        growths++;
+    else
+        blocks++;
     return __libc_realloc(old, size);
 }
 
 __attribute__((destructor)) static void report(void) {
-    unsigned long counted = calls;
+    unsigned long blocks_counted = blocks, growths_counted = growths;
     const char *name = getenv("COUNT_CALLS");
     FILE *file = name ? fopen(name, "w") : NULL;
     if (file) {
-        fprintf(file, "%lu\n", counted);
+        fprintf(file, "%lu %lu\n", blocks_counted, growths_counted);
         fclose(file);
     }
 }

@@ -26,7 +26,7 @@ pub enum FaultKind {
     Assignment,
     /// A byte 0.
     Nul,
-    /// No memory for the tree.
+    /// No memory for the tree, or more of the text or of the tree than numbers of 32 bits can count.
     Memory,
 }
 
