@@ -75,3 +75,48 @@ program_of() {
     fi
     echo "$top/crates/$1/out/$1"
 }
+
+# ends WORDS INPUT COMMAND..: one run of a program that measures. It prints the words that are wanted, any where WORDS is
+# empty, and then the nanoseconds that its part took; these go to taken, the peak memory in KiB to memory.
+ends() {
+    local line
+    "$measure" "$work/measured" "${@:3}" <"$2" >"$work/output"
+    line=$(<"$work/output")
+    taken=${line##* }
+    read -r _ memory <"$work/measured"
+    if [ "$1" ] && [ "${line% *}" != "$1" ]; then
+        echo "$(basename "$0"): ${*:4} ended with ${line% *}, not with $1" >&2
+        exit 1
+    fi
+}
+
+# measured NAME COUNT WORDS INPUT: one line of a table for the part that the command in the array run has, and that in the
+# array ready leaves out. The instructions of the part go to instructions, its best time in nanoseconds to best, the memory
+# that it took beyond what a run without it takes, in KiB, to grown.
+measured() {
+    local peak=0 none whole before taken memory
+    ends '' "$4" "${ready[@]}"
+    before=$memory
+    best=''
+    for _ in 1 2 3 4 5; do
+        ends "$3" "$4" "${run[@]}"
+        if [ -z "$best" ] || [ "$taken" -lt "$best" ]; then best=$taken; fi
+        if [ "$memory" -gt "$peak" ]; then peak=$memory; fi
+    done
+    none=$(counted "${ready[@]}" <"$4")
+    whole=$(counted "${run[@]}" <"$4")
+    instructions=$((whole - none))
+    grown=$((peak - before))
+    awk -v name="$1" -v count="$2" -v n="$instructions" -v t="$best" -v peak="$peak" -v before="$before" \
+        'BEGIN { printf "%-38s %9.2f M %7d %9.2f ms %7d KiB %7d KiB\n", name, n / 1e6, n / count, t / 1e6, peak, before }'
+}
+
+# grows_slowly NAME COUNT FIRST LAST: stops where the instructions for four times COUNT names are more than n log n allows.
+grows_slowly() {
+    awk -v program="$(basename "$0")" -v name="$1" -v count="$2" -v first="$3" -v last="$4" 'BEGIN {
+        if (last > 1.25 * 4 * log(4 * count) / log(count) * first) {
+            print program ": " name " grows faster than n log n" >"/dev/stderr"
+            exit 1
+        }
+    }'
+}

@@ -1,9 +1,9 @@
-"""Writes a single image to standard output: make_image.py SIZE COUNT [shuffled|descending|runs] [short] [flags].
+"""Writes an image to standard output: make_image.py SIZE COUNT [shuffled|descending|runs] [short] [flags] [redundant].
 
 COUNT variables in ascending order of names, shuffled (the same order each time), descending, or the first 512 ascending
 and then the others descending (runs): names v000000 and so on with values
 of 17 bytes, or short ones, names of three bytes with values of one. With flags there is a `.flags` before them with an
-item for each of the first 1,000 names: decimal, any access.
+item for each of the first 1,000 names: decimal, any access. The image is a single one, or a redundant one with flag 1.
 """
 import random
 import struct
@@ -24,7 +24,8 @@ if "runs" in wishes:
     entries[512:] = entries[:511:-1]
 if "flags" in wishes:
     entries.insert(0, b".flags=" + b",".join(b"v%06d:da" % i for i in range(1000)) + b"\0")
-area = (b"".join(entries) + b"\0").ljust(size - 4, b"\0")
-if len(area) != size - 4:
+flag = b"\1" if "redundant" in wishes else b""
+area = (b"".join(entries) + b"\0").ljust(size - 4 - len(flag), b"\0")
+if len(area) != size - 4 - len(flag):
     sys.exit("make_image.py: the variables don't fit")
-sys.stdout.buffer.write(struct.pack("<I", zlib.crc32(area)) + area)
+sys.stdout.buffer.write(struct.pack("<I", zlib.crc32(area)) + flag + area)

@@ -4,17 +4,8 @@
 //! written once over few names, and no time is printed.
 #![tactic(auto)]
 
-mod names;
-mod orders;
-
-ghost use Rattle.std.specs.Prelude.{◌≤◌, IfOk, IsTrue, length};
-ghost use Rattle.envimg_core.specs.Pieces.{is_terminated};
-
-use envimg_core::{CopyState, Geometry, Layout, check_copy};
+use bench_parts::{Name, Order, Step, data_area, load, name, repeated_names, scattered_names};
 use envvars_core::Vars;
-use names::{Name, name, repeated_names, scattered_names};
-use orders::{Order, Step};
-use std::alloc::Global;
 use std::io::{Error, ErrorKind, Read};
 use std::time::Instant;
 use std::{env, io};
@@ -36,28 +27,6 @@ enum Calls<'a> {
     Gets(&'a [Name]),
     /// Writes and removals.
     Steps(&'a [Step]),
-}
-
-/// The data area of a good single image.
-fn data_area(image: &[u8]) -> io::Result<&[u8]>
-    ensures terminated { IfOk result (λ area. IsTrue (is_terminated area.now)) }
-    ensures bounded { IfOk result (λ area. length area.now ≤ 1048576) }
-{
-    if image.len() <= 1_048_576 {
-        if let Some(geometry) = Geometry::new(Layout::Single, image.len() as u32) {
-            if let CopyState::Good(_) = check_copy(&geometry, image) {
-                return Ok(&image[4..]);
-            }
-        }
-    }
-    Err(Error::from(ErrorKind::InvalidData))
-}
-
-fn load(alloc: Global, area: &[u8]) -> io::Result<Vars>
-    requires terminated { IsTrue (is_terminated area.now) }
-    requires bounded { length area.now ≤ 1048576 }
-{
-    Vars::load(alloc, area).map_err(|_| Error::from(ErrorKind::OutOfMemory))
 }
 
 /// Makes each call, and counts those that are refused or find nothing.
@@ -152,11 +121,6 @@ fn measure(rt: &HostRuntime, part: &str, count: &str, wanted: bool) -> io::Resul
         }
         "checks" => measure_checks(rt, wanted, &image, count, b"12"),
         "mistyped" => measure_checks(rt, wanted, &image, count, b"1x"),
-        "scattered" => {
-            let names = scattered_names(alloc, count, count)?;
-            let vars = Vars::empty(alloc, AMPLE_ROOM);
-            measure_calls(rt, wanted, vars, Calls::Writes(&names, b"value"))
-        }
         _ => match Order::named(part) {
             Some(order) => {
                 let steps = order.steps(alloc, count)?;

@@ -1,4 +1,5 @@
 //! Orders of names, the hostile ones among them: each is a list of writes and removals.
+use crate::names::{COUNT, scattered};
 use std::alloc::{AllocError, Global};
 
 /// The length of what is written in ascending order first, some full runs of the store.
@@ -32,6 +33,8 @@ pub enum Order {
     BothEnds,
     /// Each in front of its block of 64, one block after another.
     Fronts,
+    /// In no order.
+    Scattered,
     /// Ascending, then all removed but each 128th, and ascending again.
     Thinned,
     /// Full runs first, and then one name behind them written and removed, again and again.
@@ -47,6 +50,7 @@ impl Order {
             "runs-then-descending" => Some(Order::RunsThenDescending),
             "both-ends" => Some(Order::BothEnds),
             "fronts" => Some(Order::Fronts),
+            "scattered" => Some(Order::Scattered),
             "thinned" => Some(Order::Thinned),
             "one-place" => Some(Order::OnePlace),
             _ => None,
@@ -83,6 +87,13 @@ impl Order {
                     }
                 }
                 self.write_all(&mut steps, count)?;
+            }
+            Order::Scattered => {
+                for i in 0..COUNT {
+                    if scattered(i) < count {
+                        steps.push(Step::Write(scattered(i)))?;
+                    }
+                }
             }
             Order::OnePlace => {
                 self.write_all(&mut steps, FIRST)?;

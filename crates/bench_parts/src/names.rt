@@ -21,8 +21,11 @@ fn digit(n: u32) -> u8 {
     (n % 10) as u8 + 48
 }
 
+/// How many numbers [`scattered`] mixes.
+pub(crate) const COUNT: u32 = 262_144;
+
 /// A number below 262,144 for each number below it, none twice, with no order in them.
-fn scattered(i: u32) -> u32 {
+pub(crate) fn scattered(i: u32) -> u32 {
     let mixed = (i ^ (i >> 9)).wrapping_mul(0x2_C1B3) & 0x3_FFFF;
     let again = (mixed ^ (mixed >> 8)).wrapping_mul(0x1_B873) & 0x3_FFFF;
     again ^ (again >> 9)
@@ -31,7 +34,7 @@ fn scattered(i: u32) -> u32 {
 /// The names of the numbers below `count` in scattered order, the first `most` of them.
 pub fn scattered_names(alloc: Global, count: u32, most: u32) -> Result<Vec<Name>, AllocError> {
     let mut names = Vec::with_capacity(alloc, most as usize)?;
-    for i in 0..262_144u32 {
+    for i in 0..COUNT {
         if scattered(i) < count && names.len() < most as usize {
             names.push(name(scattered(i)))?;
         }
