@@ -1,3 +1,4 @@
+mod AtOnceLemmas
 mod CountLemmas
 mod DefaultsLemmas
 mod HelpLemmas

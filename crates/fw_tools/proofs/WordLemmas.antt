@@ -1,5 +1,5 @@
 -- What the words choose, and what is answered where the help breaks off.
-use Rattle.std.proofs.Common.{◌≡◌, List, Option, Some, None, option_map, true, refl, sym, ap, ◌∙◌, subst}
+use Rattle.std.proofs.Common.{◌≡◌, ◌||◌, ℕ, Bool, List, Option, Some, None, option_map, true, false, is_some, refl, sym, ap, ◌∙◌, subst}
 use Rattle.std.specs.Prelude.{codes, find, option_and_then}
 use Rattle.std.specs.Str.{bytes_eq}
 use Rattle.clap.proofs.OnLiterals.{clap_on_literals}
@@ -11,7 +11,10 @@ use Rattle.clap.specs.Walk.{Text, row_of, rows_of}
 use Rattle.clap.specs.declared.parser.matches.ArgMatches.{ArgMatches}
 use Rattle.clap.specs.declared.parser.matches.Found.{Found}
 use Rattle.envimg_core.specs.declared.order.Order.{Order}
-use Rattle.fw_tools.specs.Words.{fwenv, order_by, order_of, source_in}
+use Rattle.fw_tools.specs.Words.{called_by, fwenv, order_by, order_in, order_of, source_in}
+use Rattle.clap.specs.Words.{is_simple_and_free, subcommand_rows_of}
+use Rattle.fw_tools.specs.Running.{Does}
+use Rattle.fw_tools.specs.Streams.{Streams}
 
 source_found : (f : Found) (id : Text) → option_and_then (λ a. a.source) (matched_of f id) ≡ source_in id (rows_of f)
 source_found f id = of_entry (find (λ e. bytes_eq e.0.now id) f.entries.items) ∙ sym (ap (option_and_then (λ r. r.source)) (find_row f.entries.items id))
@@ -24,9 +27,35 @@ fwenv_simple : is_simple fwenv ≡ true
 unfolding clap_on_literals
 fwenv_simple = refl
 
+pub fwenv_free : is_simple_and_free fwenv ≡ true
+unfolding clap_on_literals
+fwenv_free = refl
+
 -- the byte order by the matches is that by the words
-pub chosen : (app : App) (words : List Text) (m : ArgMatches) (order : Order) → app ≡ fwenv → HasMatchesOf app words m →
-    order ≡ order_by (option_and_then (λ a. a.source) (matched_of (found_of m) (codes "big-endian"))) → order ≡ order_of words
-chosen app words m order is has chose =
+pub order_chosen : (app : App) (words : List Text) (m : ArgMatches) → app ≡ fwenv → HasMatchesOf app words m →
+    order_in m ≡ order_of words
+order_chosen app words m is has =
     let of_fwenv : HasMatchesOf fwenv words m = subst (λ a. HasMatchesOf a words m) is has in
-    chose ∙ ap order_by (source_found (found_of m) (codes "big-endian") ∙ ap (source_in (codes "big-endian")) (of_fwenv fwenv_simple).0)
+    ap order_by (source_found (found_of m) (codes "big-endian") ∙ ap (source_in (codes "big-endian")) (of_fwenv fwenv_simple).0)
+
+-- and so is the subcommand that is called
+pub tool_called : (app : App) (words : List Text) (m : ArgMatches) → app ≡ fwenv → HasMatchesOf app words m → subcommand_rows_of m ≡ called_by words
+tool_called app words m is has =
+    let of_fwenv : HasMatchesOf fwenv words m = subst (λ a. HasMatchesOf a words m) is has in
+    (of_fwenv fwenv_simple).1
+
+-- a subcommand is there where its rows are
+pub there_alike : {A B C : Type 0} (f : A → C) (g : B → C) (x : Option A) (y : Option B) → option_map f x ≡ option_map g y → is_some x ≡ is_some y
+there_alike f g x y e = sym (mapped f x) ∙ ap is_some e ∙ mapped g y
+  where
+    mapped : {A C : Type 0} (f : A → C) (o : Option A) → is_some (option_map f o) ≡ is_some o
+    mapped f None = refl
+    mapped f (Some a) = refl
+
+-- what is done by the matches is done by the words
+pub done_by_words : (order order' : Order) (tool tool' : Bool) (old new : Streams) (status : ℕ) → Does order tool old new status → order ≡ order' → tool ≡ tool' → Does order' tool' old new status
+done_by_words order order' tool tool' old new status does is calls =
+    subst (λ t. Does order' t old new status) calls (subst (λ o. Does o tool old new status) is does)
+
+pub neither : (x y : Bool) → x ≡ false → y ≡ false → (x || y) ≡ false
+neither x y p q = λ i. p i || q i

@@ -1,5 +1,5 @@
 -- What the program does with its words and streams (docs/tools.md, "The command line").
-use Rattle.std.specs.Prelude.{◌≡◌, ◌⊎◌, ℕ, List, [], ◌∷◌, ◌++◌, Option, Some, None, codes}
+use Rattle.std.specs.Prelude.{◌≡◌, ◌≤◌, ◌⊎◌, ℕ, Bool, true, false, List, [], ◌∷◌, ◌++◌, Option, Some, None, is_some, codes}
 use Rattle.std.specs.Io.KnownBytes.{Appends}
 use Rattle.std.specs.declared.io.ErrorKind as io_error
 use Rattle.std.specs.declared.io.ErrorKind.TheVariants as io
@@ -9,7 +9,7 @@ use Rattle.clap.specs.declared.error.kind.ErrorKind.TheVariants.{DisplayHelp, Di
 use Rattle.envimg_core.specs.declared.order.Order.{Order}
 use Rattle.fw_tools.specs.Shown.{Shows}
 use Rattle.fw_tools.specs.Streams.{AppendsFront, AppendsPart, Streams, Writers, writers_of}
-use Rattle.fw_tools.specs.Words.{faults, order_of}
+use Rattle.fw_tools.specs.Words.{called_by, faults, order_of}
 use Rattle.fw_tools.specs.declared.ending.ToolEnd.{ToolEnd}
 use Rattle.fw_tools.specs.declared.ending.StreamFault.{StreamFault}
 use Rattle.fw_tools.specs.declared.ending.StreamFault.TheVariants.{Read, Write, Memory}
@@ -68,6 +68,15 @@ AnswersWords words old new status =
     (new.input ≡ old.input)
     × (LacksMemory (writers_of old) (writers_of new) status ⊎ ((kind : ErrorKind) × IsAmong kind (faults words) × Answers kind (writers_of old) (writers_of new) status))
 
--- a whole run: words with nothing wrong show the image in the byte order that they choose
+-- a subcommand works on files, of which no contract can speak; standard input is not read
+abbrev pub CallsTool : Streams → Streams → ℕ → Type 0
+CallsTool old new status = (new.input ≡ old.input) × (status ≤ 1)
+
+-- what is done for words with nothing wrong: a subcommand is called, or the image on standard input is shown in the byte order that they choose
+abbrev pub Does : Order → Bool → Streams → Streams → ℕ → Type 0
+Does order true old new status = CallsTool old new status
+Does order false old new status = ShowsAndSays order old new status
+
+-- a whole run
 abbrev pub Runs : List Text → Streams → Streams → ℕ → Type 0
-Runs words old new status = ((faults words ≡ []) × ShowsAndSays (order_of words) old new status) ⊎ AnswersWords words old new status
+Runs words old new status = ((faults words ≡ []) × Does (order_of words) (is_some (called_by words)) old new status) ⊎ AnswersWords words old new status

@@ -1,22 +1,70 @@
 -- The words of the command line, as clap's rules see them (docs/tools.md, "The command line").
-use Rattle.std.specs.Prelude.{List, [], Option, Some, codes, find, true}
+use Rattle.std.specs.Prelude.{◌≡◌, true, List, [], ◌∷◌, Option, Some, codes, find}
 use Rattle.std.specs.Option.{option_and_then}
 use Rattle.std.specs.Str.{bytes_eq}
+use Rattle.clap.specs.Lexer.{usize_max}
 use Rattle.clap.specs.Simple.{new_shape}
-use Rattle.clap.specs.Words.{App, Kinds, Row, Rule, Text, fault_of, matches_of, new_rule, with_rule}
+use Rattle.clap.specs.Words.{AddsSubcommand, App, Kinds, Row, Rule, Text, app_of, fault_of, found_of, matched_of, matches_of, new_app, new_rule, subcommand_of, with_rule, with_subcommand}
+use Rattle.clap.specs.declared.builder.command.Command.{Command}
 use Rattle.clap.specs.declared.builder.action.ArgAction.TheVariants.{SetTrue}
+use Rattle.clap.specs.declared.parser.matches.ArgMatches.{ArgMatches}
 use Rattle.clap.specs.declared.parser.matches.ValueSource.{ValueSource}
 use Rattle.clap.specs.declared.parser.matches.ValueSource.TheVariants.{CommandLine}
 use Rattle.envimg_core.specs.declared.order.Order.{Order}
 use Rattle.envimg_core.specs.declared.order.Order.TheVariants.{Little, Big}
 
+-- an argument that takes no value
+abbrev pub flag : Text → Rule
+flag id = record (new_rule id) { action = Some SetTrue }
+
 -- the flag --big-endian
 abbrev pub big_endian : Rule
-big_endian = record (new_rule (codes "big-endian")) { long = Some (codes "big-endian"); action = Some SetTrue }
+big_endian = record (flag (codes "big-endian")) { long = Some (codes "big-endian") }
 
--- the command, which has a version to print
+-- the command without its subcommands, which has a version to print
+abbrev pub top : App
+top = with_rule (record { top = record (new_shape (codes "fwenv")) { has_version = true }; subs = [] }) big_endian
+
+-- a subcommand with the options that all have
+abbrev pub config : Rule
+config = record (new_rule (codes "config")) { short = Some 99; value_names = 1; defaults = codes "/etc/fw_env.config" ∷ [] }
+
+abbrev pub default : Rule
+default = record (new_rule (codes "default")) { long = Some (codes "default"); value_names = 1 }
+
+abbrev pub tool : Text → App
+tool name = with_rule (with_rule (with_rule (new_app name) config) default) big_endian
+
+-- an argument that may be given any number of times, or not at all
+abbrev pub any_number : Text → Rule
+any_number id = record (new_rule id) { value_names = 1; range = Some (record { start_inclusive = 0; end_inclusive = usize_max }) }
+
+abbrev pub one : Text → Rule
+one id = record (new_rule id) { value_names = 1 }
+
+-- the subcommands
+abbrev pub printenv : App
+printenv = with_rule (with_rule (tool (codes "printenv")) (record (flag (codes "value-only")) { short = Some 110 })) (any_number (codes "names"))
+
+abbrev pub script : Rule
+script = record (one (codes "script")) { short = Some 115 }
+
+abbrev pub setenv : App
+setenv = with_rule (with_rule (with_rule (tool (codes "setenv")) script) (one (codes "name"))) (any_number (codes "words"))
+
+abbrev pub import : App
+import = with_rule (tool (codes "import")) (record (one (codes "file")) { required = true })
+
+abbrev pub export : App
+export = tool (codes "export")
+
+-- the command
 abbrev pub fwenv : App
-fwenv = with_rule (record { top = record (new_shape (codes "fwenv")) { has_version = true }; subs = [] }) big_endian
+fwenv = with_subcommand (with_subcommand (with_subcommand (with_subcommand top printenv.top) setenv.top) import.top) export.top
+
+-- a command that clap's rules see so, alone and as the subcommand of another
+abbrev pub IsTool : App → Command → Type 0
+IsTool app c = (app_of c ≡ app) × ((old new : Command) → AddsSubcommand old c new → app_of new ≡ with_subcommand (app_of old) app.top)
 
 -- what clap's rules say of the words: nothing, or the kind of what is wrong with them
 abbrev pub faults : List Text → Kinds
@@ -31,6 +79,19 @@ abbrev pub order_by : Option ValueSource → Order
 order_by (Some CommandLine) = Big
 order_by source = Little
 
--- the byte order that the words choose
+-- the byte order by what was found of the words
+abbrev pub order_in : ArgMatches → Order
+order_in m = order_by (option_and_then (λ a. a.source) (matched_of (found_of m) big_endian.id))
+
+-- big-endian where one of two places chooses it
+abbrev pub either_order : Order → Order → Order
+either_order Big other = Big
+either_order Little other = other
+
+-- the byte order that the words before a subcommand choose
 abbrev pub order_of : List Text → Order
 order_of words = order_by (source_in big_endian.id (matches_of fwenv words))
+
+-- the subcommand that the words call, and what clap's rules find of it
+abbrev pub called_by : List Text → Option (Text × List Row)
+called_by words = subcommand_of fwenv words

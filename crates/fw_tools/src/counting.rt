@@ -40,7 +40,7 @@ fn write_count<E: Write>(errors: &mut E, refused: usize) -> bool
 }
 
 /// Writes a number in decimal digits. It takes no memory: the digits before the last are written first.
-fn write_decimal<W: Write>(writer: &mut W, number: usize) -> bool
+pub(crate) fn write_decimal<W: Write>(writer: &mut W, number: usize) -> bool
     ensures { MatchBool result (Appends (W.contents writer.old) (W.contents writer.new) (decimal number)) (AppendsPart (W.contents writer.old) (W.contents writer.new) (decimal number)) }
 {
     let digit = b'0' + (number % 10) as u8;

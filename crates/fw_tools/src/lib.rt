@@ -1,12 +1,17 @@
 //! The tools over readers and writers, and the program.
 #![tactic(auto)]
 
+mod acting;
+mod closing;
 mod command_line;
+mod copies;
 mod counting;
 mod defaulting;
 mod ending;
 mod exporting;
+mod files;
 mod messages;
+mod opening;
 mod printing;
 mod running;
 mod saying;

@@ -2,13 +2,15 @@
 ghost use Rattle.std.specs.Prelude.{◌≡◌, ◌||◌, map};
 ghost use Rattle.fw_tools.specs.Printing.{PrintsName, named, printed};
 ghost use Rattle.fw_tools.specs.Shown.{listing};
-ghost use Rattle.fw_tools.specs.Tool.{Prints, PrintsText};
+ghost use Rattle.fw_tools.specs.Tool.{Printed, Prints, PrintsText};
 
 use crate::ending::{StreamFault, ToolEnd};
+use crate::exporting::print_both;
 use crate::messages::{ERROR_QUOTE, NOT_DEFINED, ONE_NAME};
 use crate::saying::{print_text, status_of, write_line, write_three, write_two};
 use env_session::Session;
 use envvars_core::Vars;
+use std::alloc::Global;
 use std::io::Write;
 
 /// Prints a line `name=value` for each of these names, in their order, or without names for all variables, in ascending
@@ -37,6 +39,25 @@ pub fn printenv<W: Write, E: Write>(
         return print_all(vars, output);
     }
     print_named(vars, names, false, output, errors)
+}
+
+/// Prints what [`printenv`] prints, each text at once: both are made first.
+pub(crate) fn print_at_once<W: Write, E: Write>(
+    alloc: Global,
+    session: &Session,
+    names: &[&[u8]],
+    value_only: bool,
+    output: &mut W,
+    errors: &mut E,
+) -> ToolEnd
+    ensures { Printed result.fault (record { output = W.contents output.old; errors = E.contents errors.old }) (record { output = W.contents output.new; errors = E.contents errors.new }) (printed session.now.now.env (map (λ n. n.now) names.now) value_only) result.status }
+{
+    let mut text = Vec::new(alloc);
+    let mut messages = Vec::new(alloc);
+    match printenv(session, names, value_only, &mut text, &mut messages).fault {
+        Some(_) => ToolEnd::stopped(StreamFault::Memory),
+        None => print_both(&text, &messages, output, errors),
+    }
 }
 
 /// Prints a line for each variable.

@@ -1,17 +1,21 @@
 //! The program over its words and streams.
-ghost use Rattle.std.specs.Prelude.{◌≡◌, ◌⊎◌, ◌≤◌, map};
-ghost use Rattle.clap.specs.Words.{kind_of};
-ghost use Rattle.fw_tools.specs.Running.{Answers, LacksMemory, Runs, Says, message_without_words};
+ghost use Rattle.std.specs.Prelude.{◌≡◌, ◌⊎◌, ◌≤◌, is_some, map};
+ghost use Rattle.clap.specs.Words.{kind_of, subcommand_rows_of};
+ghost use Rattle.fw_tools.specs.Running.{Answers, Does, LacksMemory, Runs, Says, message_without_words};
 ghost use Rattle.fw_tools.specs.Streams.{AppendsFront};
+ghost use Rattle.fw_tools.specs.Words.{either_order, order_in};
 ghost use Rattle.std.specs.IoError.{error_kind};
 
-use crate::command_line::read_words;
+use crate::acting::run_tool;
+use crate::command_line::{chosen_order, read_words};
 use crate::ending::{StreamFault, ToolEnd};
 use crate::messages::{CANNOT_READ, CANNOT_WRITE, NO_WORDS, NOT_UTF8, OUT_OF_MEMORY};
+use crate::saying::say;
 use crate::showing::show;
 use crate::streams::write_text;
-use clap::Error;
 use clap::error::ErrorKind;
+use clap::{ArgMatches, Error};
+use envimg_core::Order;
 use std::alloc::Global;
 use std::convert::AsStr;
 use std::io::{self, Read, Write};
@@ -19,9 +23,16 @@ use std::rt::Files;
 
 /// Runs the program and answers its exit status, 0 or 1. `words` begin with the program's own name.
 ///
-/// Without a further word the variables of the image on `input` are printed ([`show`]), and with `--big-endian` those of
-/// an image of a big-endian board. Help goes to `output`, status 0;
-/// a fault of the command line to `errors`, status 1. docs/tools.md has each text.
+/// Without a subcommand the variables of the image on `input` are printed ([`show`]), and with `--big-endian` those of an
+/// image of a big-endian board. A subcommand works on the copies that a configuration names ([`printenv`], [`setenv`],
+/// [`set_script`], [`import`], [`export`]), and writes back those that it changed. Help goes to `output`, status 0; a fault
+/// of the command line to `errors`, status 1. docs/tools.md has each text.
+///
+/// [`printenv`]: crate::printenv
+/// [`setenv`]: crate::setenv
+/// [`set_script`]: crate::set_script
+/// [`import`]: crate::import
+/// [`export`]: crate::export
 pub fn program<X: Files + AllocGlobal, S: AsStr, R: Read, W: Write, E: Write>(
     rt: &X,
     words: &[S],
@@ -35,9 +46,31 @@ pub fn program<X: Files + AllocGlobal, S: AsStr, R: Read, W: Write, E: Write>(
     let alloc = rt.alloc();
     match read_words(alloc, words) {
         Err(error) => print_error(alloc, &error, output, errors),
-        Ok(order) => {
+        Ok(matches) => act_on(rt, &matches, input, output, errors),
+    }
+}
+
+/// Does what words with nothing wrong ask for.
+fn act_on<X: Files + AllocGlobal, R: Read, W: Write, E: Write>(
+    rt: &X,
+    matches: &ArgMatches<'_>,
+    input: &mut R,
+    output: &mut W,
+    errors: &mut E,
+) -> u8
+    ensures status { result ≤ 1 }
+    ensures does { Does (order_in matches.now) (is_some (subcommand_rows_of matches.now)) (record { input = R.remaining input.old; output = W.contents output.old; errors = E.contents errors.old }) (record { input = R.remaining input.new; output = W.contents output.new; errors = E.contents errors.new }) result }
+{
+    let alloc = rt.alloc();
+    let order = chosen_order(matches);
+    match matches.subcommand() {
+        None => {
             let end = show(alloc, order, input, output, errors);
             report(end, errors)
+        }
+        Some((name, found)) => {
+            let order = either_order(order, chosen_order(found));
+            run_tool(rt, name, found, order, output, errors)
         }
     }
 }
@@ -83,7 +116,7 @@ fn print_error<W: Write, E: Write>(
 }
 
 /// Says on `errors` which fault stopped a tool, if one did, and answers the exit status.
-fn report<E: Write>(end: ToolEnd, errors: &mut E) -> u8
+pub(crate) fn report<E: Write>(end: ToolEnd, errors: &mut E) -> u8
     ensures status { result ≡ end.status }
     ensures said { Says end.fault (E.contents errors.old) (E.contents errors.new) }
 {
@@ -98,9 +131,12 @@ fn report<E: Write>(end: ToolEnd, errors: &mut E) -> u8
     end.status
 }
 
-/// Writes a text as far as the writer takes it: where that fails there is nothing left to say it on.
-fn say<E: Write>(errors: &mut E, text: &[u8])
-    ensures { AppendsFront (E.contents errors.old) (E.contents errors.new) text.now }
+/// Big-endian where one of two places chooses it.
+fn either_order(one: Order, other: Order) -> Order
+    ensures { result ≡ either_order one other }
 {
-    let _ = write_text(errors, text);
+    match one {
+        Order::Big => Order::Big,
+        Order::Little => other,
+    }
 }

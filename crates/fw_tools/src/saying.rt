@@ -2,7 +2,7 @@
 ghost use Rattle.std.specs.Prelude.{◌≡◌, ◌++◌, MatchBool};
 ghost use Rattle.std.specs.Io.KnownBytes.{Appends};
 ghost use Rattle.fw_tools.specs.Printing.{line_or_value, status_of};
-ghost use Rattle.fw_tools.specs.Streams.{AppendsPart};
+ghost use Rattle.fw_tools.specs.Streams.{AppendsFront, AppendsPart};
 ghost use Rattle.fw_tools.specs.Tool.{PrintsText};
 
 use crate::ending::{StreamFault, ToolEnd};
@@ -68,4 +68,11 @@ pub(crate) fn status_of(failed: bool) -> u8
     ensures { result ≡ status_of failed }
 {
     if failed { 1 } else { 0 }
+}
+
+/// Writes a text as far as the writer takes it: where that fails there is nothing left to say it on.
+pub(crate) fn say<E: Write>(errors: &mut E, text: &[u8])
+    ensures { AppendsFront (E.contents errors.old) (E.contents errors.new) text.now }
+{
+    let _ = write_text(errors, text);
 }
