@@ -1,4 +1,5 @@
 pub mod Fronts
+pub mod Initials
 pub mod FindParts
 pub mod Finds
 pub mod SoundParts

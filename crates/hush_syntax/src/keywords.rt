@@ -19,7 +19,7 @@ pub(crate) enum Keyword {
 }
 
 impl Keyword {
-    ghost use Rattle.hush_syntax.specs.Keywords.{spelling, keyword_of};
+    ghost use Rattle.hush_syntax.specs.Keywords.{spelling, initial, keyword_of, keyword_from};
     ghost use Rattle.hush_syntax.specs.Reading.{is_closing};
 
     const ALL: [Keyword; 10] = [
@@ -52,15 +52,37 @@ impl Keyword {
         }
     }
 
+    /// The byte that it begins with.
+    fn initial(self) -> u8
+        ensures { result ≡ initial self }
+    {
+        match self {
+            Keyword::If => b'i',
+            Keyword::Then => b't',
+            Keyword::Elif | Keyword::Else => b'e',
+            Keyword::Fi | Keyword::For => b'f',
+            Keyword::While => b'w',
+            Keyword::Until => b'u',
+            Keyword::Do | Keyword::Done => b'd',
+        }
+    }
+
     /// The reserved word that a word would be where a command may begin.
-    #[tactic(auto, unfolding(crate::specs::Keywords::keyword_of))]
     pub(crate) fn of(word: Word, text: &Text) -> Option<Keyword>
         ensures { result ≡ keyword_of (word_atoms text.now word) }
     {
-        Keyword::ALL
-            .iter()
-            .copied()
-            .find(|keyword| word.is_plain(text, keyword.text()))
+        match word.first_byte(text) {
+            Some(first) => Keyword::of_initial(first, word, text),
+            None => None,
+        }
+    }
+
+    /// The reserved word of this first byte that a word would be where a command may begin.
+    fn of_initial(first: u8, word: Word, text: &Text) -> Option<Keyword>
+        ensures { result ≡ keyword_from first (word_atoms text.now word) }
+    {
+        Keyword::ALL.iter().copied().find(|keyword| keyword.initial() == first
+            && word.is_plain(text, keyword.text()))
     }
 
     /// It ends a list of chains.

@@ -8,7 +8,7 @@ use Rattle.std.proofs.Math.Seq.{drop-cons, take-suc}
 use lib.Pointwise.{pointwise}
 use Rattle.hush_words.specs.Words.{Atom}
 use Rattle.hush_words.specs.Words.Atom.{Plain, Quoted, Mark, Value, Status}
-use Rattle.hush_words.specs.Forms.{is_plain, name_from, name_of, assignment_from, assignment_of, split_of}
+use Rattle.hush_words.specs.Forms.{is_plain, first_plain, name_from, name_of, assignment_from, assignment_of, split_of}
 use Rattle.hush_words.specs.Parts.{part_atoms, atoms_of}
 use Rattle.hush_words.specs.declared.parts.Part.{Part}
 use Rattle.hush_words.specs.Reading.{front}
@@ -28,6 +28,21 @@ otherwise-plain (t ∷ text) (Quoted b ∷ atoms) more e = refl
 otherwise-plain (t ∷ text) (Mark ∷ atoms) more e = refl
 otherwise-plain (t ∷ text) (Value n q ∷ atoms) more e = refl
 otherwise-plain (t ∷ text) (Status q ∷ atoms) more e = refl
+
+-- the byte at the front
+pub otherwise-first : (atoms more : List Atom) → begins_otherwise atoms ≡ true → first_plain (atoms ++ more) ≡ None
+otherwise-first [] more e = absurd (both_ways false refl e)
+otherwise-first (Plain b ∷ atoms) more e = absurd (both_ways false refl e)
+otherwise-first (Quoted b ∷ atoms) more e = refl
+otherwise-first (Mark ∷ atoms) more e = refl
+otherwise-first (Value n q ∷ atoms) more e = refl
+otherwise-first (Status q ∷ atoms) more e = refl
+
+pub plain-first : (atoms more : List Atom) (bytes rest : List ℕ) (b : ℕ) → atoms ≡ map Plain bytes → bytes ≡ b ∷ rest → first_plain (atoms ++ more) ≡ Some b
+plain-first atoms more bytes rest b e f = ap (λ l. first_plain (l ++ more)) (e ∙ ap (map Plain) f)
+
+pub nothing-first : (atoms more : List Atom) (bytes : List ℕ) → atoms ≡ map Plain bytes → bytes ≡ [] → first_plain (atoms ++ more) ≡ first_plain more
+nothing-first atoms more bytes e f = ap (λ l. first_plain (l ++ more)) (e ∙ ap (map Plain) f)
 
 pub otherwise-name : (begun : Bool) (atoms more : List Atom) → begins_otherwise atoms ≡ true → name_from begun (atoms ++ more) ≡ None
 otherwise-name begun [] more e = absurd (both_ways false refl e)

@@ -8,7 +8,7 @@ use Rattle.hush_words.specs.Tokens.{Lexeme, lexeme_tokens}
 use Rattle.hush_words.specs.Tokens as tokens
 use Rattle.hush_words.specs.Reading.{Found, front, behind, all, braces, dollar_at, inner_at, piece_at, lexeme_at, places_from}
 use Rattle.hush_words.specs.Words.Atom.{Plain, Quoted, Mark, Value, Status}
-use Rattle.hush_words.specs.Forms.{is_plain, goes_on, name_from, assignment_from, assignment_of}
+use Rattle.hush_words.specs.Forms.{is_plain, first_plain, goes_on, name_from, assignment_from, assignment_of}
 use Rattle.hush_words.specs.Parts.{Written, written, span_bytes, part_atoms, atoms_of}
 use Rattle.hush_words.specs.Views.{kind_token}
 use Rattle.hush_words.specs.Ranges.{IsWithin, IsSplit, AllFit}
@@ -237,6 +237,11 @@ PartAt parts index (Some part) = (index < length parts) × (drop index parts ≡
 abbrev pub PlainRest : List Atom → List ℕ → Option (List ℕ) → Type 0
 PlainRest atoms text None = (more : List Atom) → is_plain text (atoms ++ more) ≡ false
 PlainRest atoms text (Some rest) = (more : List Atom) → is_plain text (atoms ++ more) ≡ is_plain rest more
+
+-- the byte that atoms begin with, whatever stands behind them; none where they are none
+abbrev pub FirstIs : List Atom → Option (Option ℕ) → Type 0
+FirstIs atoms None = (more : List Atom) → first_plain (atoms ++ more) ≡ first_plain more
+FirstIs atoms (Some first) = (more : List Atom) → first_plain (atoms ++ more) ≡ first
 
 abbrev pub behind_name : List ℕ → Option (List ℕ) → Option (List ℕ)
 behind_name front n = option_map (λ m. front ++ m) n

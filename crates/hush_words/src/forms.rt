@@ -2,10 +2,10 @@
 
 ghost use Rattle.std.specs.Prelude.{◌≡◌, ◌+◌, ◌&&◌, ◌||◌, ◌==◌, ◌≤◌, ◌∷◌, [], length, take, drop, not, is_some, All};
 ghost use Rattle.std.specs.Option.{option_map};
-ghost use Rattle.hush_words.specs.Forms.{is_plain, goes_on, name_of, assignment_of, split_of};
+ghost use Rattle.hush_words.specs.Forms.{is_plain, first_plain, goes_on, name_of, assignment_of, split_of};
 ghost use Rattle.hush_words.specs.Parts.{part_atoms, atoms_of, word_atoms};
 ghost use Rattle.hush_words.specs.Views.{assignment_view};
-ghost use Rattle.hush_words.specs.Steps.{PartAt, PlainRest, ScanIs, RangeIs, EqualsIs, SplitsAt, IsSplitRange, name_front, name_behind};
+ghost use Rattle.hush_words.specs.Steps.{PartAt, FirstIs, PlainRest, ScanIs, RangeIs, EqualsIs, SplitsAt, IsSplitRange, name_front, name_behind};
 ghost use Rattle.hush_words.specs.Ranges.{Fits};
 
 use crate::classes::{Class, begins_name, byte_at, is_in_name, run_end, stands_at};
@@ -27,6 +27,13 @@ impl Word {
         ensures { result ≡ is_plain bytes.now (word_atoms text.now self) }
     {
         are_plain(text.parts(self), text.source(), bytes)
+    }
+
+    /// The byte that the word begins with, if it is an unquoted plain one.
+    pub fn first_byte(self, text: &Text) -> Option<u8>
+        ensures { result ≡ first_plain (word_atoms text.now self) }
+    {
+        first_in(text.parts(self), text.source())
     }
 
     /// Whether the word is a name, in unquoted plain bytes alone: a letter or `_`, then letters, digits and `_`.
@@ -72,6 +79,35 @@ fn part_at(parts: &[Part], index: usize) -> Option<Part>
     ensures { PartAt parts.now index result }
 {
     parts.get(index).copied()
+}
+
+/// The byte that the parts begin with, if it is an unquoted plain one.
+fn first_in(parts: &[Part], source: &[u8]) -> Option<u8>
+    requires { All (Fits source.now) parts.now }
+    ensures { result ≡ first_plain (atoms_of source.now parts.now) }
+{
+    let mut index = 0;
+    while let Some(part) = part_at(parts, index) {
+        match first_of(part, source) {
+            Some(first) => return first,
+            None => index += 1,
+        }
+    }
+    None
+}
+
+/// The byte that a part begins with, if it is an unquoted plain one; none where the part holds nothing.
+fn first_of(part: Part, source: &[u8]) -> Option<Option<u8>>
+    requires { Fits source.now part }
+    ensures { FirstIs (part_atoms source.now part) result }
+{
+    match part.plain(source) {
+        Some(span) => match byte_at(span.of(source), 0) {
+            Some(first) => Some(Some(first)),
+            None => None,
+        },
+        None => Some(None),
+    }
 }
 
 /// Whether the parts are this text, in unquoted plain bytes alone.
