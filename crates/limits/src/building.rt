@@ -16,19 +16,26 @@ pub fn push_name(text: &mut Vec<u8>, number: u32) -> Result<(), AllocError> {
     Ok(())
 }
 
-/// So many lines, each a name, the separator, the value and a newline.
+/// With a name, a separator and what ends the line 20 bytes.
+pub const VALUE: [u8; 10] = [b'x'; 10];
+
+/// Variables of 20 bytes in the greatest image.
+pub const VARIABLES: u32 = 52_428;
+
+/// So many lines, each a name, the separator, the value and the byte that ends it.
 pub fn lines(
     alloc: Global,
     count: u32,
     separator: u8,
     value: &[u8],
+    end: u8,
 ) -> Result<Vec<u8>, AllocError> {
     let mut text = Vec::new(alloc);
     for number in 0..count {
         push_name(&mut text, number)?;
         text.push(separator)?;
         text.extend_from_slice(value)?;
-        text.push(b'\n')?;
+        text.push(end)?;
     }
     Ok(text)
 }

@@ -1,22 +1,12 @@
 //! Default environments and printed images of 1 MiB.
 
-use crate::building::{lines, long_line, push_name};
+use crate::building::{VALUE, VARIABLES, lines, long_line, push_name};
+use crate::opening::{ROOM, SIZE};
 use envcfg_core::parse_import;
 use envimg_core::{Geometry, ImageWriter, Layout, Order};
 use fw_tools::{defaults, show};
 use std::alloc::{AllocError, Global};
 use std::io;
-
-/// The size of the greatest image, in bytes, and the room of its data area.
-const SIZE: usize = 1_048_576;
-
-const ROOM: u32 = 1_048_572;
-
-/// With a name, `=` and the 0 behind it 20 bytes.
-const VALUE: [u8; 10] = [b'x'; 10];
-
-/// Variables of 20 bytes in the greatest image.
-const VARIABLES: u32 = 52_428;
 
 /// The bytes of the greatest value, of a name of one byte.
 const LONGEST: usize = 1_048_568;
@@ -26,7 +16,7 @@ pub fn rows(rt: &HostRuntime) -> io::Result<()> {
     defaults_row(
         rt,
         "defaults, 52,428 variables",
-        &lines(alloc, VARIABLES, b'=', &VALUE)?,
+        &lines(alloc, VARIABLES, b'=', &VALUE, b'\n')?,
     )?;
     defaults_row(
         rt,
@@ -69,7 +59,7 @@ fn longest(alloc: Global) -> Result<Vec<u8>, AllocError> {
 
 /// The image in which each of these names has this value, as far as there is room.
 fn written(alloc: Global, names: &[Vec<u8>], value: &[u8]) -> Result<Vec<u8>, AllocError> {
-    let mut image = vec![in alloc; 0u8; SIZE]?;
+    let mut image = vec![in alloc; 0u8; SIZE as usize]?;
     if let Some(geometry) = Geometry::with_order(Layout::Single, image.len() as u32, Order::Big) {
         let mut writer = ImageWriter::new(&geometry, &mut image);
         for name in names {

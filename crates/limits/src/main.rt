@@ -1,15 +1,20 @@
 //! The calls that take memory, each with as much as it may be given and ample memory for it: texts of 16 MiB, images of
-//! 1 MiB, values of 1 MiB. It prints a line for each call. What there has to stand was worked out by hand, so a call that
+//! 1 MiB, names and values of 1 MiB, and the tools over them. It prints a line for each call. What there has to stand was worked out by hand, so a call that
 //! gives up where there is memory fails the gate.
 #![tactic(auto)]
 
 mod building;
 mod images;
+mod opening;
 mod texts;
+mod tools;
+mod variables;
 
 use std::io;
 
 fn main(rt: HostRuntime) -> io::Result<()> {
     texts::rows(&rt)?;
-    images::rows(&rt)
+    images::rows(&rt)?;
+    variables::rows(&rt)?;
+    tools::rows(&rt)
 }

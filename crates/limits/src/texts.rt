@@ -21,7 +21,7 @@ pub fn rows(rt: &HostRuntime) -> io::Result<()> {
     entries_row(
         rt,
         "import, 65,536 lines",
-        parse_import(alloc, &lines(alloc, LINES, b'=', &VALUE)?),
+        parse_import(alloc, &lines(alloc, LINES, b'=', &VALUE, b'\n')?),
     )?;
     entries_row(
         rt,
@@ -31,7 +31,7 @@ pub fn rows(rt: &HostRuntime) -> io::Result<()> {
     entries_row(
         rt,
         "set script, 65,536 lines",
-        parse_set_script(alloc, &lines(alloc, LINES, b' ', &VALUE)?),
+        parse_set_script(alloc, &lines(alloc, LINES, b' ', &VALUE, b'\n')?),
     )?;
     entries_row(
         rt,
