@@ -1,0 +1,9 @@
+pub mod Limits
+pub mod Builtins
+pub mod Statuses
+pub mod Lines
+pub mod StubLines
+pub mod StubViews
+pub mod Stubs
+pub mod StubEntries
+pub mod Messages

@@ -1,0 +1,190 @@
+//! Limits and stand-in files by their rules (docs/runs.md). The values are worked out by hand.
+
+use crate::{Limits, Message, StubFault, Stubs};
+use std::test::Fail;
+
+#[test]
+fn limits_are_kept(rt: HostRuntime) -> Result<(), Fail> {
+    match Limits::new(1_000_000, 16, 65_536, 16_777_216) {
+        Some(limits) => {
+            assert_eq!(rt; limits.steps(), 1_000_000);
+            assert_eq!(rt; limits.depth(), 16);
+            assert_eq!(rt; limits.word(), 65_536);
+            assert_eq!(rt; limits.output(), 16_777_216);
+        }
+        None => assert!(rt; false, "the largest limits"),
+    }
+    assert!(rt; Limits::new(0, 0, 0, 0).is_some());
+    assert!(rt; Limits::new(1_000_001, 16, 65_536, 16_777_216).is_none());
+    assert!(rt; Limits::new(1_000_000, 17, 65_536, 16_777_216).is_none());
+    assert!(rt; Limits::new(1_000_000, 16, 65_537, 16_777_216).is_none());
+    assert!(rt; Limits::new(1_000_000, 16, 65_536, 16_777_217).is_none());
+    assert!(rt; Limits::new(u32::MAX, 0, 0, 0).is_none());
+    Ok(())
+}
+
+#[test]
+fn stand_ins_are_read(rt: HostRuntime) -> Result<(), Fail> {
+    let table: [(&[u8], &[u8], Option<u8>); 22] = [
+        (b"", b"mmc", None),
+        (b"mmc", b"mmc", Some(0)),
+        (b"mmc\nusb 1\n", b"mmc", Some(0)),
+        (b"mmc\nusb 1\n", b"usb", Some(1)),
+        (b"mmc\nusb 1\n", b"us", None),
+        (b"mmc\nusb 1\n", b"", None),
+        (b"mmc 255", b"mmc", Some(255)),
+        (b"mmc 000000255", b"mmc", Some(255)),
+        (b" \tmmc\t \t7\t ", b"mmc", Some(7)),
+        (b"\n \t\n\r\nmmc 1\r\n", b"mmc", Some(1)),
+        (b"mmc 1\r", b"mmc", Some(1)),
+        (b"mmc\r\r", b"mmc\r", Some(0)),
+        (b"# mmc 300\nusb 2", b"usb", Some(2)),
+        (b"# mmc 300\nusb 2", b"#", None),
+        (b" # 3", b"#", Some(3)),
+        (b"echo.b 4", b"echo.b", Some(4)),
+        (b"setexpr.s 5", b"setexpr.s", Some(5)),
+        (b"Echo 6", b"Echo", Some(6)),
+        (b"ech 6", b"ech", Some(6)),
+        (b"x=y 7", b"x=y", Some(7)),
+        (b"\xFF\xC3 8", b"\xFF\xC3", Some(8)),
+        (b"b 1\na 2\nc 3\nab 4", b"ab", Some(4)),
+    ];
+    for (text, name, expected) in table {
+        match Stubs::parse(rt.alloc(), text) {
+            Ok(stubs) => assert_eq!(rt; stubs.status(name), expected, "{name:?} of {text:?}"),
+            Err(fault) => assert!(rt; false, "{fault:?} of {text:?}"),
+        }
+    }
+    Ok(())
+}
+
+#[test]
+fn faults_of_stand_ins_have_their_line(rt: HostRuntime) -> Result<(), Fail> {
+    let table: [(&[u8], StubFault); 22] = [
+        (b"echo 0", StubFault::Builtin(1)),
+        (b"x\nx", StubFault::Twice(2)),
+        (b"x 256", StubFault::Line(1)),
+        (b"x 1 2", StubFault::Line(1)),
+        (b"x y", StubFault::Line(1)),
+        (b"x -1", StubFault::Line(1)),
+        (b"x 1x", StubFault::Line(1)),
+        (b"x 0x1", StubFault::Line(1)),
+        (b"x 99999999999999999999999999", StubFault::Line(1)),
+        (b"x 1\r\r", StubFault::Line(1)),
+        (b"x\0", StubFault::Line(1)),
+        (b"#\0", StubFault::Line(1)),
+        (b" \0", StubFault::Line(1)),
+        (b"\n\n# c\nx\n\ty\nx 9", StubFault::Twice(6)),
+        (b"x\ny 300\nx", StubFault::Line(2)),
+        (b"x\nx\ny 300", StubFault::Twice(2)),
+        (b"exit 0", StubFault::Builtin(1)),
+        (b"echo 256", StubFault::Line(1)),
+        (b"echo 1 2", StubFault::Line(1)),
+        (b"x 1\nx 256", StubFault::Line(2)),
+        (b"a\r\nenv\r\n", StubFault::Builtin(2)),
+        (b"x\nx 1 2", StubFault::Line(2)),
+    ];
+    for (text, expected) in table {
+        let fault = Stubs::parse(rt.alloc(), text).err();
+        assert_eq!(rt; fault, Some(expected), "of {text:?}");
+    }
+    Ok(())
+}
+
+#[test]
+fn builtins_have_no_stand_in(rt: HostRuntime) -> Result<(), Fail> {
+    let table: [&[u8]; 15] = [
+        b"true",
+        b"false",
+        b"echo",
+        b"setenv",
+        b"printenv",
+        b"saveenv",
+        b"run",
+        b"env",
+        b"test",
+        b"setexpr",
+        b"setexpr.b",
+        b"setexpr.w",
+        b"setexpr.l",
+        b"setexpr.q",
+        b"exit",
+    ];
+    for name in table {
+        let fault = Stubs::parse(rt.alloc(), name).err();
+        assert_eq!(rt; fault, Some(StubFault::Builtin(1)), "of {name:?}");
+    }
+    Ok(())
+}
+
+#[test]
+fn many_stand_ins_are_read(rt: HostRuntime) -> Result<(), Fail> {
+    let mut text = Vec::new(rt.alloc());
+    for number in 0..100_000u32 {
+        text.extend_from_slice(format!(in rt.alloc(); "n{number} {}\n", number % 256)?.as_bytes())?;
+    }
+    match Stubs::parse(rt.alloc(), &text) {
+        Ok(stubs) => {
+            assert_eq!(rt; stubs.status(b"n0"), Some(0));
+            assert_eq!(rt; stubs.status(b"n65537"), Some(1));
+            assert_eq!(rt; stubs.status(b"n99999"), Some(159));
+            assert_eq!(rt; stubs.status(b"n100000"), None);
+        }
+        Err(fault) => assert!(rt; false, "{fault:?}"),
+    }
+    text.extend_from_slice(b"n54321")?;
+    let fault = Stubs::parse(rt.alloc(), &text).err();
+    assert_eq!(rt; fault, Some(StubFault::Twice(100_001)));
+    Ok(())
+}
+
+#[test]
+fn faults_are_shown(rt: HostRuntime) -> Result<(), Fail> {
+    let shown = format!(in rt.alloc(); "{}, {}", StubFault::Line(7), StubFault::Memory)?;
+    assert_eq!(rt; shown.as_str(), "Line in line 7, Memory");
+    Ok(())
+}
+
+#[test]
+fn messages_are_written_behind(rt: HostRuntime) -> Result<(), Fail> {
+    let table: [(Message<'_>, &[u8]); 12] = [
+        (Message::NotDefined(b"n"), b"## Error: \"n\" not defined\n"),
+        (
+            Message::UnknownCommand(b"mmc"),
+            b"Unknown command 'mmc' - try 'help'\n",
+        ),
+        (Message::WrongUse(b"env"), b"## Error: wrong use of 'env'\n"),
+        (
+            Message::BadForm(b"a=b"),
+            b"## Error: bad name or value for \"a=b\"\n",
+        ),
+        (
+            Message::BadType(b"n"),
+            b"## Error: type check failure for \"n\"\n",
+        ),
+        (Message::NoCreate(b"n"), b"## Error: Can't create \"n\"\n"),
+        (Message::NoDelete(b"n"), b"## Error: Can't delete \"n\"\n"),
+        (
+            Message::NoOverwrite(b"n"),
+            b"## Error: Can't overwrite \"n\"\n",
+        ),
+        (Message::Full(b""), b"## Error: no room for \"\"\n"),
+        (
+            Message::IsVariable(b"\xFF"),
+            b"## Error: \"\xFF\" is an environment variable\n",
+        ),
+        (
+            Message::NoScript(b"n"),
+            b"## Error: syntax error in \"n\"\n",
+        ),
+        (Message::DivisionByZero, b"## Error: division by zero\n"),
+    ];
+    for (message, expected) in table {
+        let mut output = Vec::from_slice(rt.alloc(), b"+ mmc\n")?;
+        message.write(&mut output)?;
+        let mut whole = Vec::from_slice(rt.alloc(), b"+ mmc\n")?;
+        whole.extend_from_slice(expected)?;
+        assert_eq!(rt; output.as_slice(), whole.as_slice());
+    }
+    Ok(())
+}
