@@ -7,7 +7,7 @@ use Rattle.envimg_core.specs.Environment.{Environment}
 use Rattle.fw_tools.specs.Exporting.{status_for}
 use Rattle.fw_tools.specs.Printing.{complaint, is_absent, message_for, message_if_absent, named, one_name, printed, status_of}
 use Rattle.fw_tools.specs.Streams.{Writers}
-use Rattle.fw_tools.specs.Tool.{Printed, Prints, Texts, Writes, WritesPart}
+use Rattle.fw_tools.specs.Tool.{Printed, Texts, Writes, WritesPart}
 use Rattle.fw_tools.specs.declared.ending.StreamFault.{StreamFault}
 use Rattle.fw_tools.specs.declared.ending.StreamFault.TheVariants.{Write}
 

@@ -1,5 +1,5 @@
 -- What one write leaves is what the bytes print.
-use Rattle.std.proofs.Common.{◌≡◌, ◌⊎◌, ℕ, List, [], ◌-◌, Option, Some, None, length, take, drop, arith, length-drop, refl, sym, subst, inl, inr}
+use Rattle.std.proofs.Common.{◌≡◌, ◌⊎◌, ℕ, List, [], ◌-◌, Option, Some, None, length, take, drop, arith, length-drop, sym, subst, inl, inr}
 use Rattle.std.specs.Prelude.{MatchOption}
 use Rattle.std.proofs.lemmas.List.{take_all}
 use Rattle.std.proofs.KnownBytes.{Appends-nil, Keeps-refl}
@@ -9,7 +9,7 @@ use Rattle.envimg_core.specs.declared.order.Order.{Order}
 use Rattle.envimg_core.specs.declared.state.CopyState.{CopyState}
 use Rattle.envimg_core.specs.declared.state.CopyState.TheVariants.{Good}
 use Rattle.fw_tools.specs.Shown.{shown, shown_in, state_shown, listing}
-use Rattle.fw_tools.specs.Streams.{AppendsFront, AppendsPart}
+use Rattle.fw_tools.specs.Streams.{AppendsPart}
 use Rattle.fw_tools.specs.Tool.{Printed, PrintsText, Lists}
 use Rattle.fw_tools.proofs.WriteLemmas.{nothing}
 use Rattle.fw_tools.specs.declared.ending.ToolEnd.{ToolEnd}

@@ -1,12 +1,8 @@
-pub mod Copies
 pub mod Defaults
 pub mod Exporting
 pub mod Messages
-pub mod Opening
 pub mod Printing
-pub mod Running
 pub mod Setting
 pub mod Shown
 pub mod Streams
 pub mod Tool
-pub mod Words

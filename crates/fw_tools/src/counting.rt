@@ -1,5 +1,5 @@
 //! The number of entries that an import refused, printed.
-ghost use Rattle.std.specs.Prelude.{◌≡◌, ◌<◌, MatchBool};
+ghost use Rattle.std.specs.Prelude.{◌<◌, MatchBool};
 ghost use Rattle.std.specs.Fmt.{decimal};
 ghost use Rattle.std.specs.Io.KnownBytes.{Appends};
 ghost use Rattle.fw_tools.specs.Setting.{count_status, count_text};
@@ -8,7 +8,7 @@ ghost use Rattle.fw_tools.specs.Tool.{PrintsText};
 
 use crate::ending::{StreamFault, ToolEnd};
 use crate::messages::{ENTRIES_REFUSED, ERROR};
-use crate::streams::write_text;
+use crate::streams::{write_decimal, write_text};
 use std::io::Write;
 
 /// Says how many entries were refused, if any were; the status is then 1.
@@ -37,18 +37,4 @@ fn write_count<E: Write>(errors: &mut E, refused: usize) -> bool
         return false;
     }
     write_text(errors, ENTRIES_REFUSED)
-}
-
-/// Writes a number in decimal digits. It takes no memory: the digits before the last are written first.
-pub(crate) fn write_decimal<W: Write>(writer: &mut W, number: usize) -> bool
-    ensures { MatchBool result (Appends (W.contents writer.old) (W.contents writer.new) (decimal number)) (AppendsPart (W.contents writer.old) (W.contents writer.new) (decimal number)) }
-{
-    let digit = b'0' + (number % 10) as u8;
-    if number < 10 {
-        return write_text(writer, &[digit]);
-    }
-    if !write_decimal(writer, number / 10) {
-        return false;
-    }
-    write_text(writer, &[digit])
 }

@@ -7,7 +7,8 @@ ghost use Rattle.fw_tools.specs.Tool.{Printed, Prints, PrintsText};
 use crate::ending::{StreamFault, ToolEnd};
 use crate::exporting::print_both;
 use crate::messages::{ERROR_QUOTE, NOT_DEFINED, ONE_NAME};
-use crate::saying::{print_text, status_of, write_line, write_three, write_two};
+use crate::saying::{print_text, status_of, write_line};
+use crate::streams::{write_three, write_two};
 use env_session::Session;
 use envvars_core::Vars;
 use std::alloc::Global;
@@ -42,7 +43,7 @@ pub fn printenv<W: Write, E: Write>(
 }
 
 /// Prints what [`printenv`] prints, each text at once: both are made first.
-pub(crate) fn print_at_once<W: Write, E: Write>(
+pub fn print_at_once<W: Write, E: Write>(
     alloc: Global,
     session: &Session,
     names: &[&[u8]],

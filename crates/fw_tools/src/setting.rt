@@ -9,7 +9,7 @@ ghost use Rattle.fw_tools.specs.Tool.{PrintsText};
 use crate::counting::print_count;
 use crate::ending::{StreamFault, ToolEnd};
 use crate::messages::{BAD_FORM, BAD_TYPE, FULL, NO_CREATE, NO_DELETE, NO_OVERWRITE, QUOTE};
-use crate::saying::write_three;
+use crate::streams::write_three;
 use env_session::{ImportEnding, Session};
 use envcfg_core::TextEntry;
 use envvars_core::{Memory, Refusal};

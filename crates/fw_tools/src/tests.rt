@@ -1,7 +1,6 @@
 //! The tools over streams in memory, and over streams that fail.
 
 mod defaulting;
-mod running;
 mod showing;
 
 use std::io::{self, Read, Write};

@@ -1,0 +1,3 @@
+mod HelpLemmas
+mod WordLemmas
+pub mod Rows

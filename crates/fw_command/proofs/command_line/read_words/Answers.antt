@@ -1,0 +1,16 @@
+use Rattle.std.proofs.Common.{[], ◌≡◌, ◌∙◌, ap, map, subst}
+use Rattle.clap.specs.Words.{fault_of, is_simple_and_free}
+use Rattle.fw_command.proofs.WordLemmas.{fwenv_free, order_chosen, tool_called}
+use Rattle.fw_command.proofs.command_line.read_words.Goals as goal
+
+pub returns-clause-fails : goal.returns-clause-fails
+returns-clause-fails g c =
+    subst (λ a. fault_of a (map g.S.AsStr.text c.args.words.now) ≡ []) c.in_ok-command.ensures (c.in_ok-matches.ensures.kinds (ap is_simple_and_free c.in_ok-command.ensures ∙ fwenv_free))
+
+pub returns-clause-order : goal.returns-clause-order
+returns-clause-order g c =
+    order_chosen _ (map g.S.AsStr.text c.args.words.now) c.in_ok-matches.matches c.in_ok-command.ensures c.in_ok-matches.ensures.matches
+
+pub returns-clause-called : goal.returns-clause-called
+returns-clause-called g c =
+    tool_called _ (map g.S.AsStr.text c.args.words.now) c.in_ok-matches.matches c.in_ok-command.ensures c.in_ok-matches.ensures.matches

@@ -1,0 +1,4 @@
+pub mod Copies
+pub mod Opening
+pub mod Running
+pub mod Words

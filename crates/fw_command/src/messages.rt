@@ -1,0 +1,48 @@
+//! The texts that the program prints besides those of the tools, each once.
+
+/// Standard error where standard input fails.
+pub(crate) const CANNOT_READ: &[u8] = b"fwenv: cannot read standard input\n";
+
+/// Standard error where standard output fails, or takes nothing.
+pub(crate) const CANNOT_WRITE: &[u8] = b"fwenv: cannot write standard output\n";
+
+/// Standard error where memory runs out.
+pub(crate) const OUT_OF_MEMORY: &[u8] = b"## Error: out of memory\n";
+
+/// Standard error where a word of the command line is not UTF-8.
+pub(crate) const NOT_UTF8: &[u8] = b"fwenv: a word of the command line is not UTF-8\n";
+
+/// Standard error where the words of the command line can't be had.
+pub(crate) const NO_WORDS: &[u8] = b"fwenv: cannot read the command line\n";
+
+/// Before the path of a file that can't be read, or written.
+pub(crate) const CANNOT_READ_FILE: &[u8] = b"fwenv: cannot read ";
+
+pub(crate) const CANNOT_WRITE_FILE: &[u8] = b"fwenv: cannot write ";
+
+/// Before the path of a file in the other texts.
+pub(crate) const FWENV: &[u8] = b"fwenv: ";
+
+/// Behind the path of a device in which a copy doesn't lie wholly.
+pub(crate) const TOO_SHORT: &[u8] = b" is too short\n";
+
+/// Between a path and the fault's name, and between that and the number of the line.
+pub(crate) const COLON: &[u8] = b": ";
+
+pub(crate) const IN_LINE: &[u8] = b" in line ";
+
+/// At the end of a text.
+pub(crate) const NEWLINE: &[u8] = b"\n";
+
+/// Standard error where two copies share a byte of one device.
+pub(crate) const COPIES_OVERLAP: &[u8] = b"fwenv: copies overlap\n";
+
+/// Standard error where neither copy is good.
+pub(crate) const BAD_CRC_DEFAULT: &[u8] = b"Warning: Bad CRC, using default environment\n";
+
+/// Standard error where `setenv` has a name and a script, or neither.
+pub(crate) const NAME_AND_SCRIPT: &[u8] =
+    b"error: the argument '-s <FILE>' cannot be used with '[NAME]'\n\nUsage: fwenv setenv [OPTIONS] [NAME] [WORDS]...\n\nFor more information, try '--help'.\n";
+
+pub(crate) const NO_NAME: &[u8] =
+    b"error: the following required arguments were not provided:\n  <NAME|-s <FILE>>\n\nUsage: fwenv setenv [OPTIONS] [NAME] [WORDS]...\n\nFor more information, try '--help'.\n";
