@@ -3,13 +3,12 @@ use Rattle.std.proofs.Common.{◌≡◌, ℕ, ◌≤◌, true, false, List, [], 
 use Rattle.hush_words.specs.Tokens.{Token}
 use Rattle.hush_syntax.specs.declared.keywords.Keyword.TheVariants as keyword
 use Rattle.hush_syntax.specs.Answers.{branch, otherwise}
-use Rattle.hush_syntax.specs.Grammar.{Command, If, Branches, Elif, Else, Fi, Chains, is_separator, begins}
-use Rattle.hush_syntax.specs.Reading.{Reader, bind, ◌into◌, mapped, behind, skip, is, one, inner, branches_within, branches, compound, command}
+use Rattle.hush_syntax.specs.Grammar.{Command, If, Branches, Elif, Else, Fi, Chains, begins}
+use Rattle.hush_syntax.specs.Reading.{Reader, bind, ◌into◌, mapped, behind, is, one, inner, branches_within, branches, compound, command}
 use Rattle.hush_syntax.specs.Trees.{no_command, branches_from, if_from}
 use Rattle.hush_syntax.proofs.Fronts.{by_test}
-use Rattle.hush_syntax.proofs.SoundParts.{by_option, into-some, mapped-some, one-some}
-use Rattle.hush_syntax.proofs.Sound.{command-sound, inner_within-sound}
-use Rattle.hush_syntax.proofs.Shorter.{left_of, skip-shorter, behind-begun, empty}
+use Rattle.hush_syntax.proofs.Readers.{by_option}
+use Rattle.hush_syntax.proofs.Shorter.{behind-begun, empty, Shortens, into-shortens, mapped-shortens, one-shortens, inner-shorter}
 
 abbrev pub branches_before : List (Chains × Chains) → Branches → Branches
 branches_before [] rest = rest
@@ -76,21 +75,11 @@ branches-turn room (suc k) now short e =
     let gone = behind-begun (is (codes "elif")) now e in
     (k, omega arith, rw e (branch-joined (command room) Elif (branches_within (command room) k) (behind now)))
 
-pub branch-shorter : (room : ℕ) (ts r : List Token) (b : Chains × Chains) → branch (command room) ts ≡ Some (b, r) → length r ≤ length ts
-branch-shorter room ts r b e =
-    let s = into-some (inner (command room)) (λ c. one (is (codes "then")) into λ _. mapped (λ d. (c, d)) (inner (command room))) ts r b e in
-    let t = into-some (one (is (codes "then"))) (λ _. mapped (λ d. (s.0, d)) (inner (command room))) s.1 r b s.3 in
-    let u = mapped-some (λ d. (s.0, d)) (inner (command room)) t.1 r b t.3 in
-    let first = inner-shorter ts s.1 s.0 s.2 in
-    let word = left_of _ s.1 t.1 (one-some (codes "then") s.1 t.1 t.0 t.2) in
-    let second = inner-shorter t.1 r u.0 u.1 in
-    omega arith
-  where
-    inner-shorter : (ts r : List Token) (cs : Chains) → inner (command room) ts ≡ Some (cs, r) → length r ≤ length ts
-    inner-shorter ts r cs e =
-        let s = left_of _ (skip is_separator ts) r (inner_within-sound room (command room) (command-sound room) (length (skip is_separator ts)) (skip is_separator ts) r cs e).0 in
-        let t = skip-shorter is_separator ts in
-        omega arith
+pub branch-shorter : (room : ℕ) → Shortens (branch (command room))
+branch-shorter room =
+    into-shortens (inner (command room)) (λ c. one (is (codes "then")) into λ _. mapped (λ d. (c, d)) (inner (command room))) (inner-shorter room)
+    (λ c. into-shortens (one (is (codes "then"))) (λ _. mapped (λ d. (c, d)) (inner (command room))) (one-shortens (is (codes "then")))
+    (λ _. mapped-shortens (λ d. (c, d)) (inner (command room)) (inner-shorter room)))
 
 module _ (room : ℕ) where
   pub if-starts_with : (ts m : List Token) (c d : Chains) → branch (command room) ts ≡ Some ((c, d), m) → IfSoFar room (compound (command room) keyword.If ts) ((c, d) ∷ []) m

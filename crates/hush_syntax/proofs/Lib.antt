@@ -1,4 +1,6 @@
 pub mod Fronts
+pub mod Forms
+pub mod Readers
 pub mod Initials
 pub mod FindParts
 pub mod Finds

@@ -9,14 +9,16 @@ use Rattle.hush_syntax.specs.declared.keywords.Keyword.TheVariants as keyword
 use Rattle.hush_syntax.specs.Keywords.{spelling}
 use Rattle.hush_syntax.specs.Grammar.{Command, Simple, Assign, If, For, While, Until, Branches, Elif, Else, Fi, Chain, First, Links, Link, End, Chains, Last, More, ◌then◌, Is, IsName, AreWords, is_newline, is_separator, begins, AnyNewlines, AnySeparators, Separators, operator_token, IsOperator, begins_command, Spells, SpellsBranches, SpellsChain, SpellsLinks, SpellsInner, SpellsChains, SpellsScript, depth, depth_in_branches, depth_in_chain, depth_in_links, depth_inside, script_depth, nest_limit}
 use Rattle.hush_syntax.specs.Reading.{Reader, bind, ◌into◌, mapped, behind, skip, is_end, is_word, is, one, any_newlines, separators, words_at, any_words, name, plain, keyword_at, closes, operator_at, links, chain, inner_within, inner, branches_within, branches, loop_parts, compound, chains_within, command, script_of}
-use Rattle.hush_syntax.proofs.Fronts.{all-skipped, by_test, skip-splits, begins_is, keyword_at-some, words_at-splits, links-stop, links-go, plain-assignment, plain-simple, command-compound, command-plain, command-none, assignment_of-some}
-use Rattle.hush_syntax.proofs.SoundParts.{Reads, reads_then, bind-some, same_pair, into-some, mapped-some, one-some, separators-reads, separators-some, name-some, operator_at-some, by_option}
+use Rattle.hush_syntax.proofs.Fronts.{all-skipped, by_test, skip-splits, words_at-splits, links-stop, links-go, plain-assignment, plain-simple, command-compound, command-plain, command-none}
+use Rattle.hush_syntax.proofs.Forms.{FormsAreTold, begins_is, keyword_at-some, assignment_of-some}
+use Rattle.hush_syntax.proofs.Readers.{by_option, bind-some, same_pair, into-some, mapped-some}
+use Rattle.hush_syntax.proofs.SoundParts.{Reads, reads_then, one-some, separators-reads, separators-some, name-some, operator_at-some}
 
 -- what a reader of commands finds is spelled, and has no more if, for, while and until inside one another
 abbrev pub IsSound : ℕ → Reader Command → Type 0
 IsSound n p = (ts r : List Token) (c : Command) → p ts ≡ Some (c, r) → Reads (Spells c) ts r × (depth c ≤ n)
 
-module _ (n : ℕ) (p : Reader Command) (sound : IsSound n p) where
+module _ (told : FormsAreTold) (n : ℕ) (p : Reader Command) (sound : IsSound n p) where
   pub links-sound : (m : ℕ) (ts r : List Token) (ls : Links) → links p m ts ≡ Some (ls, r) → Reads (SpellsLinks ls) ts r × (depth_in_links ls ≤ n)
   links-sound zero ts r ls e =
       let same = same_pair End ls ts r e in
@@ -75,7 +77,7 @@ module _ (n : ℕ) (p : Reader Command) (sound : IsSound n p) where
 
   -- one word and what follows it
   reads_word : (text : List ℕ) (Q : List Token → Type 0) (ts m r : List Token) (u : Unit {0}) → one (is text) ts ≡ Some (u, m) → Reads Q m r → Reads (Is text then Q) ts r
-  reads_word text Q ts m r u e q = reads_then (Is text) Q ts m r (one-some text ts m u e) q
+  reads_word text Q ts m r u e q = reads_then (Is text) Q ts m r (one-some told text ts m u e) q
 
   -- a last word
   body-sound : {Y : Type 0} (ts r : List Token) (f : Chains → Y) (y : Y) → (one (is (codes "do")) into λ _. inner p into λ d. mapped (λ _. f d) (one (is (codes "done")))) ts ≡ Some (y, r) → (d : Chains) × (y ≡ f d) × Reads (Is (codes "do") then AnySeparators then SpellsInner d then Is (codes "done")) ts r × (depth_inside d ≤ n)
@@ -83,7 +85,7 @@ module _ (n : ℕ) (p : Reader Command) (sound : IsSound n p) where
       let s = into-some (one (is (codes "do"))) (λ _. inner p into λ d. mapped (λ _. f d) (one (is (codes "done")))) ts r y e in
       let t = into-some (inner p) (λ d. mapped (λ _. f d) (one (is (codes "done")))) s.1 r y s.3 in
       let u = mapped-some (λ _. f t.0) (one (is (codes "done"))) t.1 r y t.3 in
-      let body = reads_part (Is (codes "done")) s.1 t.1 r t.0 t.2 (one-some (codes "done") t.1 r u.0 u.1) in
+      let body = reads_part (Is (codes "done")) s.1 t.1 r t.0 t.2 (one-some told (codes "done") t.1 r u.0 u.1) in
       (t.0, u.2, reads_word (codes "do") (AnySeparators then SpellsInner t.0 then Is (codes "done")) ts s.1 r s.0 s.2 body.0, body.1)
 
   loop-sound : (form : Chains → Chains → Command) (ts r : List Token) (y : Command) → loop_parts p form ts ≡ Some (y, r) → (c : Chains) × (d : Chains) × (y ≡ form c d) × Reads (AnySeparators then SpellsInner c then Is (codes "do") then AnySeparators then SpellsInner d then Is (codes "done")) ts r × (depth_inside c ≤ n) × (depth_inside d ≤ n)
@@ -111,23 +113,23 @@ module _ (n : ℕ) (p : Reader Command) (sound : IsSound n p) where
       (λ h.
       let s = branch-sound (branches_within p m) (branches-sound m) Elif (behind ts) r bs (rw h at e) in
       subst (λ x. Reads (SpellsBranches x) ts r × (depth_in_branches x ≤ n)) (sym s.3)
-      (reads_then (Is (codes "elif")) (AnySeparators then SpellsInner s.0 then Is (codes "then") then AnySeparators then SpellsInner s.1 then SpellsBranches s.2) ts (behind ts) r (Word (map Plain (codes "elif")) ∷ [], begins_is (codes "elif") ts h, refl) s.4, s.5))
+      (reads_then (Is (codes "elif")) (AnySeparators then SpellsInner s.0 then Is (codes "then") then AnySeparators then SpellsInner s.1 then SpellsBranches s.2) ts (behind ts) r (Word (map Plain (codes "elif")) ∷ [], begins_is told (codes "elif") ts h, refl) s.4, s.5))
       (λ h.
       let e2 = rw h at e in
       by_test (begins (is (codes "else")) ts)
       (λ g.
       let s = into-some (inner p) (λ d. mapped (λ _. Else d) (one (is (codes "fi")))) (behind ts) r bs (rw g at e2) in
       let t = mapped-some (λ _. Else s.0) (one (is (codes "fi"))) s.1 r bs s.3 in
-      let body = reads_part (Is (codes "fi")) (behind ts) s.1 r s.0 s.2 (one-some (codes "fi") s.1 r t.0 t.1) in
+      let body = reads_part (Is (codes "fi")) (behind ts) s.1 r s.0 s.2 (one-some told (codes "fi") s.1 r t.0 t.1) in
       subst (λ x. Reads (SpellsBranches x) ts r × (depth_in_branches x ≤ n)) (sym t.2)
-      (reads_then (Is (codes "else")) (AnySeparators then SpellsInner s.0 then Is (codes "fi")) ts (behind ts) r (Word (map Plain (codes "else")) ∷ [], begins_is (codes "else") ts g, refl) body.0, body.1))
+      (reads_then (Is (codes "else")) (AnySeparators then SpellsInner s.0 then Is (codes "fi")) ts (behind ts) r (Word (map Plain (codes "else")) ∷ [], begins_is told (codes "else") ts g, refl) body.0, body.1))
       (λ g.
       let t = mapped-some (λ _. Fi) (one (is (codes "fi"))) ts r bs (rw g at e2) in
-      subst (λ x. Reads (SpellsBranches x) ts r × (depth_in_branches x ≤ n)) (sym t.2) (one-some (codes "fi") ts r t.0 t.1, omega arith)))
+      subst (λ x. Reads (SpellsBranches x) ts r × (depth_in_branches x ≤ n)) (sym t.2) (one-some told (codes "fi") ts r t.0 t.1, omega arith)))
 
   -- the forms that an opening word leads to
   opened : (k : Keyword) (Q : List Token → Type 0) (ts r : List Token) → keyword_at ts ≡ Some k → Reads Q (behind ts) r → Reads (Is (spelling k) then Q) ts r
-  opened k Q ts r e q = reads_then (Is (spelling k)) Q ts (behind ts) r (Word (map Plain (spelling k)) ∷ [], keyword_at-some ts k e, refl) q
+  opened k Q ts r e q = reads_then (Is (spelling k)) Q ts (behind ts) r (Word (map Plain (spelling k)) ∷ [], keyword_at-some told ts k e, refl) q
 
   pub compound-sound : (k : Keyword) (ts r : List Token) (y : Command) → keyword_at ts ≡ Some k → compound p k (behind ts) ≡ Some (y, r) → Reads (Spells y) ts r × (depth y ≤ suc n)
   compound-sound keyword.If ts r y k e =
@@ -144,7 +146,7 @@ module _ (n : ℕ) (p : Reader Command) (sound : IsSound n p) where
       let Q4 = Is (codes "do") then AnySeparators then SpellsInner s4.0 then Is (codes "done") in
       subst (λ x. Reads (Spells x) ts r × (depth x ≤ suc n)) (sym s4.1) (
         opened keyword.For (IsName s1.0 then Is (codes "in") then AreWords words then Separators then Q4) ts r k
-            (reads_then (IsName s1.0) (Is (codes "in") then AreWords words then Separators then Q4) (behind ts) s1.1 r (name-some (behind ts) s1.1 s1.0 s1.2)
+            (reads_then (IsName s1.0) (Is (codes "in") then AreWords words then Separators then Q4) (behind ts) s1.1 r (name-some told (behind ts) s1.1 s1.0 s1.2)
             (reads_word (codes "in") (AreWords words then Separators then Q4) s1.1 s2.1 r s2.0 s2.2
             (reads_then (AreWords words) (Separators then Q4) s2.1 left r (map Word words, words_at-splits s2.1, refl)
             (reads_then Separators Q4 left s3.1 r (separators-some left s3.1 s3.0 s3.2) s4.2)))),
@@ -194,51 +196,52 @@ module _ (n : ℕ) (p : Reader Command) (sound : IsSound n p) where
       ((first.0.0, left, first.0.1, first.0.2, (seps.0, skip is_separator left, seps.1, seps.2, rest.0)), omega (arith, first.1, rest.1)))
       (λ g. absurd (let no : ◌≡◌ {A = Option Chains} None (Some cs) = rw g at e2 in cc)))
 
-plain-sound : (n : ℕ) (ts r : List Token) (y : Command) → keyword_at ts ≡ None → plain ts ≡ Some (y, r) → Reads (Spells y) ts r × (depth y ≤ n)
-plain-sound n [] r y k e = absurd (let no : ◌≡◌ {A = Option (Command × List Token)} None (Some (y, r)) = e in cc)
-plain-sound n (Word w ∷ ts) r y k e =
-    by_option (assignment_of w)
-    (λ h.
-    let same = same_pair (Simple (w ∷ words_at ts)) y (skip is_word ts) r (rw (plain-simple w ts h) at e) in
-    let form : begins_command (w ∷ words_at ts) ≡ true = rw (k, h) in
-    subst (λ x. Reads (Spells x) (Word w ∷ ts) r × (depth x ≤ n)) same.0
-    ((map Word (w ∷ words_at ts), ap (λ x. Word w ∷ x) (words_at-splits ts ∙ ap (λ x. map Word (words_at ts) ++ x) same.1), (form, refl)), omega arith))
-    (λ a h.
-    let e2 = rw (plain-assignment w ts a h) at e in
-    by_test (begins is_word ts)
-    (λ g. absurd (let no : ◌≡◌ {A = Option (Command × List Token)} None (Some (y, r)) = rw g at e2 in cc))
-    (λ g.
-    let same = same_pair (Assign a.0 a.1) y ts r (rw g at e2) in
-    let form = assignment_of-some w a.0 a.1 h in
-    subst (λ x. Reads (Spells x) (Word w ∷ ts) r × (depth x ≤ n)) same.0
-    ((Word w ∷ [], ap (λ x. Word w ∷ x) same.1, (form.0, ap (λ x. Word x ∷ []) form.1)), omega arith)))
-plain-sound n (Newline ∷ ts) r y k e = absurd (let no : ◌≡◌ {A = Option (Command × List Token)} None (Some (y, r)) = e in cc)
-plain-sound n (Semicolon ∷ ts) r y k e = absurd (let no : ◌≡◌ {A = Option (Command × List Token)} None (Some (y, r)) = e in cc)
-plain-sound n (AndIf ∷ ts) r y k e = absurd (let no : ◌≡◌ {A = Option (Command × List Token)} None (Some (y, r)) = e in cc)
-plain-sound n (OrIf ∷ ts) r y k e = absurd (let no : ◌≡◌ {A = Option (Command × List Token)} None (Some (y, r)) = e in cc)
+module _ (told : FormsAreTold) where
+  plain-sound : (n : ℕ) (ts r : List Token) (y : Command) → keyword_at ts ≡ None → plain ts ≡ Some (y, r) → Reads (Spells y) ts r × (depth y ≤ n)
+  plain-sound n [] r y k e = absurd (let no : ◌≡◌ {A = Option (Command × List Token)} None (Some (y, r)) = e in cc)
+  plain-sound n (Word w ∷ ts) r y k e =
+      by_option (assignment_of w)
+      (λ h.
+      let same = same_pair (Simple (w ∷ words_at ts)) y (skip is_word ts) r (rw (plain-simple w ts h) at e) in
+      let form : begins_command (w ∷ words_at ts) ≡ true = rw (k, h) in
+      subst (λ x. Reads (Spells x) (Word w ∷ ts) r × (depth x ≤ n)) same.0
+      ((map Word (w ∷ words_at ts), ap (λ x. Word w ∷ x) (words_at-splits ts ∙ ap (λ x. map Word (words_at ts) ++ x) same.1), (form, refl)), omega arith))
+      (λ a h.
+      let e2 = rw (plain-assignment w ts a h) at e in
+      by_test (begins is_word ts)
+      (λ g. absurd (let no : ◌≡◌ {A = Option (Command × List Token)} None (Some (y, r)) = rw g at e2 in cc))
+      (λ g.
+      let same = same_pair (Assign a.0 a.1) y ts r (rw g at e2) in
+      let form = assignment_of-some told w a.0 a.1 h in
+      subst (λ x. Reads (Spells x) (Word w ∷ ts) r × (depth x ≤ n)) same.0
+      ((Word w ∷ [], ap (λ x. Word w ∷ x) same.1, (form.0, ap (λ x. Word x ∷ []) form.1)), omega arith)))
+  plain-sound n (Newline ∷ ts) r y k e = absurd (let no : ◌≡◌ {A = Option (Command × List Token)} None (Some (y, r)) = e in cc)
+  plain-sound n (Semicolon ∷ ts) r y k e = absurd (let no : ◌≡◌ {A = Option (Command × List Token)} None (Some (y, r)) = e in cc)
+  plain-sound n (AndIf ∷ ts) r y k e = absurd (let no : ◌≡◌ {A = Option (Command × List Token)} None (Some (y, r)) = e in cc)
+  plain-sound n (OrIf ∷ ts) r y k e = absurd (let no : ◌≡◌ {A = Option (Command × List Token)} None (Some (y, r)) = e in cc)
 
-pub command-sound : (n : ℕ) → IsSound n (command n)
-command-sound zero ts r y e =
-    by_option (keyword_at ts)
-    (λ h. plain-sound zero ts r y h (rw (command-plain zero ts h) at e))
-    (λ k h. absurd (let no : ◌≡◌ {A = Option (Command × List Token)} None (Some (y, r)) = rw (command-none k ts h) at e in cc))
-command-sound (suc n) ts r y e =
-    by_option (keyword_at ts)
-    (λ h. plain-sound (suc n) ts r y h (rw (command-plain (suc n) ts h) at e))
-    (λ k h. compound-sound n (command n) (command-sound n) k ts r y h (rw (command-compound n k ts h) at e))
+  pub command-sound : (n : ℕ) → IsSound n (command n)
+  command-sound zero ts r y e =
+      by_option (keyword_at ts)
+      (λ h. plain-sound zero ts r y h (rw (command-plain zero ts h) at e))
+      (λ k h. absurd (let no : ◌≡◌ {A = Option (Command × List Token)} None (Some (y, r)) = rw (command-none k ts h) at e in cc))
+  command-sound (suc n) ts r y e =
+      by_option (keyword_at ts)
+      (λ h. plain-sound (suc n) ts r y h (rw (command-plain (suc n) ts h) at e))
+      (λ k h. compound-sound told n (command n) (command-sound n) k ts r y h (rw (command-compound n k ts h) at e))
 
-pub script-sound : (ts : List Token) (t : Option Chains) → script_of ts ≡ Some t → SpellsScript t ts × (script_depth t ≤ nest_limit)
-script-sound ts t e =
-    by_test (is_end (skip is_separator ts))
-    (λ h.
-    let empty : ◌≡◌ {A = Option (Option Chains)} (Some None) (Some t) = rw h at e in
-    let same : None ≡ t = cc in
-    subst (λ x. SpellsScript x ts × (script_depth x ≤ nest_limit)) same (all-skipped is_separator ts h, omega arith))
-    (λ h.
-    let s = bind-some (chains_within (command nest_limit) (length (skip is_separator ts)) (skip is_separator ts)) (λ cs. Some (Some cs)) t (rw h at e) in
-    let some : ◌≡◌ {A = Option (Option Chains)} (Some (Some s.0)) (Some t) = s.2 in
-    let same : Some s.0 ≡ t = cc in
-    let chains = chains_within-sound nest_limit (command nest_limit) (command-sound nest_limit) (length (skip is_separator ts)) (skip is_separator ts) s.0 s.1 in
-    let skipped = skip-splits is_separator ts in
-    subst (λ x. SpellsScript x ts × (script_depth x ≤ nest_limit)) same
-    ((skipped.0, skip is_separator ts, skipped.1, skipped.2, chains.0), chains.1))
+  pub script-sound : (ts : List Token) (t : Option Chains) → script_of ts ≡ Some t → SpellsScript t ts × (script_depth t ≤ nest_limit)
+  script-sound ts t e =
+      by_test (is_end (skip is_separator ts))
+      (λ h.
+      let empty : ◌≡◌ {A = Option (Option Chains)} (Some None) (Some t) = rw h at e in
+      let same : None ≡ t = cc in
+      subst (λ x. SpellsScript x ts × (script_depth x ≤ nest_limit)) same (all-skipped is_separator ts h, omega arith))
+      (λ h.
+      let s = bind-some (chains_within (command nest_limit) (length (skip is_separator ts)) (skip is_separator ts)) (λ cs. Some (Some cs)) t (rw h at e) in
+      let some : ◌≡◌ {A = Option (Option Chains)} (Some (Some s.0)) (Some t) = s.2 in
+      let same : Some s.0 ≡ t = cc in
+      let chains = chains_within-sound told nest_limit (command nest_limit) (command-sound nest_limit) (length (skip is_separator ts)) (skip is_separator ts) s.0 s.1 in
+      let skipped = skip-splits is_separator ts in
+      subst (λ x. SpellsScript x ts × (script_depth x ≤ nest_limit)) same
+      ((skipped.0, skip is_separator ts, skipped.1, skipped.2, chains.0), chains.1))
