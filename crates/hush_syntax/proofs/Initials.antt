@@ -5,9 +5,10 @@ use Rattle.std.specs.List.{find}
 use Rattle.hush_words.specs.Words.{Atom}
 use Rattle.hush_words.specs.Words.Atom.{Plain, Quoted, Mark, Value, Status}
 use Rattle.hush_words.specs.Forms.{is_plain, first_plain}
+use Rattle.hush_words.specs.Steps.{begins}
 use Rattle.hush_syntax.specs.declared.keywords.Keyword.{Keyword}
 use Rattle.hush_syntax.specs.declared.keywords.Keyword.TheVariants as keyword
-use Rattle.hush_syntax.specs.Keywords.{keyword_of, keyword_from, keywords, spelling, initial}
+use Rattle.hush_syntax.specs.Keywords.{keyword_of, keyword_from, keywords, spelling}
 use Rattle.hush_syntax.proofs.Fronts.{by_test}
 
 -- a text that a word is begins with the word's first byte
@@ -45,7 +46,7 @@ begins-none t text (Mark ∷ atoms) e = refl
 begins-none t text (Value n q ∷ atoms) e = refl
 begins-none t text (Status q ∷ atoms) e = refl
 
-initial-same : (b : ℕ) (word : List Atom) → first_plain word ≡ Some b → (k : Keyword) → (initial k == b && is_plain (spelling k) word) ≡ is_plain (spelling k) word
+initial-same : (b : ℕ) (word : List Atom) → first_plain word ≡ Some b → (k : Keyword) → (begins b (spelling k) && is_plain (spelling k) word) ≡ is_plain (spelling k) word
 initial-same b word e keyword.If = begins-so 105 b (codes "f") word e
 initial-same b word e keyword.Then = begins-so 116 b (codes "hen") word e
 initial-same b word e keyword.Elif = begins-so 101 b (codes "lif") word e
@@ -63,7 +64,7 @@ find-same f g (x ∷ xs) h = by_test (g x) (λ e. let d : f x ≡ true = rw e at
 
 pub from-initial : (b : ℕ) (word : List Atom) → first_plain word ≡ Some b → keyword_from b word ≡ keyword_of word
 unfolding keyword_of
-from-initial b word e = find-same (λ k. initial k == b && is_plain (spelling k) word) (λ k. is_plain (spelling k) word) keywords (initial-same b word e)
+from-initial b word e = find-same (λ k. begins b (spelling k) && is_plain (spelling k) word) (λ k. is_plain (spelling k) word) keywords (initial-same b word e)
 
 pub without-initial : (word : List Atom) → first_plain word ≡ None → keyword_of word ≡ None
 unfolding keyword_of

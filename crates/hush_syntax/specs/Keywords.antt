@@ -1,7 +1,8 @@
 -- The reserved words (docs/scripts.md, "Grammar").
-use Rattle.std.specs.Prelude.{ℕ, ◌==◌, ◌&&◌, Bool, List, [], ◌∷◌, codes, find, Option, is_some}
+use Rattle.std.specs.Prelude.{ℕ, ◌&&◌, Bool, List, [], ◌∷◌, codes, find, Option, is_some}
 use Rattle.hush_words.specs.Words.{Atom}
 use Rattle.hush_words.specs.Forms.{is_plain}
+use Rattle.hush_words.specs.Steps.{begins}
 use Rattle.hush_syntax.specs.declared.keywords.Keyword.{Keyword}
 use Rattle.hush_syntax.specs.declared.keywords.Keyword.TheVariants.{If, Then, Elif, Else, Fi, For, While, Until, Do, Done}
 
@@ -17,19 +18,6 @@ spelling Until = codes "until"
 spelling Do = codes "do"
 spelling Done = codes "done"
 
--- the byte that it begins with
-abbrev pub initial : Keyword → ℕ
-initial If = 105
-initial Then = 116
-initial Elif = 101
-initial Else = 101
-initial Fi = 102
-initial For = 102
-initial While = 119
-initial Until = 117
-initial Do = 100
-initial Done = 100
-
 abbrev pub keywords : List Keyword
 keywords = If ∷ Then ∷ Elif ∷ Else ∷ Fi ∷ For ∷ While ∷ Until ∷ Do ∷ Done ∷ []
 
@@ -39,7 +27,7 @@ keyword_of word = find (λ keyword. is_plain (spelling keyword) word) keywords
 
 -- the same among the words that begin with this byte
 abbrev pub keyword_from : ℕ → List Atom → Option Keyword
-keyword_from first word = find (λ keyword. initial keyword == first && is_plain (spelling keyword) word) keywords
+keyword_from first word = find (λ keyword. begins first (spelling keyword) && is_plain (spelling keyword) word) keywords
 
 abbrev pub is_reserved : List Atom → Bool
 is_reserved word = is_some (keyword_of word)

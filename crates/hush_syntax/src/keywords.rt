@@ -19,7 +19,8 @@ pub(crate) enum Keyword {
 }
 
 impl Keyword {
-    ghost use Rattle.hush_syntax.specs.Keywords.{spelling, initial, keyword_of, keyword_from};
+    ghost use Rattle.hush_words.specs.Steps.{begins};
+    ghost use Rattle.hush_syntax.specs.Keywords.{spelling, keyword_of, keyword_from};
     ghost use Rattle.hush_syntax.specs.Reading.{is_closing};
 
     const ALL: [Keyword; 10] = [
@@ -52,18 +53,13 @@ impl Keyword {
         }
     }
 
-    /// The byte that it begins with.
-    fn initial(self) -> u8
-        ensures { result ≡ initial self }
+    /// Whether its text begins with this byte.
+    fn begins_with(self, byte: u8) -> bool
+        ensures { result ≡ begins byte (spelling self) }
     {
-        match self {
-            Keyword::If => b'i',
-            Keyword::Then => b't',
-            Keyword::Elif | Keyword::Else => b'e',
-            Keyword::Fi | Keyword::For => b'f',
-            Keyword::While => b'w',
-            Keyword::Until => b'u',
-            Keyword::Do | Keyword::Done => b'd',
+        match self.text().first() {
+            Some(first) => *first == byte,
+            None => false,
         }
     }
 
@@ -81,7 +77,7 @@ impl Keyword {
     fn of_initial(first: u8, word: Word, text: &Text) -> Option<Keyword>
         ensures { result ≡ keyword_from first (word_atoms text.now word) }
     {
-        Keyword::ALL.iter().copied().find(|keyword| keyword.initial() == first
+        Keyword::ALL.iter().copied().find(|keyword| keyword.begins_with(first)
             && word.is_plain(text, keyword.text()))
     }
 

@@ -1,6 +1,6 @@
 //! The tables that hold a script's nodes.
 
-ghost use Rattle.std.specs.Prelude.{◌≡◌, ◌≤◌, ◌-◌, ◌++◌, length, take, drop, IfOk, IfErr, OnOk};
+ghost use Rattle.std.specs.Prelude.{◌≡◌, ◌≤◌, ◌-◌, ◌++◌, length, take, drop, [], IfOk, IfErr, OnOk};
 ghost use Rattle.hush_syntax.specs.declared.faults.FaultKind.TheVariants.{Memory};
 
 use crate::SyntaxFault;
@@ -70,24 +70,28 @@ pub(crate) struct Builder {
 impl Builder {
     ghost use Rattle.hush_words.specs.Parts.{Written};
     ghost use Rattle.hush_syntax.specs.Answers.{left_in};
-    ghost use Rattle.hush_syntax.specs.Builders.{Put, Adds, SettlesChains, SettlesLinks, SettlesBranches, Grows, waiting, add_chains, add_links, add_branches};
+    ghost use Rattle.hush_syntax.specs.Builders.{Put, Adds, SettlesChains, SettlesLinks, SettlesBranches, Grows, members_of, none, waiting, waits_of, add_chains, add_links, add_branches};
     ghost use Rattle.hush_syntax.specs.Nodes.{Members, block_of};
     ghost use Rattle.hush_syntax.specs.Reading.{skip, is_word, words_at};
     ghost use Rattle.hush_syntax.specs.Trees.{words_in};
 
-    pub(crate) fn new(alloc: Global) -> Builder {
-        Builder {
+    /// Tables without members. They have the room that so many tokens mostly need, which spares them growths: no more
+    /// words than tokens, half as many nodes, a quarter as many chains and links, and few branches.
+    pub(crate) fn new(alloc: Global, tokens: usize) -> Result<Builder, AllocError>
+        ensures { IfOk result (λ builder. (builder.table.nodes.items ≡ []) × (members_of builder.table ≡ none) × (waiting builder ≡ waits_of [] [] [])) }
+    {
+        Ok(Builder {
             table: Table {
-                nodes: Vec::new(alloc),
-                words: Vec::new(alloc),
-                chains: Vec::new(alloc),
-                links: Vec::new(alloc),
-                branches: Vec::new(alloc),
+                nodes: Vec::with_capacity(alloc, tokens / 2)?,
+                words: Vec::with_capacity(alloc, tokens)?,
+                chains: Vec::with_capacity(alloc, tokens / 4)?,
+                links: Vec::with_capacity(alloc, tokens / 4)?,
+                branches: Vec::with_capacity(alloc, tokens / 32)?,
             },
-            chains: Vec::new(alloc),
+            chains: Vec::with_capacity(alloc, tokens / 4)?,
             links: Vec::new(alloc),
             branches: Vec::new(alloc),
-        }
+        })
     }
 
     /// Puts a node behind the others.

@@ -15,6 +15,10 @@ use crate::{Fault, FaultKind, Lexed, Part, Text, Token, TokenKind};
 use memchr::memchr;
 use std::alloc::{AllocError, Global};
 
+/// Commands as they are mostly written have a token, and a part of a word, for about every seven bytes: so much room at
+/// the start spares the tables their growths.
+const BYTES_PER_TOKEN: usize = 6;
+
 /// Reads the tokens of a text, up to its end or up to the first fault of a word or an operator; a byte 0 is looked
 /// for before all else. The words of the tokens are ranges of this text. One pass, of as many steps as the text has
 /// bytes.
@@ -27,11 +31,12 @@ pub fn read(alloc: Global, source: Vec<u8>) -> Result<Lexed, AllocError>
     ensures front { IfOk result (λ lexed. tokens_in lexed.text lexed.tokens.items ≡ tokens_before_fault source.items) }
     ensures places { IfOk result (λ lexed. places_in lexed.tokens.items ≡ token_places source.items) }
 {
-    let mut tokens = Vec::new(alloc);
-    let mut parts = Vec::new(alloc);
     if source.len() > u32::MAX as usize {
         return Err(AllocError);
     }
+    let room = source.len() / BYTES_PER_TOKEN;
+    let mut tokens = Vec::with_capacity(alloc, room)?;
+    let mut parts = Vec::with_capacity(alloc, room)?;
     let fault = read_text(source.as_slice(), &mut tokens, &mut parts)?;
     if parts.len() > u32::MAX as usize {
         return Err(AllocError);

@@ -1,0 +1,152 @@
+//! The forms that a reserved word opens: `if`, `for`, `while` and `until`.
+
+ghost use Rattle.std.specs.Prelude.{◌≡◌};
+
+use crate::SyntaxFault;
+use crate::cursor::Tokens;
+use crate::keywords::Keyword;
+use crate::nodes::{Branch, NodeId};
+use crate::parser::Parser;
+use crate::table::{Builder, Stored};
+
+impl<'s> Parser<'s> {
+    ghost use Rattle.hush_syntax.specs.Answers.{branch, otherwise};
+    ghost use Rattle.hush_syntax.specs.Grammar.{Chains, Command};
+    ghost use Rattle.hush_syntax.specs.Reading.{command, compound, loop_parts};
+    ghost use Rattle.hush_syntax.specs.Builders.{Parses, CommandAt, BranchAt, OtherwiseAt, LoopAt};
+
+    /// What stands behind the first word of a form.
+    #[cycle(parsing)]
+    pub(super) fn compound(
+        self,
+        tokens: &mut Tokens,
+        builder: &mut Builder,
+        keyword: Keyword,
+        fault: SyntaxFault,
+        room: u32,
+    ) -> Result<NodeId, SyntaxFault>
+        ensures { Parses CommandAt self.entry.text.now (compound (command room) keyword) builder.old builder.new tokens.old tokens.new result }
+    {
+        match keyword {
+            Keyword::If => self.branches(tokens, builder, room),
+            Keyword::For => self.binding_loop(tokens, builder, room),
+            Keyword::While => {
+                let (condition, body) = self.loop_parts(tokens, builder, room)?;
+                let node = builder.put(Stored::While { condition, body })?;
+                Ok(node)
+            }
+            Keyword::Until => {
+                let (condition, body) = self.loop_parts(tokens, builder, room)?;
+                let node = builder.put(Stored::Until { condition, body })?;
+                Ok(node)
+            }
+            Keyword::Then
+            | Keyword::Elif
+            | Keyword::Else
+            | Keyword::Fi
+            | Keyword::Do
+            | Keyword::Done => Err(fault),
+        }
+    }
+
+    /// The lists of a `while` or an `until`.
+    #[cycle(parsing)]
+    fn loop_parts(
+        self,
+        tokens: &mut Tokens,
+        builder: &mut Builder,
+        room: u32,
+    ) -> Result<(NodeId, NodeId), SyntaxFault>
+        ensures { (form : Chains → Chains → Command) → Parses (LoopAt form) self.entry.text.now (loop_parts (command room) form) builder.old builder.new tokens.old tokens.new result }
+    {
+        let condition = self.list(tokens, builder, room)?;
+        tokens.expect(self.text, Keyword::Do.text())?;
+        let body = self.list(tokens, builder, room)?;
+        tokens.expect(self.text, Keyword::Done.text())?;
+        Ok((condition, body))
+    }
+
+    /// What stands behind `for`.
+    #[cycle(parsing)]
+    fn binding_loop(
+        self,
+        tokens: &mut Tokens,
+        builder: &mut Builder,
+        room: u32,
+    ) -> Result<NodeId, SyntaxFault>
+        ensures { Parses CommandAt self.entry.text.now (compound (command room) Keyword.For) builder.old builder.new tokens.old tokens.new result }
+    {
+        let name = tokens.name(self.text)?;
+        tokens.expect(self.text, b"in")?;
+        let words = builder.take_words(tokens)?;
+        tokens.separators()?;
+        tokens.expect(self.text, Keyword::Do.text())?;
+        let body = self.list(tokens, builder, room)?;
+        tokens.expect(self.text, Keyword::Done.text())?;
+        let node = builder.put(Stored::For { name, words, body })?;
+        Ok(node)
+    }
+
+    /// What stands behind `if`.
+    #[cycle(parsing)]
+    fn branches(
+        self,
+        tokens: &mut Tokens,
+        builder: &mut Builder,
+        room: u32,
+    ) -> Result<NodeId, SyntaxFault>
+        ensures { Parses CommandAt self.entry.text.now (compound (command room) Keyword.If) builder.old builder.new tokens.old tokens.new result }
+    {
+        let mark = builder.waiting_branches();
+        let first = self.branch(tokens, builder, room)?;
+        builder.push_branch(first)?;
+        while tokens.at(self.text, Keyword::Elif.text()) {
+            tokens.advance();
+            let branch = self.branch(tokens, builder, room)?;
+            builder.push_branch(branch)?;
+        }
+        let otherwise = self.otherwise(tokens, builder, room)?;
+        let branches = builder.settle_branches(mark)?;
+        let node = builder.put(Stored::If {
+            branches,
+            otherwise,
+        })?;
+        Ok(node)
+    }
+
+    /// A condition, `then` and a body.
+    #[cycle(parsing)]
+    fn branch(
+        self,
+        tokens: &mut Tokens,
+        builder: &mut Builder,
+        room: u32,
+    ) -> Result<Branch, SyntaxFault>
+        ensures { Parses BranchAt self.entry.text.now (branch (command room)) builder.old builder.new tokens.old tokens.new result }
+    {
+        let condition = self.list(tokens, builder, room)?;
+        tokens.expect(self.text, Keyword::Then.text())?;
+        let body = self.list(tokens, builder, room)?;
+        Ok(Branch { condition, body })
+    }
+
+    /// `else` with its body, if it is there, and `fi`.
+    #[cycle(parsing)]
+    fn otherwise(
+        self,
+        tokens: &mut Tokens,
+        builder: &mut Builder,
+        room: u32,
+    ) -> Result<Option<NodeId>, SyntaxFault>
+        ensures { Parses OtherwiseAt self.entry.text.now (otherwise (command room)) builder.old builder.new tokens.old tokens.new result }
+    {
+        if !tokens.at(self.text, Keyword::Else.text()) {
+            tokens.expect(self.text, Keyword::Fi.text())?;
+            return Ok(None);
+        }
+        tokens.advance();
+        let body = self.list(tokens, builder, room)?;
+        tokens.expect(self.text, Keyword::Fi.text())?;
+        Ok(Some(body))
+    }
+}

@@ -1,0 +1,86 @@
+//! Commands that no reserved word opens: an assignment or a simple command.
+
+ghost use Rattle.std.specs.Prelude.{◌≡◌, true, false, IfErr, OnOk, option_map};
+ghost use Rattle.hush_words.specs.Parts.{Written};
+ghost use Rattle.hush_syntax.specs.Answers.{left_in};
+ghost use Rattle.hush_syntax.specs.Faults.{assignment_fault};
+ghost use Rattle.hush_syntax.specs.Grammar.{begins};
+ghost use Rattle.hush_syntax.specs.Reading.{is_word};
+
+use crate::cursor::Tokens;
+use crate::nodes::NodeId;
+use crate::parser::Parser;
+use crate::table::{Builder, Stored};
+use crate::{FaultKind, SyntaxFault};
+use hush_words::{Assignment, Word};
+
+impl<'s> Parser<'s> {
+    ghost use Rattle.hush_words.specs.Forms.{assignment_of};
+    ghost use Rattle.hush_words.specs.Parts.{word_atoms};
+    ghost use Rattle.hush_syntax.specs.Answers.{assigned_of, assignment_before};
+    ghost use Rattle.hush_syntax.specs.Reading.{plain};
+    ghost use Rattle.hush_syntax.specs.Builders.{Parses, CommandAt};
+
+    /// An assignment, which no word may follow, or a simple command.
+    pub(super) fn plain(
+        self,
+        tokens: &mut Tokens,
+        builder: &mut Builder,
+    ) -> Result<NodeId, SyntaxFault>
+        ensures { Parses CommandAt self.entry.text.now plain builder.old builder.new tokens.old tokens.new result }
+    {
+        let fault = tokens.fault();
+        let Some(first) = tokens.first_word() else {
+            return Err(fault);
+        };
+        match self.sides(first) {
+            Some(assignment) => {
+                tokens.advance();
+                self.assignment(tokens, builder, assignment)
+            }
+            None => {
+                let words = builder.take_words(tokens)?;
+                let node = builder.put(Stored::Simple { words })?;
+                Ok(node)
+            }
+        }
+    }
+
+    /// The two sides of a word, if it is an assignment.
+    fn sides(self, word: Word) -> Option<Assignment>
+        ensures { option_map (assigned_of self.entry.text.now) result ≡ assignment_of (word_atoms self.entry.text.now word) }
+    {
+        word.assignment(self.text)
+    }
+
+    /// What stands behind an assignment: no word.
+    fn assignment(
+        self,
+        tokens: &mut Tokens,
+        builder: &mut Builder,
+        assignment: Assignment,
+    ) -> Result<NodeId, SyntaxFault>
+        ensures { Parses CommandAt self.entry.text.now (assignment_before (assigned_of self.entry.text.now assignment)) builder.old builder.new tokens.old tokens.new result }
+    {
+        no_word(tokens)?;
+        let Assignment { name, value } = assignment;
+        let node = builder.put(Stored::Assign { name, value })?;
+        Ok(node)
+    }
+}
+
+/// No word may stand behind an assignment.
+fn no_word(tokens: &Tokens) -> Result<(), SyntaxFault>
+    ensures passed { OnOk result ((text : Written) → begins is_word (left_in text tokens.now) ≡ false) }
+    ensures word { IfErr result (λ _. (text : Written) → begins is_word (left_in text tokens.now) ≡ true) }
+    ensures refused { IfErr result (λ fault. fault ≡ assignment_fault tokens.now) }
+{
+    if tokens.at_word() {
+        Err(SyntaxFault {
+            kind: FaultKind::Assignment,
+            ..tokens.fault()
+        })
+    } else {
+        Ok(())
+    }
+}
