@@ -4,6 +4,9 @@ pub mod Statuses
 pub mod Lines
 pub mod StubLines
 pub mod StubViews
+pub mod Entries
 pub mod Stubs
-pub mod StubEntries
 pub mod Messages
+pub mod Expansion
+pub mod Scopes
+pub mod Buffers

@@ -5,16 +5,25 @@
 
 mod builtins;
 mod cuts;
+mod expansion;
+mod expansion_fault;
+mod field_buffer;
 mod limits;
 mod lines;
+mod locals;
 mod messages;
+mod scope;
 mod statuses;
 mod stub_line;
 mod stubs;
 #[cfg(test)]
 mod tests;
 
+pub use expansion_fault::ExpansionFault;
+pub use field_buffer::FieldBuffer;
 pub use limits::Limits;
+pub use locals::Locals;
 pub use messages::Message;
+pub use scope::Scope;
 pub use stub_line::StubFault;
 pub use stubs::Stubs;

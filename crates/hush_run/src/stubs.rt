@@ -20,15 +20,15 @@ impl Model for Stubs {
     ghost use Rattle.std.specs.FinMap.Entries.{is_sorted};
     ghost use Rattle.std.specs.FinMap as names;
     ghost use Rattle.hush_run.specs.Stubs.{Statuses, name_order, statuses_code};
-    ghost use Rattle.hush_run.specs.StubEntries.{stub_entries};
+    ghost use Rattle.hush_run.specs.Entries.{entries_view, status_view};
 
     ghost Value = { Statuses };
 
     ghost coded = { statuses_code };
 
-    ghost view = { λ a. names.from_sorted (stub_entries a.statuses.entries) };
+    ghost view = { λ a. names.from_sorted (entries_view status_view a.statuses.entries) };
 
-    ghost invariant = { λ a. T (is_sorted name_order (stub_entries a.statuses.entries)) };
+    ghost invariant = { λ a. T (is_sorted name_order (entries_view status_view a.statuses.entries)) };
 }
 
 impl Stubs {

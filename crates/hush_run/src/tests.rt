@@ -1,5 +1,7 @@
 //! Limits and stand-in files by their rules (docs/runs.md). The values are worked out by hand.
 
+mod expansions;
+
 use crate::{Limits, Message, StubFault, Stubs};
 use std::test::Fail;
 

@@ -1,5 +1,6 @@
-use Rattle.hush_run.proofs.StubLemmas.{statuses-empty}
+use Rattle.hush_run.specs.Entries.{status_view}
+use Rattle.hush_run.proofs.EntryLemmas.{map-empty}
 use Rattle.hush_run.proofs.stubs.Stubs.empty.Goals as goal
 
 pub returns : goal.returns
-returns c = statuses-empty c.new.result.entries c.new.ensures.empty
+returns c = map-empty status_view c.new.result.entries c.new.ensures.empty
