@@ -4,33 +4,12 @@ ghost use Rattle.std.specs.Prelude.{◌≡◌, ℕ, ◌+◌, ◌-◌, ◌≤◌,
 ghost use Rattle.hush_words.specs.Words.Atom.{Quoted};
 ghost use Rattle.hush_words.specs.Parts.{atoms_of};
 ghost use Rattle.hush_words.specs.Ranges.{IsShort, AllFit};
-ghost use Rattle.hush_words.specs.Steps.{StandsAt, ReadsInner, ReadsPiece, Pushed, Adds, FitsInner, optional_part};
+ghost use Rattle.hush_words.specs.Steps.{StandsAt, ReadsInner, ReadsPiece, Adds, FitsInner, optional_part};
 
 use crate::classes::{Class, byte_at, is_escaped, place_of, run_end, stands_at};
 use crate::dollars::{byte_part, dollar};
-use crate::steps::{InnerRead, Stop};
+use crate::steps::{InnerRead, Stop, push, push_some};
 use crate::{Fault, FaultKind, Part, Span};
-use std::alloc::AllocError;
-
-/// Puts the part behind the others.
-pub(crate) fn push(parts: &mut Vec<Part>, part: Part) -> Result<(), Stop>
-    ensures { Pushed parts.old.items parts.new.items (part ∷ []) result }
-{
-    match parts.push(part) {
-        Ok(()) => Ok(()),
-        Err(failed) => Err(Stop::Memory(AllocError::from(failed))),
-    }
-}
-
-/// Puts the part behind the others, if there is one.
-fn push_some(parts: &mut Vec<Part>, part: Option<Part>) -> Result<(), Stop>
-    ensures { Pushed parts.old.items parts.new.items (optional_part part) result }
-{
-    match part {
-        Some(part) => push(parts, part),
-        None => Ok(()),
-    }
-}
 
 /// The bytes of the range as a part, if there are any.
 fn quoted_part(start: usize, end: usize) -> Option<Part>

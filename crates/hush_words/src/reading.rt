@@ -23,8 +23,10 @@ const BYTES_PER_TOKEN: usize = 6;
 /// for before all else. The words of the tokens are ranges of this text. One pass, of as many steps as the text has
 /// bytes.
 ///
-/// An error only where memory for the tokens or their parts was refused, or where there are more bytes or parts than a
-/// number of 32 bits can count.
+/// # Errors
+///
+/// Memory for the tokens or their parts was refused, or there are more bytes or parts than a number of 32 bits can count.
+/// A fault of the text is no error here: it is answered with the tokens before it.
 pub fn read(alloc: Global, source: Vec<u8>) -> Result<Lexed, AllocError>
     ensures text { IfOk result (λ lexed. lexed.text.source ≡ source.items) }
     ensures whole { IfOk result (λ lexed. tokens_of source.items ≡ tokens_read lexed) }

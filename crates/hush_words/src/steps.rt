@@ -1,4 +1,7 @@
-//! What the readers answer.
+//! What the readers answer, and the table of parts that they add to.
+
+ghost use Rattle.std.specs.Prelude.{◌≡◌, [], ◌∷◌};
+ghost use Rattle.hush_words.specs.Steps.{Pushed, optional_part};
 
 use crate::{Fault, Part, TokenKind};
 use std::alloc::AllocError;
@@ -42,4 +45,24 @@ pub(crate) enum Scan {
     Equals,
     /// It is no part of such a name.
     Stops,
+}
+
+/// Puts the part behind the others.
+pub(crate) fn push(parts: &mut Vec<Part>, part: Part) -> Result<(), Stop>
+    ensures { Pushed parts.old.items parts.new.items (part ∷ []) result }
+{
+    match parts.push(part) {
+        Ok(()) => Ok(()),
+        Err(failed) => Err(Stop::Memory(AllocError::from(failed))),
+    }
+}
+
+/// Puts the part behind the others, if there is one.
+pub(crate) fn push_some(parts: &mut Vec<Part>, part: Option<Part>) -> Result<(), Stop>
+    ensures { Pushed parts.old.items parts.new.items (optional_part part) result }
+{
+    match part {
+        Some(part) => push(parts, part),
+        None => Ok(()),
+    }
 }

@@ -8,8 +8,8 @@ ghost use Rattle.hush_words.specs.Steps.{StandsAt, ReadsPiece, ReadsPieces, Read
 
 use crate::classes::{Class, byte_at, ends_word, is_special, run_end};
 use crate::dollars::{byte_part, dollar};
-use crate::quotes::{double, push, single};
-use crate::steps::{LexemeRead, Stop};
+use crate::quotes::{double, single};
+use crate::steps::{LexemeRead, Stop, push};
 use crate::{Fault, FaultKind, Part, Span, TokenKind, Word};
 use std::alloc::AllocError;
 
