@@ -1,5 +1,5 @@
 -- What a function of the parser puts into the tables.
-use Rattle.std.specs.Prelude.{◌≡◌, ℕ, ◌-◌, length, take, drop, List, [], ◌∷◌, ◌++◌, Option, Some, None, Result, Ok, Err}
+use Rattle.std.specs.Prelude.{◌≡◌, ℕ, ◌-◌, ◌/◌, length, vec_capacity, take, drop, List, [], ◌∷◌, ◌++◌, Option, Some, None, Result, Ok, Err}
 use Rattle.hush_words.specs.Parts.{Written}
 use Rattle.hush_words.specs.Tokens.{Token}
 use Rattle.hush_words.specs.declared.parts.Word.{Word}
@@ -63,6 +63,16 @@ add_links w xs = waits_of w.chains (w.links ++ xs) w.branches
 
 abbrev pub add_branches : Waiting → List branch.Branch → Waiting
 add_branches w xs = waits_of w.chains w.links (w.branches ++ xs)
+
+-- no node, no member, and none that waits
+abbrev pub IsEmpty : Builder → Type 0
+IsEmpty b = (b.table.nodes.items ≡ []) × (members_of b.table ≡ none) × (waiting b ≡ waits_of [] [] [])
+
+-- room for what so many tokens mostly need, before a table grows
+abbrev pub HasRoom : ℕ → Builder → Type 0
+HasRoom tokens b =
+    (vec_capacity b.table.nodes ≡ tokens / 2) × (vec_capacity b.table.words ≡ tokens) × (vec_capacity b.table.chains ≡ tokens / 4) ×
+    (vec_capacity b.table.links ≡ tokens / 4) × (vec_capacity b.table.branches ≡ tokens / 32) × (vec_capacity b.chains ≡ tokens / 4)
 
 -- a member waits, and the table stays
 abbrev pub Adds : {X : Type 0} → (Waiting → List X → Waiting) → Builder → Builder → X → Type 0

@@ -1,6 +1,6 @@
 //! The tables that hold a script's nodes.
 
-ghost use Rattle.std.specs.Prelude.{◌≡◌, ◌≤◌, ◌-◌, ◌++◌, length, take, drop, [], IfOk, IfErr, OnOk};
+ghost use Rattle.std.specs.Prelude.{◌≡◌, ◌≤◌, ◌-◌, ◌++◌, length, take, drop, IfOk, IfErr, OnOk};
 ghost use Rattle.hush_syntax.specs.declared.faults.FaultKind.TheVariants.{Memory};
 
 use crate::SyntaxFault;
@@ -70,7 +70,7 @@ pub(crate) struct Builder {
 impl Builder {
     ghost use Rattle.hush_words.specs.Parts.{Written};
     ghost use Rattle.hush_syntax.specs.Answers.{left_in};
-    ghost use Rattle.hush_syntax.specs.Builders.{Put, Adds, SettlesChains, SettlesLinks, SettlesBranches, Grows, members_of, none, waiting, waits_of, add_chains, add_links, add_branches};
+    ghost use Rattle.hush_syntax.specs.Builders.{Put, Adds, SettlesChains, SettlesLinks, SettlesBranches, Grows, IsEmpty, HasRoom, waiting, add_chains, add_links, add_branches};
     ghost use Rattle.hush_syntax.specs.Nodes.{Members, block_of};
     ghost use Rattle.hush_syntax.specs.Reading.{skip, is_word, words_at};
     ghost use Rattle.hush_syntax.specs.Trees.{words_in};
@@ -78,7 +78,8 @@ impl Builder {
     /// Tables without members. They have the room that so many tokens mostly need, which spares them growths: no more
     /// words than tokens, half as many nodes, a quarter as many chains and links, and few branches.
     pub(crate) fn new(alloc: Global, tokens: usize) -> Result<Builder, AllocError>
-        ensures { IfOk result (λ builder. (builder.table.nodes.items ≡ []) × (members_of builder.table ≡ none) × (waiting builder ≡ waits_of [] [] [])) }
+        ensures empty { IfOk result IsEmpty }
+        ensures room { IfOk result (HasRoom tokens) }
     {
         Ok(Builder {
             table: Table {
