@@ -1,5 +1,6 @@
 -- What the laws of hush_words on the forms of a word say of the words of a script.
 use Rattle.std.proofs.Common.{◌≡◌, ℕ, ◌==◌, Bool, true, false, not, List, [], ◌∷◌, ◌++◌, map, codes, refl, ap, subst, Option, Some, None}
+use Rattle.std.proofs.lemmas.Bool.{and_parts, not-true}
 use Rattle.std.specs.List.{list_all, find}
 use Rattle.hush_words.specs.Words.{Atom, is_name}
 use Rattle.hush_words.specs.Words.Atom.{Plain}
@@ -11,7 +12,7 @@ use Rattle.hush_syntax.specs.declared.keywords.Keyword.{Keyword}
 use Rattle.hush_syntax.specs.Keywords.{keyword_of, keywords, spelling}
 use Rattle.hush_syntax.specs.Grammar.{begins}
 use Rattle.hush_syntax.specs.Reading.{behind, is, keyword_at}
-use Rattle.hush_syntax.proofs.Fronts.{both, not-true, by_test}
+use Rattle.hush_syntax.proofs.Fronts.{by_test}
 
 -- a word's forms are told exactly
 pub record FormsAreTold : Type 0 where
@@ -25,12 +26,12 @@ differs [] (n ∷ name) value none e = absurd (let no : ◌≡◌ {A = List Atom
 differs (b ∷ text) [] value none e =
     let heads : ◌≡◌ {A = List Atom} (Plain 61 ∷ value) (Plain b ∷ map Plain text) = e in
     let same : ◌≡◌ {A = ℕ} b 61 = cc in
-    let other : (b == 61) ≡ false = not-true (b == 61) (both (not (b == 61)) (list_all (λ b. not (b == 61)) text) none).0 in
+    let other : (b == 61) ≡ false = not-true (b == 61) (and_parts (not (b == 61)) (list_all (λ b. not (b == 61)) text) none).0 in
     let no : true ≡ false = subst (λ x. (x == 61) ≡ false) same other in cc
 differs (b ∷ text) (n ∷ name) value none e =
     let lists : ◌≡◌ {A = List Atom} (Plain n ∷ (map Plain name ++ Plain 61 ∷ value)) (Plain b ∷ map Plain text) = e in
     let tails : map Plain name ++ Plain 61 ∷ value ≡ map Plain text = cc in
-    differs text name value (both (not (b == 61)) (list_all (λ b. not (b == 61)) text) none).1 tails
+    differs text name value (and_parts (not (b == 61)) (list_all (λ b. not (b == 61)) text) none).1 tails
 
 find-true : {X : Type 0} (test : X → Bool) (xs : List X) (x : X) → find test xs ≡ Some x → test x ≡ true
 find-true {X} test [] x e = absurd (let no : ◌≡◌ {A = Option X} None (Some x) = e in cc)

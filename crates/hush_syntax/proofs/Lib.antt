@@ -14,7 +14,11 @@ pub mod ListLoop
 pub mod ChainLoop
 pub mod IfLoop
 pub mod ScriptLoop
-pub mod ExitLemmas
+pub mod Calls
+pub mod ChainExits
+pub mod ListExits
+pub mod FormExits
+pub mod CommandExits
 pub mod Rows
 pub mod Walks
 pub mod TextRows

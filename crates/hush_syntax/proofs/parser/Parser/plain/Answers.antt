@@ -2,7 +2,7 @@ use Rattle.std.proofs.Common.{sym}
 use Rattle.hush_words.specs.Parts.{word_atoms}
 use Rattle.hush_syntax.specs.Answers.{left_in}
 use Rattle.hush_syntax.specs.Reading.{behind}
-use Rattle.hush_syntax.proofs.ExitLemmas.{simple-built}
+use Rattle.hush_syntax.proofs.CommandExits.{simple-built}
 use Rattle.hush_syntax.proofs.parser.Parser.plain.Goals as goal
 
 pub returns-in_ok-node-in-None : goal.returns-in_ok-node-in-None

@@ -1,4 +1,4 @@
-use Rattle.hush_syntax.proofs.ExitLemmas as exit
+use Rattle.hush_syntax.proofs.CommandExits as exit
 use Rattle.hush_syntax.proofs.parser.Parser.sides.Goals as goal
 
 pub returns : goal.returns

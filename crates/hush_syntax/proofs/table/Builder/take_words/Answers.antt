@@ -3,7 +3,7 @@ use Rattle.hush_syntax.specs.Answers.{left_in}
 use Rattle.hush_syntax.specs.Builders.{only_words}
 use Rattle.hush_syntax.specs.Reading.{words_at}
 use Rattle.hush_syntax.proofs.Building.{same-members}
-use Rattle.hush_syntax.proofs.ExitLemmas.{block-told}
+use Rattle.hush_syntax.proofs.CommandExits.{block-told}
 use Rattle.hush_syntax.proofs.table.Builder.take_words.Goals as goal
 
 pub returns-clause-words : goal.returns-clause-words
