@@ -19,7 +19,7 @@ impl<'s> Parser<'s> {
     #[cycle(parsing)]
     pub(super) fn compound(
         self,
-        tokens: &mut Tokens,
+        tokens: &mut Tokens<'_>,
         builder: &mut Builder,
         keyword: Keyword,
         fault: SyntaxFault,
@@ -53,7 +53,7 @@ impl<'s> Parser<'s> {
     #[cycle(parsing)]
     fn loop_parts(
         self,
-        tokens: &mut Tokens,
+        tokens: &mut Tokens<'_>,
         builder: &mut Builder,
         room: u32,
     ) -> Result<(NodeId, NodeId), SyntaxFault>
@@ -70,7 +70,7 @@ impl<'s> Parser<'s> {
     #[cycle(parsing)]
     fn binding_loop(
         self,
-        tokens: &mut Tokens,
+        tokens: &mut Tokens<'_>,
         builder: &mut Builder,
         room: u32,
     ) -> Result<NodeId, SyntaxFault>
@@ -91,7 +91,7 @@ impl<'s> Parser<'s> {
     #[cycle(parsing)]
     fn branches(
         self,
-        tokens: &mut Tokens,
+        tokens: &mut Tokens<'_>,
         builder: &mut Builder,
         room: u32,
     ) -> Result<NodeId, SyntaxFault>
@@ -118,7 +118,7 @@ impl<'s> Parser<'s> {
     #[cycle(parsing)]
     fn branch(
         self,
-        tokens: &mut Tokens,
+        tokens: &mut Tokens<'_>,
         builder: &mut Builder,
         room: u32,
     ) -> Result<Branch, SyntaxFault>
@@ -134,7 +134,7 @@ impl<'s> Parser<'s> {
     #[cycle(parsing)]
     fn otherwise(
         self,
-        tokens: &mut Tokens,
+        tokens: &mut Tokens<'_>,
         builder: &mut Builder,
         room: u32,
     ) -> Result<Option<NodeId>, SyntaxFault>
