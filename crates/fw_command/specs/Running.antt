@@ -1,35 +1,26 @@
 -- What the program does with its words and streams (docs/tools.md, "The command line").
-use Rattle.std.specs.Prelude.{◌≡◌, ◌≤◌, ◌⊎◌, ℕ, Bool, true, false, List, [], ◌∷◌, ◌++◌, Option, Some, None, is_some, codes}
+use Rattle.std.specs.Prelude.{◌≡◌, ◌⊎◌, ℕ, List, [], ◌∷◌, ◌++◌, Option, Some, None, codes}
 use Rattle.std.specs.Io.KnownBytes.{Appends}
 use Rattle.std.specs.declared.io.ErrorKind as io_error
 use Rattle.std.specs.declared.io.ErrorKind.TheVariants as io
-use Rattle.clap.specs.Words.{IsAmong, Text}
+use Rattle.clap.specs.Words.{IsAmong, Row, Text}
 use Rattle.clap.specs.declared.error.kind.ErrorKind.{ErrorKind}
 use Rattle.clap.specs.declared.error.kind.ErrorKind.TheVariants.{DisplayHelp, DisplayVersion, OutOfMemory}
 use Rattle.envimg_core.specs.declared.order.Order.{Order}
 use Rattle.fw_tools.specs.Shown.{Shows}
 use Rattle.fw_tools.specs.Streams.{AppendsFront, AppendsPart, Streams, Writers, writers_of}
+use Rattle.fw_command.specs.Acting.{Called}
+use Rattle.fw_command.specs.Calls.{call_of}
+use Rattle.fw_command.specs.Saying.{Says, message_of}
 use Rattle.fw_command.specs.Words.{called_by, faults, order_of}
 use Rattle.fw_tools.specs.declared.ending.ToolEnd.{ToolEnd}
-use Rattle.fw_tools.specs.declared.ending.StreamFault.{StreamFault}
-use Rattle.fw_tools.specs.declared.ending.StreamFault.TheVariants.{Read, Write, Memory}
-
--- the text on standard error for what stopped a tool
-abbrev pub message_of : StreamFault → List ℕ
-message_of Read = codes "fwenv: cannot read standard input" ++ 10 ∷ []
-message_of Write = codes "fwenv: cannot write standard output" ++ 10 ∷ []
-message_of Memory = codes "## Error: out of memory" ++ 10 ∷ []
+use Rattle.fw_tools.specs.declared.ending.StreamFault.TheVariants.{Write, Memory}
 
 -- the text on standard error where the words can't be had
 abbrev pub message_without_words : io_error.ErrorKind → List ℕ
 message_without_words io.OutOfMemory = message_of Memory
 message_without_words io.InvalidData = codes "fwenv: a word of the command line is not UTF-8" ++ 10 ∷ []
 message_without_words kind = codes "fwenv: cannot read the command line" ++ 10 ∷ []
-
--- it is said as far as standard error takes it
-abbrev pub Says : Option StreamFault → Option (List ℕ) → Option (List ℕ) → Type 0
-Says None err err' = err' ≡ err
-Says (Some fault) err err' = AppendsFront err err' (message_of fault)
 
 -- memory ran out before anything was written
 abbrev pub LacksMemory : Writers → Writers → ℕ → Type 0
@@ -68,15 +59,15 @@ AnswersWords words old new status =
     (new.input ≡ old.input)
     × (LacksMemory (writers_of old) (writers_of new) status ⊎ ((kind : ErrorKind) × IsAmong kind (faults words) × Answers kind (writers_of old) (writers_of new) status))
 
--- a subcommand works on files, of which no contract can speak; standard input is not read
-abbrev pub CallsTool : Streams → Streams → ℕ → Type 0
-CallsTool old new status = (new.input ≡ old.input) × (status ≤ 1)
+-- a subcommand is called with these words; standard input is not read
+abbrev pub CallsTool : Order → Text × List Row → Streams → Streams → ℕ → Type 0
+CallsTool order called old new status = (new.input ≡ old.input) × Called (call_of order called.0 called.1) (writers_of old) (writers_of new) status
 
 -- what is done for words with nothing wrong: a subcommand is called, or the image on standard input is shown in the byte order that they choose
-abbrev pub Does : Order → Bool → Streams → Streams → ℕ → Type 0
-Does order true old new status = CallsTool old new status
-Does order false old new status = ShowsAndSays order old new status
+abbrev pub Does : Order → Option (Text × List Row) → Streams → Streams → ℕ → Type 0
+Does order (Some called) old new status = CallsTool order called old new status
+Does order None old new status = ShowsAndSays order old new status
 
 -- a whole run
 abbrev pub Runs : List Text → Streams → Streams → ℕ → Type 0
-Runs words old new status = ((faults words ≡ []) × Does (order_of words) (is_some (called_by words)) old new status) ⊎ AnswersWords words old new status
+Runs words old new status = ((faults words ≡ []) × Does (order_of words) (called_by words) old new status) ⊎ AnswersWords words old new status

@@ -1,14 +1,20 @@
 //! The subcommands over the files that the words name.
-ghost use Rattle.std.specs.Prelude.{◌≤◌};
+ghost use Rattle.std.specs.Prelude.{◌≡◌, ◌≤◌, ◌∷◌, [], List, IfOk, MatchOption, Some, map, unwrap_or};
+ghost use Rattle.envimg_core.specs.Pieces.{Entry};
+ghost use Rattle.fw_command.specs.Acting.{Acts, Closes, SaysOnly, Uses};
+ghost use Rattle.fw_command.specs.Calls.{call_view, task_view, texts};
+ghost use Rattle.fw_command.specs.Saying.{SaysSome};
+ghost use Rattle.fw_tools.specs.Printing.{printed};
+ghost use Rattle.fw_tools.specs.Setting.{Changes, import_effect, joined, script_effect, set_effect};
+ghost use Rattle.fw_tools.specs.Tool.{Printed};
 
+use crate::calls::{Call, Task};
 use crate::closing::write_back;
 use crate::files::{read_entries, read_script, value_or_say};
-use crate::messages::{NAME_AND_SCRIPT, NO_NAME, OUT_OF_MEMORY};
+use crate::messages::OUT_OF_MEMORY;
 use crate::opening::{Source, open, read_source};
 use crate::running::report;
-use clap::ArgMatches;
 use env_session::Session;
-use envimg_core::Order;
 use fw_tools::streams::say;
 use fw_tools::{ToolEnd, export, import, print_at_once, set_script, setenv};
 use std::alloc::{AllocError, Global};
@@ -18,95 +24,79 @@ use std::rt::Files;
 /// Runs a subcommand and answers its exit status.
 pub(crate) fn run_tool<X: Files + AllocGlobal, W: Write, E: Write>(
     rt: &X,
-    name: &str,
-    found: &ArgMatches<'_>,
-    order: Order,
+    call: &Call<'_, '_>,
     output: &mut W,
     errors: &mut E,
 ) -> u8
-    ensures { result ≤ 1 }
+    ensures status { result ≤ 1 }
+    ensures uses { Uses (call_view call.now) (record { output = W.contents output.old; errors = E.contents errors.old }) (record { output = W.contents output.new; errors = E.contents errors.new }) result }
 {
-    if let Some(text) = fault_of_words(name, found) {
-        say(errors, text);
-        return 1;
-    }
-    match use_files(rt, name, found, order, output, errors) {
-        Some(0) => 0,
-        _ => 1,
-    }
-}
-
-/// What is wrong with the words of `setenv`: it takes a name or a script.
-fn fault_of_words(name: &str, found: &ArgMatches<'_>) -> Option<&'static [u8]> {
-    if name != "setenv" {
-        return None;
-    }
-    match (found.get_str("name"), found.get_str("script")) {
-        (Some(_), Some(_)) => Some(NAME_AND_SCRIPT),
-        (None, None) => Some(NO_NAME),
-        _ => None,
-    }
+    use_files(rt, call, output, errors).unwrap_or(1)
 }
 
 /// Opens the session, lets the subcommand work on it, and writes it back; none where a file can't be used.
 fn use_files<X: Files + AllocGlobal, W: Write, E: Write>(
     rt: &X,
-    name: &str,
-    found: &ArgMatches<'_>,
-    order: Order,
+    call: &Call<'_, '_>,
     output: &mut W,
     errors: &mut E,
-) -> Option<u8> {
-    let source = read_source(rt, order, found.get_str("config")?, errors)?;
-    let mut session = open(rt, &source, found.get_str("default"), errors)?;
-    let end = act(rt, name, found, &mut session, output, errors)?;
+) -> Option<u8>
+    ensures { Uses (call_view call.now) (record { output = W.contents output.old; errors = E.contents errors.old }) (record { output = W.contents output.new; errors = E.contents errors.new }) (unwrap_or result 1) }
+{
+    let source = read_source(rt, call.order, call.config, errors)?;
+    let mut session = open(rt, &source, call.default, errors)?;
+    let end = act(rt, call.task, &mut session, output, errors)?;
     finish(rt, &source, session, end, errors)
 }
 
-/// What a subcommand does with the session.
+/// Does a task over the session; none where a file can't be used, or memory ran out before.
 fn act<X: Files + AllocGlobal, W: Write, E: Write>(
     rt: &X,
-    name: &str,
-    found: &ArgMatches<'_>,
+    task: Task<'_, '_>,
     session: &mut Session,
     output: &mut W,
     errors: &mut E,
-) -> Option<ToolEnd> {
-    match name {
-        "printenv" => print(rt.alloc(), found, session, output, errors),
-        "export" => Some(export(rt.alloc(), session, output, errors)),
-        "import" => import_file(rt, found, session, errors),
-        _ => set(rt, found, session, errors),
+) -> Option<ToolEnd>
+    ensures { MatchOption result (SaysOnly (record { output = W.contents output.old; errors = E.contents errors.old }) (record { output = W.contents output.new; errors = E.contents errors.new })) (λ end. Acts (task_view task.entry) (record { session = session.old; writers = record { output = W.contents output.old; errors = E.contents errors.old } }) (record { session = session.new; writers = record { output = W.contents output.new; errors = E.contents errors.new } }) end) }
+{
+    match task {
+        Task::Print { names, value_only } => {
+            print(rt.alloc(), session, names, value_only, output, errors)
+        }
+        Task::Export => Some(export(rt.alloc(), session, output, errors)),
+        Task::Set { name, words } => set(rt.alloc(), session, name, words, errors),
+        Task::SetScript { path } => set_from_file(rt, path, session, errors),
+        Task::Import { path } => import_file(rt, path, session, errors),
     }
 }
 
 /// `printenv [-n] [NAMES]`
 fn print<W: Write, E: Write>(
     alloc: Global,
-    found: &ArgMatches<'_>,
     session: &Session,
+    names: Option<&[&str]>,
+    value_only: bool,
     output: &mut W,
     errors: &mut E,
-) -> Option<ToolEnd> {
-    let names = bytes_or_say(alloc, found.get_strs("names"), errors)?;
-    let value_only = found.get_flag("value-only");
+) -> Option<ToolEnd>
+    ensures { MatchOption result (SaysOnly (record { output = W.contents output.old; errors = E.contents errors.old }) (record { output = W.contents output.new; errors = E.contents errors.new })) (λ end. Printed end.fault (record { output = W.contents output.old; errors = E.contents errors.old }) (record { output = W.contents output.new; errors = E.contents errors.new }) (printed session.now.now.env (texts names.entry) value_only) end.status) }
+{
+    let names = bytes_or_say(alloc, names, errors)?;
     Some(print_at_once(alloc, session, &names, value_only, output, errors))
 }
 
-/// `setenv NAME [WORDS]` or `setenv -s FILE`
-fn set<X: Files + AllocGlobal, E: Write>(
-    rt: &X,
-    found: &ArgMatches<'_>,
+/// `setenv NAME [WORDS]`
+fn set<E: Write>(
+    alloc: Global,
     session: &mut Session,
+    name: &str,
+    words: Option<&[&str]>,
     errors: &mut E,
-) -> Option<ToolEnd> {
-    match found.get_str("name") {
-        Some(name) => {
-            let words = bytes_or_say(rt.alloc(), found.get_strs("words"), errors)?;
-            Some(setenv(rt.alloc(), session, name.as_bytes(), &words, errors))
-        }
-        None => set_from_file(rt, found.get_str("script")?, session, errors),
-    }
+) -> Option<ToolEnd>
+    ensures { MatchOption result (SaysSome (E.contents errors.old) (E.contents errors.new)) (λ end. Changes (record { session = session.old; errors = E.contents errors.old }) (record { session = session.new; errors = E.contents errors.new }) (set_effect session.old name.now (joined (texts words.entry))) ((name.now, Some (joined (texts words.entry))) ∷ []) end) }
+{
+    let words = bytes_or_say(alloc, words, errors)?;
+    Some(setenv(alloc, session, name.as_bytes(), &words, errors))
 }
 
 /// `setenv -s FILE`
@@ -115,7 +105,9 @@ fn set_from_file<X: Files + AllocGlobal, E: Write>(
     path: &str,
     session: &mut Session,
     errors: &mut E,
-) -> Option<ToolEnd> {
+) -> Option<ToolEnd>
+    ensures { MatchOption result (SaysSome (E.contents errors.old) (E.contents errors.new)) (λ end. (entries : List Entry) × Changes (record { session = session.old; errors = E.contents errors.old }) (record { session = session.new; errors = E.contents errors.new }) (script_effect session.old entries) entries end) }
+{
     let entries = value_or_say(rt.alloc(), errors, path, read_script(rt, path))?;
     Some(set_script(session, &entries, errors))
 }
@@ -123,11 +115,12 @@ fn set_from_file<X: Files + AllocGlobal, E: Write>(
 /// `import FILE`
 fn import_file<X: Files + AllocGlobal, E: Write>(
     rt: &X,
-    found: &ArgMatches<'_>,
+    path: &str,
     session: &mut Session,
     errors: &mut E,
-) -> Option<ToolEnd> {
-    let path = found.get_str("file")?;
+) -> Option<ToolEnd>
+    ensures { MatchOption result (SaysSome (E.contents errors.old) (E.contents errors.new)) (λ end. (entries : List Entry) × Changes (record { session = session.old; errors = E.contents errors.old }) (record { session = session.new; errors = E.contents errors.new }) (import_effect session.old entries) entries end) }
+{
     let entries = value_or_say(rt.alloc(), errors, path, read_entries(rt, path))?;
     Some(import(session, &entries, errors))
 }
@@ -139,7 +132,9 @@ fn finish<X: Files + AllocGlobal, E: Write>(
     session: Session,
     end: ToolEnd,
     errors: &mut E,
-) -> Option<u8> {
+) -> Option<u8>
+    ensures { Closes end (E.contents errors.old) (E.contents errors.new) (unwrap_or result 1) }
+{
     let stored = session.close();
     write_back(rt, source, &stored, errors)?;
     Some(report(end, errors))
@@ -150,7 +145,9 @@ fn bytes_or_say<'a, E: Write>(
     alloc: Global,
     words: Option<&[&'a str]>,
     errors: &mut E,
-) -> Option<Vec<&'a [u8]>> {
+) -> Option<Vec<&'a [u8]>>
+    ensures { MatchOption result (SaysSome (E.contents errors.old) (E.contents errors.new)) (λ bytes. (map (λ b. b.now) bytes.items ≡ texts words.entry) × (E.contents errors.new ≡ E.contents errors.old)) }
+{
     match bytes_of(alloc, words) {
         Ok(bytes) => Some(bytes),
         Err(_) => {
@@ -161,12 +158,22 @@ fn bytes_or_say<'a, E: Write>(
 }
 
 /// Words as bytes.
-fn bytes_of<'a>(alloc: Global, words: Option<&[&'a str]>) -> Result<Vec<&'a [u8]>, AllocError> {
+fn bytes_of<'a>(alloc: Global, words: Option<&[&'a str]>) -> Result<Vec<&'a [u8]>, AllocError>
+    ensures { IfOk result (λ bytes. map (λ b. b.now) bytes.items ≡ texts words.entry) }
+{
+    match words {
+        None => Ok(Vec::new(alloc)),
+        Some(words) => all_bytes(alloc, words),
+    }
+}
+
+/// All these words as bytes.
+fn all_bytes<'a>(alloc: Global, words: &[&'a str]) -> Result<Vec<&'a [u8]>, AllocError>
+    ensures { IfOk result (λ bytes. map (λ b. b.now) bytes.items ≡ map (λ w. w.now) words.now) }
+{
     let mut bytes = Vec::new(alloc);
-    if let Some(words) = words {
-        for word in words {
-            bytes.push(word.as_bytes())?;
-        }
+    for word in words {
+        bytes.push(word.as_bytes())?;
     }
     Ok(bytes)
 }

@@ -1,5 +1,6 @@
 //! The copies of a session, written back to their devices.
-ghost use Rattle.std.specs.Prelude.{◌≡◌, map, option_map};
+ghost use Rattle.std.specs.Prelude.{◌≡◌, MatchOption, map, option_map};
+ghost use Rattle.fw_command.specs.Saying.{SaysSome};
 ghost use Rattle.fw_command.specs.Copies.{change_in, change_view, changes};
 
 use crate::copies::{ReadCopy, to_write, write_copy};
@@ -25,11 +26,12 @@ pub(crate) fn write_back<X: Files + AllocGlobal, E: Write>(
     source: &Source,
     stored: &Stored,
     errors: &mut E,
-) -> Option<()> {
-    for change in changes(source, stored) {
-        write_change(rt, change, errors)?;
-    }
-    Some(())
+) -> Option<()>
+    ensures { MatchOption result (SaysSome (E.contents errors.old) (E.contents errors.new)) (λ _. E.contents errors.new ≡ E.contents errors.old) }
+{
+    let [first, second] = changes(source, stored);
+    write_change(rt, first, errors)?;
+    write_change(rt, second, errors)
 }
 
 /// Writes a copy over its place, if there is one to write. A fault is said on `errors`.
@@ -37,7 +39,9 @@ fn write_change<X: Files + AllocGlobal, E: Write>(
     rt: &X,
     change: Option<Change<'_>>,
     errors: &mut E,
-) -> Option<()> {
+) -> Option<()>
+    ensures { MatchOption result (SaysSome (E.contents errors.old) (E.contents errors.new)) (λ _. E.contents errors.new ≡ E.contents errors.old) }
+{
     let Some(change) = change else {
         return Some(());
     };

@@ -1,6 +1,7 @@
 //! The words that the program is called with.
 ghost use Rattle.std.specs.Prelude.{◌≡◌, IfOk, codes, false, map};
-ghost use Rattle.clap.specs.Words.{FailsBy, app_of, rule_of, subcommand_rows_of};
+ghost use Rattle.clap.specs.Words.{FailsBy, app_of, found_of, rows_of, rule_of, subcommand_rows_of};
+ghost use Rattle.fw_command.specs.Calls.{given_by, is_given};
 ghost use Rattle.fw_command.specs.Words.{IsTool, called_by, faults, fwenv, order_in, order_of};
 ghost use Rattle.fw_command.specs.Words as words;
 
@@ -27,6 +28,9 @@ const BIG_ENDIAN: &str = "big-endian";
 const BIG_ENDIAN_HELP: &str =
     "The image is a big-endian board's: its checksum has the highest byte first";
 
+/// The configuration where the words name none.
+pub(crate) const CONFIG: &str = "/etc/fw_env.config";
+
 /// Reads the words of the command line, the program's own name first. At an error its text is the help or the version, or
 /// says what is wrong with the words.
 pub(crate) fn read_words<'a, S: AsStr>(
@@ -50,6 +54,20 @@ pub(crate) fn chosen_order(matches: &ArgMatches<'_>) -> Order
         Some(ValueSource::CommandLine) => Order::Big,
         _ => Order::Little,
     }
+}
+
+/// Whether a flag stands among the words.
+pub(crate) fn is_given(matches: &ArgMatches<'_>, id: &str) -> bool
+    ensures { result ≡ is_given id.now (rows_of (found_of matches.now)) }
+{
+    is_from_words(matches.value_source(id))
+}
+
+/// Whether a value comes from the words.
+fn is_from_words(source: Option<ValueSource>) -> bool
+    ensures { result ≡ given_by source }
+{
+    matches!(source, Some(ValueSource::CommandLine))
 }
 
 /// The command, as clap knows it.
@@ -110,7 +128,7 @@ fn config<'a>(alloc: Global) -> Arg<'a>
         .short('c')
         .value_name("FILE")
         .help("The configuration that names the copies")
-        .default_value("/etc/fw_env.config")
+        .default_value(CONFIG)
 }
 
 /// `--default FILE`, which all subcommands have.

@@ -1,5 +1,7 @@
 //! Files that are read whole, and why a file can not be used.
-ghost use Rattle.std.specs.Prelude.{◌≡◌, ◌≤◌, Ok, IfOk, length, map};
+ghost use Rattle.std.specs.Prelude.{◌≡◌, ◌≤◌, Ok, IfOk, MatchOption, length, map};
+ghost use Rattle.std.specs.Result.{result_ok};
+ghost use Rattle.fw_command.specs.Saying.{SaysSome};
 ghost use Rattle.envcfg_core.specs.Entries.{entry_view};
 ghost use Rattle.envcfg_core.specs.Import.{import_of};
 ghost use Rattle.envcfg_core.specs.SetScript.{set_script_of};
@@ -110,7 +112,10 @@ pub(crate) fn value_or_say<T: Drop, E: Write>(
     errors: &mut E,
     path: &str,
     outcome: Result<T, FileFault>,
-) -> Option<T> {
+) -> Option<T>
+    ensures value { result ≡ result_ok outcome }
+    ensures said { MatchOption result (SaysSome (E.contents errors.old) (E.contents errors.new)) (λ _. E.contents errors.new ≡ E.contents errors.old) }
+{
     match outcome {
         Ok(value) => Some(value),
         Err(fault) => {
@@ -121,7 +126,9 @@ pub(crate) fn value_or_say<T: Drop, E: Write>(
 }
 
 /// Says on `errors` why a file can not be used, as far as it is taken.
-pub(crate) fn say_fault<E: Write>(alloc: Global, errors: &mut E, path: &str, fault: FileFault) {
+pub(crate) fn say_fault<E: Write>(alloc: Global, errors: &mut E, path: &str, fault: FileFault)
+    ensures { SaysSome (E.contents errors.old) (E.contents errors.new) }
+{
     match fault {
         FileFault::CannotRead => say_path(errors, CANNOT_READ_FILE, path, NEWLINE),
         FileFault::CannotWrite => say_path(errors, CANNOT_WRITE_FILE, path, NEWLINE),
@@ -140,25 +147,36 @@ pub(crate) fn say_fault<E: Write>(alloc: Global, errors: &mut E, path: &str, fau
 }
 
 /// Says a text round a path.
-fn say_path<E: Write>(errors: &mut E, front: &[u8], path: &str, back: &[u8]) {
+fn say_path<E: Write>(errors: &mut E, front: &[u8], path: &str, back: &[u8])
+    ensures { SaysSome (E.contents errors.old) (E.contents errors.new) }
+{
     let _ = write_three(errors, front, path.as_bytes(), back);
 }
 
 /// Says why the text in a file is refused.
-fn say_refused<E: Write>(errors: &mut E, path: &str, name: &[u8]) {
-    if write_three(errors, FWENV, path.as_bytes(), COLON) {
-        let _ = write_two(errors, name, NEWLINE);
+fn say_refused<E: Write>(errors: &mut E, path: &str, name: &[u8])
+    ensures { SaysSome (E.contents errors.old) (E.contents errors.new) }
+{
+    if !write_three(errors, FWENV, path.as_bytes(), COLON) {
+        return;
     }
+    let _ = write_two(errors, name, NEWLINE);
 }
 
 /// Says which line of a file is refused, and why.
-fn say_line<E: Write>(errors: &mut E, path: &str, name: &[u8], line: usize) {
-    if write_three(errors, FWENV, path.as_bytes(), COLON)
-        && write_two(errors, name, IN_LINE)
-        && write_decimal(errors, line)
-    {
-        let _ = write_text(errors, NEWLINE);
+fn say_line<E: Write>(errors: &mut E, path: &str, name: &[u8], line: usize)
+    ensures { SaysSome (E.contents errors.old) (E.contents errors.new) }
+{
+    if !write_three(errors, FWENV, path.as_bytes(), COLON) {
+        return;
     }
+    if !write_two(errors, name, IN_LINE) {
+        return;
+    }
+    if !write_decimal(errors, line) {
+        return;
+    }
+    say(errors, NEWLINE);
 }
 
 /// The name of a refusal.

@@ -2,6 +2,7 @@
 #![tactic(auto)]
 
 mod acting;
+mod calls;
 mod closing;
 mod command_line;
 mod copies;

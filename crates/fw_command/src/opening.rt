@@ -1,5 +1,7 @@
 //! A session over the copies that a configuration names.
-ghost use Rattle.std.specs.Prelude.{◌≡◌, ◌≤◌, Ok, IfOk};
+ghost use Rattle.std.specs.Prelude.{◌≡◌, ◌≤◌, Ok, IfOk, MatchOption};
+ghost use Rattle.fw_command.specs.Acting.{IsOpening};
+ghost use Rattle.fw_command.specs.Saying.{SaysSome};
 ghost use Rattle.std.specs.FinMap as env;
 ghost use Rattle.env_session.specs.Session.{bytes_of, opened, opening_choice};
 ghost use Rattle.envcfg_core.specs.Config.{config_of, config_view};
@@ -35,7 +37,9 @@ pub(crate) fn read_source<X: Files + AllocGlobal, E: Write>(
     order: Order,
     path: &str,
     errors: &mut E,
-) -> Option<Source> {
+) -> Option<Source>
+    ensures { MatchOption result (SaysSome (E.contents errors.old) (E.contents errors.new)) (λ source. (source.geometry.order ≡ order) × (E.contents errors.new ≡ E.contents errors.old)) }
+{
     let config = value_or_say(rt.alloc(), errors, path, read_config(rt, path))?;
     let geometry = Geometry::with_order(config.layout, config.size, order)?;
     let first = read_or_say(rt, &config.first, config.size, errors)?;
@@ -78,7 +82,9 @@ fn read_or_say<X: Files + AllocGlobal, E: Write>(
     place: &Place,
     size: u32,
     errors: &mut E,
-) -> Option<ReadCopy> {
+) -> Option<ReadCopy>
+    ensures { MatchOption result (SaysSome (E.contents errors.old) (E.contents errors.new)) (λ _. E.contents errors.new ≡ E.contents errors.old) }
+{
     let copy = read_copy(rt, place, size);
     value_or_say(rt.alloc(), errors, place.device.as_str(), copy)
 }
@@ -101,7 +107,9 @@ pub(crate) fn open<X: Files + AllocGlobal, E: Write>(
     source: &Source,
     default: Option<&str>,
     errors: &mut E,
-) -> Option<Session> {
+) -> Option<Session>
+    ensures { MatchOption result (SaysSome (E.contents errors.old) (E.contents errors.new)) (λ session. IsOpening source.now.geometry.order session × AppendsFront (E.contents errors.old) (E.contents errors.new) (warning session.now.current)) }
+{
     match session_over(rt, source, default) {
         Ok(session) => {
             warn(session.current(), errors);
@@ -120,7 +128,9 @@ fn session_over<X: Files + AllocGlobal>(
     rt: &X,
     source: &Source,
     default: Option<&str>,
-) -> Result<Session, FileFault> {
+) -> Result<Session, FileFault>
+    ensures { IfOk result (IsOpening source.now.geometry.order) }
+{
     let room = source.geometry.room();
     let given = match default {
         None => Vars::empty(rt.alloc(), room),

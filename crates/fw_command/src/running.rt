@@ -1,12 +1,14 @@
 //! The program over its words and streams.
-ghost use Rattle.std.specs.Prelude.{◌≡◌, ◌⊎◌, ◌≤◌, is_some, map};
+ghost use Rattle.std.specs.Prelude.{◌≡◌, ◌⊎◌, ◌≤◌, map};
 ghost use Rattle.clap.specs.Words.{kind_of, subcommand_rows_of};
-ghost use Rattle.fw_command.specs.Running.{Answers, Does, LacksMemory, Runs, Says, ShowsAndSays, message_without_words};
+ghost use Rattle.fw_command.specs.Running.{Answers, Does, LacksMemory, Runs, ShowsAndSays, message_without_words};
+ghost use Rattle.fw_command.specs.Saying.{Says};
 ghost use Rattle.fw_tools.specs.Streams.{AppendsFront};
-ghost use Rattle.fw_command.specs.Words.{either_order, order_in};
+ghost use Rattle.fw_command.specs.Words.{order_in};
 ghost use Rattle.std.specs.IoError.{error_kind};
 
 use crate::acting::run_tool;
+use crate::calls::read_call;
 use crate::command_line::{chosen_order, read_words};
 use crate::messages::{CANNOT_READ, CANNOT_WRITE, NO_WORDS, NOT_UTF8, OUT_OF_MEMORY};
 use clap::error::ErrorKind;
@@ -61,16 +63,19 @@ fn act_on<X: Files + AllocGlobal, R: Read, W: Write, E: Write>(
     errors: &mut E,
 ) -> u8
     ensures status { result ≤ 1 }
-    ensures does { Does (order_in matches.now) (is_some (subcommand_rows_of matches.now)) (record { input = R.remaining input.old; output = W.contents output.old; errors = E.contents errors.old }) (record { input = R.remaining input.new; output = W.contents output.new; errors = E.contents errors.new }) result }
+    ensures does { Does (order_in matches.now) (subcommand_rows_of matches.now) (record { input = R.remaining input.old; output = W.contents output.old; errors = E.contents errors.old }) (record { input = R.remaining input.new; output = W.contents output.new; errors = E.contents errors.new }) result }
 {
     let alloc = rt.alloc();
     let order = chosen_order(matches);
     match matches.subcommand() {
         None => show_input(alloc, order, input, output, errors),
-        Some((name, found)) => {
-            let order = either_order(order, chosen_order(found));
-            run_tool(rt, name, found, order, output, errors)
-        }
+        Some((name, found)) => match read_call(order, name, found) {
+            Err(text) => {
+                say(errors, text);
+                1
+            }
+            Ok(call) => run_tool(rt, &call, output, errors),
+        },
     }
 }
 
@@ -143,14 +148,4 @@ pub(crate) fn report<E: Write>(end: ToolEnd, errors: &mut E) -> u8
         say(errors, text);
     }
     end.status
-}
-
-/// Big-endian where one of two places chooses it.
-fn either_order(one: Order, other: Order) -> Order
-    ensures { result ≡ either_order one other }
-{
-    match one {
-        Order::Big => Order::Big,
-        Order::Little => other,
-    }
 }

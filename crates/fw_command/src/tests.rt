@@ -1,5 +1,7 @@
 //! The program over words, and over streams that fail.
 
+mod disk;
+mod files;
 mod running;
 
 use std::io::{self, Read};

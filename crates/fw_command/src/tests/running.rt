@@ -87,7 +87,7 @@ fn the_program_asked_for_its_version(rt: HostRuntime) {
 }
 
 #[test]
-fn the_program_with_words_that_it_does_not_know(rt: HostRuntime) {
+fn the_program_with_options_that_it_does_not_know(rt: HostRuntime) {
     for word in ["--list", "-x"] {
         let mut input = ONE_VARIABLE.as_slice();
         let mut output = Vec::new(rt.alloc());
@@ -96,6 +96,16 @@ fn the_program_with_words_that_it_does_not_know(rt: HostRuntime) {
         assert_eq!(rt; status, 1);
         assert!(rt; output.is_empty());
         assert!(rt; errors.starts_with(b"error: unexpected argument"));
+    }
+}
+
+#[test]
+fn the_program_with_words_that_call_no_subcommand(rt: HostRuntime) {
+    for word in ["list", ""] {
+        let (output, errors, status) = answered(&rt, &["fwenv", word], &ONE_VARIABLE);
+        assert_eq!(rt; status, 1);
+        assert!(rt; output.is_empty());
+        assert!(rt; errors.starts_with(b"error: unrecognized subcommand"));
     }
 }
 

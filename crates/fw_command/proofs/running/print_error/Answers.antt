@@ -1,5 +1,5 @@
 use Rattle.std.proofs.Common.{◌≡◌, true, inr, subst, ◌∙◌}
-use Rattle.fw_command.specs.Running.{Says}
+use Rattle.fw_command.specs.Saying.{Says}
 use Rattle.fw_command.proofs.HelpLemmas.{helped}
 use Rattle.fw_command.proofs.running.print_error.Goals as goal
 

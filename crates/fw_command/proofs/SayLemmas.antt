@@ -1,0 +1,26 @@
+-- Texts that are said one after the other.
+use Rattle.std.proofs.Common.{◌≡◌, ◌++◌, ℕ, List, [], Option, Bool, true, false, subst, sym}
+use Rattle.std.specs.Prelude.{MatchBool}
+use Rattle.std.proofs.KnownBytes.{Appends-nil, Appends-trans}
+use Rattle.std.specs.Io.KnownBytes.{Appends}
+use Rattle.fw_command.specs.Saying.{SaysSome}
+use Rattle.fw_tools.specs.Streams.{AppendsFront, AppendsPart}
+
+pub nothing_said : (a : Option (List ℕ)) → SaysSome a a
+nothing_said a = ([], Appends-nil a)
+
+pub same_said : (a b : Option (List ℕ)) → b ≡ a → SaysSome a b
+same_said a b is = subst (SaysSome a) (sym is) (nothing_said a)
+
+pub said_then : (a b c : Option (List ℕ)) → SaysSome a b → SaysSome b c → SaysSome a c
+said_then a b c p q = (p.0 ++ q.0, Appends-trans a b c p.0 q.0 p.1 q.1)
+
+pub front_said : (a b : Option (List ℕ)) (text : List ℕ) → AppendsFront a b text → SaysSome a b
+front_said a b text p = (p.0, p.3)
+
+pub part_said : (a b : Option (List ℕ)) (text : List ℕ) → AppendsPart a b text → SaysSome a b
+part_said a b text p = (p.0, p.4)
+
+pub whole_or_part_said : (all : Bool) (a b : Option (List ℕ)) (text : List ℕ) → MatchBool all (Appends a b text) (AppendsPart a b text) → SaysSome a b
+whole_or_part_said true a b text p = (text, p)
+whole_or_part_said false a b text p = part_said a b text p

@@ -1,0 +1,214 @@
+//! Files in memory for the program, of which each call can be made to fail.
+
+use std::alloc::{Allocator, Global};
+use std::cell::RefCell;
+use std::fs::{Metadata, OpenFile, OpenOptions};
+use std::io::{self, Read, Seek, SeekFrom, Write};
+use std::rt::Files;
+
+/// What stands on a disk.
+#[derive(Drop)]
+pub(super) struct Contents {
+    /// Paths and bytes.
+    pub(super) files: Vec<(&'static str, Vec<u8>)>,
+    /// How many calls of files were made.
+    pub(super) calls: usize,
+    /// The call that fails, from 0.
+    pub(super) fails: usize,
+}
+
+impl Contents {
+    /// Counts a call, and fails where its turn has come.
+    fn call(&mut self) -> io::Result<()> {
+        let call = self.calls;
+        self.calls = call.wrapping_add(1);
+        if call == self.fails {
+            return Err(io::Error::from(io::ErrorKind::Other));
+        }
+        Ok(())
+    }
+
+    /// The bytes of a file.
+    pub(super) fn bytes(&self, path: &str) -> &[u8] {
+        match self.files.iter().find(|file| file.0 == path) {
+            Some(file) => &file.1,
+            None => &[],
+        }
+    }
+}
+
+/// A disk, and the memory that its program uses.
+#[derive(Drop)]
+pub(super) struct Disk<'a> {
+    pub(super) alloc: Global,
+    pub(super) contents: &'a RefCell<Contents>,
+}
+
+/// A file that is open.
+#[derive(Drop)]
+pub(super) struct Opened<'a> {
+    contents: &'a RefCell<Contents>,
+    index: usize,
+    at: usize,
+}
+
+/// A folder, of which there is none.
+#[derive(Drop)]
+pub(super) struct NoFolder;
+
+fn refused() -> io::Error {
+    io::Error::from(io::ErrorKind::Unsupported)
+}
+
+impl Read for NoFolder {
+    fn read(&mut self, _buf: &mut [u8]) -> io::Result<usize> {
+        Err(refused())
+    }
+}
+
+impl Opened<'_> {
+    /// Counts a call, and gives the file's length.
+    fn len(&self) -> io::Result<usize> {
+        let Ok(mut contents) = self.contents.try_borrow_mut() else {
+            return Err(refused());
+        };
+        contents.call()?;
+        match contents.files.get(self.index) {
+            Some(file) => Ok(file.1.len()),
+            None => Err(refused()),
+        }
+    }
+}
+
+impl Read for Opened<'_> {
+    fn read(&mut self, buf: &mut [u8]) -> io::Result<usize> {
+        self.len()?;
+        let Ok(contents) = self.contents.try_borrow() else {
+            return Err(refused());
+        };
+        let Some(file) = contents.files.get(self.index) else {
+            return Err(refused());
+        };
+        let mut rest = file.1.get(self.at..).unwrap_or(&[]);
+        let count = rest.read(buf)?;
+        self.at = self.at.saturating_add(count);
+        Ok(count)
+    }
+}
+
+impl Write for Opened<'_> {
+    fn write(&mut self, buf: &[u8]) -> io::Result<usize> {
+        self.len()?;
+        let Ok(mut contents) = self.contents.try_borrow_mut() else {
+            return Err(refused());
+        };
+        let Some(file) = contents.files.get_mut(self.index) else {
+            return Err(refused());
+        };
+        let at = self.at.min(file.1.len());
+        let (_, mut rest) = file.1.split_at_mut(at);
+        let count = rest.write(buf)?;
+        self.at = self.at.saturating_add(count);
+        Ok(count)
+    }
+
+    fn flush(&mut self) -> io::Result<()> {
+        Ok(())
+    }
+}
+
+impl Seek for Opened<'_> {
+    fn seek(&mut self, to: SeekFrom) -> io::Result<u64> {
+        let length = self.len()?;
+        self.at = match to {
+            SeekFrom::Start(at) => at as usize,
+            SeekFrom::End(0) => length,
+            _ => return Err(refused()),
+        };
+        Ok(self.at as u64)
+    }
+}
+
+impl OpenFile for Opened<'_> {
+    fn metadata(&self) -> io::Result<Metadata> {
+        Err(refused())
+    }
+
+    fn set_len(&self, _size: u64) -> io::Result<()> {
+        Err(refused())
+    }
+
+    fn sync_all(&self) -> io::Result<()> {
+        self.len()?;
+        Ok(())
+    }
+
+    fn sync_data(&self) -> io::Result<()> {
+        Err(refused())
+    }
+}
+
+impl Alloc for Disk<'_> {
+    type A = Global;
+
+    fn alloc(&self) -> Global {
+        self.alloc
+    }
+}
+
+impl<'a> Files for Disk<'a> {
+    type File = Opened<'a>;
+
+    type Dir = NoFolder;
+
+    fn open_file(&self, _how: &OpenOptions, path: &str) -> io::Result<Opened<'a>> {
+        let Ok(mut contents) = self.contents.try_borrow_mut() else {
+            return Err(refused());
+        };
+        contents.call()?;
+        match contents.files.iter().position(|file| file.0 == path) {
+            Some(index) => Ok(Opened {
+                contents: self.contents,
+                index,
+                at: 0,
+            }),
+            None => Err(io::Error::from(io::ErrorKind::NotFound)),
+        }
+    }
+
+    fn open_dir(&self, _path: &str) -> io::Result<NoFolder> {
+        Err(refused())
+    }
+
+    fn metadata(&self, _path: &str) -> io::Result<Metadata> {
+        Err(refused())
+    }
+
+    fn symlink_metadata(&self, _path: &str) -> io::Result<Metadata> {
+        Err(refused())
+    }
+
+    fn copy(&self, _from: &str, _to: &str) -> io::Result<u64> {
+        Err(refused())
+    }
+
+    fn rename(&self, _from: &str, _to: &str) -> io::Result<()> {
+        Err(refused())
+    }
+
+    fn remove_file(&self, _path: &str) -> io::Result<()> {
+        Err(refused())
+    }
+
+    fn create_dir(&self, _path: &str) -> io::Result<()> {
+        Err(refused())
+    }
+
+    fn remove_dir(&self, _path: &str) -> io::Result<()> {
+        Err(refused())
+    }
+
+    fn remove_dir_all<B: Allocator>(&self, _alloc: B, _path: &str) -> io::Result<()> {
+        Err(refused())
+    }
+}
