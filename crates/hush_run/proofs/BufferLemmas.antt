@@ -1,11 +1,11 @@
 -- Fields in one buffer.
-use Rattle.std.proofs.Common.{◌≡◌, ℕ, ◌+◌, ◌-◌, ◌≤◌, Bool, true, false, List, [], ◌∷◌, ◌++◌, take, drop, length, sum, Some, None, refl, sym, ap, ◌∙◌, arith, length-drop}
+use Rattle.std.proofs.Common.{◌≡◌, ℕ, ◌+◌, ◌-◌, ◌≤◌, Bool, true, false, List, [], ◌∷◌, ◌++◌, take, drop, length, sum, Some, refl, sym, ap, ◌∙◌, arith, length-drop}
 use Rattle.std.proofs.lemmas.List.{drop-append-le, take-append-le, drop-drop}
 use Rattle.std.proofs.lemmas.List.Sums.{sum_by-cons}
 use Rattle.std.proofs.Math.ListN.{drop_of_length-le}
 use Rattle.std.proofs.Math.Seq.{take-length}
 use Rattle.hush_calc.specs.Fields.{pieces}
-use Rattle.hush_run.specs.Buffers.{Made, whole, opened, closed, with_bytes, ended, begun_at, made, Rests, IsBuffer}
+use Rattle.hush_run.specs.Buffers.{Made, whole, opened, with_bytes, ended, begun_at, made, Rests, IsBuffer}
 
 sum-first : (n : ℕ) (ns : List ℕ) → sum (n ∷ ns) ≡ n + sum ns
 sum-first n ns = sum_by-cons (λ x. x) n ns

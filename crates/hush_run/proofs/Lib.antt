@@ -5,3 +5,4 @@ pub mod Rows
 pub mod ItemLemmas
 pub mod BufferLemmas
 pub mod WordLemmas
+pub mod OutputLemmas

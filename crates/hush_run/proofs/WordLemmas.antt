@@ -1,6 +1,6 @@
 -- Words one after the other, under the limit of a word.
-use Rattle.std.proofs.Common.{◌≡◌, ℕ, ◌+◌, ◌<◌, ◌≤◌, Bool, true, false, ◌&&◌, List, [], ◌∷◌, ◌++◌, map, take, drop, length, get_or, Option, Some, None, refl, sym, ap, ◌∙◌, subst, arith, add-one, append-nil}
-use Rattle.std.specs.Prelude.{Ok, Err, option_map, nat_le}
+use Rattle.std.proofs.Common.{◌≡◌, ℕ, ◌+◌, ◌<◌, Bool, true, false, ◌&&◌, List, [], ◌∷◌, ◌++◌, map, take, drop, length, get_or, Option, Some, None, refl, sym, ap, ◌∙◌, arith, add-one, append-nil}
+use Rattle.std.specs.Prelude.{Ok, Err, option_map}
 use Rattle.std.specs.List.{flat_map, list_all}
 use Rattle.std.proofs.lemmas.Bool.{cond-true, cond-false, le-leb}
 use Rattle.std.proofs.lemmas.Bool.Decides.{leb_tells}
@@ -14,7 +14,7 @@ use Rattle.hush_words.specs.Parts.{Written, word_atoms}
 use Rattle.hush_words.specs.declared.parts.Word.{Word as Range}
 use Rattle.hush_run.specs.declared.expansion_fault.ExpansionFault.{ExpansionFault}
 use Rattle.hush_run.specs.declared.expansion_fault.ExpansionFault.TheVariants.{Word, Memory}
-use Rattle.hush_run.specs.Expansion.{Known, Item, items_of, bytes_of, size, fields, fits, word_fields, expanded, expanded_value}
+use Rattle.hush_run.specs.Expansion.{Known, items_of, size, fields, fits, word_fields, expanded, expanded_value}
 use Rattle.hush_run.specs.Buffers.{Made, whole, ended, with_bytes, with_items, kept, Adds, Expands}
 use Rattle.hush_run.proofs.ItemLemmas.{fields_made, value_made, size-kept}
 

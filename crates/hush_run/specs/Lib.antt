@@ -10,3 +10,8 @@ pub mod Messages
 pub mod Expansion
 pub mod Scopes
 pub mod Buffers
+pub mod Output
+pub mod Commands
+pub mod Writing
+pub mod Saving
+pub mod Listing

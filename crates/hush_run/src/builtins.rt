@@ -72,8 +72,8 @@ impl Builtin {
     }
 }
 
-/// Whether a name is this text.
-fn is_text(name: &[u8], text: &[u8]) -> bool
+/// Whether a word is this text.
+pub(crate) fn is_text(name: &[u8], text: &[u8]) -> bool
     ensures { result ≡ bytes_eq text.now name.now }
 {
     text == name

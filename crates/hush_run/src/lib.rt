@@ -4,26 +4,31 @@
 #![tactic(auto)]
 
 mod builtins;
+pub mod commands;
 mod cuts;
 mod expansion;
 mod expansion_fault;
 mod field_buffer;
 mod limits;
 mod lines;
+pub mod listing;
 mod locals;
 mod messages;
+mod output;
 mod scope;
 mod statuses;
 mod stub_line;
 mod stubs;
 #[cfg(test)]
 mod tests;
+pub mod writing;
 
 pub use expansion_fault::ExpansionFault;
 pub use field_buffer::FieldBuffer;
 pub use limits::Limits;
 pub use locals::Locals;
 pub use messages::Message;
+pub use output::{Output, PrintFault};
 pub use scope::Scope;
 pub use stub_line::StubFault;
 pub use stubs::Stubs;

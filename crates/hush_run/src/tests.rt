@@ -1,8 +1,12 @@
 //! Limits and stand-in files by their rules (docs/runs.md). The values are worked out by hand.
 
+mod commands;
 mod expansions;
+mod words;
 
-use crate::{Limits, Message, StubFault, Stubs};
+use crate::commands::stand_in;
+use crate::{Limits, Message, Output, StubFault, Stubs};
+use hush_calc::Fields;
 use std::test::Fail;
 
 #[test]
@@ -148,45 +152,71 @@ fn faults_are_shown(rt: HostRuntime) -> Result<(), Fail> {
 }
 
 #[test]
-fn messages_are_written_behind(rt: HostRuntime) -> Result<(), Fail> {
-    let table: [(Message<'_>, &[u8]); 12] = [
-        (Message::NotDefined(b"n"), b"## Error: \"n\" not defined\n"),
+fn messages_are_printed_behind(rt: HostRuntime) -> Result<(), Fail> {
+    let table: [(Message, &[u8], &[u8]); 12] = [
         (
-            Message::UnknownCommand(b"mmc"),
-            b"Unknown command 'mmc' - try 'help'\n",
-        ),
-        (Message::WrongUse(b"env"), b"## Error: wrong use of 'env'\n"),
-        (
-            Message::BadForm(b"a=b"),
-            b"## Error: bad name or value for \"a=b\"\n",
+            Message::NotDefined,
+            b"n",
+            b"+ mmc\n## Error: \"n\" not defined\n",
         ),
         (
-            Message::BadType(b"n"),
-            b"## Error: type check failure for \"n\"\n",
-        ),
-        (Message::NoCreate(b"n"), b"## Error: Can't create \"n\"\n"),
-        (Message::NoDelete(b"n"), b"## Error: Can't delete \"n\"\n"),
-        (
-            Message::NoOverwrite(b"n"),
-            b"## Error: Can't overwrite \"n\"\n",
-        ),
-        (Message::Full(b""), b"## Error: no room for \"\"\n"),
-        (
-            Message::IsVariable(b"\xFF"),
-            b"## Error: \"\xFF\" is an environment variable\n",
+            Message::UnknownCommand,
+            b"mmc",
+            b"+ mmc\nUnknown command 'mmc' - try 'help'\n",
         ),
         (
-            Message::NoScript(b"n"),
-            b"## Error: syntax error in \"n\"\n",
+            Message::WrongUse,
+            b"env",
+            b"+ mmc\n## Error: wrong use of 'env'\n",
         ),
-        (Message::DivisionByZero, b"## Error: division by zero\n"),
+        (
+            Message::BadForm,
+            b"a=b",
+            b"+ mmc\n## Error: bad name or value for \"a=b\"\n",
+        ),
+        (
+            Message::BadType,
+            b"n",
+            b"+ mmc\n## Error: type check failure for \"n\"\n",
+        ),
+        (
+            Message::NoCreate,
+            b"n",
+            b"+ mmc\n## Error: Can't create \"n\"\n",
+        ),
+        (
+            Message::NoDelete,
+            b"n",
+            b"+ mmc\n## Error: Can't delete \"n\"\n",
+        ),
+        (
+            Message::NoOverwrite,
+            b"n",
+            b"+ mmc\n## Error: Can't overwrite \"n\"\n",
+        ),
+        (Message::Full, b"", b"+ mmc\n## Error: no room for \"\"\n"),
+        (
+            Message::IsVariable,
+            b"\xFF",
+            b"+ mmc\n## Error: \"\xFF\" is an environment variable\n",
+        ),
+        (
+            Message::NoScript,
+            b"n",
+            b"+ mmc\n## Error: syntax error in \"n\"\n",
+        ),
+        (
+            Message::DivisionByZero,
+            b"n",
+            b"+ mmc\n## Error: division by zero\n",
+        ),
     ];
-    for (message, expected) in table {
-        let mut output = Vec::from_slice(rt.alloc(), b"+ mmc\n")?;
-        message.write(&mut output)?;
-        let mut whole = Vec::from_slice(rt.alloc(), b"+ mmc\n")?;
-        whole.extend_from_slice(expected)?;
-        assert_eq!(rt; output.as_slice(), whole.as_slice());
+    for (message, name, expected) in table {
+        let mut output = Output::new(rt.alloc(), 64);
+        let fields = Fields::new(b"mmc", &[3]);
+        assert_eq!(rt; stand_in(0, fields, &mut output).ok(), Some(0));
+        assert!(rt; message.print(name, &mut output).is_ok());
+        assert_eq!(rt; output.text(), expected);
     }
     Ok(())
 }
