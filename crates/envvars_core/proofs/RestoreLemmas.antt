@@ -1,22 +1,18 @@
 -- What putting kept values back gives.
-use Rattle.std.proofs.Common.{◌≡◌, ◌≢◌, ◌+◌, ◌*◌, ◌-◌, ◌<◌, ℕ, Bool, true, false, cond, not, ◌&&◌, ◌||◌, T, List, [], ◌∷◌, length, fold, Result, Ok, Err, OnOk, Vec, IsTrue, Option, Some, None, IfSome, IsSome, is_some, unwrap_or, refl, sym, ap, subst, ◌∙◌, arith}
+use Rattle.std.proofs.Common.{◌≡◌, ◌≢◌, ◌+◌, ◌*◌, ◌-◌, ◌<◌, ℕ, Bool, true, false, cond, not, ◌&&◌, ◌||◌, T, List, [], ◌∷◌, fold, Result, Ok, Err, OnOk, IsTrue, Option, Some, None, IfSome, IsSome, is_some, unwrap_or, refl, sym, ap, subst, ◌∙◌, arith}
 use Rattle.std.specs.Prelude.{is_none, ◌/◌, ◌%◌}
 use Rattle.std.proofs.Math.Nat.{mod-lt, mod-eq_of_lt, mod-add-div, mod-add-mod, add-mod-mod, add-mod_right, add-mul-mod_self_left}
 use Rattle.std.specs.List.{list_all}
 use Rattle.std.specs.Ordering.{is_eq, is_lt, eq_by_cmp}
 use Rattle.std.specs.declared.cmp.Ordering.{Ordering}
 use Rattle.std.specs.declared.cmp.Ordering.TheVariants.{Less, Equal, Greater}
-use Rattle.std.specs.Cmp.{tied_itself}
 use Rattle.std.specs.Cmp.Lexicographic.{nat_list_cmp_total}
 use Rattle.std.specs.FinMap as env
 use Rattle.std.specs.FinMap.Entries.{find, below_all, is_sorted}
 use Rattle.std.proofs.lemmas.List.{nil_from_length}
 use Rattle.std.proofs.lemmas.Bool.{false≢true}
-use Rattle.std.specs.Str.{bytes_eq}
 use Rattle.std.proofs.lemmas.Slice.Eq.{bytes_eq-Decides}
-use Rattle.std.specs.declared.alloc.Global.{Global}
-use Rattle.envvars_core.specs.Kept.{kept_entry}
-use Rattle.envimg_core.specs.Environment.{Environment, Pair, bytes_cmp, used}
+use Rattle.envimg_core.specs.Environment.{Environment, bytes_cmp, used}
 use Rattle.envimg_core.specs.Pieces.{Entry, with_value, after_entry}
 use Rattle.envvars_store.proofs.OrderLemmas.{and_left, and_right, same_name}
 use Rattle.envvars_core.specs.Attributes.{attributes, flags_name}
@@ -195,23 +191,6 @@ kept_forgotten olds n old added is =
       | false ↦ λ e. remove-insert olds n old e
     ] refl
 
-pub places-first : (m : Environment) (e : Entry) (es : List Entry) (v : List ℕ) → HavePlaces m (e ∷ es) → e.1 ≡ Some v → IsSome (env.get m e.0)
-places-first m e es v h is = h e.0 v (ap (λ o. cond o (Some e.1) (find bytes_cmp e.0 es)) (tied e.0) ∙ ap Some is)
-  where
-    tied : (q : List ℕ) → eq_by_cmp bytes_cmp q q ≡ true
-    tied q = ap is_eq (tied_itself nat_list_cmp_total q)
-
-pub places-rest : (m : Environment) (e : Entry) (es : List Entry) → T (is_sorted bytes_cmp (e ∷ es)) → HavePlaces m (e ∷ es) → HavePlaces (after_entry m e) es
-places-rest m e es sorted h q v is =
-    elim (bytes_cmp q e.0) as (λ r. bytes_cmp q e.0 ≡ r → IsSome (env.get (after_entry m e) q)) [
-      | Less ↦ λ p. other Less p refl
-      | Equal ↦ λ p. absurd (false≢true (ap is_some (sym (find_below q es (subst (λ n. T (below_all bytes_cmp n es)) (sym (same_name q e.0 p)) (and_left _ _ sorted))) ∙ is)))
-      | Greater ↦ λ p. other Greater p refl
-    ] refl
-  where
-    other : (r : Ordering) → bytes_cmp q e.0 ≡ r → is_eq r ≡ false → IsSome (env.get (after_entry m e) q)
-    other r p apart = ap is_some (get-with_value m e.0 e.1 q ∙ ap (λ o. cond (is_eq o) e.1 (env.get m q)) p ∙ ap (λ b. cond b e.1 (env.get m q)) apart) ∙ h q v (ap (λ o. cond (is_eq o) (Some e.1) (find bytes_cmp q es)) p ∙ ap (λ b. cond b (Some e.1) (find bytes_cmp q es)) apart ∙ is)
-
 pub places-from : (m : Environment) (es : List Entry) → list_all (has_place m) es ≡ true → HavePlaces m es
 places-from m [] e q v is = absurd (false≢true (ap is_some is))
 places-from m (e ∷ es) all q v is =
@@ -267,13 +246,6 @@ pub on_any : {A E : Type 0} (r : Result A E) (P : Type 0) → P → OnOk r P
 on_any (Ok a) P h = h
 on_any (Err e) P h = tt
 
-pub no_entries : (olds : OldValues) → env.entries olds ≡ [] → olds ≡ env.empty
-no_entries olds e = env.empty_of_len olds (env.len-entries olds ∙ ap length e)
-
-pub place-of : (m : Environment) (name : Vec ℕ Global) (text : Option Pair) (es : List Entry) → HavePlaces m (kept_entry (name, text) ∷ es) → IfSome text (λ t. t.0 ≡ name.items) → IfSome text (λ t. IsSome (env.get m t.0))
-place-of m name None es h is = tt
-place-of m name (Some t) es h is = ap (λ n. is_some (env.get m n)) is ∙ places-first m (name.items, Some t.1) es t.1 h refl
-
 left_true : (a b : Bool) → (a && b) ≡ true → a ≡ true
 left_true true b e = refl
 left_true false b e = e
@@ -324,3 +296,41 @@ size_swapped m n v w size present kept is old new some =
 -- a size that is known modulo a number above it
 pub size_below : (s w size : ℕ) → size ≡ s % w → s < w → size ≡ s
 size_below s w size is below = is ∙ mod-eq_of_lt below
+
+-- one kept value is put back and kept no more
+pub restored-taken : (m : Environment) (olds : OldValues) (n : List ℕ) (v : Option (List ℕ)) → env.get olds n ≡ Some v → restored (with_value m n v) (env.remove olds n) ≡ restored m olds
+restored-taken m olds n v is = same_env _ _ (λ q.
+    get-restored (with_value m n v) (env.remove olds n) q
+    ∙ (λ i. unwrap_or (env.get-remove nat_list_cmp_total olds n q i) (get-with_value m n v q i))
+    ∙ elim (bytes_cmp q n) as (λ r. bytes_cmp q n ≡ r → unwrap_or (cond (is_eq r) None (env.get olds q)) (cond (is_eq r) v (env.get m q)) ≡ unwrap_or (env.get olds q) (env.get m q)) [
+      | Less ↦ λ p. refl
+      | Equal ↦ λ p. sym (ap (λ f. unwrap_or f (env.get m q)) (ap (env.get olds) (same_name q n p) ∙ is))
+      | Greater ↦ λ p. refl
+    ] refl
+    ∙ sym (get-restored m olds q))
+
+pub place-taken : (m : Environment) (olds : OldValues) (n : List ℕ) (old : Option (List ℕ)) → HavePlaces m (env.entries olds) → env.get olds n ≡ Some old → IfSome old (λ v. IsSome (env.get m n))
+place-taken m olds n None h is = tt
+place-taken m olds n (Some v) h is = h n v (sym (env.get-entries olds n) ∙ is)
+
+pub places-taken : (m : Environment) (olds : OldValues) (n : List ℕ) (old : Option (List ℕ)) → HavePlaces m (env.entries olds) → HavePlaces (with_value m n old) (env.entries (env.remove olds n))
+places-taken m olds n old h q v is =
+    elim (bytes_cmp q n) as (λ r. bytes_cmp q n ≡ r → IsSome (env.get (with_value m n old) q)) [
+      | Less ↦ λ p. other Less p refl
+      | Equal ↦ λ p. absurd (false≢true (ap is_some (sym (ap (λ o. cond (is_eq o) None (env.get olds q)) p) ∙ there)))
+      | Greater ↦ λ p. other Greater p refl
+    ] refl
+  where
+    there : cond (eq_by_cmp bytes_cmp q n) None (env.get olds q) ≡ Some (Some v)
+    there = sym (env.get-remove nat_list_cmp_total olds n q) ∙ env.get-entries (env.remove olds n) q ∙ is
+
+    other : (r : Ordering) → bytes_cmp q n ≡ r → is_eq r ≡ false → IsSome (env.get (with_value m n old) q)
+    other r p apart =
+        ap is_some (get-with_value m n old q ∙ ap (λ o. cond (is_eq o) old (env.get m q)) p ∙ ap (λ b. cond b old (env.get m q)) apart)
+        ∙ h q v (sym (env.get-entries olds q) ∙ sym (ap (λ o. cond (is_eq o) None (env.get olds q)) p ∙ ap (λ b. cond b None (env.get olds q)) apart) ∙ there)
+
+pub taken-fewer : (olds : OldValues) (n : List ℕ) (old : Option (List ℕ)) → env.get olds n ≡ Some old → env.len (env.remove olds n) < env.len olds
+taken-fewer olds n old is =
+    let some : env.len olds ≢ 0 = λ z. false≢true (ap is_some (sym (ap (λ m. env.get m n) (env.empty_of_len olds z) ∙ env.get-empty bytes_cmp n) ∙ is)) in
+    let fewer : env.len (env.remove olds n) ≡ env.len olds - 1 = env.len-remove nat_list_cmp_total olds n ∙ ap (λ o. cond (is_some o) (env.len olds - 1) (env.len olds)) is in
+    omega (arith, some, fewer)

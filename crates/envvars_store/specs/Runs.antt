@@ -57,6 +57,11 @@ pub record IsLaid (area : List ℕ) (runs : List Run) : Type 0 where
   pub sorted : T (is_sorted bytes_cmp (listed area runs))
   pub formed : All (IsFormed area) (flat runs)
 
+-- what holds of runs of texts alone: they are laid over no area, and the count is that of their variables
+pub record AreTexts (runs : List Run) (count : ℕ) : Type 0 where
+  pub laid : IsLaid [] runs
+  pub counted : count ≡ length (listed [] runs)
+
 -- the last run whose first variable doesn't come after the name
 pub record IsRunOf (name area : List ℕ) (runs : List Run) (r : ℕ) : Type 0 where
   pub within : r < length runs

@@ -1,7 +1,7 @@
 -- One variable: a name and its value, each of its form.
-use Rattle.std.specs.Prelude.{ℕ, List, ◌∷◌, ◌++◌, IsTrue}
+use Rattle.std.specs.Prelude.{ℕ, ◌-◌, List, [], ◌∷◌, ◌++◌, length, take, IsTrue, Option, Some, None, unwrap_or, if◌then◌else◌}
 use Rattle.std.specs.Borrow.{Bor}
-use Rattle.envimg_core.specs.Environment.{Pair, is_name, is_value}
+use Rattle.envimg_core.specs.Environment.{Pair, is_empty, is_name, is_value}
 
 -- the name is a name, and the value a value
 abbrev pub IsVariable : Pair → Type 0
@@ -18,3 +18,15 @@ lent_pair lent = (lent.0.now, lent.1.now)
 -- a text that is lent
 abbrev pub lent_line : Bor (List ℕ) → List ℕ
 lent_line lent = lent.now
+
+-- a value, or that there is none, as a value: its bytes and a '-' behind them
+abbrev pub marked : Option (List ℕ) → List ℕ
+marked old = unwrap_or old [] ++ 45 ∷ []
+
+-- all but the last byte
+abbrev pub but_last : List ℕ → List ℕ
+but_last v = take (length v - 1) v
+
+-- what was marked: none where nothing stands in front of the mark
+abbrev pub unmarked : List ℕ → Option (List ℕ)
+unmarked v = if is_empty (but_last v) then None else Some (but_last v)

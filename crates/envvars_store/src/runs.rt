@@ -1,5 +1,5 @@
 // Slots in runs of a bounded length, so that a write moves one run at most.
-ghost use Rattle.std.specs.Prelude.{◌≡◌, ◌+◌, ◌<◌, ◌≤◌, suc, [], ◌∷◌, ◌++◌, length, All, IfOk, OnOk, OnErr};
+ghost use Rattle.std.specs.Prelude.{◌≡◌, ◌+◌, ◌<◌, ◌≤◌, suc, [], ◌∷◌, ◌++◌, length, All, IfOk, OnOk, OnErr, MatchOption};
 ghost use Rattle.envvars_store.specs.Runs.{flat, front, rest, later, slots_at, IsFilled};
 
 use crate::slots::Slot;
@@ -170,6 +170,24 @@ fn take_at(runs: &mut Vec<Run>, at: Spot)
     if runs[at.run].is_empty() {
         let _run = runs.remove(at.run);
     }
+}
+
+/// Takes out the last slot, and its run where that was its last. It takes no memory.
+pub(crate) fn take_last(runs: &mut Vec<Run>) -> Option<Slot>
+    requires { All IsFilled runs.old.items }
+    ensures taken { MatchOption result ((runs.old.items ≡ []) × (runs.new.items ≡ []))
+        (λ slot. flat runs.old.items ≡ flat runs.new.items ++ slot ∷ []) }
+    ensures filled { All IsFilled runs.new.items }
+{
+    if runs.is_empty() {
+        return None;
+    }
+    let last = runs.len() - 1;
+    let slot = runs[last].pop()?;
+    if runs[last].is_empty() {
+        let _run = runs.remove(last);
+    }
+    Some(slot)
 }
 
 // Makes a run and the one behind it one run, where they are short and it has the room.

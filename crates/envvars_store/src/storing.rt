@@ -1,7 +1,8 @@
 // The variables in the order of their names.
 ghost use Rattle.std.specs.Prelude.{◌≡◌, ◌↔◌, map, All, IsTrue, IsOk, IsSome, OnOk, OnErr, IfErr, IfSome, option_map};
 ghost use Rattle.std.specs.FinMap as env;
-ghost use Rattle.envimg_core.specs.Environment.{is_name, is_value};
+ghost use Rattle.envimg_core.specs.Environment.{bytes_cmp, is_name, is_value};
+ghost use Rattle.envvars_store.specs.Runs.{listed, IsLaid};
 ghost use Rattle.envvars_store.specs.Variable.{IsVariable, joined};
 
 use crate::finding::locate;
@@ -42,7 +43,23 @@ impl Model for Variables {
 /// given any other it does the same, more slowly.
 #[derive(Clone, Copy)]
 pub struct Near {
-    spot: Spot,
+    pub(crate) spot: Spot,
+}
+
+/// The value of a name among variables, if it has one, and where it was found or would stand.
+pub(crate) fn find_among<'a>(
+    area: &'a [u8],
+    runs: &'a [Run],
+    name: &[u8],
+) -> (Option<&'a [u8]>, Near)
+    requires { IsLaid area.now runs.now }
+    ensures value { option_map (λ v. v.now) result.0 ≡ env.get (env.from_sorted {R = bytes_cmp} (listed area.now runs.now)) name.now }
+    ensures formed { IfSome result.0 (λ v. IsVariable (name.now, v.now)) }
+{
+    match locate(area, runs, name) {
+        Ok(at) => (Some(runs[at.run][at.place].value(area)), Near { spot: at }),
+        Err(spot) => (None, Near { spot }),
+    }
 }
 
 impl Variables {
@@ -70,13 +87,7 @@ impl Variables {
         ensures value { option_map (λ v. v.now) result.0 ≡ env.get self.now name.now }
         ensures formed { IfSome result.0 (λ v. IsVariable (name.now, v.now)) }
     {
-        match locate(&self.area, &self.runs, name) {
-            Ok(at) => (
-                Some(self.runs[at.run][at.place].value(&self.area)),
-                Near { spot: at },
-            ),
-            Err(spot) => (None, Near { spot }),
-        }
+        find_among(&self.area, &self.runs, name)
     }
 
     /// Gives a name a value. The name is a name and the value a value (docs/images.md).

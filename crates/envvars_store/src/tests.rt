@@ -4,7 +4,7 @@ ghost use Rattle.envimg_core.specs.Environment.{is_name, is_value};
 
 mod ordered_map;
 
-use crate::{Text, Variables};
+use crate::{Text, Texts, Variables, unmarked};
 use std::alloc::{AllocError, Global};
 use std::test::Fail;
 
@@ -115,6 +115,53 @@ fn a_text_replaces_only_what_is_there(rt: HostRuntime) -> Result<(), Fail> {
         Err(back) => assert_eq!(rt; back.line(), b"a=22".as_slice()),
     }
     assert_eq!(rt; variables.get(b"a"), None);
+    Ok(())
+}
+
+#[test]
+fn texts_are_taken_out_from_the_last_name(rt: HostRuntime) -> Result<(), Fail> {
+    let alloc = rt.alloc();
+    let mut texts = Texts::new(alloc);
+    for (name, value) in [(b"b", b"2"), (b"c", b"3"), (b"a", b"1")] {
+        let (found, near) = texts.find(name);
+        if found.is_none() {
+            texts.add(near, Text::new(alloc, name, value)?)?;
+        }
+    }
+    assert_eq!(rt; texts.len(), 3);
+    texts.remove(b"b");
+    texts.remove(b"q");
+    assert_eq!(rt; texts.len(), 2);
+    let mut names = Vec::new(alloc);
+    for (name, _) in texts.iter() {
+        names.extend_from_slice(name)?;
+    }
+    assert_eq!(rt; names.as_slice(), b"ac".as_slice());
+    for wanted in [b"c=3".as_slice(), b"a=1".as_slice()] {
+        match texts.take_last() {
+            Some(text) => assert_eq!(rt; text.line(), wanted),
+            None => assert!(rt; false),
+        }
+    }
+    assert!(rt; texts.take_last().is_none());
+    assert_eq!(rt; texts.len(), 0);
+    Ok(())
+}
+
+#[test]
+fn a_mark_tells_no_value_from_each_value(rt: HostRuntime) -> Result<(), Fail> {
+    let alloc = rt.alloc();
+    let none = Text::marked(alloc, b"a", None)?;
+    assert_eq!(rt; none.line(), b"a=-".as_slice());
+    assert!(rt; none.unmarked().is_err());
+    let dash = Text::marked(alloc, b"a", Some(b"-"))?;
+    assert_eq!(rt; dash.line(), b"a=--".as_slice());
+    match dash.unmarked() {
+        Ok(text) => assert_eq!(rt; text.line(), b"a=-".as_slice()),
+        Err(_) => assert!(rt; false),
+    }
+    assert_eq!(rt; unmarked(b"-"), None);
+    assert_eq!(rt; unmarked(b"1-"), Some(b"1".as_slice()));
     Ok(())
 }
 

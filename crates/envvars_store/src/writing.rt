@@ -1,10 +1,21 @@
 // One variable as a text with memory of its own.
-ghost use Rattle.std.specs.Prelude.{◌≡◌, IfOk, IsTrue};
+ghost use Rattle.std.specs.Prelude.{◌≡◌, ◌++◌, None, Some, IfOk, IfErr, IfSome, IsTrue, option_copied, option_map};
 ghost use Rattle.envimg_core.specs.Environment.{is_name, is_value};
-ghost use Rattle.envvars_store.specs.Variable.{IsVariable, joined};
+ghost use Rattle.envvars_store.specs.Variable.{IsVariable, joined, marked, unmarked};
 
 use std::alloc::{AllocError, Global};
 use std::marker::Model;
+
+/// What stands behind a value that may be none.
+const MARK: u8 = b'-';
+
+/// What was marked, from a value with its mark.
+pub fn unmarked(value: &[u8]) -> Option<&[u8]>
+    ensures { option_map (λ v. v.now) result ≡ unmarked value.now }
+{
+    let old = &value[..value.len().saturating_sub(1)];
+    if old.is_empty() { None } else { Some(old) }
+}
 
 /// One variable as a text of its own: name, `=` and value.
 /// Contracts see the pair of the name and the value.
@@ -35,12 +46,45 @@ impl Text {
         requires value_form { IsTrue (is_value value.now) }
         ensures { IfOk result (λ t. t ≡ (name.now, value.now)) }
     {
+        Text::joined(alloc, name, value, &[])
+    }
+
+    /// A variable that says what `name` had: its value `old`, or none, with a mark behind it.
+    pub fn marked(alloc: Global, name: &[u8], old: Option<&[u8]>) -> Result<Text, AllocError>
+        requires name_form { IsTrue (is_name name.now) }
+        requires value_form { IfSome (option_copied old) (λ v. IsTrue (is_value v)) }
+        ensures { IfOk result (λ t. t ≡ (name.now, marked (option_copied old.entry))) }
+    {
+        Text::joined(alloc, name, old.unwrap_or(&[]), &[MARK])
+    }
+
+    // The variable `name` whose value is a front and a rest.
+    #[inline(always)]
+    fn joined(alloc: Global, name: &[u8], front: &[u8], rest: &[u8]) -> Result<Text, AllocError>
+        requires name_form { IsTrue (is_name name.now) }
+        requires value_form { IsTrue (is_value (front.now ++ rest.now)) }
+        ensures { IfOk result (λ t. t ≡ (name.now, front.now ++ rest.now)) }
+    {
         let middle = name.len();
-        let mut bytes = Vec::with_capacity(alloc, middle + value.len() + 1)?;
+        let length = (middle + front.len() + 1).saturating_add(rest.len());
+        let mut bytes = Vec::with_capacity(alloc, length)?;
         bytes.extend_from_slice(name)?;
         bytes.push(b'=')?;
-        bytes.extend_from_slice(value)?;
+        bytes.extend_from_slice(front)?;
+        bytes.extend_from_slice(rest)?;
         Ok(Text { bytes, middle })
+    }
+
+    /// The variable without its mark, or the text again where a mark is its whole value.
+    pub fn unmarked(mut self) -> Result<Text, Text>
+        ensures value { IfOk result (λ t. (t.0 ≡ self.0) × (unmarked self.1 ≡ Some t.1)) }
+        ensures none { IfErr result (λ t. (t ≡ self) × (unmarked self.1 ≡ None)) }
+    {
+        if self.bytes.len() - self.middle < 3 {
+            return Err(self);
+        }
+        let _mark = self.bytes.pop();
+        Ok(self)
     }
 
     /// Its name.

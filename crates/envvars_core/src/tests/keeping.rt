@@ -118,6 +118,6 @@ fn nothing_but_old_values_is_kept(rt: HostRuntime) {
     let defaults = Vars::empty(rt.alloc(), 4092);
     let mut olds = Olds::new(rt.alloc());
     keep(&rt, &mut vars, &mut olds, &defaults, "a=1;b=2;a=3");
-    let Olds { kept, alloc: _ } = &olds;
-    assert_eq!(rt; kept.len(), 2);
+    let Olds { texts, alloc: _ } = &olds;
+    assert_eq!(rt; texts.len(), 2);
 }

@@ -4,6 +4,7 @@ ghost use Rattle.std.specs.Prelude.{◌≡◌, ◌≤◌, ◌%◌, ◌^◌, ◌�
 ghost use Rattle.std.specs.FinMap as env;
 ghost use Rattle.envimg_core.specs.Environment.{used, is_name, is_value};
 ghost use Rattle.envimg_core.specs.Pieces.{with_value};
+ghost use Rattle.envvars_store.specs.Variable.{unmarked};
 ghost use Rattle.envvars_core.specs.Refusals.{given, after, refusal};
 ghost use Rattle.envvars_core.specs.Variables.{size_of};
 ghost use Rattle.envvars_core.specs.Olds.{same_value, kept, kept_by, restored, goes_in_place, HavePlaces, RestoredFits};
@@ -13,7 +14,7 @@ use crate::checks::{given, same_value};
 use crate::flags::{FLAGS_NAME, Flags};
 use crate::olds::Olds;
 use crate::refusals::{Memory, Refusal};
-use envvars_store::{Text, Variables};
+use envvars_store::{Near, Text, Variables, unmarked};
 
 impl Vars {
     /// Writes a new value, or deletes the variable where there is none or an empty one, and keeps the old value
@@ -135,37 +136,35 @@ fn swap_all(variables: &mut Variables, olds: &mut Olds, mut size: usize) -> usiz
     'kept: loop {
         match olds.pop() {
             None => return size,
-            Some((name, text)) => size = swap_one(variables, &name, text, size),
+            Some(text) => size = swap_one(variables, text, size),
         }
     }
 }
 
-/// Swaps one kept value in, and counts what it takes in place of the present one.
-fn swap_one(variables: &mut Variables, name: &[u8], text: Option<Text>, size: usize) -> usize
-    requires named { IfSome text (λ t. t.0 ≡ name.now) }
-    requires place { IfSome text (λ t. IsSome (env.get variables.old t.0)) }
+/// Swaps one kept value in, which is marked, and counts what it takes in place of the present one.
+fn swap_one(variables: &mut Variables, text: Text, size: usize) -> usize
+    requires place { IfSome (unmarked text.1) (λ v. IsSome (env.get variables.old text.0)) }
     requires sized { size ≡ used variables.old % 2 ^ 64 }
-    ensures swapped { variables.new ≡ with_value variables.old name.now (option_map (λ t. t.1) text) }
-    ensures sized { result ≡ used (with_value variables.old name.now (option_map (λ t. t.1) text)) % 2 ^ 64 }
+    ensures swapped { variables.new ≡ with_value variables.old text.0 (unmarked text.1) }
+    ensures sized { result ≡ used (with_value variables.old text.0 (unmarked text.1)) % 2 ^ 64 }
 {
-    let (present, near) = variables.find(name);
-    let present = size_of(name, present);
-    let kept = size_of(name, value_of(&text));
-    match text {
-        Some(text) => {
-            let _swapped = variables.replace(text);
-        }
-        None => variables.remove(near, name),
-    }
+    let (present, near) = variables.find(text.name());
+    let present = size_of(text.name(), present);
+    let kept = size_of(text.name(), unmarked(text.value()));
+    swap_text(variables, near, text);
     size.wrapping_sub(present).wrapping_add(kept)
 }
 
-fn value_of(text: &Option<Text>) -> Option<&[u8]>
-    ensures { option_copied result ≡ option_map (λ t. t.1) text.now }
+/// Swaps one kept value in, which is marked.
+fn swap_text(variables: &mut Variables, near: Near, text: Text)
+    requires { IfSome (unmarked text.1) (λ v. IsSome (env.get variables.old text.0)) }
+    ensures { variables.new ≡ with_value variables.old text.0 (unmarked text.1) }
 {
-    match text {
-        Some(text) => Some(text.value()),
-        None => None,
+    match text.unmarked() {
+        Ok(text) => {
+            let _swapped = variables.replace(text);
+        }
+        Err(text) => variables.remove(near, text.name()),
     }
 }
 

@@ -1,16 +1,18 @@
-use Rattle.std.proofs.Common.{subst, sym, ap, ◌∙◌, option_copied}
+use Rattle.std.proofs.Common.{ap, option_copied, ◌∙◌}
 use Rattle.std.specs.FinMap as env
-use Rattle.envvars_core.specs.Kept.{IsKeptForm}
-use Rattle.envvars_core.proofs.OldLemmas.{olds_of, form-insert, olds-insert, named-given, value-given}
+use Rattle.envimg_core.specs.Environment.{Pair}
+use Rattle.envvars_core.specs.Kept.{kept_in}
+use Rattle.envvars_core.proofs.OldLemmas.{kept-contains, kept-insert}
 use Rattle.envvars_core.proofs.olds.Olds.add.Goals as goal
 
-pub invariant_of-self-2 : goal.invariant_of-self-2
-invariant_of-self-2 c =
-    let named = named-given c.args.name.now (option_copied c.args.old) c.in_ok-name.name c.in_ok-text.text (c.in_ok-name.ensures.items_if_clones_equal (λ _ _ e. e)) c.in_ok-text.ensures in
-    subst IsKeptForm (sym c.in_ok-_old.ensures.entries) (form-insert c.self.inside.kept.entries c.in_ok-name.name c.in_ok-text.text c.self.invariant named)
+pub add-requires : goal.add-requires
+add-requires c =
+    ap (λ (t : Pair). env.contains_key c.self.inside.texts t.0) c.in_ok-text.ensures
+    ∙ kept-contains c.self.inside.texts c.args.name.now ∙ ap (λ o. env.contains_key o c.args.name.now) c.self.view_is ∙ c.requires.new
 
 pub returns-clause-ok : goal.returns-clause-ok
 returns-clause-ok c =
-    ap olds_of c.in_ok-_old.ensures.entries
-    ∙ olds-insert c.self.inside.kept.entries c.args.self.now c.in_ok-name.name c.in_ok-text.text c.self.invariant.sorted c.self.view_is
-    ∙ (λ i. env.insert c.args.self.now (c.in_ok-name.ensures.items_if_clones_equal (λ _ _ e. e) i) (value-given c.args.name.now (option_copied c.args.old) c.in_ok-text.text c.in_ok-text.ensures i))
+    ap kept_in c.in_ok-add.ensures.ok
+    ∙ ap (λ (t : Pair). kept_in (env.insert c.self.inside.texts t.0 t.1)) c.in_ok-text.ensures
+    ∙ kept-insert c.self.inside.texts c.args.name.now (option_copied c.args.old) c.requires.value_form
+    ∙ ap (λ o. env.insert o c.args.name.now (option_copied c.args.old)) c.self.view_is

@@ -1,7 +1,7 @@
-use Rattle.std.proofs.Common.{ℕ, ◌≡◌, ◌≤◌, Bool, true, false, cond, List, Option, IfSome, IsTrue, option_copied, sym, ap, subst, ◌∙◌, arith, rules}
+use Rattle.std.proofs.Common.{ℕ, ◌≡◌, ◌≤◌, true, false, cond, List, Option, IfSome, IsTrue, option_copied, sym, ap, subst, ◌∙◌, arith}
 use Rattle.std.specs.FinMap as env
-use Rattle.envimg_core.specs.Environment.{used, is_name, is_value}
-use Rattle.envvars_core.specs.Refusals.{given, IsAccepted}
+use Rattle.envimg_core.specs.Environment.{used, is_value}
+use Rattle.envvars_core.specs.Refusals.{given}
 use Rattle.envvars_core.specs.Variables.{Contents}
 use Rattle.envvars_core.specs.Olds.{OldValues, restored, kept, same_value}
 use Rattle.envvars_core.proofs.CheckLemmas.{accepted}
