@@ -3,6 +3,11 @@ set -euo pipefail
 top=$(cd "$(dirname "${BASH_SOURCE[0]}")/.." && pwd)
 work=${TMPDIR:-/tmp}/fwenv-bench-$(id -u)
 mkdir -p "$work"
+exec 9>"$work/lock"
+if ! flock -n 9; then
+    echo "$(basename "$0"): another measurement is running: both would be wrong" >&2
+    exit 1
+fi
 
 # need COMMAND [PACKAGE]: stops where a command is missing, and says which Debian package has it.
 need() {
