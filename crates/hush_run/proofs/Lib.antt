@@ -6,3 +6,4 @@ pub mod ItemLemmas
 pub mod BufferLemmas
 pub mod WordLemmas
 pub mod OutputLemmas
+pub mod CommandRows

@@ -39,3 +39,13 @@ abbrev pub exit_of : ℕ → List (List ℕ) → Option ℕ
 exit_of status [] = Some status
 exit_of status (digits ∷ []) = status_of digits
 exit_of status (digits ∷ more ∷ words) = None
+
+-- the simple command of `run` leaves the status; none, wrong use, where it has no name
+abbrev pub run_of : ℕ → List (List ℕ) → Option ℕ
+run_of status [] = None
+run_of status (name ∷ names) = Some status
+
+-- the same of `env delete [-f]`
+abbrev pub delete_of : ℕ → List (List ℕ) → Option ℕ
+delete_of status [] = None
+delete_of status (first ∷ words) = if bytes_eq (codes "-f") first then run_of status words else Some status

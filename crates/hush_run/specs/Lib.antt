@@ -15,3 +15,5 @@ pub mod Commands
 pub mod Writing
 pub mod Saving
 pub mod Listing
+pub mod Naming
+pub mod Carrying

@@ -25,9 +25,10 @@ complaint_view complaint = (complaint.message, complaint.name.now)
 abbrev pub Change : Type 0
 Change = Option About × Held
 
--- a command left this, or memory was refused and nothing has changed
+-- a command left this; where it complains, and where memory was refused, nothing has changed
 abbrev pub CarriesOut : Change → Held → Held → Result (Option Complaint) Memory → Type 0
-CarriesOut change old new (Ok complaint) = (option_map complaint_view complaint ≡ change.0) × (new ≡ change.1)
+CarriesOut change old new (Ok None) = (None ≡ change.0) × (new ≡ change.1)
+CarriesOut change old new (Ok (Some complaint)) = (Some (complaint_view complaint) ≡ change.0) × (new ≡ change.1) × (new ≡ old)
 CarriesOut change old new (Err refused) = new ≡ old
 
 -- the message about a refused write; want of memory has none

@@ -2,7 +2,7 @@
 ghost use Rattle.std.specs.Prelude.{◌≡◌, [], ◌++◌};
 ghost use Rattle.hush_calc.specs.Test.{test_of};
 ghost use Rattle.hush_run.specs.Output.{Prints, Answers};
-ghost use Rattle.hush_run.specs.Commands.{spaced, behind_spaces, echo_of, stand_in_of, exists_of, status_if, exit_of};
+ghost use Rattle.hush_run.specs.Commands.{spaced, behind_spaces, echo_of, stand_in_of, exists_of, status_if, exit_of, run_of, delete_of};
 
 use crate::builtins::is_text;
 use crate::output::{Output, PrintFault};
@@ -61,6 +61,30 @@ pub fn exit_status(status: u8, words: Fields<'_>) -> Option<u8>
         (None, _) => Some(status),
         (Some(digits), None) => read_status(digits),
         _ => None,
+    }
+}
+
+/// The status that the simple command of `run` leaves, which is the one that was; none where it has no name.
+pub fn run_status(status: u8, words: Fields<'_>) -> Option<u8>
+    ensures { result ≡ run_of status words.entry }
+{
+    let mut rest = words;
+    match rest.next() {
+        Some(_name) => Some(status),
+        None => None,
+    }
+}
+
+/// The status that the simple command of `env delete` leaves, which is the one that was; none where it has no name.
+/// `-f` as the first word is no name.
+pub fn delete_status(status: u8, words: Fields<'_>) -> Option<u8>
+    ensures { result ≡ delete_of status words.entry }
+{
+    let mut rest = words;
+    match rest.next() {
+        Some(first) if is_text(first, b"-f") => run_status(status, rest),
+        Some(_) => Some(status),
+        None => None,
     }
 }
 

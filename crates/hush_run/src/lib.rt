@@ -4,6 +4,8 @@
 #![tactic(auto)]
 
 mod builtins;
+mod carrying;
+mod command;
 pub mod commands;
 mod cuts;
 mod expansion;
@@ -23,6 +25,8 @@ mod stubs;
 mod tests;
 pub mod writing;
 
+pub use carrying::carry_out;
+pub use command::Command;
 pub use expansion_fault::ExpansionFault;
 pub use field_buffer::FieldBuffer;
 pub use limits::Limits;

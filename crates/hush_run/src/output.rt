@@ -1,5 +1,5 @@
 //! The text that a run prints.
-ghost use Rattle.std.specs.Prelude.{◌≡◌, ◌≤◌, [], ◌++◌, length};
+ghost use Rattle.std.specs.Prelude.{◌≡◌, ◌≤◌, [], ◌++◌, length, take};
 ghost use Rattle.hush_run.specs.Output.{printed, Prints};
 ghost use Rattle.hush_run.specs.Saving.{saved_line, Saves};
 
@@ -67,6 +67,13 @@ impl Output {
             Ok(()) => Ok(()),
             Err(_) => Err(PrintFault::Memory),
         }
+    }
+
+    /// Keeps the first bytes of what was printed, at most `len`.
+    pub(crate) fn cut(&mut self, len: usize)
+        ensures { self.new ≡ printed (take len self.old.text) self.old.limit }
+    {
+        self.text.truncate(len);
     }
 
     /// Prints three texts.

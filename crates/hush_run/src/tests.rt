@@ -1,5 +1,6 @@
 //! Limits and stand-in files by their rules (docs/runs.md). The values are worked out by hand.
 
+mod carrying;
 mod commands;
 mod expansions;
 mod words;

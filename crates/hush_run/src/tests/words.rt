@@ -1,5 +1,6 @@
 //! Fields and sessions for tests of commands.
 
+use crate::FieldBuffer;
 use env_session::{Session, Stored};
 use envimg_core::{Geometry, Layout};
 use envvars_core::Vars;
@@ -54,4 +55,18 @@ pub(crate) fn session(alloc: Global, size: u32) -> Result<Option<Session>, Alloc
         }
         None => Ok(None),
     }
+}
+
+/// The fields that stand between single spaces, as an expansion leaves them. No text has no field.
+pub(crate) fn fields(alloc: Global, text: &[u8]) -> Result<FieldBuffer, AllocError> {
+    let mut fields = FieldBuffer::new(alloc);
+    if text.is_empty() {
+        return Ok(fields);
+    }
+    for word in text.split(|b| *b == b' ') {
+        fields.begin();
+        fields.append(word)?;
+        fields.end()?;
+    }
+    Ok(fields)
 }

@@ -1,0 +1,180 @@
+//! Simple commands by their rules (docs/runs.md, "Commands"). Texts and statuses are worked out by hand.
+
+use crate::tests::words::{fields, session};
+use crate::{Command, Output, PrintFault, Stubs, carry_out};
+use env_session::{Session, Side};
+use std::alloc::{AllocError, Global};
+use std::test::Fail;
+
+/// What a command answers where `mmc` is a stand-in with status 3, and the status that was is 7.
+fn carried(
+    alloc: Global,
+    session: &mut Session,
+    text: &[u8],
+    output: &mut Output,
+) -> Result<Result<u8, PrintFault>, AllocError> {
+    match Stubs::parse(alloc, b"mmc 3") {
+        Ok(stubs) => {
+            let command = fields(alloc, text)?;
+            Ok(carry_out(alloc, session, &stubs, &command, 7, output))
+        }
+        Err(_) => Err(AllocError),
+    }
+}
+
+#[test]
+fn commands_answer_their_status_and_text(rt: HostRuntime) -> Result<(), Fail> {
+    let table: [(&[u8], u8, &[u8]); 48] = [
+        (b"", 0, b""),
+        (b"true x", 0, b""),
+        (b"false x", 1, b""),
+        (b"echo a b", 0, b"a b\n"),
+        (b"echo -n a", 0, b"a"),
+        (b"setenv n 1 2", 0, b""),
+        (b"printenv n", 0, b"n=1 2\n"),
+        (b"env print n q", 1, b"n=1 2\n## Error: \"q\" not defined\n"),
+        (b"env exists n", 0, b""),
+        (b"env exists q", 1, b""),
+        (b"env exists", 1, b"## Error: wrong use of 'env'\n"),
+        (b"env exists n n", 1, b"## Error: wrong use of 'env'\n"),
+        (b"env set -f k v", 0, b""),
+        (b"printenv", 0, b"k=v\nn=1 2\n"),
+        (b"setenv n", 0, b""),
+        (b"env print", 0, b"k=v\n"),
+        (b"setenv", 1, b"## Error: wrong use of 'setenv'\n"),
+        (b"env set -f", 1, b"## Error: wrong use of 'env'\n"),
+        (
+            b"setenv a=b x",
+            1,
+            b"## Error: bad name or value for \"a=b\"\n",
+        ),
+        (b"test 1 = 1", 0, b""),
+        (b"test 1 = 2", 1, b""),
+        (b"test", 1, b""),
+        (b"setexpr k ff + 1", 0, b""),
+        (b"printenv k", 0, b"k=100\n"),
+        (b"setexpr k 1 / 0", 1, b"## Error: division by zero\n"),
+        (b"setexpr.l k", 1, b"## Error: wrong use of 'setexpr.l'\n"),
+        (b"saveenv x", 1, b"## Error: wrong use of 'saveenv'\n"),
+        (b"env save x", 1, b"## Error: wrong use of 'env'\n"),
+        (b"saveenv", 0, b"Saved copy 1\n"),
+        (b"env save", 0, b"Saved copy 1\n"),
+        (b"run", 1, b"## Error: wrong use of 'run'\n"),
+        (b"run q", 7, b""),
+        (b"env run", 1, b"## Error: wrong use of 'env'\n"),
+        (b"env run q", 7, b""),
+        (b"env delete", 1, b"## Error: wrong use of 'env'\n"),
+        (b"env delete -f", 1, b"## Error: wrong use of 'env'\n"),
+        (b"env delete k", 7, b""),
+        (b"env delete -f k", 7, b""),
+        (b"env exists k", 0, b""),
+        (b"env", 1, b"## Error: wrong use of 'env'\n"),
+        (b"env default -a", 1, b"## Error: wrong use of 'env'\n"),
+        (b"exit", 7, b""),
+        (b"exit 003", 3, b""),
+        (b"exit 256", 1, b"## Error: wrong use of 'exit'\n"),
+        (b"mmc dev 0", 3, b"+ mmc dev 0\n"),
+        (b"mmc", 3, b"+ mmc\n"),
+        (b"ls -l", 1, b"Unknown command 'ls' - try 'help'\n"),
+        (b"Echo a", 1, b"Unknown command 'Echo' - try 'help'\n"),
+    ];
+    if let Some(mut session) = session(rt.alloc(), 64)? {
+        for (text, status, expected) in table {
+            let mut output = Output::new(rt.alloc(), 256);
+            let carried = carried(rt.alloc(), &mut session, text, &mut output)?;
+            assert_eq!(rt; carried, Ok(status), "of {text:?}");
+            assert_eq!(rt; output.text(), expected, "of {text:?}");
+        }
+    } else {
+        assert!(rt; false, "a session");
+    }
+    Ok(())
+}
+
+#[test]
+fn refused_texts_change_nothing(rt: HostRuntime) -> Result<(), Fail> {
+    let table: [&[u8]; 10] = [
+        b"echo c d",
+        b"printenv",
+        b"printenv q",
+        b"setenv",
+        b"setenv a=b x",
+        b"setexpr a 1 / 0",
+        b"saveenv",
+        b"mmc",
+        b"env",
+        b"ls",
+    ];
+    if let Some(mut session) = session(rt.alloc(), 64)? {
+        let mut output = Output::new(rt.alloc(), 6);
+        for text in [b"setenv a 1".as_slice(), b"setenv b 2", b"echo ab"] {
+            let carried = carried(rt.alloc(), &mut session, text, &mut output)?;
+            assert_eq!(rt; carried, Ok(0), "of {text:?}");
+        }
+        for text in table {
+            let carried = carried(rt.alloc(), &mut session, text, &mut output)?;
+            assert_eq!(rt; carried, Err(PrintFault::Output), "of {text:?}");
+            assert_eq!(rt; output.text(), b"ab\n".as_slice(), "of {text:?}");
+        }
+        let mut listed = Output::new(rt.alloc(), 256);
+        let carried_there = carried(rt.alloc(), &mut session, b"printenv", &mut listed)?;
+        assert_eq!(rt; carried_there, Ok(0));
+        assert_eq!(rt; listed.text(), b"a=1\nb=2\n".as_slice());
+        assert_eq!(rt; session.copy(Side::First), Some([0xFFu8; 64].as_slice()));
+        let carried = carried(rt.alloc(), &mut session, b"echo cd", &mut output)?;
+        assert_eq!(rt; carried, Ok(0));
+        assert_eq!(rt; output.text(), b"ab\ncd\n".as_slice());
+    } else {
+        assert!(rt; false, "a session");
+    }
+    Ok(())
+}
+
+#[test]
+fn a_save_with_words_saves_nothing(rt: HostRuntime) -> Result<(), Fail> {
+    if let Some(mut session) = session(rt.alloc(), 64)? {
+        let mut output = Output::new(rt.alloc(), 256);
+        for text in [b"saveenv x".as_slice(), b"env save x"] {
+            let carried = carried(rt.alloc(), &mut session, text, &mut output)?;
+            assert_eq!(rt; carried, Ok(1), "of {text:?}");
+        }
+        assert_eq!(rt; session.copy(Side::First), Some([0xFFu8; 64].as_slice()));
+    } else {
+        assert!(rt; false, "a session");
+    }
+    Ok(())
+}
+
+#[test]
+fn commands_leave_the_words_behind_their_name(rt: HostRuntime) -> Result<(), Fail> {
+    let table: [(&[u8], &[u8], Command, Option<&[u8]>); 12] = [
+        (b"setenv", b"n 1", Command::Set, Some(b"n")),
+        (b"env", b"set n 1", Command::Set, Some(b"n")),
+        (b"env", b"print", Command::Print, None),
+        (b"env", b"save", Command::Save, None),
+        (b"env", b"run a b", Command::Run, Some(b"a")),
+        (b"env", b"delete -f a", Command::Delete, Some(b"-f")),
+        (b"env", b"exists a", Command::Exists, Some(b"a")),
+        (b"env", b"settle a", Command::WrongUse, Some(b"a")),
+        (b"env", b"", Command::WrongUse, None),
+        (b"setexpr.q", b"a 1", Command::Calculate, Some(b"a")),
+        (b"mmc", b"dev 0", Command::StandIn(3), Some(b"dev")),
+        (b"mmcinfo", b"0", Command::Unknown, Some(b"0")),
+    ];
+    match Stubs::parse(rt.alloc(), b"mmc 3") {
+        Ok(stubs) => {
+            for (name, text, command, next) in table {
+                let behind = fields(rt.alloc(), text)?;
+                let mut words = behind.fields();
+                assert_eq!(rt;
+                    Command::of(&stubs, name, &mut words),
+                    command,
+                    "of {name:?}"
+                );
+                assert_eq!(rt; words.next(), next, "behind {name:?}");
+            }
+        }
+        Err(fault) => assert!(rt; false, "{fault:?}"),
+    }
+    Ok(())
+}
