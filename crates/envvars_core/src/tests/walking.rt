@@ -186,7 +186,6 @@ fn step(rt: &(impl Abort + AllocGlobal), walk: &mut Walk, random: &mut Random) -
         1 => walk.restore(rt),
         2 => walk.write(rt, b".flags", &[letter, digit, b':', b's', b'r'], true),
         3 => walk.write(rt, b".flags", b"", true),
-        4 => walk.compare(rt),
         _ => walk.write(rt, &[letter, digit], &LETTERS[start..start + length], force),
     }
 }
@@ -205,6 +204,7 @@ fn a_hundred_thousand_writes_marks_and_ways_back(rt: HostRuntime) -> Result<(), 
     let _fits = walk.vars.used();
     'steps: for _ in 0..100_000u32 {
         step(&rt, &mut walk, &mut random)?;
+        walk.compare(&rt)?;
     }
     walk.restore(&rt)
 }
