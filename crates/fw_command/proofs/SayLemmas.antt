@@ -1,16 +1,10 @@
 -- Texts that are said one after the other.
-use Rattle.std.proofs.Common.{◌≡◌, ◌++◌, ℕ, List, [], Option, Bool, true, false, subst, sym}
+use Rattle.std.proofs.Common.{◌++◌, ℕ, List, Option, Bool, true, false}
 use Rattle.std.specs.Prelude.{MatchBool}
-use Rattle.std.proofs.KnownBytes.{Appends-nil, Appends-trans}
+use Rattle.std.proofs.KnownBytes.{Appends-trans}
 use Rattle.std.specs.Io.KnownBytes.{Appends}
 use Rattle.fw_command.specs.Saying.{SaysSome}
 use Rattle.fw_tools.specs.Streams.{AppendsFront, AppendsPart}
-
-pub nothing_said : (a : Option (List ℕ)) → SaysSome a a
-nothing_said a = ([], Appends-nil a)
-
-pub same_said : (a b : Option (List ℕ)) → b ≡ a → SaysSome a b
-same_said a b is = subst (SaysSome a) (sym is) (nothing_said a)
 
 pub said_then : (a b c : Option (List ℕ)) → SaysSome a b → SaysSome b c → SaysSome a c
 said_then a b c p q = (p.0 ++ q.0, Appends-trans a b c p.0 q.0 p.1 q.1)
