@@ -1,0 +1,82 @@
+-- Fields as they are made, item by item, in one buffer.
+use Rattle.std.specs.Prelude.{◌≡◌, ℕ, ◌+◌, ◌<◌, ◌≤◌, Bool, true, false, List, [], ◌∷◌, ◌++◌, drop, length, map, option_map, fold, sum, Option, Some, None, Result, Ok, Err}
+use Rattle.hush_calc.specs.Fields.{pieces}
+use Rattle.hush_commands.specs.Expansion.{Item, Byte, Split, Mark, size, substituted}
+use Rattle.hush_commands.specs.declared.expansion_fault.ExpansionFault.{ExpansionFault}
+use Rattle.hush_commands.specs.declared.expansion_fault.ExpansionFault.TheVariants.{Word, Memory}
+
+-- the fields that are done, and the one that is begun
+pub record Made : Type 0 where
+  pub done : List (List ℕ)
+  pub begun : Option (List ℕ)
+
+-- fields that are all done
+abbrev pub whole : List (List ℕ) → Made
+whole done = record { done = done; begun = None }
+
+abbrev pub opened : Option (List ℕ) → List ℕ
+opened None = []
+opened (Some f) = f
+
+abbrev pub closed : Option (List ℕ) → List (List ℕ)
+closed None = []
+closed (Some f) = f ∷ []
+
+-- the field that is begun has these bytes too; one begins where none is begun
+abbrev pub with_bytes : Made → List ℕ → Made
+with_bytes m bs = record { done = m.done; begun = Some (opened m.begun ++ bs) }
+
+-- the field that is begun is done
+abbrev pub ended : Made → Made
+ended m = whole (m.done ++ closed m.begun)
+
+abbrev pub with_item : Made → Item → Made
+with_item m (Byte b) = with_bytes m (b ∷ [])
+with_item m (Split b) = ended m
+with_item m Mark = with_bytes m []
+
+abbrev pub with_items : Made → List Item → Made
+with_items m is = fold with_item m is
+
+-- how it lies in memory
+abbrev pub begun_at : Bool → List ℕ → Option (List ℕ)
+begun_at true bytes = Some bytes
+begun_at false bytes = None
+
+abbrev pub made : List ℕ → List ℕ → ℕ → Bool → Made
+made bytes lengths start begun = record { done = pieces bytes lengths; begun = begun_at begun (drop start bytes) }
+
+abbrev pub Rests : Bool → ℕ → List ℕ → Type 0
+Rests true start bytes = start ≤ length bytes
+Rests false start bytes = start ≡ length bytes
+
+abbrev pub IsBuffer : List ℕ → List ℕ → ℕ → Bool → Type 0
+IsBuffer bytes lengths start begun = (sum lengths ≡ start) × Rests begun start bytes
+
+-- the items of a word that isn't cut: a splitting blank is the byte that it was
+abbrev pub joined : Item → Item
+joined (Byte b) = Byte b
+joined (Split b) = Byte b
+joined Mark = Mark
+
+abbrev pub kept : (uncut : Bool) → List Item → List Item
+kept true is = map joined is
+kept false is = is
+
+-- the text is what stands before its first blank, that blank, and what stands behind it
+pub record CutsAtBlank (text front back : List ℕ) : Type 0 where
+  pub blank : ℕ
+  pub items : substituted false text ≡ map Byte front ++ Split blank ∷ substituted false back
+  pub shorter : length back < length text
+
+-- items are put behind a buffer, where a word may have so many more: how many it may have then
+abbrev pub Adds : List Item → ℕ → Made → Made → Result ℕ ExpansionFault → Type 0
+Adds is left old new (Ok rest) = (left ≡ size is + rest) × (new ≡ with_items old is)
+Adds is left old new (Err Word) = left < size is
+Adds is left old new (Err Memory) = Unit {0}
+
+-- what an expansion leaves: the fields that are wanted, or why there are none
+abbrev pub Expands : Option (List (List ℕ)) → Made → Result (Unit {0}) ExpansionFault → Type 0
+Expands wanted new (Ok u) = option_map whole wanted ≡ Some new
+Expands wanted new (Err Word) = wanted ≡ None
+Expands wanted new (Err Memory) = Unit {0}

@@ -1,0 +1,35 @@
+-- What a run has printed, and what is printed behind it.
+use Rattle.std.specs.Prelude.{◌≡◌, ℕ, ◌<◌, List, ◌++◌, length, Result, Ok, Err}
+use Rattle.hush_commands.specs.declared.output.PrintFault.{PrintFault}
+use Rattle.hush_commands.specs.declared.output.PrintFault.TheVariants.{Output, Memory}
+
+-- a text, and how long it may be
+pub record Printed : Type 0 where
+  pub text : List ℕ
+  pub limit : ℕ
+
+abbrev pub printed : List ℕ → ℕ → Printed
+printed text limit = record { text = text; limit = limit }
+
+-- what was printed stands, and perhaps something behind it
+abbrev pub GoesOn : Printed → Printed → Type 0
+GoesOn old new = (more : List ℕ) × (new ≡ printed (old.text ++ more) old.limit)
+
+-- a text is printed, or it doesn't fit, or memory was refused
+abbrev pub Prints : List ℕ → Printed → Printed → Result (Unit {0}) PrintFault → Type 0
+Prints text old new (Ok u) = new ≡ printed (old.text ++ text) old.limit
+Prints text old new (Err Output) = (old.limit < length (old.text ++ text)) × GoesOn old new
+Prints text old new (Err Memory) = GoesOn old new
+
+-- a command's status, and what it prints
+pub record Answer : Type 0 where
+  pub status : ℕ
+  pub text : List ℕ
+
+abbrev pub answer : ℕ → List ℕ → Answer
+answer status text = record { status = status; text = text }
+
+-- a command answers so, or its text doesn't fit, or memory was refused
+abbrev pub Answers : Answer → Printed → Printed → Result ℕ PrintFault → Type 0
+Answers a old new (Ok status) = (status ≡ a.status) × Prints a.text old new (Ok tt)
+Answers a old new (Err fault) = Prints a.text old new (Err fault)

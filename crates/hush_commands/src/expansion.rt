@@ -1,0 +1,157 @@
+//! The fields of words (docs/runs.md, "Expansion").
+ghost use Rattle.std.specs.Prelude.{◌≡◌, [], ◌∷◌, map, option_map, OnOk, MatchOption, false};
+ghost use Rattle.hush_words.specs.Parts.{part_atoms, word_atoms};
+ghost use Rattle.hush_words.specs.Ranges.{Fits};
+ghost use Rattle.hush_commands.specs.Expansion.{Byte, items_of, substituted, expanded, expanded_value};
+ghost use Rattle.hush_commands.specs.Buffers.{with_items, kept, Adds, CutsAtBlank, Expands};
+ghost use Rattle.hush_commands.specs.Scopes.{known};
+
+use crate::expansion_fault::ExpansionFault;
+use crate::field_buffer::FieldBuffer;
+use crate::scope::Scope;
+use hush_syntax::{Part, Word};
+use itoa::Buffer;
+use memchr::memchr3;
+use std::alloc::AllocError;
+
+impl FieldBuffer {
+    /// Makes the fields of words in place of those that it holds. A word has at most `limit` items that aren't marks.
+    ///
+    /// Where they aren't made, what it holds then isn't said; the next expansion begins anew.
+    pub fn expand(
+        &mut self,
+        scope: &Scope<'_>,
+        words: &[Word],
+        limit: u32,
+    ) -> Result<(), ExpansionFault>
+        ensures { Expands (expanded (known scope.now) limit (map (word_atoms scope.now.text.now) words.now)) self.new result }
+    {
+        self.clear();
+        for word in words {
+            self.add_word(scope, *word, false, limit as usize)?;
+            self.end()?;
+        }
+        Ok(())
+    }
+
+    /// Makes one field, which is the value that an assignment's word gives, in place of those that it holds.
+    pub fn expand_value(
+        &mut self,
+        scope: &Scope<'_>,
+        word: Word,
+        limit: u32,
+    ) -> Result<(), ExpansionFault>
+        ensures { Expands (option_map (λ v. v ∷ []) (expanded_value (known scope.now) limit (word_atoms scope.now.text.now word))) self.new result }
+    {
+        self.clear();
+        self.begin();
+        self.add_word(scope, word, true, limit as usize)?;
+        self.end()?;
+        Ok(())
+    }
+
+    /// Adds the items of a word, which is cut or not. Of those that aren't marks it may have `limit`; answers how many
+    /// more it could have.
+    fn add_word(
+        &mut self,
+        scope: &Scope<'_>,
+        word: Word,
+        uncut: bool,
+        limit: usize,
+    ) -> Result<usize, ExpansionFault>
+        ensures { Adds (kept uncut (items_of (known scope.now) (word_atoms scope.now.text.now word))) limit self.old self.new result }
+    {
+        let mut left = limit;
+        for part in scope.text.parts(word) {
+            left = self.add_part(scope, *part, uncut, left)?;
+        }
+        Ok(left)
+    }
+
+    /// Adds the items of a part.
+    fn add_part(
+        &mut self,
+        scope: &Scope<'_>,
+        part: Part,
+        uncut: bool,
+        left: usize,
+    ) -> Result<usize, ExpansionFault>
+        requires { Fits scope.now.text.now.source part }
+        ensures { Adds (kept uncut (items_of (known scope.now) (part_atoms scope.now.text.now.source part))) left self.old self.new result }
+    {
+        match part {
+            Part::Plain(span) => self.add_bytes(scope.text.bytes(span), left),
+            Part::Quoted(span) => self.add_bytes(scope.text.bytes(span), left),
+            Part::Mark => {
+                self.begin();
+                Ok(left)
+            }
+            Part::Value(span, quoted) => {
+                let value = scope.value(scope.text.bytes(span));
+                self.substitute(value, uncut | quoted, left)
+            }
+            Part::Status(quoted) => {
+                let mut digits = Buffer::new();
+                self.substitute(digits.format(scope.status).as_bytes(), uncut | quoted, left)
+            }
+        }
+    }
+
+    /// Adds a text that is substituted.
+    fn substitute(
+        &mut self,
+        text: &[u8],
+        quoted: bool,
+        left: usize,
+    ) -> Result<usize, ExpansionFault>
+        ensures { Adds (substituted quoted text.now) left self.old self.new result }
+    {
+        if quoted {
+            return self.add_bytes(text, left);
+        }
+        if text.len() > left {
+            return Err(ExpansionFault::Word);
+        }
+        match self.add_split(text) {
+            Ok(()) => Ok(left - text.len()),
+            Err(_) => Err(ExpansionFault::Memory),
+        }
+    }
+
+    /// Adds bytes.
+    fn add_bytes(&mut self, bytes: &[u8], left: usize) -> Result<usize, ExpansionFault>
+        ensures { Adds (map Byte bytes.now) left self.old self.new result }
+    {
+        if bytes.len() > left {
+            return Err(ExpansionFault::Word);
+        }
+        match self.append(bytes) {
+            Ok(()) => Ok(left - bytes.len()),
+            Err(_) => Err(ExpansionFault::Memory),
+        }
+    }
+
+    /// Adds a text that is cut at its blanks and newlines.
+    fn add_split(&mut self, text: &[u8]) -> Result<(), AllocError>
+        ensures { OnOk result (self.new ≡ with_items self.old (substituted false text.now)) }
+    {
+        let mut rest = text;
+        while let Some((front, behind)) = cut_at_blank(rest) {
+            self.append(front)?;
+            self.end()?;
+            rest = behind;
+        }
+        self.append(rest)
+    }
+}
+
+/// What stands before the first blank or newline of a text, and behind it; none where it has none.
+fn cut_at_blank(text: &[u8]) -> Option<(&[u8], &[u8])>
+    ensures { MatchOption result (substituted false text.now ≡ map Byte text.now)
+        (λ found. CutsAtBlank text.now found.0.now found.1.now) }
+{
+    match memchr3(b' ', b'\t', b'\n', text) {
+        Some(at) => Some((&text[..at], &text[at + 1..])),
+        None => None,
+    }
+}

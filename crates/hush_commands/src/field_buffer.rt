@@ -1,0 +1,103 @@
+//! Fields in one buffer.
+ghost use Rattle.std.specs.Prelude.{◌≡◌, [], map, OnOk, OnErr};
+ghost use Rattle.hush_commands.specs.Expansion.{Byte};
+ghost use Rattle.hush_commands.specs.Buffers.{whole, with_bytes, with_items, ended};
+
+use hush_calc::Fields;
+use std::alloc::{AllocError, Global};
+use std::marker::Model;
+
+/// The fields of a command: their bytes in one buffer, the length of each, and whether one more is begun.
+///
+/// A command leaves its memory to the next one.
+#[derive(Drop)]
+pub struct FieldBuffer {
+    bytes: Vec<u8>,
+    lengths: Vec<usize>,
+    start: usize,
+    begun: bool,
+}
+
+impl Model for FieldBuffer {
+    ghost use Rattle.hush_commands.specs.Buffers.{Made, made, IsBuffer};
+
+    ghost Value = { Made };
+
+    ghost view = { λ a. made a.bytes.items a.lengths.items a.start a.begun };
+
+    ghost invariant = { λ a. IsBuffer a.bytes.items a.lengths.items a.start a.begun };
+}
+
+impl FieldBuffer {
+    /// No fields. It takes no memory.
+    pub fn new(alloc: Global) -> FieldBuffer
+        ensures { result ≡ whole [] }
+    {
+        FieldBuffer {
+            bytes: Vec::new(alloc),
+            lengths: Vec::new(alloc),
+            start: 0,
+            begun: false,
+        }
+    }
+
+    /// The fields that are done, one after the other.
+    pub fn fields(&self) -> Fields<'_>
+        ensures { result ≡ self.now.done }
+    {
+        Fields::new(self.bytes.as_slice(), self.lengths.as_slice())
+    }
+
+    /// Forgets the fields, and keeps their memory.
+    pub(crate) fn clear(&mut self)
+        ensures { self.new ≡ whole [] }
+    {
+        self.bytes.clear();
+        self.lengths.clear();
+        self.start = 0;
+        self.begun = false;
+    }
+
+    /// Puts bytes behind the field that is begun, or begins one with them; no bytes begin none.
+    pub(crate) fn append(&mut self, bytes: &[u8]) -> Result<(), AllocError>
+        ensures ok { OnOk result (self.new ≡ with_items self.old (map Byte bytes.now)) }
+        ensures err { OnErr result (self.new ≡ self.old) }
+    {
+        if bytes.is_empty() {
+            return Ok(());
+        }
+        match self.bytes.extend_from_slice(bytes) {
+            Ok(()) => {
+                self.begun = true;
+                Ok(())
+            }
+            Err(refused) => Err(refused),
+        }
+    }
+
+    /// Begins a field where none is begun.
+    pub(crate) fn begin(&mut self)
+        ensures { self.new ≡ with_bytes self.old [] }
+    {
+        self.begun = true;
+    }
+
+    /// Ends the field that is begun, if one is.
+    pub(crate) fn end(&mut self) -> Result<(), AllocError>
+        ensures ok { OnOk result (self.new ≡ ended self.old) }
+        ensures err { OnErr result (self.new ≡ self.old) }
+    {
+        if !self.begun {
+            return Ok(());
+        }
+        let end = self.bytes.len();
+        match self.lengths.push(end - self.start) {
+            Ok(()) => {
+                self.start = end;
+                self.begun = false;
+                Ok(())
+            }
+            Err(_) => Err(AllocError),
+        }
+    }
+}

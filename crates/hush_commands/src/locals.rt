@@ -1,0 +1,64 @@
+//! Local variables.
+ghost use Rattle.std.specs.Prelude.{◌≡◌, OnOk, OnErr, option_copied};
+ghost use Rattle.std.specs.FinMap as env;
+
+use std::alloc::{AllocError, Global};
+use std::collections::BTreeMap;
+use std::marker::Model;
+
+/// The local variables of a run: names with values, which may be empty.
+#[derive(Drop)]
+pub struct Locals {
+    values: BTreeMap<Vec<u8>, Vec<u8>>,
+}
+
+impl Model for Locals {
+    ghost use Rattle.std.specs.Prelude.{T};
+    ghost use Rattle.std.specs.FinMap.Entries.{is_sorted};
+    ghost use Rattle.std.specs.FinMap as env;
+    ghost use Rattle.envimg_core.specs.Environment.{Environment, bytes_cmp};
+    ghost use Rattle.std.specs.Coded.{coded_list, coded_ℕ};
+    ghost use Rattle.hush_commands.specs.Entries.{entries_view, bytes_view};
+
+    ghost Value = { Environment };
+
+    ghost coded = { env.code (coded_list coded_ℕ) (coded_list coded_ℕ) };
+
+    ghost view = { λ a. env.from_sorted (entries_view bytes_view a.values.entries) };
+
+    ghost invariant = { λ a. T (is_sorted bytes_cmp (entries_view bytes_view a.values.entries)) };
+}
+
+impl Locals {
+    /// No local variables. It takes no memory.
+    pub fn new(alloc: Global) -> Locals
+        ensures { result ≡ env.empty }
+    {
+        Locals {
+            values: BTreeMap::new(alloc),
+        }
+    }
+
+    /// The value of a name, if it has one.
+    pub fn get(&self, name: &[u8]) -> Option<&[u8]>
+        ensures { option_copied result ≡ env.get self.now name.now }
+    {
+        match self.values.get(name) {
+            Some(value) => Some(value.as_slice()),
+            None => None,
+        }
+    }
+
+    /// Gives a name a value. Where a growth is refused, nothing has changed.
+    pub fn set(&mut self, alloc: Global, name: &[u8], value: &[u8]) -> Result<(), AllocError>
+        ensures ok { OnOk result (self.new ≡ env.insert self.old name.now value.now) }
+        ensures err { OnErr result (self.new ≡ self.old) }
+    {
+        let name = Vec::from_slice(alloc, name)?;
+        let value = Vec::from_slice(alloc, value)?;
+        match self.values.insert(name, value) {
+            Ok(_old) => Ok(()),
+            Err(_) => Err(AllocError),
+        }
+    }
+}

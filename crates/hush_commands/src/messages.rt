@@ -1,0 +1,73 @@
+//! What a run prints where a command fails (docs/runs.md, "Messages").
+ghost use Rattle.std.specs.Prelude.{◌≡◌};
+ghost use Rattle.hush_commands.specs.Output.{Prints, Answers, answer};
+ghost use Rattle.hush_commands.specs.Messages.{text_of, parts_of};
+
+use crate::output::{Output, PrintFault};
+
+/// A text about a name. Each ends with a newline.
+#[derive(Clone, Copy, Debug, PartialEq, Eq)]
+pub enum Message {
+    /// `printenv`, `run` or `env delete` finds no variable of the name.
+    NotDefined,
+    /// No command has the name.
+    UnknownCommand,
+    /// The command of the name has no such words.
+    WrongUse,
+    /// A write is refused: a name or a value hasn't its form.
+    BadForm,
+    /// A write is refused: the value hasn't the type.
+    BadType,
+    /// A write is refused: the variable can't be created.
+    NoCreate,
+    /// A write is refused: the variable can't be deleted.
+    NoDelete,
+    /// A write is refused: the variable can't be overwritten.
+    NoOverwrite,
+    /// A write is refused: there is no room.
+    Full,
+    /// An assignment or a for's variable has the name of a variable of the environment.
+    IsVariable,
+    /// The value that `run` was to start isn't a script.
+    NoScript,
+    /// `setexpr` divides by zero; no name is told.
+    DivisionByZero,
+}
+
+impl Message {
+    /// What stands before the name, the name, and what stands behind it.
+    fn parts(self, name: &[u8]) -> (&'static [u8], &[u8], &'static [u8])
+        ensures { (result.0.now, result.1.now, result.2.now) ≡ parts_of self name.now }
+    {
+        match self {
+            Message::NotDefined => (b"## Error: \"", name, b"\" not defined\n"),
+            Message::UnknownCommand => (b"Unknown command '", name, b"' - try 'help'\n"),
+            Message::WrongUse => (b"## Error: wrong use of '", name, b"'\n"),
+            Message::BadForm => (b"## Error: bad name or value for \"", name, b"\"\n"),
+            Message::BadType => (b"## Error: type check failure for \"", name, b"\"\n"),
+            Message::NoCreate => (b"## Error: Can't create \"", name, b"\"\n"),
+            Message::NoDelete => (b"## Error: Can't delete \"", name, b"\"\n"),
+            Message::NoOverwrite => (b"## Error: Can't overwrite \"", name, b"\"\n"),
+            Message::Full => (b"## Error: no room for \"", name, b"\"\n"),
+            Message::IsVariable => (b"## Error: \"", name, b"\" is an environment variable\n"),
+            Message::NoScript => (b"## Error: syntax error in \"", name, b"\"\n"),
+            Message::DivisionByZero => (b"## Error: division by zero", b"", b"\n"),
+        }
+    }
+
+    /// Prints the text about a name, given as raw bytes.
+    pub fn print(self, name: &[u8], output: &mut Output) -> Result<(), PrintFault>
+        ensures { Prints (text_of self name.now) output.old output.new result }
+    {
+        let (front, name, back) = self.parts(name);
+        output.print_parts(front, name, back)
+    }
+
+    /// Prints the text of a command that fails, which has status 1.
+    pub(crate) fn fail(self, name: &[u8], output: &mut Output) -> Result<u8, PrintFault>
+        ensures { Answers (answer 1 (text_of self name.now)) output.old output.new result }
+    {
+        self.print(name, output)?;
+        Ok(1)
+    }
+}

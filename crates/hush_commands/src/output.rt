@@ -1,0 +1,127 @@
+//! The text that a run prints.
+ghost use Rattle.std.specs.Prelude.{◌≡◌, ◌≤◌, [], ◌++◌, length, take};
+ghost use Rattle.hush_commands.specs.Output.{printed, Prints};
+ghost use Rattle.hush_commands.specs.Saving.{saved_line, Saves};
+
+use env_session::{Session, Side};
+use std::alloc::Global;
+use std::marker::Model;
+use thiserror::Error;
+
+/// Why a text isn't printed.
+#[derive(Clone, Copy, Debug, PartialEq, Eq, Error)]
+pub enum PrintFault {
+    /// It would bring the text of the run past its limit.
+    #[error("Output")]
+    Output,
+    /// A growth was refused.
+    #[error("Memory")]
+    Memory,
+}
+
+/// The text that a run prints, and how long it may be.
+#[derive(Drop)]
+pub struct Output {
+    text: Vec<u8>,
+    limit: u32,
+}
+
+impl Model for Output {
+    ghost use Rattle.std.specs.Prelude.{◌≤◌, length};
+    ghost use Rattle.hush_commands.specs.Output.{Printed, printed};
+
+    ghost Value = { Printed };
+
+    ghost view = { λ a. printed a.text.items a.limit };
+
+    ghost invariant = { λ a. length a.text.items ≤ a.limit };
+}
+
+impl Output {
+    /// No text, with room for `limit` bytes. It takes no memory.
+    pub fn new(alloc: Global, limit: u32) -> Output
+        ensures { result ≡ printed [] limit }
+    {
+        Output {
+            text: Vec::new(alloc),
+            limit,
+        }
+    }
+
+    /// What was printed.
+    pub fn text(&self) -> &[u8]
+        ensures text { result.now ≡ self.now.text }
+        ensures within { length result.now ≤ self.now.limit }
+    {
+        self.text.as_slice()
+    }
+
+    /// Prints a text. Where it can't be printed, what was printed before stands.
+    pub(crate) fn print(&mut self, text: &[u8]) -> Result<(), PrintFault>
+        ensures { Prints text.now self.old self.new result }
+    {
+        if text.len() > self.limit as usize - self.text.len() {
+            return Err(PrintFault::Output);
+        }
+        match self.text.extend_from_slice(text) {
+            Ok(()) => Ok(()),
+            Err(_) => Err(PrintFault::Memory),
+        }
+    }
+
+    /// Keeps the first bytes of what was printed, at most `len`.
+    pub(crate) fn cut(&mut self, len: usize)
+        ensures { self.new ≡ printed (take len self.old.text) self.old.limit }
+    {
+        self.text.truncate(len);
+    }
+
+    /// Prints three texts.
+    pub(crate) fn print_parts(
+        &mut self,
+        front: &[u8],
+        middle: &[u8],
+        back: &[u8],
+    ) -> Result<(), PrintFault>
+        ensures { Prints (front.now ++ (middle.now ++ back.now)) self.old self.new result }
+    {
+        self.print(front)?;
+        self.print(middle)?;
+        self.print(back)
+    }
+
+    /// `saveenv`: saves the session, and prints which copy was written. Its room is had before anything is saved.
+    pub fn save(&mut self, session: &mut Session) -> Result<(), PrintFault>
+        ensures { Saves session.old session.new self.old self.new result }
+    {
+        if SAVED_LEN > self.limit as usize - self.text.len() {
+            return Err(PrintFault::Output);
+        }
+        match self.text.reserve(SAVED_LEN) {
+            Ok(()) => {}
+            Err(_) => return Err(PrintFault::Memory),
+        }
+        match session.save() {
+            Ok(side) => {
+                let appended = self.text.extend_from_slice(saved_line(side));
+                prove!(appended.is_ok());
+                Ok(())
+            }
+            Err(_) => Err(PrintFault::Memory),
+        }
+    }
+}
+
+/// The length of the line that a save prints.
+const SAVED_LEN: usize = 13;
+
+/// The line that a save of this copy prints.
+fn saved_line(side: Side) -> &'static [u8]
+    ensures text { result.now ≡ saved_line side }
+    ensures len { length result.now ≡ SAVED_LEN }
+{
+    match side {
+        Side::First => b"Saved copy 1\n",
+        Side::Second => b"Saved copy 2\n",
+    }
+}

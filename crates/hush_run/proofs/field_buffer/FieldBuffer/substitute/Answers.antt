@@ -1,9 +1,0 @@
-use Rattle.std.proofs.Common.{arith}
-use Rattle.hush_run.proofs.ItemLemmas.{text-over, text-within}
-use Rattle.hush_run.proofs.field_buffer.FieldBuffer.substitute.Goals as goal
-
-pub returns-then-text-left : goal.returns-then-text-left
-returns-then-text-left c = text-over c.args.quoted c.args.text.now c.args.left c.if-quoted.false (omega (arith, c.if-text-left.true))
-
-pub returns-in-Ok : goal.returns-in-Ok
-returns-in-Ok c = text-within c.args.quoted c.args.text.now c.args.left c.args.self.now c.add_split.new.self c.if-quoted.false (omega (arith, c.if-text-left.false)) c.in-Ok.ensures
