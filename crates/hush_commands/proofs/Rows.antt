@@ -75,7 +75,7 @@ marks_have_no_size = refl
 
 -- words with a status of 7 and nothing else known
 nothing_known : Known
-nothing_known = record { text = written [] []; env = empty; locals = empty; status = 7 }
+nothing_known = record { env = empty; locals = empty; status = 7 }
 
 status_and_text : expanded nothing_known 2 ((Plain 97 ∷ Status false ∷ []) ∷ (Quoted 32 ∷ []) ∷ []) ≡ Some (codes "a7" ∷ codes " " ∷ [])
 unfolding fields nothing_known digits

@@ -80,3 +80,7 @@ abbrev pub Expands : Option (List (List ℕ)) → Made → Result (Unit {0}) Exp
 Expands wanted new (Ok u) = option_map whole wanted ≡ Some new
 Expands wanted new (Err Word) = wanted ≡ None
 Expands wanted new (Err Memory) = Unit {0}
+
+-- the fields that are left behind the first `done`, whose bytes end at `start`
+abbrev pub left_of : (bytes lengths : List ℕ) → (start done : ℕ) → List (List ℕ)
+left_of bytes lengths start done = pieces (drop start bytes) (drop done lengths)

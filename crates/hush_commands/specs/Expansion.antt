@@ -4,13 +4,11 @@ use Rattle.std.specs.List.{flat_map, list_all}
 use Rattle.std.specs.Option.{option_or}
 use Rattle.std.specs.FinMap.{get}
 use Rattle.envimg_core.specs.Environment.{Environment}
-use Rattle.hush_words.specs.Parts.{Written}
 use Rattle.hush_words.specs.Words.{Atom}
 use Rattle.hush_words.specs.Words.Atom.{Plain, Quoted, Value, Status, Mark as MarkAtom}
 
--- what words are expanded with: their text, the variables of the environment, the local ones, and the status
+-- what words are expanded with: the variables of the environment, the local ones, and the status
 pub record Known : Type 0 where
-  pub text : Written
   pub env : Environment
   pub locals : Environment
   pub status : ℕ

@@ -17,3 +17,5 @@ pub mod Saving
 pub mod Listing
 pub mod Naming
 pub mod Carrying
+pub mod Following
+pub mod Deletion

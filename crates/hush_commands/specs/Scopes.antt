@@ -3,4 +3,4 @@ use Rattle.hush_commands.specs.Expansion.{Known}
 use Rattle.hush_commands.specs.declared.scope.Scope.{Scope}
 
 abbrev pub known : Scope → Known
-known s = record { text = s.text.now; env = s.vars.now.env; locals = s.locals.now; status = s.status }
+known s = record { env = s.vars.now.env; locals = s.locals.now; status = s.status }

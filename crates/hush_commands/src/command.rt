@@ -77,7 +77,7 @@ impl Command {
     }
 
     /// The command that `env` with this word is.
-    fn of_env(word: &[u8]) -> Command
+    pub(crate) fn of_env(word: &[u8]) -> Command
         ensures { result ≡ env_command word.now }
     {
         if is_text(word, b"set") {

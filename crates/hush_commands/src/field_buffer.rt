@@ -3,9 +3,11 @@ ghost use Rattle.std.specs.Prelude.{◌≡◌, [], map, OnOk, OnErr};
 ghost use Rattle.hush_commands.specs.Expansion.{Byte};
 ghost use Rattle.hush_commands.specs.Buffers.{whole, with_bytes, with_items, ended};
 
+use crate::field_queue::FieldQueue;
 use hush_calc::Fields;
 use std::alloc::{AllocError, Global};
 use std::marker::Model;
+use std::mem;
 
 /// The fields of a command: their bytes in one buffer, the length of each, and whether one more is begun.
 ///
@@ -46,6 +48,23 @@ impl FieldBuffer {
         ensures { result ≡ self.now.done }
     {
         Fields::new(self.bytes.as_slice(), self.lengths.as_slice())
+    }
+
+    /// Gives the fields away, and their memory with them.
+    pub fn take(&mut self, alloc: Global) -> FieldQueue
+        ensures fields { result ≡ self.old.done }
+        ensures left { self.new ≡ whole [] }
+    {
+        let bytes = mem::replace(&mut self.bytes, Vec::new(alloc));
+        let lengths = mem::replace(&mut self.lengths, Vec::new(alloc));
+        self.start = 0;
+        self.begun = false;
+        FieldQueue {
+            bytes,
+            lengths,
+            start: 0,
+            done: 0,
+        }
     }
 
     /// Forgets the fields, and keeps their memory.

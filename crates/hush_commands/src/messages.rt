@@ -1,6 +1,6 @@
 //! What a run prints where a command fails (docs/runs.md, "Messages").
 ghost use Rattle.std.specs.Prelude.{◌≡◌};
-ghost use Rattle.hush_commands.specs.Output.{Prints, Answers, answer};
+ghost use Rattle.hush_commands.specs.Output.{Prints, PrintsWhole, Answers, answer};
 ghost use Rattle.hush_commands.specs.Messages.{text_of, parts_of};
 
 use crate::output::{Output, PrintFault};
@@ -61,6 +61,20 @@ impl Message {
     {
         let (front, name, back) = self.parts(name);
         output.print_parts(front, name, back)
+    }
+
+    /// Prints the text about a name, or nothing of it.
+    pub fn tell(self, name: &[u8], output: &mut Output) -> Result<(), PrintFault>
+        ensures { PrintsWhole (text_of self name.now) output.old output.new result }
+    {
+        let start = output.text().len();
+        match self.print(name, output) {
+            Ok(()) => Ok(()),
+            Err(fault) => {
+                output.cut(start);
+                Err(fault)
+            }
+        }
     }
 
     /// Prints the text of a command that fails, which has status 1.

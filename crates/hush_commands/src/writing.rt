@@ -86,7 +86,7 @@ fn write_words<'a>(
 }
 
 /// Writes a text.
-fn write<'a>(
+pub(crate) fn write<'a>(
     session: &mut Session,
     name: &'a [u8],
     text: &[u8],

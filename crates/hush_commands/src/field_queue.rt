@@ -1,0 +1,52 @@
+//! Fields that are taken one after the other.
+ghost use Rattle.std.specs.Prelude.{◌≡◌, ◌==◌, length, drop};
+
+use hush_calc::Fields;
+use std::marker::Model;
+
+/// The fields of a command that are left to be done, one after the other. It owns their bytes.
+#[derive(Drop)]
+pub struct FieldQueue {
+    pub(crate) bytes: Vec<u8>,
+    pub(crate) lengths: Vec<usize>,
+    pub(crate) start: usize,
+    pub(crate) done: usize,
+}
+
+impl Model for FieldQueue {
+    ghost use Rattle.std.specs.Prelude.{ℕ, List, length, ◌≤◌};
+    ghost use Rattle.hush_commands.specs.Buffers.{left_of};
+
+    ghost Value = { List (List ℕ) };
+
+    ghost view = { λ a. left_of a.bytes.items a.lengths.items a.start a.done };
+
+    ghost invariant = { λ a. (a.start ≤ length a.bytes.items) × (a.done ≤ length a.lengths.items) };
+}
+
+impl FieldQueue {
+    /// The fields that are left.
+    pub fn fields(&self) -> Fields<'_>
+        ensures { result ≡ self.now }
+    {
+        Fields::new(&self.bytes[self.start..], &self.lengths[self.done..])
+    }
+
+    /// Whether no field is left.
+    pub fn is_empty(&self) -> bool
+        ensures { result ≡ (length self.now == 0) }
+    {
+        self.fields().next().is_none()
+    }
+
+    /// Leaves the first field behind, if one is left.
+    pub fn advance(&mut self)
+        ensures { self.new ≡ drop 1 self.old }
+    {
+        if self.done < self.lengths.len() {
+            let len = self.lengths[self.done];
+            self.start += len.min(self.bytes.len() - self.start);
+            self.done += 1;
+        }
+    }
+}
