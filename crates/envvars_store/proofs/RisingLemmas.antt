@@ -1,9 +1,9 @@
 -- Entries whose names rise: each is put at the end.
-use Rattle.std.proofs.Common.{◌≡◌, ◌≢◌, ℕ, suc, ◌+◌, ◌-◌, ◌<◌, T, false, List, [], ◌∷◌, ◌++◌, length, take, drop, get_or, fold, filter, All, Some, sym, ap, subst, ◌∙◌, arith, set, Less, Greater, append-nil, append_assoc, slice_range, length-take, get_or-drop, get_or-take, eqb-true}
+use Rattle.std.proofs.Common.{◌≡◌, ◌≢◌, ℕ, ◌+◌, ◌-◌, ◌<◌, T, false, List, [], ◌∷◌, ◌++◌, length, take, drop, get_or, fold, filter, All, Some, sym, ap, subst, ◌∙◌, arith, Less, Greater, append-nil, slice_range, length-take, get_or-drop, get_or-take, eqb-true}
 use Rattle.std.specs.FinMap as env
 use Rattle.std.specs.FinMap.Entries.{put, is_sorted}
 use Rattle.std.proofs.lemmas.Cmp.{nat_list_cmp_total}
-use Rattle.std.proofs.lemmas.List.{map-append, drop_all}
+use Rattle.std.proofs.lemmas.List.{map-append}
 use Rattle.std.proofs.lemmas.List.Elements.{All-push}
 use Rattle.memchr.specs.Find.{IsFirstByte, is_byte}
 use Rattle.envimg_core.specs.Environment.{is_equals, bytes_cmp, Environment}
@@ -11,26 +11,15 @@ use Rattle.envimg_core.specs.Pieces.{entries_of, entry_of, has_name, after_entry
 use Rattle.envvars_store.specs.Order.{AllBefore}
 use Rattle.envvars_store.specs.Laying.{pair_of, IsPlaced}
 use Rattle.envvars_store.specs.Pieces.{IsPiece, IsNextPlace}
-use Rattle.envvars_store.specs.Runs.{Run, flat, pairs, listed, IsFilled, IsFormed, IsLaid, slots_at}
+use Rattle.envvars_store.specs.Runs.{Run, flat, pairs, listed, IsFilled, IsFormed, IsLaid}
 use Rattle.envvars_store.specs.declared.slots.Place.{Place}
 use Rattle.envvars_store.specs.declared.slots.Slot.{Slot}
 use Rattle.envvars_store.specs.declared.slots.Slot.TheVariants.{Placed}
 use Rattle.envvars_store.proofs.OrderLemmas.{turned, put_between, all_before_push}
 use Rattle.envvars_store.proofs.MapLemmas.{env_of, env_put, sorted_put}
-use Rattle.envvars_store.proofs.RunLemmas.{flat_cut, flat_set, slots_read}
 use Rattle.envvars_store.specs.Variable.{IsVariable}
 use Rattle.envvars_store.proofs.CompareLemmas.{not_empty}
 use Rattle.envvars_store.proofs.EntryLemmas.{before_at, piece_read, piece_long, name_part, place_formed, place_gives}
-
--- a slot pushed onto the last run
-pub pushed_last : (runs : List Run) (r : ℕ) (x y : Run) (p : Slot) → r + 1 ≡ length runs → x ≡ get_or runs r x → y.items ≡ x.items ++ p ∷ [] → flat (set runs r y) ≡ flat runs ++ p ∷ []
-pushed_last runs r x y p h at is =
-    let within : r < length runs = omega arith in
-    let none : drop (suc r) runs ≡ [] = drop_all (suc r) runs (omega arith) in
-    flat_set runs r y within
-    ∙ ap (λ m. flat (take r runs) ++ (y.items ++ flat m)) none ∙ ap (λ m. flat (take r runs) ++ m) (append-nil y.items ∙ is)
-    ∙ sym (append_assoc (flat (take r runs)) x.items (p ∷ []))
-    ∙ ap (λ m. m ++ p ∷ []) (sym (flat_cut runs r within ∙ ap (λ m. flat (take r runs) ++ (slots_at runs r ++ flat m)) none ∙ ap (λ m. flat (take r runs) ++ m) (append-nil (slots_at runs r) ∙ slots_read runs r x within at)))
 
 -- a name after the last one comes after all
 abbrev pub RisesTo : (area : List ℕ) (runs : List Run) (last : List ℕ) → Type 0
@@ -105,3 +94,12 @@ next_place_is area s k e last p a b c piece f m g =
 -- at the beginning there are no variables
 pub rises_none : (area : List ℕ) (runs : List Run) → runs ≡ [] → RisesTo area runs []
 rises_none area runs e = λ q g. subst (λ rs. AllBefore q (listed area rs)) (sym e) tt
+
+-- the first run, with one slot
+pub first_run_filled : (runs : List Run) (run : Run) (p : Slot) → runs ≡ [] → run.items ≡ p ∷ [] → All IsFilled (runs ++ run ∷ [])
+first_run_filled runs run p none is =
+    let some : 0 < length run.items = subst (λ xs. 0 < length xs) (sym is) (omega arith) in
+    subst (λ rs. All IsFilled (rs ++ run ∷ [])) (sym none) (All-push IsFilled [] run (λ k d h. absurd (omega arith)) (omega (arith, run.ok.0, some)))
+
+pub first_run_flat : (runs : List Run) (run : Run) (p : Slot) → runs ≡ [] → run.items ≡ p ∷ [] → flat (runs ++ run ∷ []) ≡ flat runs ++ p ∷ []
+first_run_flat runs run p none is = ap (λ rs. flat (rs ++ run ∷ [])) none ∙ append-nil run.items ∙ is ∙ sym (ap (λ rs. flat rs ++ p ∷ []) none)

@@ -1,15 +1,16 @@
 // The variables of a data area.
-ghost use Rattle.std.specs.Prelude.{◌≡◌, ◌<◌, ◌≤◌, ◌^◌, length, fold, filter, IfOk, IfSome, OnOk, MatchOption, take, drop, false, [], ◌∷◌, All, slice_range};
+ghost use Rattle.std.specs.Prelude.{◌≡◌, ◌+◌, ◌<◌, ◌≤◌, ◌^◌, length, fold, filter, IfOk, IfSome, OnOk, MatchOption, take, drop, false, [], ◌∷◌, All, slice_range};
 ghost use Rattle.envimg_core.specs.Pieces.{entries_of, vars_of, entry_of, has_name, after_entry};
 ghost use Rattle.std.specs.FinMap as env;
 ghost use Rattle.envvars_store.specs.Pieces.{IsPiece, IsNextPlace};
+ghost use Rattle.envvars_store.specs.Laying.{IsPlace};
 ghost use Rattle.envvars_store.specs.Runs.{listed, IsLaid};
 ghost use Rattle.envimg_core.specs.Environment.{is_equals};
 
 use crate::comparing::rising_end;
 use crate::copying::copied;
 use crate::placing::{forget, set};
-use crate::runs::{Run, end_of, push};
+use crate::runs::{Run, add, end_of, run_of_one};
 use crate::seeking::{near, rises};
 use crate::slots::{Place, Slot};
 use crate::storing::Variables;
@@ -58,20 +59,41 @@ fn rising(alloc: Global, area: &[u8], runs: &mut Vec<Run>) -> Result<usize, Allo
     ensures left { IfOk result (λ at. fold after_entry (env.from_sorted (listed area.now runs.new.items))
         (entries_of (drop at area.now)) ≡ vars_of (entries_of area.now)) }
 {
-    let mut at = 0;
-    let mut from = 0;
-    let mut last: &[u8] = &[];
+    let Some(first) = next_place(area, 0, 0, &[]) else {
+        return Ok(0);
+    };
+    let mut run = run_of_one(alloc, Slot::Placed(first))?;
+    let mut last = first;
     'walk: loop {
-        match next_place(area, at, from, last) {
-            None => return Ok(at),
+        match place_behind(area, last) {
+            None => {
+                runs.push(run)?;
+                return Ok(last.end as usize + 1);
+            }
             Some(place) => {
-                push(alloc, runs, Slot::Placed(place))?;
-                from = place.start as usize;
-                last = &area[from..place.middle as usize];
-                at = place.end as usize + 1;
+                add(alloc, runs, &mut run, Slot::Placed(place))?;
+                last = place;
             }
         }
     }
+}
+
+// The place of the entry behind another, if it has a value and its name comes after the other's.
+#[inline(always)]
+fn place_behind(area: &[u8], last: Place) -> Option<Place>
+    requires place { IsPlace area.now last }
+    requires ends { last.end < length area.now }
+    requires size { length area.now ≤ 1048576 }
+    requires plain { All (λ b. is_equals b ≡ false) (slice_range area.now last.start last.middle) }
+    ensures { IfSome result (IsNextPlace area.now (last.end + 1) (slice_range area.now last.start last.middle)) }
+{
+    let from = last.start as usize;
+    next_place(
+        area,
+        last.end as usize + 1,
+        from,
+        &area[from..last.middle as usize],
+    )
 }
 
 // The place of the entry that begins at a place, if it has a value and its name comes after another, which stands before it.

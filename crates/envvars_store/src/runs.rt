@@ -4,6 +4,7 @@ ghost use Rattle.envvars_store.specs.Runs.{flat, front, rest, later, slots_at, I
 
 use crate::slots::Slot;
 use std::alloc::{AllocError, Global};
+use std::mem::replace;
 
 /// A run of slots, at most `MOST` of them.
 pub(crate) type Run = Vec<Slot>;
@@ -32,20 +33,24 @@ pub(crate) fn end_of(runs: &[Run]) -> Spot {
     }
 }
 
-/// Puts a slot behind all others.
-pub(crate) fn push(alloc: Global, runs: &mut Vec<Run>, slot: Slot) -> Result<(), AllocError>
-    requires { All IsFilled runs.old.items }
-    ensures ok { OnOk result (flat runs.new.items ≡ flat runs.old.items ++ slot ∷ []) }
-    ensures filled { OnOk result (All IsFilled runs.new.items) }
+/// Puts a slot behind those of a run that stands behind all others and not yet among them; a full one goes there first.
+#[inline(always)]
+pub(crate) fn add(
+    alloc: Global,
+    runs: &mut Vec<Run>,
+    run: &mut Run,
+    slot: Slot,
+) -> Result<(), AllocError>
+    requires { All IsFilled (runs.old.items ++ run.old ∷ []) }
+    ensures ok { OnOk result (flat (runs.new.items ++ run.new ∷ []) ≡ flat (runs.old.items ++ run.old ∷ []) ++ slot ∷ []) }
+    ensures filled { OnOk result (All IsFilled (runs.new.items ++ run.new ∷ [])) }
 {
-    let last = runs.len();
-    if last > 0 && runs[last - 1].len() < MOST {
-        let run = &mut runs[last - 1];
+    if run.len() < MOST {
         run.push(slot)?;
         return Ok(());
     }
-    let run = run_of_one(alloc, slot)?;
-    runs.push(run)?;
+    let full = replace(run, run_of_one(alloc, slot)?);
+    runs.push(full)?;
     Ok(())
 }
 
@@ -93,8 +98,8 @@ fn insert_in(runs: &mut Vec<Run>, at: Spot, slot: Slot) -> Result<(), AllocError
     Ok(())
 }
 
-// A new run, with room for all that it may get.
-fn run_of_one(alloc: Global, slot: Slot) -> Result<Run, AllocError>
+/// A new run, with room for all that it may get.
+pub(crate) fn run_of_one(alloc: Global, slot: Slot) -> Result<Run, AllocError>
     ensures { IfOk result (λ r. r.items ≡ slot ∷ []) }
 {
     let mut run = Vec::with_capacity(alloc, MOST)?;
