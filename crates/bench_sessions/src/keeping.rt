@@ -3,7 +3,7 @@ ghost use Rattle.std.specs.Prelude.{◌≡◌, ◌≤◌};
 ghost use Rattle.envvars_core.specs.Olds.{restored, RestoredFits};
 
 use crate::{Mode, Outcome, Task};
-use bench_parts::{Step, name};
+use bench_parts::{Order, Step, name};
 use envvars_core::laws::nothing_restored;
 use envvars_core::{Olds, Vars};
 use std::alloc::{AllocError, Global};
@@ -14,14 +14,27 @@ use std::time::Instant;
 const AMPLE_ROOM: u32 = 16_777_216;
 
 /// The parts over kept values.
-pub const PARTS: [&str; 6] = [
+pub const PARTS: [&str; 7] = [
     "write",
     "write_kept",
+    "write_kept-sorted",
     "restore-changed",
     "restore-created",
     "restore-deleted",
     "one-name",
 ];
+
+/// How the names of a part are written that are kept already.
+#[derive(Clone, Copy, PartialEq, Eq)]
+enum Writing {
+    /// By plain writes.
+    Plain,
+    /// By kept ones.
+    Kept,
+    /// By kept ones, where the variables came in ascending order and the kept ones in that of the part. So the two
+    /// don't stand at the same spots, unless that is ascending too.
+    Sorted,
+}
 
 /// What is done with the names of a part.
 #[derive(Clone, Copy, PartialEq, Eq)]
@@ -45,8 +58,9 @@ struct Kept {
 /// The outcome of a part over kept values, none where it is none of them.
 pub fn run(rt: &HostRuntime, part: &str, task: &Task) -> io::Result<Option<Outcome>> {
     let outcome = match part {
-        "write" => writes(rt, task, false)?,
-        "write_kept" => writes(rt, task, true)?,
+        "write" => writes(rt, task, Writing::Plain)?,
+        "write_kept" => writes(rt, task, Writing::Kept)?,
+        "write_kept-sorted" => writes(rt, task, Writing::Sorted)?,
         "restore-changed" => restore(rt, task, Change::Changed)?,
         "restore-created" => restore(rt, task, Change::Created)?,
         "restore-deleted" => restore(rt, task, Change::Deleted)?,
@@ -121,16 +135,19 @@ fn kept_of(alloc: Global, steps: &[Step]) -> Kept
 }
 
 /// A write of each name whose old value is kept already, as a kept one or as a plain one.
-fn writes(rt: &HostRuntime, task: &Task, keeps: bool) -> io::Result<Outcome> {
+fn writes(rt: &HostRuntime, task: &Task, writing: Writing) -> io::Result<Outcome> {
     let steps = task.order.steps(rt.alloc(), task.count)?;
-    let mut kept = kept_of(rt.alloc(), &steps);
+    let first = match writing {
+        Writing::Sorted => Order::Ascending,
+        _ => task.order,
+    };
+    let mut kept = kept_of(rt.alloc(), &first.steps(rt.alloc(), task.count)?);
     let mut refused = keep_all(&mut kept, &steps, b"other");
     let start = Instant::now(rt)?;
     if task.mode != Mode::Ready {
-        refused = if keeps {
-            keep_all(&mut kept, &steps, b"third")
-        } else {
-            write_all(&mut kept.vars, &kept.defaults, &steps, b"third")
+        refused = match writing {
+            Writing::Plain => write_all(&mut kept.vars, &kept.defaults, &steps, b"third"),
+            _ => keep_all(&mut kept, &steps, b"third"),
         };
     }
     let taken = start.elapsed(rt)?.as_nanos();

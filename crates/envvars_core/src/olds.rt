@@ -63,11 +63,11 @@ impl Olds {
         }
     }
 
-    /// Whether a name is kept, and where it was found or would stand.
-    fn find(&self, name: &[u8]) -> (bool, Near)
+    /// Whether a name is kept, and where it was found or would stand. A spot that is guessed is looked at first.
+    fn find(&self, guess: Near, name: &[u8]) -> (bool, Near)
         ensures { result.0 ≡ env.contains_key self.now name.now }
     {
-        let (kept, near) = self.texts.find(name);
+        let (kept, near) = self.texts.find_near(guess, name);
         (kept.is_some(), near)
     }
 
@@ -75,20 +75,25 @@ impl Olds {
     pub(crate) fn has(&self, name: &[u8]) -> bool
         ensures { result ≡ env.contains_key self.now name.now }
     {
-        let (is_kept, _) = self.find(name);
-        is_kept
+        self.old(name).is_some()
     }
 
     /// Keeps the old value of a name, unless one is kept already, and answers whether it is kept only now.
     /// Where memory runs out, nothing has changed.
-    pub(crate) fn keep(&mut self, name: &[u8], old: Option<&[u8]>) -> Result<bool, Memory>
+    /// `near` is where a look-up of the name ended among the variables: the first guess of where it is kept.
+    pub(crate) fn keep(
+        &mut self,
+        near: Near,
+        name: &[u8],
+        old: Option<&[u8]>,
+    ) -> Result<bool, Memory>
         requires name_form { IsTrue (is_name name.now) }
         requires value_form { IfSome (option_copied old) (λ v. IsTrue (is_value v)) }
         ensures kept { OnOk result (self.new ≡ kept self.old name.now (option_copied old.entry)) }
         ensures added { IfOk result (λ added. added ≡ not (env.contains_key self.old name.now)) }
         ensures unchanged { OnErr result (self.new ≡ self.old) }
     {
-        let (is_kept, near) = self.find(name);
+        let (is_kept, near) = self.find(near, name);
         if is_kept {
             return Ok(false);
         }

@@ -5,7 +5,7 @@ ghost use Rattle.envimg_core.specs.Environment.{bytes_cmp, is_name, is_value};
 ghost use Rattle.envvars_store.specs.Runs.{listed, IsLaid};
 ghost use Rattle.envvars_store.specs.Variable.{IsVariable, joined};
 
-use crate::finding::locate;
+use crate::finding::{locate, locate_guessed};
 use crate::iterating::{Iter, Lines};
 use crate::placing::{forget, set};
 use crate::runs::{Run, Spot, replace_at};
@@ -47,16 +47,19 @@ pub struct Near {
 }
 
 /// The value of a name among variables, if it has one, and where it was found or would stand.
+/// A spot that is guessed is looked at first.
+#[inline(always)]
 pub(crate) fn find_among<'a>(
     area: &'a [u8],
     runs: &'a [Run],
     name: &[u8],
+    guess: Option<Spot>,
 ) -> (Option<&'a [u8]>, Near)
     requires { IsLaid area.now runs.now }
     ensures value { option_map (λ v. v.now) result.0 ≡ env.get (env.from_sorted {R = bytes_cmp} (listed area.now runs.now)) name.now }
     ensures formed { IfSome result.0 (λ v. IsVariable (name.now, v.now)) }
 {
-    match locate(area, runs, name) {
+    match locate_guessed(area, runs, name, guess) {
         Ok(at) => (Some(runs[at.run][at.place].value(area)), Near { spot: at }),
         Err(spot) => (None, Near { spot }),
     }
@@ -87,7 +90,7 @@ impl Variables {
         ensures value { option_map (λ v. v.now) result.0 ≡ env.get self.now name.now }
         ensures formed { IfSome result.0 (λ v. IsVariable (name.now, v.now)) }
     {
-        find_among(&self.area, &self.runs, name)
+        find_among(&self.area, &self.runs, name, None)
     }
 
     /// Gives a name a value. The name is a name and the value a value (docs/images.md).

@@ -148,6 +148,30 @@ fn texts_are_taken_out_from_the_last_name(rt: HostRuntime) -> Result<(), Fail> {
     Ok(())
 }
 
+// The spots of five variables are looked at for each name: the first holds the text of b, the next that of d, the others none.
+#[test]
+fn a_text_is_found_from_any_spot(rt: HostRuntime) -> Result<(), Fail> {
+    let alloc = rt.alloc();
+    let mut texts = Texts::new(alloc);
+    for (name, value) in [(b"b", b"2"), (b"d", b"4")] {
+        let (found, near) = texts.find(name);
+        if found.is_none() {
+            texts.add(near, Text::new(alloc, name, value)?)?;
+        }
+    }
+    let variables = Variables::load(alloc, b"a=9\0b=9\0c=9\0d=9\0e=9\0\0")?;
+    for other in [b"a", b"b", b"c", b"d", b"e"] {
+        let (_, near) = variables.find(other);
+        let (none, _) = texts.find_near(near, b"a");
+        assert_eq!(rt; none, None);
+        let (two, _) = texts.find_near(near, b"b");
+        assert_eq!(rt; two, Some(b"2".as_slice()));
+        let (four, _) = texts.find_near(near, b"d");
+        assert_eq!(rt; four, Some(b"4".as_slice()));
+    }
+    Ok(())
+}
+
 #[test]
 fn a_mark_tells_no_value_from_each_value(rt: HostRuntime) -> Result<(), Fail> {
     let alloc = rt.alloc();
