@@ -116,12 +116,40 @@ measured() {
         'BEGIN { printf "%-38s %9.2f M %7d %9.2f ms %7d KiB %7d KiB\n", name, n / 1e6, n / count, t / 1e6, peak, before }'
 }
 
-# grows_slowly NAME COUNT FIRST LAST: stops where the instructions for four times COUNT names are more than n log n allows.
-grows_slowly() {
-    awk -v program="$(basename "$0")" -v name="$1" -v count="$2" -v first="$3" -v last="$4" 'BEGIN {
-        if (last > 1.25 * 4 * log(4 * count) / log(count) * first) {
-            print program ": " name " grows faster than n log n" >"/dev/stderr"
+# grows_within NAME MOST FIRST LAST RULE: stops where LAST is more than MOST times FIRST, and a quarter of that.
+grows_within() {
+    awk -v program="$(basename "$0")" -v name="$1" -v most="$2" -v first="$3" -v last="$4" -v rule="$5" 'BEGIN {
+        if (last > 1.25 * most * first) {
+            print program ": " name " grows faster than " rule >"/dev/stderr"
             exit 1
         }
     }'
 }
+
+# grows_slowly NAME COUNT FIRST LAST: stops where the instructions for four times COUNT names are more than n log n allows.
+grows_slowly() {
+    grows_within "$1" "$(awk -v count="$2" 'BEGIN { print 4 * log(4 * count) / log(count) }')" "$3" "$4" 'n log n'
+}
+
+missed=0
+goals=()
+
+# goal TEXT FOUND MOST UNIT [QUOTIENT]: notes a goal and whether it was kept, and the same quotient of instructions.
+goal() {
+    local kept=kept
+    if awk -v found="$2" -v most="$3" 'BEGIN { exit !(found > most) }'; then
+        kept=MISSED
+        missed=1
+    fi
+    goals+=("$(printf '%-56s %6.2f of %6.2f %-5s %-6s %s' "$1" "$2" "$3" "$4" "$kept" "${5:+(instructions $5)}")")
+}
+
+# ends_with_goals: prints the goals, and exits with 1 where one was missed.
+ends_with_goals() {
+    echo
+    printf '%s\n' "${goals[@]}"
+    exit "$missed"
+}
+
+# quotient A B
+quotient() { awk -v a="$1" -v b="$2" 'BEGIN { printf "%.3f", a / b }'; }
