@@ -3,11 +3,12 @@
 mod carrying;
 mod commands;
 mod expansions;
+mod following;
+mod largest;
+mod messages;
 mod words;
 
-use crate::commands::stand_in;
-use crate::{Limits, Message, Output, StubFault, Stubs};
-use hush_calc::Fields;
+use crate::{Limits, StubFault, Stubs};
 use std::test::Fail;
 
 #[test]
@@ -149,75 +150,5 @@ fn many_stand_ins_are_read(rt: HostRuntime) -> Result<(), Fail> {
 fn faults_are_shown(rt: HostRuntime) -> Result<(), Fail> {
     let shown = format!(in rt.alloc(); "{}, {}", StubFault::Line(7), StubFault::Memory)?;
     assert_eq!(rt; shown.as_str(), "Line in line 7, Memory");
-    Ok(())
-}
-
-#[test]
-fn messages_are_printed_behind(rt: HostRuntime) -> Result<(), Fail> {
-    let table: [(Message, &[u8], &[u8]); 12] = [
-        (
-            Message::NotDefined,
-            b"n",
-            b"+ mmc\n## Error: \"n\" not defined\n",
-        ),
-        (
-            Message::UnknownCommand,
-            b"mmc",
-            b"+ mmc\nUnknown command 'mmc' - try 'help'\n",
-        ),
-        (
-            Message::WrongUse,
-            b"env",
-            b"+ mmc\n## Error: wrong use of 'env'\n",
-        ),
-        (
-            Message::BadForm,
-            b"a=b",
-            b"+ mmc\n## Error: bad name or value for \"a=b\"\n",
-        ),
-        (
-            Message::BadType,
-            b"n",
-            b"+ mmc\n## Error: type check failure for \"n\"\n",
-        ),
-        (
-            Message::NoCreate,
-            b"n",
-            b"+ mmc\n## Error: Can't create \"n\"\n",
-        ),
-        (
-            Message::NoDelete,
-            b"n",
-            b"+ mmc\n## Error: Can't delete \"n\"\n",
-        ),
-        (
-            Message::NoOverwrite,
-            b"n",
-            b"+ mmc\n## Error: Can't overwrite \"n\"\n",
-        ),
-        (Message::Full, b"", b"+ mmc\n## Error: no room for \"\"\n"),
-        (
-            Message::IsVariable,
-            b"\xFF",
-            b"+ mmc\n## Error: \"\xFF\" is an environment variable\n",
-        ),
-        (
-            Message::NoScript,
-            b"n",
-            b"+ mmc\n## Error: syntax error in \"n\"\n",
-        ),
-        (
-            Message::DivisionByZero,
-            b"n",
-            b"+ mmc\n## Error: division by zero\n",
-        ),
-    ];
-    for (message, name, expected) in table {
-        let mut output = Output::new(rt.alloc(), 64);
-        let fields = Fields::new(b"mmc", &[3]);
-        assert_eq!(rt; stand_in(0, fields, &mut output).ok(), Some(0));
-        assert!(rt; message.print(name, &mut output).is_ok());
-        assert_eq!(rt; output.text(), expected);
-    }
     Ok(())
 }

@@ -4,6 +4,7 @@ use crate::tests::words::{fields, session};
 use crate::{Command, Output, PrintFault, Stubs, carry_out};
 use env_session::{Session, Side};
 use std::alloc::{AllocError, Global};
+use std::process::Abort;
 use std::test::Fail;
 
 /// What a command answers where `mmc` is a stand-in with status 3, and the status that was is 7.
@@ -22,54 +23,34 @@ fn carried(
     }
 }
 
+/// Each command, one after the other in one session, answers this status and this text.
+fn answer(rt: &impl Abort, alloc: Global, table: &[(&[u8], u8, &[u8])]) -> Result<(), Fail> {
+    if let Some(mut session) = session(alloc, 64)? {
+        for (text, status, expected) in table {
+            let mut output = Output::new(alloc, 256);
+            let carried = carried(alloc, &mut session, text, &mut output)?;
+            assert_eq!(rt; carried, Ok(*status), "of {text:?}");
+            assert_eq!(rt; output.text(), *expected, "of {text:?}");
+        }
+    } else {
+        assert!(rt; false, "a session");
+    }
+    Ok(())
+}
+
 #[test]
-fn commands_answer_their_status_and_text(rt: HostRuntime) -> Result<(), Fail> {
-    let table: [(&[u8], u8, &[u8]); 48] = [
+fn commands_that_change_nothing(rt: HostRuntime) -> Result<(), Fail> {
+    let table: [(&[u8], u8, &[u8]); 17] = [
         (b"", 0, b""),
         (b"true x", 0, b""),
         (b"false x", 1, b""),
         (b"echo a b", 0, b"a b\n"),
         (b"echo -n a", 0, b"a"),
-        (b"setenv n 1 2", 0, b""),
-        (b"printenv n", 0, b"n=1 2\n"),
-        (b"env print n q", 1, b"n=1 2\n## Error: \"q\" not defined\n"),
-        (b"env exists n", 0, b""),
-        (b"env exists q", 1, b""),
-        (b"env exists", 1, b"## Error: wrong use of 'env'\n"),
-        (b"env exists n n", 1, b"## Error: wrong use of 'env'\n"),
-        (b"env set -f k v", 0, b""),
-        (b"printenv", 0, b"k=v\nn=1 2\n"),
-        (b"setenv n", 0, b""),
-        (b"env print", 0, b"k=v\n"),
-        (b"setenv", 1, b"## Error: wrong use of 'setenv'\n"),
-        (b"env set -f", 1, b"## Error: wrong use of 'env'\n"),
-        (
-            b"setenv a=b x",
-            1,
-            b"## Error: bad name or value for \"a=b\"\n",
-        ),
         (b"test 1 = 1", 0, b""),
         (b"test 1 = 2", 1, b""),
         (b"test", 1, b""),
-        (b"setexpr k ff + 1", 0, b""),
-        (b"printenv k", 0, b"k=100\n"),
-        (b"setexpr k 1 / 0", 1, b"## Error: division by zero\n"),
-        (b"setexpr.l k", 1, b"## Error: wrong use of 'setexpr.l'\n"),
-        (b"saveenv x", 1, b"## Error: wrong use of 'saveenv'\n"),
-        (b"env save x", 1, b"## Error: wrong use of 'env'\n"),
-        (b"saveenv", 0, b"Saved copy 1\n"),
-        (b"env save", 0, b"Saved copy 1\n"),
-        (b"run", 1, b"## Error: wrong use of 'run'\n"),
         (b"run q", 7, b""),
-        (b"env run", 1, b"## Error: wrong use of 'env'\n"),
         (b"env run q", 7, b""),
-        (b"env delete", 1, b"## Error: wrong use of 'env'\n"),
-        (b"env delete -f", 1, b"## Error: wrong use of 'env'\n"),
-        (b"env delete k", 7, b""),
-        (b"env delete -f k", 7, b""),
-        (b"env exists k", 0, b""),
-        (b"env", 1, b"## Error: wrong use of 'env'\n"),
-        (b"env default -a", 1, b"## Error: wrong use of 'env'\n"),
         (b"exit", 7, b""),
         (b"exit 003", 3, b""),
         (b"exit 256", 1, b"## Error: wrong use of 'exit'\n"),
@@ -78,17 +59,63 @@ fn commands_answer_their_status_and_text(rt: HostRuntime) -> Result<(), Fail> {
         (b"ls -l", 1, b"Unknown command 'ls' - try 'help'\n"),
         (b"Echo a", 1, b"Unknown command 'Echo' - try 'help'\n"),
     ];
-    if let Some(mut session) = session(rt.alloc(), 64)? {
-        for (text, status, expected) in table {
-            let mut output = Output::new(rt.alloc(), 256);
-            let carried = carried(rt.alloc(), &mut session, text, &mut output)?;
-            assert_eq!(rt; carried, Ok(status), "of {text:?}");
-            assert_eq!(rt; output.text(), expected, "of {text:?}");
-        }
-    } else {
-        assert!(rt; false, "a session");
-    }
-    Ok(())
+    answer(&rt, rt.alloc(), &table)
+}
+
+#[test]
+fn commands_over_variables(rt: HostRuntime) -> Result<(), Fail> {
+    let table: [(&[u8], u8, &[u8]); 16] = [
+        (b"setenv n 1 2", 0, b""),
+        (b"printenv n", 0, b"n=1 2\n"),
+        (b"env print n q", 1, b"n=1 2\n## Error: \"q\" not defined\n"),
+        (b"env exists n", 0, b""),
+        (b"env exists q", 1, b""),
+        (b"env set -f k v", 0, b""),
+        (b"printenv", 0, b"k=v\nn=1 2\n"),
+        (b"setenv n", 0, b""),
+        (b"env print", 0, b"k=v\n"),
+        (b"setexpr k ff + 1", 0, b""),
+        (b"printenv k", 0, b"k=100\n"),
+        (b"saveenv", 0, b"Saved copy 1\n"),
+        (b"env save", 0, b"Saved copy 1\n"),
+        (b"env delete k", 7, b""),
+        (b"env delete -f k", 7, b""),
+        (b"env exists k", 0, b""),
+    ];
+    answer(&rt, rt.alloc(), &table)
+}
+
+#[test]
+fn writes_that_are_refused(rt: HostRuntime) -> Result<(), Fail> {
+    let table: [(&[u8], u8, &[u8]); 3] = [
+        (
+            b"setenv a=b x",
+            1,
+            b"## Error: bad name or value for \"a=b\"\n",
+        ),
+        (b"setexpr k 1 / 0", 1, b"## Error: division by zero\n"),
+        (b"setexpr.l k", 1, b"## Error: wrong use of 'setexpr.l'\n"),
+    ];
+    answer(&rt, rt.alloc(), &table)
+}
+
+#[test]
+fn commands_with_other_words(rt: HostRuntime) -> Result<(), Fail> {
+    let table: [(&[u8], u8, &[u8]); 12] = [
+        (b"env exists", 1, b"## Error: wrong use of 'env'\n"),
+        (b"env exists n n", 1, b"## Error: wrong use of 'env'\n"),
+        (b"setenv", 1, b"## Error: wrong use of 'setenv'\n"),
+        (b"env set -f", 1, b"## Error: wrong use of 'env'\n"),
+        (b"saveenv x", 1, b"## Error: wrong use of 'saveenv'\n"),
+        (b"env save x", 1, b"## Error: wrong use of 'env'\n"),
+        (b"run", 1, b"## Error: wrong use of 'run'\n"),
+        (b"env run", 1, b"## Error: wrong use of 'env'\n"),
+        (b"env delete", 1, b"## Error: wrong use of 'env'\n"),
+        (b"env delete -f", 1, b"## Error: wrong use of 'env'\n"),
+        (b"env", 1, b"## Error: wrong use of 'env'\n"),
+        (b"env default -a", 1, b"## Error: wrong use of 'env'\n"),
+    ];
+    answer(&rt, rt.alloc(), &table)
 }
 
 #[test]
