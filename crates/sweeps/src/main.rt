@@ -9,6 +9,7 @@ mod defaulting;
 mod keeping;
 mod lines;
 mod many;
+mod runs;
 mod scripts;
 mod sessions;
 mod showing;
@@ -24,5 +25,6 @@ fn main(rt: HostRuntime) -> io::Result<()> {
     many::sweep(rt.alloc(), &mut rt.stdout())?;
     defaulting::sweep(rt.alloc(), &mut rt.stdout())?;
     sessions::sweep(rt.alloc(), &mut rt.stdout())?;
-    scripts::sweep(rt.alloc(), &mut rt.stdout())
+    scripts::sweep(rt.alloc(), &mut rt.stdout())?;
+    runs::sweep(rt.alloc(), &mut rt.stdout())
 }

@@ -13,7 +13,7 @@ const SIZE: u32 = 64;
 
 const DEFAULTS: [(&[u8], &[u8]); 3] = [(b"p", b"1"), (b"q", b"2"), (b"r", b"3")];
 
-const ALL: &[u8] = b"p=1;q=2;r=3;";
+pub const ALL: &[u8] = b"p=1;q=2;r=3;";
 
 /// The variables of the defaults that an undo to the start has brought back where the span of each mark was refused.
 const LEFT_AT: [&[u8]; 3] = [b"q=2;r=3;", b"r=3;", b""];
@@ -29,7 +29,7 @@ const IMPORTED: [&[u8]; 4] = [
 ];
 
 /// Whether these are the session's variables.
-fn shows(session: &Session, lines: &[u8]) -> bool {
+pub fn shows(session: &Session, lines: &[u8]) -> bool {
     let mut text = lines;
     for line in session.vars().lines() {
         match begins_with(text, line) {
@@ -41,7 +41,7 @@ fn shows(session: &Session, lines: &[u8]) -> bool {
 }
 
 /// Whether the copy is as it was at the start.
-fn is_bad(session: &Session) -> bool {
+pub fn is_bad(session: &Session) -> bool {
     match session.copy(Side::First) {
         Some(copy) => copy.len() == SIZE as usize && copy.iter().all(|byte| *byte == 255),
         None => false,
@@ -86,7 +86,7 @@ fn make_defaults<W: Write>(alloc: Global, out: &mut W) -> io::Result<Vars> {
 }
 
 /// A start over a bad copy. Refused for memory, it hands the copy back, and made again it starts.
-fn start<W: Write>(alloc: Global, out: &mut W) -> io::Result<Option<Session>> {
+pub fn start<W: Write>(alloc: Global, out: &mut W) -> io::Result<Option<Session>> {
     let (Some(geometry), Some(first)) = (Geometry::new(Layout::Single, SIZE), bad_copy(alloc, out)?)
     else {
         wrong(out, "copy for start, made again")?;

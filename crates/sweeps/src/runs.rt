@@ -1,0 +1,330 @@
+//! A run: local variables, a stand-in file, the expansion of words, and commands that print, write and save.
+
+use crate::lines::{refused, row, wrong};
+use crate::sessions::{ALL, is_bad, shows, start};
+use env_session::Session;
+use hush_commands::{
+    ExpansionFault, FieldBuffer, Locals, Output, PrintFault, Scope, StubFault, Stubs, carry_out,
+    delete,
+};
+use hush_words::{Lexed, TokenKind, Word, read};
+use std::alloc::{AllocError, Global};
+use std::io::{self, Write};
+
+const STAND_INS: &[u8] = b"# a board\nusb 1\nmmc 3\n";
+
+/// What the commands of a run stand on.
+#[derive(Drop)]
+struct Run {
+    session: Session,
+    stubs: Stubs,
+    locals: Locals,
+    fields: FieldBuffer,
+}
+
+/// Words, and the text in which they stand.
+#[derive(Drop)]
+struct Words {
+    lexed: Lexed,
+    words: Vec<Word>,
+}
+
+/// A command, or a name to be deleted: its status, what it prints, and the variables that it leaves.
+struct Command {
+    text: &'static [u8],
+    status: u8,
+    printed: &'static [u8],
+    after: &'static [u8],
+}
+
+const COMMANDS: [Command; 11] = [
+    Command {
+        text: b"echo \"$x\" and a second word",
+        status: 0,
+        printed: b"1 2 and a second word\n",
+        after: ALL,
+    },
+    Command {
+        text: b"mmc dev 0 and more words",
+        status: 3,
+        printed: b"+ mmc dev 0 and more words\n",
+        after: ALL,
+    },
+    Command {
+        text: b"printenv",
+        status: 0,
+        printed: b"p=1\nq=2\nr=3\n",
+        after: ALL,
+    },
+    Command {
+        text: b"printenv r zz",
+        status: 1,
+        printed: b"r=3\n## Error: \"zz\" not defined\n",
+        after: ALL,
+    },
+    Command {
+        text: b"ls",
+        status: 1,
+        printed: b"Unknown command 'ls' - try 'help'\n",
+        after: ALL,
+    },
+    Command {
+        text: b"env delete",
+        status: 1,
+        printed: b"## Error: wrong use of 'env'\n",
+        after: ALL,
+    },
+    Command {
+        text: b"setenv a=b c",
+        status: 1,
+        printed: b"## Error: bad name or value for \"a=b\"\n",
+        after: ALL,
+    },
+    Command {
+        text: b"setenv b first $x",
+        status: 0,
+        printed: b"",
+        after: b"b=first 1 2;p=1;q=2;r=3;",
+    },
+    Command {
+        text: b"setexpr p ff + $q",
+        status: 0,
+        printed: b"",
+        after: b"b=first 1 2;p=101;q=2;r=3;",
+    },
+    Command {
+        text: b"setenv q",
+        status: 0,
+        printed: b"",
+        after: b"b=first 1 2;p=101;r=3;",
+    },
+    Command {
+        text: b"saveenv",
+        status: 0,
+        printed: b"Saved copy 1\n",
+        after: b"b=first 1 2;p=101;r=3;",
+    },
+];
+
+/// Names, with what their deletion has to leave.
+const DELETIONS: [Command; 2] = [
+    Command {
+        text: b"p",
+        status: 0,
+        printed: b"",
+        after: b"b=first 1 2;r=3;",
+    },
+    Command {
+        text: b"p",
+        status: 1,
+        printed: b"## Error: \"p\" not defined\n",
+        after: b"b=first 1 2;r=3;",
+    },
+];
+
+/// The words of a text.
+fn words_once(alloc: Global, text: &[u8]) -> Result<Words, AllocError> {
+    let lexed = read(alloc, Vec::from_slice(alloc, text)?)?;
+    let mut words = Vec::new(alloc);
+    for token in &lexed.tokens {
+        if let TokenKind::Word(word) = token.kind {
+            words.push(word)?;
+        }
+    }
+    Ok(Words { lexed, words })
+}
+
+/// The words of a text, read again where memory ran out.
+fn words_of<W: Write>(alloc: Global, out: &mut W, text: &[u8]) -> io::Result<Option<Words>> {
+    if let Ok(words) = words_once(alloc, text) {
+        return Ok(Some(words));
+    }
+    refused(out, "read")?;
+    Ok(words_once(alloc, text).ok())
+}
+
+/// The stand-ins of a file, read again where memory ran out.
+fn stand_ins<W: Write>(alloc: Global, out: &mut W) -> io::Result<Option<Stubs>> {
+    match Stubs::parse(alloc, STAND_INS) {
+        Ok(stubs) => return Ok(Some(stubs)),
+        Err(StubFault::Memory) => refused(out, "Stubs::parse")?,
+        Err(_) => wrong(out, "Stubs::parse")?,
+    }
+    Ok(Stubs::parse(alloc, STAND_INS).ok())
+}
+
+/// A local variable gets a value. Refused, it has the one that it had, and so has the other; made again it gets it.
+fn set<W: Write>(
+    alloc: Global,
+    out: &mut W,
+    locals: &mut Locals,
+    entry: (&[u8], &[u8]),
+    before: [Option<&[u8]>; 2],
+) -> io::Result<()> {
+    let (name, value) = entry;
+    if locals.set(alloc, name, value).is_err() {
+        if [locals.get(b"x"), locals.get(b"y")] != before {
+            return wrong(out, "Locals::set");
+        }
+        refused(out, "Locals::set")?;
+        if locals.set(alloc, name, value).is_err() {
+            return wrong(out, "Locals::set, made again");
+        }
+    }
+    if locals.get(name) != Some(value) {
+        return wrong(out, "Locals::set");
+    }
+    row(out, "local variable", value)
+}
+
+/// The value of an assignment, made again where memory ran out.
+fn assigned<W: Write>(alloc: Global, out: &mut W, run: &mut Run) -> io::Result<()> {
+    let Some(words) = words_of(alloc, out, b"v=\"$x\"$y")? else {
+        return wrong(out, "read, made again");
+    };
+    for word in &words.words {
+        if let Some(assignment) = word.assignment(&words.lexed.text) {
+            let scope = scope_of(&words, &run.session, &run.locals);
+            let value = assignment.value;
+            let mut made = run.fields.expand_value(&scope, value, 64);
+            if made == Err(ExpansionFault::Memory) {
+                refused(out, "expand_value")?;
+                made = run.fields.expand_value(&scope, value, 64);
+            }
+            if made.is_err() {
+                wrong(out, "expand_value, made again")?;
+            }
+        }
+    }
+    for value in run.fields.fields() {
+        row(out, "assigned", value)?;
+    }
+    Ok(())
+}
+
+fn scope_of<'a>(words: &'a Words, session: &'a Session, locals: &'a Locals) -> Scope<'a> {
+    Scope {
+        text: &words.lexed.text,
+        vars: session.vars(),
+        locals,
+        status: 7,
+    }
+}
+
+/// The fields of words, made again where memory ran out.
+fn expand<W: Write>(out: &mut W, words: &Words, run: &mut Run) -> io::Result<()> {
+    let scope = scope_of(words, &run.session, &run.locals);
+    let mut made = run.fields.expand(&scope, &words.words, 64);
+    if made == Err(ExpansionFault::Memory) {
+        refused(out, "expand")?;
+        made = run.fields.expand(&scope, &words.words, 64);
+    }
+    if made.is_err() {
+        return wrong(out, "expand, made again");
+    }
+    Ok(())
+}
+
+/// What the fields that stand in the buffer answer as a command.
+fn answered(alloc: Global, run: &mut Run, output: &mut Output) -> Result<u8, PrintFault> {
+    carry_out(alloc, &mut run.session, &run.stubs, &run.fields, 7, output)
+}
+
+/// A command. Refused, it has printed nothing and changed neither variables nor copy, and made again it does what it has
+/// to.
+fn carry<W: Write>(
+    alloc: Global,
+    out: &mut W,
+    run: &mut Run,
+    command: &Command,
+    before: &[u8],
+) -> io::Result<()> {
+    let Some(words) = words_of(alloc, out, command.text)? else {
+        return wrong(out, "read, made again");
+    };
+    expand(out, &words, run)?;
+    let touched = run.session.touched();
+    let mut output = Output::new(alloc, 64);
+    let mut answer = answered(alloc, run, &mut output);
+    if answer == Err(PrintFault::Memory) {
+        let is_as_before = shows(&run.session, before) && run.session.touched() == touched;
+        if !output.text().is_empty() || !is_as_before || !is_bad(&run.session) {
+            return wrong(out, "carry_out");
+        }
+        refused(out, "carry_out")?;
+        answer = answered(alloc, run, &mut output);
+    }
+    let is_right = answer == Ok(command.status) && output.text() == command.printed;
+    if !is_right || !shows(&run.session, command.after) {
+        return wrong(out, "carry_out, made again");
+    }
+    row(out, "command", command.text)
+}
+
+/// One name of `env delete`. Refused, it has printed nothing and deleted nothing, and made again it does what it has to.
+fn deleted<W: Write>(
+    alloc: Global,
+    out: &mut W,
+    session: &mut Session,
+    deletion: &Command,
+    before: &[u8],
+) -> io::Result<()> {
+    let name = deletion.text;
+    let touched = session.touched();
+    let mut output = Output::new(alloc, 64);
+    let mut answer = delete(session, name, false, false, &mut output);
+    if answer == Err(PrintFault::Memory) {
+        let is_as_before = shows(session, before) && session.touched() == touched;
+        if !output.text().is_empty() || !is_as_before {
+            return wrong(out, "delete");
+        }
+        refused(out, "delete")?;
+        answer = delete(session, name, false, false, &mut output);
+    }
+    let is_right = answer == Ok(deletion.status) && output.text() == deletion.printed;
+    if !is_right || !shows(session, deletion.after) {
+        return wrong(out, "delete, made again");
+    }
+    row(out, "deletion", name)
+}
+
+/// Local variables, a value, and the commands one after the other.
+pub fn sweep<W: Write>(alloc: Global, out: &mut W) -> io::Result<()> {
+    let (Some(session), Some(stubs)) = (start(alloc, out)?, stand_ins(alloc, out)?) else {
+        return wrong(out, "start of a run, made again");
+    };
+    let mut run = Run {
+        session,
+        stubs,
+        locals: Locals::new(alloc),
+        fields: FieldBuffer::new(alloc),
+    };
+    let (old, new, other) = (
+        b"old".as_slice(),
+        b"1 2".as_slice(),
+        b" behind it".as_slice(),
+    );
+    set(alloc, out, &mut run.locals, (b"x", old), [None, None])?;
+    set(alloc, out, &mut run.locals, (b"x", new), [Some(old), None])?;
+    set(
+        alloc,
+        out,
+        &mut run.locals,
+        (b"y", other),
+        [Some(new), None],
+    )?;
+    assigned(alloc, out, &mut run)?;
+    let mut before = ALL;
+    for command in &COMMANDS {
+        carry(alloc, out, &mut run, command, before)?;
+        before = command.after;
+    }
+    if is_bad(&run.session) {
+        return wrong(out, "saveenv");
+    }
+    for deletion in &DELETIONS {
+        deleted(alloc, out, &mut run.session, deletion, before)?;
+        before = deletion.after;
+    }
+    Ok(())
+}
