@@ -61,13 +61,19 @@ impl Texts {
         find_among(&[], &self.runs, name, None)
     }
 
-    /// The same, by a look at the spot at which a look-up of the name ended among other variables: where both have the
-    /// same names from the same writes, it stands there. Any may be given; another than the right one only costs time.
+    /// The same, by a look at the spot at which a look-up of the name ended among other variables, where these stand in as
+    /// many runs: it stands there where both have the same names from the same writes. Any may be given; another than the
+    /// right one only costs time.
     pub fn find_near(&self, near: Near, name: &[u8]) -> (Option<&[u8]>, Near)
         ensures value { option_map (λ v. v.now) result.0 ≡ env.get self.now name.now }
         ensures formed { IfSome result.0 (λ v. IsVariable (name.now, v.now)) }
     {
-        find_among(&[], &self.runs, name, Some(near.spot))
+        let guess = if near.runs == self.runs.len() {
+            Some(near.spot)
+        } else {
+            None
+        };
+        find_among(&[], &self.runs, name, guess)
     }
 
     /// Adds a variable whose name is new. It is refused only for memory, and then nothing has changed.

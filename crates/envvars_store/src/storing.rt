@@ -44,6 +44,8 @@ impl Model for Variables {
 #[derive(Clone, Copy)]
 pub struct Near {
     pub(crate) spot: Spot,
+    // How many runs there were.
+    pub(crate) runs: usize,
 }
 
 /// The value of a name among variables, if it has one, and where it was found or would stand.
@@ -59,9 +61,16 @@ pub(crate) fn find_among<'a>(
     ensures value { option_map (λ v. v.now) result.0 ≡ env.get (env.from_sorted {R = bytes_cmp} (listed area.now runs.now)) name.now }
     ensures formed { IfSome result.0 (λ v. IsVariable (name.now, v.now)) }
 {
+    let count = runs.len();
     match locate_guessed(area, runs, name, guess) {
-        Ok(at) => (Some(runs[at.run][at.place].value(area)), Near { spot: at }),
-        Err(spot) => (None, Near { spot }),
+        Ok(at) => (
+            Some(runs[at.run][at.place].value(area)),
+            Near {
+                spot: at,
+                runs: count,
+            },
+        ),
+        Err(spot) => (None, Near { spot, runs: count }),
     }
 }
 
