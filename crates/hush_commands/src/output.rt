@@ -56,6 +56,13 @@ impl Output {
         self.text.as_slice()
     }
 
+    /// What was printed, for its owner.
+    pub fn into_text(self) -> Vec<u8>
+        ensures { result.items ≡ self.text }
+    {
+        self.text
+    }
+
     /// Prints a text. Where it can't be printed, what was printed before stands.
     pub(crate) fn print(&mut self, text: &[u8]) -> Result<(), PrintFault>
         ensures { Prints text.now self.old self.new result }

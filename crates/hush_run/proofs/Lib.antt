@@ -1,0 +1,11 @@
+mod Counts
+mod Parts
+mod TurnLemmas
+mod Descends
+mod RiseLemmas
+mod StepLemmas
+mod NameLemmas
+mod NodeLemmas
+mod Halting
+mod AdvanceLemmas
+mod OutcomeLemmas

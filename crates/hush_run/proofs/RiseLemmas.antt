@@ -1,0 +1,75 @@
+-- Taking frames.
+use Rattle.std.proofs.Common.{◌≡◌, ℕ, ◌+◌, ◌*◌, ◌≤◌, List, [], ◌∷◌, length, Option, Some, None, refl, sym, ap, subst, ◌∙◌, arith}
+use Rattle.hush_run.specs.declared.frames.Frame.{Frame}
+use Rattle.hush_run.specs.declared.turns.Due.{Due}
+use Rattle.hush_run.specs.declared.turns.Due.TheVariants as due
+use Rattle.hush_run.specs.declared.turns.Turn.{Turn}
+use Rattle.hush_run.specs.Meaning.{Rules, Out, ◌>>=◌, with_status}
+use Rattle.hush_run.specs.Resume.{begin_in, at_in, resume, levels, frame_does, frame_room, owners, behind, IsStack, IsFrame}
+use Rattle.hush_run.specs.declared.frames.Frame.TheVariants as frame
+use Rattle.hush_syntax.specs.Scripts.{Parsed, sub_at}
+use Rattle.hush_syntax.specs.Nodes.{At}
+use Rattle.hush_run.specs.Turns.{Turns, Behind, due_does, behind_does, due_room, IsPart}
+use Rattle.hush_run.specs.Rises.{Leaves, IsEnd, with_behind}
+use Rattle.hush_run.proofs.Counts.{start-counts}
+use Rattle.hush_run.proofs.Parts.{bind_goes, onto}
+use Rattle.hush_run.proofs.Descends.{resume-frame, stack-frame}
+
+pub leaves_here : (scripts : List Parsed) (frames : List Frame) (status : ℕ) → IsStack scripts frames → 1 ≤ length scripts → length frames ≤ 195 * length scripts → Leaves scripts frames status scripts frames status due.Over
+leaves_here scripts frames status stack some fits = (stack, tt, some, omega arith, omega (arith, fits), λ rules s le. refl)
+
+-- behind what is due
+resume-behind : (rules : Rules) (scripts : List Parsed) (behind : Option Frame) (due : Due) (most : ℕ) (frames : List Frame) (o : Out) → Behind (at_in scripts) most due behind → ((o >>= behind_does rules (begin_in rules scripts) (at_in scripts) behind) >>= resume rules scripts frames) ≡ (o >>= resume rules scripts (with_behind behind frames))
+resume-behind rules scripts None due most frames o b = ap (λ (x : Out). x >>= resume rules scripts frames) (bind_goes o)
+resume-behind rules scripts (Some f) due most frames o b =
+    onto (o >>= frame_does rules (begin_in rules scripts) (at_in scripts) f) o (frame_does rules (begin_in rules scripts) (at_in scripts) f) (resume rules scripts frames) (resume rules scripts (f ∷ frames)) refl (resume-frame rules scripts f frames (b.2 scripts))
+
+stack-behind : (scripts : List Parsed) (behind : Option Frame) (due : Due) (most : ℕ) (frames : List Frame) → Behind (at_in scripts) most due behind → 1 ≤ length scripts → length frames + most ≤ 195 * length scripts → IsStack scripts frames → IsStack scripts (with_behind behind frames) × (length (with_behind behind frames) + due_room (at_in scripts) due ≤ 195 * length scripts)
+stack-behind scripts None due most frames b some fits stack = (stack, omega (arith, b, fits))
+stack-behind scripts (Some f) due most frames b some fits stack = (stack-frame scripts f frames (b.2 scripts) some b.1 (omega (arith, b.3, fits)) stack, omega (arith, b.4, fits))
+
+pub leaves_on : (scripts scripts1 scripts2 : List Parsed) (frames frames2 : List Frame) (status status1 : ℕ) (f : Frame) (turn : Turn) → Leaves scripts frames status scripts1 (f ∷ frames2) status1 due.Over → scripts2 ≡ owners f scripts1 → Turns (at_in scripts2) f status1 turn → length scripts2 ≤ length scripts1 → Leaves scripts frames status scripts2 (with_behind turn.behind frames2) turn.status turn.due
+leaves_on scripts scripts1 scripts2 frames frames2 status status1 f turn l own t fewer =
+    let stack = subst (λ (ps : List Parsed). (1 ≤ length ps) × IsFrame (at_in ps) f × (length frames2 + frame_room (at_in ps) f ≤ 195 * length ps) × IsStack ps frames2) (sym own) l.0 in
+    let more = stack-behind scripts2 turn.behind turn.due (frame_room (at_in scripts2) f) frames2 t.1 stack.0 stack.2 stack.3 in (
+      more.0,
+      t.0,
+      stack.0,
+      omega (arith, fewer, l.3),
+      more.1,
+      λ rules s le.
+          l.5 rules s le
+          ∙ ap (λ (ps : List Parsed). frame_does rules (begin_in rules ps) (at_in ps) f (with_status status1 s) >>= resume rules ps frames2) (sym own)
+          ∙ ap (λ (o : Out). o >>= resume rules scripts2 frames2) (t.2 rules (begin_in rules scripts2) (start-counts rules (levels rules scripts2)) s le)
+          ∙ resume-behind rules scripts2 turn.behind turn.due (frame_room (at_in scripts2) f) frames2 (due_does rules (begin_in rules scripts2) (at_in scripts2) turn.due (with_status turn.status s)) t.1,
+    )
+
+owners-fewer : (f : Frame) (scripts : List Parsed) → length (owners f scripts) ≤ length scripts
+owners-fewer (frame.List node next) scripts = omega arith
+owners-fewer (frame.Chain node next) scripts = omega arith
+owners-fewer (frame.Branch node branch) scripts = omega arith
+owners-fewer (frame.Condition node last) scripts = omega arith
+owners-fewer (frame.Body node) scripts = omega arith
+owners-fewer (frame.Bindings node fields) scripts = omega arith
+owners-fewer (frame.Started names) [] = omega arith
+owners-fewer (frame.Started names) (p ∷ ps) = omega arith
+
+pub step_up : (scripts scripts1 scripts2 : List Parsed) (frames frames1 frames2 frames3 : List Frame) (status status1 : ℕ) (f : Frame) (turn : Turn) (top : Parsed) → Leaves scripts frames status scripts1 frames1 status1 due.Over → frames1 ≡ f ∷ frames2 → scripts2 ≡ owners f scripts1 → scripts2 ≡ top ∷ behind scripts2 → Turns (sub_at top) f status1 turn → frames3 ≡ with_behind turn.behind frames2 → Leaves scripts frames status scripts2 frames3 turn.status turn.due
+step_up scripts scripts1 scripts2 frames frames1 frames2 frames3 status status1 f turn top l popped own is t kept =
+    subst (λ (fs : List Frame). Leaves scripts frames status scripts2 fs turn.status turn.due) (sym kept)
+    (leaves_on scripts scripts1 scripts2 frames frames2 status status1 f turn
+    (subst (λ (fs : List Frame). Leaves scripts frames status scripts1 fs status1 due.Over) popped l)
+    own
+    (subst (λ (ps : List Parsed). Turns (at_in ps) f status1 turn) (sym is) t)
+    (subst (λ (ps : List Parsed). length ps ≤ length scripts1) (sym own) (owners-fewer f scripts1)))
+
+pub nothing_behind : (at : At) (most : ℕ) (d : Due) (behind : Option Frame) → Behind at most d behind → d ≡ due.Over → behind ≡ None
+nothing_behind at most d None b e = refl
+nothing_behind at most d (Some f) b e = absurd (subst IsPart e b.0)
+
+pub is_part : (d : Due) (frames : List Frame) → (d ≡ due.Over → ⊥) → IsEnd d frames
+is_part due.Over frames h = absurd (h refl)
+is_part (due.Node node) frames h = tt
+is_part (due.Binding node fields) frames h = tt
+is_part (due.Start names) frames h = tt
+is_part (due.Delete force failed names) frames h = tt

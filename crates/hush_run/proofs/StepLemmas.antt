@@ -1,0 +1,353 @@
+-- What the body of a step shows of itself.
+use Rattle.std.proofs.Common.{◌≡◌, ℕ, zero, suc, ◌<◌, ◌≤◌, ◌==◌, Bool, true, false, not, if◌then◌else◌, List, [], ◌∷◌, ◌++◌, length, Option, Some, None, Result, Ok, Err, option_map, unwrap_or, refl, sym, ap, ◌∙◌, arith, nat_lt, is_some, eqb-true}
+use Rattle.std.proofs.lemmas.Bool.{lt-ltb, le-ltb}
+use Rattle.env_session.specs.Session.{Held}
+use Rattle.hush_words.specs.Words.{Atom}
+use Rattle.hush_commands.specs.declared.follow.Follow.{Follow}
+use Rattle.hush_commands.specs.declared.follow.Follow.TheVariants as follow
+use Rattle.hush_commands.specs.declared.output.PrintFault.{PrintFault}
+use Rattle.hush_commands.specs.declared.output.PrintFault.TheVariants as print
+use Rattle.hush_commands.specs.Buffers.{Made, whole}
+use Rattle.std.specs.FinMap as map
+use Rattle.hush_commands.specs.Expansion.{expanded_value}
+use Rattle.hush_commands.specs.declared.messages.Message.{Message}
+use Rattle.hush_commands.specs.declared.messages.Message.TheVariants.{IsVariable, NotDefined, NoScript}
+use Rattle.hush_commands.specs.Messages.{text_of}
+use Rattle.hush_commands.specs.Output.{Printed, printed, answer, PrintsWhole}
+use Rattle.hush_commands.specs.Deletion.{deletion_of}
+use Rattle.hush_syntax.specs.Scripts.{Parsed, tree_of}
+use Rattle.hush_syntax.specs.Grammar.{Chains}
+use Rattle.hush_syntax.specs.Reading.{read}
+use Rattle.hush_commands.specs.Carrying.{Done, done_of, Carries}
+use Rattle.hush_commands.specs.Following.{follow_of}
+use Rattle.hush_run.specs.declared.ending.Reason.{Reason}
+use Rattle.hush_run.specs.declared.ending.Reason.TheVariants.{Finished, Exited, Steps, Depth, Word, Output}
+use Rattle.hush_run.specs.declared.ending.Stop.{Stop}
+use Rattle.hush_run.specs.declared.ending.Stop.TheVariants.{Ended, Memory}
+use Rattle.hush_run.specs.Stops.{print_stop}
+use Rattle.hush_run.specs.Meaning.{Rules, Begin, State, Out, Goes, Ends, ◌>>=◌, ◌then◌, Effect, Does, Leaves, Stops, done, step, with_status, carries, fails, leaving, effect, simple, follows, fields_of, for, bindings, assigned, assigned_to, is_variable, known_in, deletions, start, script, entered, within}
+use Rattle.hush_run.specs.Steps.{Meant, Did, Counted, MayStep, FieldsAre, Started, value_of}
+
+-- a state with another count
+counting : ℕ → State → State
+counting k u = record u { steps = k }
+
+pub step_done : (rules : Rules) (effect : State → Effect) (s u : State) (k : ℕ) → s.steps < rules.limits.steps → effect s ≡ Does u → k ≡ suc s.steps → Counted rules s (record u { steps = k }) × ((n : ℕ) → suc s.steps ≤ n → step (within n rules) effect s ≡ Goes (record u { steps = k }))
+unfolding step counting
+step_done rules effect s u k lt does is = (
+  (is, omega (arith, lt)),
+  λ n le.
+      ap (λ (b : Bool). if b then done s (effect s) else Ends Steps s) (lt-ltb s.steps n (omega (arith, le)))
+      ∙ ap (done s) does
+      ∙ ap (λ (j : ℕ). Goes (counting j u)) (sym is),
+)
+
+pub step_halts : (rules : Rules) (effect : State → Effect) (s : State) → rules.limits.steps ≤ s.steps → step rules effect s ≡ Ends Steps s
+unfolding step
+step_halts rules effect s le = ap (λ (b : Bool). if b then done s (effect s) else Ends Steps s) (le-ltb s.steps rules.limits.steps le)
+
+pub step_stopped : (rules : Rules) (effect : State → Effect) (s : State) (e : Reason) → s.steps < rules.limits.steps → effect s ≡ Stops e → step rules effect s ≡ Ends e s
+unfolding step
+step_stopped rules effect s e lt stops =
+    ap (λ (b : Bool). if b then done s (effect s) else Ends Steps s) (lt-ltb s.steps rules.limits.steps lt) ∙ ap (done s) stops
+
+pub step_left : (rules : Rules) (effect : State → Effect) (s u : State) (k : ℕ) → s.steps < rules.limits.steps → effect s ≡ Leaves u → k ≡ suc s.steps → step rules effect s ≡ Ends Exited (record u { steps = k })
+unfolding step counting
+step_left rules effect s u k lt leaves is =
+    ap (λ (b : Bool). if b then done s (effect s) else Ends Steps s) (lt-ltb s.steps rules.limits.steps lt)
+    ∙ ap (done s) leaves
+    ∙ ap (λ (j : ℕ). Ends Exited (counting j u)) (sym is)
+
+-- where a command was carried out
+abbrev pub carried : Done → State → State
+carried d s = record s { held = d.1; status = d.0.status; printed = printed (s.printed.text ++ d.0.text) s.printed.limit }
+
+pub fits : (d : Done) (s : State) → length (s.printed.text ++ d.0.text) ≤ s.printed.limit → carries d s ≡ Does (carried d s)
+fits d s le = ap (λ (b : Bool). if b then Stops Output else Does (carried d s)) (le-ltb s.printed.limit (length (s.printed.text ++ d.0.text)) le)
+
+pub too_long : (d : Done) (s : State) → s.printed.limit < length (s.printed.text ++ d.0.text) → carries d s ≡ Stops Output
+too_long d s lt = ap (λ (b : Bool). if b then Stops Output else Does (carried d s)) (lt-ltb s.printed.limit (length (s.printed.text ++ d.0.text)) lt)
+
+-- the fields that were made
+pub made_fields : (wanted : Option (List (List ℕ))) (m : Made) → option_map whole wanted ≡ Some m → wanted ≡ Some m.done
+made_fields None m e = absurd (let f : false ≡ true = ap (λ (o : Option Made). is_some o) e in cc)
+made_fields (Some fs) m e = ap (λ (o : Option Made). option_map (λ x. x.done) o) e
+
+-- what stops before the step is begun
+pub no_step : {X : Type 0} (rules : Rules) (meant : Meant) (left : X → Meant) (s : State) (stop : Stop) → MayStep rules s.steps (Err stop) → ((begin : Begin) → rules.limits.steps ≤ s.steps → meant rules begin s ≡ Ends Steps s) → Did rules meant left s s (Err stop)
+no_step rules meant left s (Ended Steps) may halts = λ begin. halts begin may
+no_step rules meant left s (Ended Finished) may halts = absurd may
+no_step rules meant left s (Ended Exited) may halts = absurd may
+no_step rules meant left s (Ended Depth) may halts = absurd may
+no_step rules meant left s (Ended Word) may halts = absurd may
+no_step rules meant left s (Ended Output) may halts = absurd may
+no_step rules meant left s Memory may halts = refl
+
+pub no_fields : {X : Type 0} (rules : Rules) (meant : Meant) (left : X → Meant) (wanted : Option (List (List ℕ))) (s : State) (made : Made) (stop : Stop) → FieldsAre rules wanted s made (Err stop) → ((begin : Begin) → rules.limits.steps ≤ s.steps → meant rules begin s ≡ Ends Steps s) → ((begin : Begin) → s.steps < rules.limits.steps → wanted ≡ None → meant rules begin s ≡ Ends Word s) → Did rules meant left s s (Err stop)
+no_fields rules meant left wanted s made (Ended Steps) are halts large = λ begin. halts begin are
+no_fields rules meant left wanted s made (Ended Word) are halts large = λ begin. large begin are.0 are.1
+no_fields rules meant left wanted s made (Ended Finished) are halts large = absurd are
+no_fields rules meant left wanted s made (Ended Exited) are halts large = absurd are
+no_fields rules meant left wanted s made (Ended Depth) are halts large = absurd are
+no_fields rules meant left wanted s made (Ended Output) are halts large = absurd are
+no_fields rules meant left wanted s made Memory are halts large = refl
+
+-- simple commands
+pub simple_halts : (rules : Rules) (begin : Begin) (fields : Option (List (List ℕ))) (s : State) → rules.limits.steps ≤ s.steps → simple rules begin fields s ≡ Ends Steps s
+simple_halts rules begin None s le = step_halts rules _ s le
+simple_halts rules begin (Some fields) s le = ap (λ (o : Out). o >>= follows rules begin (follow_of fields s.status)) (step_halts rules (effect rules.stubs fields) s le)
+
+pub simple_large : (rules : Rules) (begin : Begin) (fields : Option (List (List ℕ))) (s : State) → s.steps < rules.limits.steps → fields ≡ None → simple rules begin fields s ≡ Ends Word s
+simple_large rules begin None s lt e = step_stopped rules _ s Word lt refl
+simple_large rules begin (Some fields) s lt e = absurd (let f : true ≡ false = ap (λ (o : Option (List (List ℕ))). is_some o) e in cc)
+
+leaving-stops : (f : Follow) (e : Reason) → leaving f (Stops e) ≡ Stops e
+leaving-stops follow.Next e = refl
+leaving-stops follow.End e = refl
+leaving-stops (follow.Starts names) e = refl
+leaving-stops (follow.Deletes force names) e = refl
+
+leaving-does : (f : Follow) (t : State) → (f ≡ follow.End → ⊥) → leaving f (Does t) ≡ Does t
+leaving-does follow.Next t h = refl
+leaving-does follow.End t h = absurd (h refl)
+leaving-does (follow.Starts names) t h = refl
+leaving-does (follow.Deletes force names) t h = refl
+
+module _ (rules : Rules) (words : List (List Atom)) (s : State) (fields : List (List ℕ)) (lt : s.steps < rules.limits.steps) (are : fields_of rules words s ≡ Some fields) (after : Held) (new : Printed) where
+  abbrev pub d : Done
+  d = done_of rules.stubs fields s.status s.held
+
+  pub simple_done : (status k : ℕ) (f : Follow) → Carries d s.held after s.printed new (Ok status) → k ≡ suc s.steps → f ≡ follow_of fields s.status → (f ≡ follow.End → ⊥) → Did rules (λ r begin t. simple r begin (fields_of r words t) t) (λ g r begin. follows r begin g) s (record { held = after; locals = s.locals; status = status; printed = new; steps = k }) (Ok f)
+  unfolding effect
+  simple_done status k f c is isf other =
+      rw (c.1, c.2, c.3) (
+      let does : effect rules.stubs fields s ≡ Does (carried d s) = ap (leaving (follow_of fields s.status)) (fits d s c.0) ∙ leaving-does (follow_of fields s.status) (carried d s) (λ e. other (isf ∙ e)) in
+      let did = step_done rules (effect rules.stubs fields) s (carried d s) k lt does is in (
+        did.0,
+        λ n begin le.
+            ap (λ (o : Option (List (List ℕ))). simple (within n rules) begin o s) are
+            ∙ ap (λ (o : Out). o >>= follows (within n rules) begin (follow_of fields s.status)) (did.1 n le)
+            ∙ ap (λ (g : Follow). follows (within n rules) begin g (record (carried d s) { steps = k })) (sym isf),
+      )
+      )
+
+  pub simple_left : (status k : ℕ) → Carries d s.held after s.printed new (Ok status) → k ≡ suc s.steps → follow_of fields s.status ≡ follow.End → (begin : Begin) → simple rules begin (fields_of rules words s) s ≡ Ends Exited (record { held = after; locals = s.locals; status = status; printed = new; steps = k })
+  unfolding effect
+  simple_left status k c is end begin =
+      rw (c.1, c.2, c.3) (
+      let leaves : effect rules.stubs fields s ≡ Leaves (carried d s) = ap (leaving (follow_of fields s.status)) (fits d s c.0) ∙ ap (λ (g : Follow). leaving g (Does (carried d s))) end in
+      ap (λ (o : Option (List (List ℕ))). simple rules begin o s) are
+      ∙ ap (λ (o : Out). o >>= follows rules begin (follow_of fields s.status)) (step_left rules (effect rules.stubs fields) s (carried d s) k lt leaves is)
+      )
+
+  pub simple_unprinted : (fault : PrintFault) → Carries d s.held after s.printed new (Err fault) → Did rules (λ r begin t. simple r begin (fields_of r words t) t) (λ g r begin. follows r begin g) s (record { held = after; locals = s.locals; status = s.status; printed = new; steps = s.steps }) (Err (print_stop fault))
+  unfolding effect
+  simple_unprinted print.Output c =
+      rw (c.1, c.2) (
+      let stops : effect rules.stubs fields s ≡ Stops Output = ap (leaving (follow_of fields s.status)) (too_long d s c.0) ∙ leaving-stops (follow_of fields s.status) Output in λ begin.
+      ap (λ (o : Option (List (List ℕ))). simple rules begin o s) are
+      ∙ ap (λ (o : Out). o >>= follows rules begin (follow_of fields s.status)) (step_stopped rules (effect rules.stubs fields) s Output lt stops)
+      )
+  simple_unprinted print.Memory c = rw (c.0, c.1) refl
+
+-- a step that does nothing but tell a message
+pub told : (rules : Rules) (message : Message) (name : List ℕ) (s : State) (new : Printed) (k : ℕ) → s.steps < rules.limits.steps → PrintsWhole (text_of message name) s.printed new (Ok tt) → k ≡ suc s.steps → Did rules (λ r begin. step r (fails message name)) (λ (u : Unit {0}) r begin. Goes) s (record { held = s.held; locals = s.locals; status = 1; printed = new; steps = k }) (Ok tt)
+told rules message name s new k lt p is =
+    let d : Done = (answer 1 (text_of message name), s.held) in
+    rw p.1 (let did = step_done rules (fails message name) s (carried d s) k lt (fits d s p.0) is in (did.0, λ n begin le. did.1 n le))
+
+pub untold : {X : Type 0} (rules : Rules) (meant : Meant) (left : X → Meant) (message : Message) (name : List ℕ) (s : State) (new : Printed) (fault : PrintFault) → PrintsWhole (text_of message name) s.printed new (Err fault) → ((begin : Begin) → fails message name s ≡ Stops Output → meant rules begin s ≡ Ends Output s) → Did rules meant left s (record { held = s.held; locals = s.locals; status = s.status; printed = new; steps = s.steps }) (Err (print_stop fault))
+untold rules meant left message name s new print.Output p stops = rw p.1 (λ begin. stops begin (too_long (answer 1 (text_of message name), s.held) s p.0))
+untold rules meant left message name s new print.Memory p stops = rw p refl
+
+-- the head of a for
+pub for_halts : (rules : Rules) (name : List ℕ) (fields : Option (List (List ℕ))) (body : State → Out) (s : State) → rules.limits.steps ≤ s.steps → for rules name fields body s ≡ Ends Steps s
+for_halts rules name None body s le = step_halts rules _ s le
+for_halts rules name (Some []) body s le = ap (λ (o : Out). o >>= (λ t. Goes (with_status 0 t))) (step_halts rules Does s le)
+for_halts rules name (Some (f ∷ fs)) body s le = ap (λ (o : Out). o >>= bindings rules name body (f ∷ fs)) (step_halts rules Does s le)
+
+pub for_large : (rules : Rules) (name : List ℕ) (fields : Option (List (List ℕ))) (body : State → Out) (s : State) → s.steps < rules.limits.steps → fields ≡ None → for rules name fields body s ≡ Ends Word s
+for_large rules name None body s lt e = step_stopped rules _ s Word lt refl
+for_large rules name (Some fs) body s lt e = absurd (let f : true ≡ false = ap (λ (o : Option (List (List ℕ))). is_some o) e in cc)
+
+module _ (rules : Rules) (words : List (List Atom)) (name : List ℕ) (body : Meant) (s : State) (fields : List (List ℕ)) (k : ℕ) (lt : s.steps < rules.limits.steps) (are : fields_of rules words s ≡ Some fields) (is : k ≡ suc s.steps) where
+  pub head_empty : (length fields == 0) ≡ true → Did rules (λ r begin t. for r name (fields_of r words t) (body r begin) t) (λ fs r begin. bindings r name (body r begin) fs) s (record s { status = 0; steps = k }) (Ok fields)
+  head_empty none =
+      let did = step_done rules Does s s k lt refl is in
+      let empty = nothing fields none in (
+        did.0,
+        λ n begin le.
+            ap (λ (o : Option (List (List ℕ))). for (within n rules) name o (body (within n rules) begin) s) (are ∙ ap (λ (fs : List (List ℕ)). let o : Option (List (List ℕ)) = Some fs in o) empty)
+            ∙ ap (λ (o : Out). o >>= (λ t. Goes (with_status 0 t))) (did.1 n le)
+            ∙ ap (λ (fs : List (List ℕ)). bindings (within n rules) name (body (within n rules) begin) fs (record s { status = 0; steps = k })) (sym empty),
+      )
+    where
+      nothing : (fs : List (List ℕ)) → (length fs == 0) ≡ true → fs ≡ []
+      nothing [] h = refl
+      nothing (f ∷ fs) h = let e : length (f ∷ fs) ≡ 0 = eqb-true _ _ h in absurd (omega (arith, e))
+
+  pub head_some : (length fields == 0) ≡ false → Did rules (λ r begin t. for r name (fields_of r words t) (body r begin) t) (λ fs r begin. bindings r name (body r begin) fs) s (record s { steps = k }) (Ok fields)
+  head_some some =
+      let did = step_done rules Does s s k lt refl is in (
+        did.0,
+        λ n begin le.
+            ap (λ (o : Option (List (List ℕ))). for (within n rules) name o (body (within n rules) begin) s) are
+            ∙ heads fields some (within n rules) begin
+            ∙ ap (λ (o : Out). o >>= bindings (within n rules) name (body (within n rules) begin) fields) (did.1 n le),
+      )
+    where
+      heads : (fs : List (List ℕ)) → (length fs == 0) ≡ false → (r : Rules) (begin : Begin) → for r name (Some fs) (body r begin) s ≡ (step r Does s >>= bindings r name (body r begin) fs)
+      heads [] h r begin = absurd (let g : true ≡ false = h in cc)
+      heads (f ∷ fs) h r begin = refl
+
+-- an assignment
+pub value_large : (rules : Rules) (name : List ℕ) (word : List Atom) (s : State) → s.steps < rules.limits.steps → value_of rules word s ≡ None → step rules (assigned rules name word) s ≡ Ends Word s
+value_large rules name word s lt e = step_stopped rules (assigned rules name word) s Word lt (ap (λ (o : Option (List ℕ)). assigned_to name o s) (none (expanded_value (known_in s) rules.limits.word word) e))
+  where
+    none : (o : Option (List ℕ)) → option_map (λ (v : List ℕ). v ∷ []) o ≡ None → o ≡ None
+    none None h = refl
+    none (Some v) h = absurd (let f : true ≡ false = ap (λ (p : Option (List (List ℕ))). is_some p) h in cc)
+
+-- the one field that is its value
+pub value_made : (o : Option (List ℕ)) (m : Made) → option_map whole (option_map (λ (v : List ℕ). v ∷ []) o) ≡ Some m → (v : List ℕ) × (o ≡ Some v) × (m.done ≡ v ∷ [])
+value_made None m e = absurd (let f : false ≡ true = ap (λ (p : Option Made). is_some p) e in cc)
+value_made (Some v) m e = (v, refl, sym (ap (λ (p : Option Made). unwrap_or (option_map (λ x. x.done) p) (v ∷ [])) e))
+
+pub assign_refused : (rules : Rules) (name : List ℕ) (word : List Atom) (s : State) (v : List ℕ) → expanded_value (known_in s) rules.limits.word word ≡ Some v → is_variable s name ≡ true → assigned rules name word s ≡ fails IsVariable name s
+assign_refused rules name word s v e is =
+    ap (λ (o : Option (List ℕ)). assigned_to name o s) e
+    ∙ ap (λ (b : Bool). if b then fails IsVariable name s else Does (record s { locals = map.insert s.locals name v; status = 0 })) is
+
+pub assign_done : (rules : Rules) (name : List ℕ) (word : List Atom) (s : State) (v : List ℕ) → expanded_value (known_in s) rules.limits.word word ≡ Some v → is_variable s name ≡ false → assigned rules name word s ≡ Does (record s { locals = map.insert s.locals name v; status = 0 })
+assign_done rules name word s v e is =
+    ap (λ (o : Option (List ℕ)). assigned_to name o s) e
+    ∙ ap (λ (b : Bool). if b then fails IsVariable name s else Does (record s { locals = map.insert s.locals name v; status = 0 })) is
+
+pub unprinted : {X : Type 0} (rules : Rules) (meant : Meant) (left : X → Meant) (d : Done) (s : State) (after : Held) (new : Printed) (fault : PrintFault) → Carries d s.held after s.printed new (Err fault) → ((begin : Begin) → carries d s ≡ Stops Output → meant rules begin s ≡ Ends Output s) → Did rules meant left s (record { held = after; locals = s.locals; status = s.status; printed = new; steps = s.steps }) (Err (print_stop fault))
+unprinted rules meant left d s after new print.Output c stops = rw (c.1, c.2) (λ begin. stops begin (too_long d s c.0))
+unprinted rules meant left d s after new print.Memory c stops = rw (c.0, c.1) refl
+
+-- a name of `env delete`
+module _ (rules : Rules) (name : List ℕ) (rest : List (List ℕ)) (force failed : Bool) (s : State) where
+  pub delete_halts : (begin : Begin) → rules.limits.steps ≤ s.steps → deletions rules force failed (name ∷ rest) s ≡ Ends Steps s
+  delete_halts begin le = ap (λ (o : Out). o >>= (λ t. deletions rules force (not (t.status == 0)) rest t)) (step_halts rules (λ t. carries (deletion_of t.held name force failed) t) s le)
+
+  pub delete_stops : (begin : Begin) → s.steps < rules.limits.steps → carries (deletion_of s.held name force failed) s ≡ Stops Output → deletions rules force failed (name ∷ rest) s ≡ Ends Output s
+  delete_stops begin lt e = ap (λ (o : Out). o >>= (λ t. deletions rules force (not (t.status == 0)) rest t)) (step_stopped rules (λ t. carries (deletion_of t.held name force failed) t) s Output lt e)
+
+  pub delete_done : (after : Held) (new : Printed) (status k : ℕ) → s.steps < rules.limits.steps → Carries (deletion_of s.held name force failed) s.held after s.printed new (Ok status) → k ≡ suc s.steps → Did rules (λ r begin. deletions r force failed (name ∷ rest)) (λ flag r begin. deletions r force flag rest) s (record { held = after; locals = s.locals; status = status; printed = new; steps = k }) (Ok (not (status == 0)))
+  delete_done after new status k lt c is =
+      let d = deletion_of s.held name force failed in
+      rw (c.1, c.2, c.3) (
+      let did = step_done rules (λ t. carries (deletion_of t.held name force failed) t) s (carried d s) k lt (fits d s c.0) is in
+      (did.0, λ n begin le. ap (λ (o : Out). o >>= (λ t. deletions (within n rules) force (not (t.status == 0)) rest t)) (did.1 n le))
+      )
+
+-- a binding
+module _ (rules : Rules) (name field : List ℕ) (rest : List (List ℕ)) (body : Meant) (s : State) where
+  pub bind_halts : (begin : Begin) → rules.limits.steps ≤ s.steps → bindings rules name (body rules begin) (field ∷ rest) s ≡ Ends Steps s
+  bind_halts begin le = either (is_variable s name)
+    where
+      either : (b : Bool) → (if b then step rules (fails IsVariable name) s else (step rules (λ t. Does (record t { locals = map.insert t.locals name field })) s >>= body rules begin >>= bindings rules name (body rules begin) rest)) ≡ Ends Steps s
+      either true = step_halts rules _ s le
+      either false = ap (λ (o : Out). o >>= body rules begin >>= bindings rules name (body rules begin) rest) (step_halts rules (λ t. Does (record t { locals = map.insert t.locals name field })) s le)
+
+  -- where the name is a variable's, it is as the step that fails
+  pub bind_refused : (t : State) → is_variable s name ≡ true → Did rules (λ r begin. step r (fails IsVariable name)) (λ (u : Unit {0}) r begin. Goes) s t (Ok tt) → Did rules (λ r begin. bindings r name (body r begin) (field ∷ rest)) (λ bound r begin. if bound then (body r begin then bindings r name (body r begin) rest) else Goes) s t (Ok false)
+  bind_refused t taken did = (did.0, λ n begin le. ap (λ (b : Bool). if b then step (within n rules) (fails IsVariable name) s else (step (within n rules) (λ t. Does (record t { locals = map.insert t.locals name field })) s >>= body (within n rules) begin >>= bindings (within n rules) name (body (within n rules) begin) rest)) taken ∙ did.1 n begin le)
+
+  pub bind_stopped : (t : State) (stop : Stop) → is_variable s name ≡ true → Did rules (λ r begin. step r (fails IsVariable name)) (λ (u : Unit {0}) r begin. Goes) s t (Err stop) → Did rules (λ r begin. bindings r name (body r begin) (field ∷ rest)) (λ bound r begin. if bound then (body r begin then bindings r name (body r begin) rest) else Goes) s t (Err stop)
+  bind_stopped t (Ended e) taken did = λ begin. ap (λ (b : Bool). if b then step rules (fails IsVariable name) s else (step rules (λ t. Does (record t { locals = map.insert t.locals name field })) s >>= body rules begin >>= bindings rules name (body rules begin) rest)) taken ∙ did begin
+  bind_stopped t Memory taken did = did
+
+  pub bind_done : (k : ℕ) → s.steps < rules.limits.steps → is_variable s name ≡ false → k ≡ suc s.steps → Did rules (λ r begin. bindings r name (body r begin) (field ∷ rest)) (λ bound r begin. if bound then (body r begin then bindings r name (body r begin) rest) else Goes) s (record s { locals = map.insert s.locals name field; steps = k }) (Ok true)
+  bind_done k lt free is =
+      let did = step_done rules (λ t. Does (record t { locals = map.insert t.locals name field })) s (record s { locals = map.insert s.locals name field }) k lt refl is in (
+        did.0,
+        λ n begin le.
+            ap (λ (b : Bool). if b then step (within n rules) (fails IsVariable name) s else (step (within n rules) (λ t. Does (record t { locals = map.insert t.locals name field })) s >>= body (within n rules) begin >>= bindings (within n rules) name (body (within n rules) begin) rest)) free
+            ∙ ap (λ (o : Out). o >>= body (within n rules) begin >>= bindings (within n rules) name (body (within n rules) begin) rest) (did.1 n le),
+      )
+
+-- a start
+start-absent : (r : Rules) (levels : ℕ) (name : List ℕ) (s : State) → map.get s.held.now.env name ≡ None → start r levels name s ≡ step r (fails NotDefined name) s
+unfolding start
+start-absent r zero name s e = ap (λ (o : Option (List ℕ)). elim o [ None ↦ step r (fails NotDefined name) s | Some text ↦ step r (λ t. Stops Depth) s ]) e
+start-absent r (suc levels) name s e = ap (λ (o : Option (List ℕ)). elim o [ None ↦ step r (fails NotDefined name) s | Some text ↦ entered r (script r (start r levels)) name (read text) s ]) e
+
+start-deep : (r : Rules) (name text : List ℕ) (s : State) → map.get s.held.now.env name ≡ Some text → start r 0 name s ≡ step r (λ t. Stops Depth) s
+unfolding start
+start-deep r name text s e = ap (λ (o : Option (List ℕ)). elim o [ None ↦ step r (fails NotDefined name) s | Some text ↦ step r (λ t. Stops Depth) s ]) e
+
+start-entered : (r : Rules) (levels : ℕ) (name text : List ℕ) (s : State) → map.get s.held.now.env name ≡ Some text → start r (suc levels) name s ≡ entered r (script r (start r levels)) name (read text) s
+unfolding start
+start-entered r levels name text s e = ap (λ (o : Option (List ℕ)). elim o [ None ↦ step r (fails NotDefined name) s | Some text ↦ entered r (script r (start r levels)) name (read text) s ]) e
+
+pub start_halts : (rules : Rules) (levels : ℕ) (name : List ℕ) (s : State) → rules.limits.steps ≤ s.steps → start rules levels name s ≡ Ends Steps s
+start_halts rules levels name s le = by (map.get s.held.now.env name) levels refl
+  where
+    entered-halts : (run : Option Chains → State → Out) (o : Option (Option Chains)) → entered rules run name o s ≡ Ends Steps s
+    entered-halts run None = step_halts rules _ s le
+    entered-halts run (Some tree) = ap (λ (o : Out). o >>= run tree) (step_halts rules (λ t. Does (with_status 0 t)) s le)
+
+    by : (o : Option (List ℕ)) (l : ℕ) → map.get s.held.now.env name ≡ o → start rules l name s ≡ Ends Steps s
+    by None l e = start-absent rules l name s e ∙ step_halts rules _ s le
+    by (Some text) zero e = start-deep rules name text s e ∙ step_halts rules _ s le
+    by (Some text) (suc l) e = start-entered rules l name text s e ∙ entered-halts (script rules (start rules l)) (read text)
+
+pub start_deep : (rules : Rules) (levels : ℕ) (name text : List ℕ) (s : State) → s.steps < rules.limits.steps → levels ≡ 0 → map.get s.held.now.env name ≡ Some text → start rules levels name s ≡ Ends Depth s
+start_deep rules levels name text s lt none e = ap (λ (l : ℕ). start rules l name s) none ∙ start-deep rules name text s e ∙ step_stopped rules (λ t. Stops Depth) s Depth lt refl
+
+-- a start that fails with a message
+pub start_failed : (rules : Rules) (message : Message) (levels : ℕ) (name : List ℕ) (s t : State) → ((r : Rules) → start r levels name s ≡ step r (fails message name) s) → t.status ≡ 1 → Did rules (λ r begin. step r (fails message name)) (λ (u : Unit {0}) r begin. Goes) s t (Ok tt) → Started rules levels name s t (Ok None)
+start_failed rules message levels name s t is one did = (did.0, ap (λ (n : ℕ). n == 0) one, λ n le. is (within n rules) ∙ did.1 n (start rules levels) le)
+
+pub start_stopped : (rules : Rules) (message : Message) (levels : ℕ) (name : List ℕ) (s t : State) (stop : Stop) → ((r : Rules) → start r levels name s ≡ step r (fails message name) s) → Did rules (λ r begin. step r (fails message name)) (λ (u : Unit {0}) r begin. Goes) s t (Err stop) → Started rules levels name s t (Err stop)
+start_stopped rules message levels name s t (Ended e) is did = is rules ∙ did (start rules levels)
+start_stopped rules message levels name s t Memory is did = did
+
+pub start_unstarted : (rules : Rules) (levels : ℕ) (name : List ℕ) (s : State) (stop : Stop) → MayStep rules s.steps (Err stop) → Started rules levels name s s (Err stop)
+start_unstarted rules levels name s (Ended Steps) may = start_halts rules levels name s may
+start_unstarted rules levels name s (Ended Finished) may = absurd may
+start_unstarted rules levels name s (Ended Exited) may = absurd may
+start_unstarted rules levels name s (Ended Depth) may = absurd may
+start_unstarted rules levels name s (Ended Word) may = absurd may
+start_unstarted rules levels name s (Ended Output) may = absurd may
+start_unstarted rules levels name s Memory may = refl
+
+pub is_absent : (levels : ℕ) (name : List ℕ) (s : State) → map.get s.held.now.env name ≡ None → (r : Rules) → start r levels name s ≡ step r (fails NotDefined name) s
+is_absent levels name s e r = start-absent r levels name s e
+
+pub is_no_script : (levels : ℕ) (name text : List ℕ) (s : State) → (levels ≡ 0 → ⊥) → map.get s.held.now.env name ≡ Some text → read text ≡ None → (r : Rules) → start r levels name s ≡ step r (fails NoScript name) s
+is_no_script zero name text s some e none r = absurd (some refl)
+is_no_script (suc below) name text s some e none r = start-entered r below name text s e ∙ ap (λ (o : Option (Option Chains)). entered r (script r (start r below)) name o s) none
+
+pub start_done : (rules : Rules) (levels : ℕ) (name text : List ℕ) (s : State) (p : Parsed) (k : ℕ) → s.steps < rules.limits.steps → (levels ≡ 0 → ⊥) → map.get s.held.now.env name ≡ Some text → read text ≡ Some (tree_of p) → k ≡ suc s.steps → Started rules levels name s (record s { status = 0; steps = k }) (Ok (Some p))
+start_done rules zero name text s p k lt some e reads is = absurd (some refl)
+start_done rules (suc below) name text s p k lt some e reads is =
+    let did = step_done rules (λ t. Does (with_status 0 t)) s (with_status 0 s) k lt refl is in (
+      did.0,
+      below,
+      refl,
+      λ n le.
+          start-entered (within n rules) below name text s e
+          ∙ ap (λ (o : Option (Option Chains)). entered (within n rules) (script (within n rules) (start (within n rules) below)) name o s) reads
+          ∙ ap (λ (o : Out). o >>= script (within n rules) (start (within n rules) below) (tree_of p)) (did.1 n le),
+    )
+
+-- a step with another effect that comes to the same
+step-same : (r : Rules) (effect other : State → Effect) (s : State) → effect s ≡ other s → step r effect s ≡ step r other s
+unfolding step
+step-same r effect other s e = ap (λ (x : Effect). if nat_lt s.steps r.limits.steps then done s x else Ends Steps s) e
+
+pub as_step : (rules : Rules) (effect other : State → Effect) (s t : State) (result : Result (Unit {0}) Stop) → effect s ≡ other s → Did rules (λ r begin. step r other) (λ (u : Unit {0}) r begin. Goes) s t result → Did rules (λ r begin. step r effect) (λ (u : Unit {0}) r begin. Goes) s t result
+as_step rules effect other s t (Ok u) e did = (did.0, λ n begin le. step-same (within n rules) effect other s e ∙ did.1 n begin le)
+as_step rules effect other s t (Err (Ended r)) e did = λ begin. step-same rules effect other s e ∙ did begin
+as_step rules effect other s t (Err Memory) e did = did
+
+pub first_same : (x y : List ℕ) (xs ys : List (List ℕ)) → x ∷ xs ≡ y ∷ ys → x ≡ y
+first_same x y xs ys e = ap (λ (l : List (List ℕ)). first l) e
+  where
+    first : List (List ℕ) → List ℕ
+    first [] = x
+    first (z ∷ zs) = z

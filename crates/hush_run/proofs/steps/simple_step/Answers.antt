@@ -1,0 +1,56 @@
+use Rattle.std.proofs.Common.{rules as allowed, ◌≡◌, ◌+◌, map, subst, sym, ◌∙◌, Err, Ok, add-one}
+use Rattle.hush_words.specs.Parts.{word_atoms}
+use Rattle.hush_run.specs.Stops.{print_stop}
+use Rattle.hush_run.specs.Meaning.{Rules, Begin, State, simple, follows, fields_of, Ends}
+use Rattle.hush_run.specs.declared.ending.Reason.TheVariants.{Exited}
+use Rattle.hush_run.specs.Steps.{Did, FieldsAre, state_of, rules_of}
+use Rattle.hush_run.proofs.StepLemmas.{made_fields, no_fields, simple_halts, simple_large, simple_done, simple_left, simple_unprinted}
+use Rattle.hush_run.proofs.steps.simple_step.Goals as goal
+
+pub returns-in_err-expand : goal.returns-in_err-expand
+returns-in_err-expand c =
+    let r = rules_of c.args.given.now in
+    let words = map (word_atoms c.args.text.now) c.args.words.now in
+    let s = state_of c.args.session.now c.args.progress.now in
+    let same : c.from_residual.result ≡ Err c.in_err-expand.field-0.0 = search allowed in
+    rw same (subst (λ (t : State). Did r (λ (q : Rules) begin u. simple q begin (fields_of q words u) u) (λ follow q begin. follows q begin follow) s t (Err c.in_err-expand.field-0.0)) (sym (c.in_err-expand.ensures.same c.args.session.now))
+    (no_fields r (λ q begin u. simple q begin (fields_of q words u) u) (λ follow q begin. follows q begin follow) (fields_of r words s) s c.expand.new.self.fields c.in_err-expand.field-0.0 c.in_err-expand.ensures.fields
+    (λ begin le. simple_halts r begin (fields_of r words s) s le)
+    (λ begin lt e. simple_large r begin (fields_of r words s) s lt e)))
+
+pub returns-in_err-progress : goal.returns-in_err-progress
+returns-in_err-progress c =
+    let r = rules_of c.args.given.now in
+    let words = map (word_atoms c.args.text.now) c.args.words.now in
+    let s = state_of c.args.session.now c.args.progress.now in
+    let t = state_of c.args.session.now c.expand.new.self in
+    let back : t ≡ s = c.in_ok-expand.ensures.same c.args.session.now in
+    let are = subst (λ (u : State). FieldsAre r (fields_of r words u) u c.expand.new.self.fields (Ok tt)) (sym back) c.in_ok-expand.ensures.fields in
+    let same : c.from_residual-in_err-progress.result ≡ Err (print_stop c.in_err-progress.field-0.0) = search allowed in
+    let new : State = record { held = c.carry_out.new.session; locals = c.expand.new.self.locals; status = c.expand.new.self.status; printed = c.carry_out.new.output; steps = c.expand.new.self.steps } in
+    rw same (subst (λ (u : State). Did r (λ (q : Rules) begin v. simple q begin (fields_of q words v) v) (λ follow q begin. follows q begin follow) u new (Err (print_stop c.in_err-progress.field-0.0))) back
+    (simple_unprinted r words t c.expand.new.self.fields.done are.0 (made_fields (fields_of r words t) c.expand.new.self.fields are.1) c.carry_out.new.session c.carry_out.new.output c.in_err-progress.field-0.0 c.in_err-progress.ensures))
+
+pub returns-in-End : goal.returns-in-End
+returns-in-End c =
+    let r = rules_of c.args.given.now in
+    let words = map (word_atoms c.args.text.now) c.args.words.now in
+    let s = state_of c.args.session.now c.args.progress.now in
+    let t = state_of c.args.session.now c.expand.new.self in
+    let back : t ≡ s = c.in_ok-expand.ensures.same c.args.session.now in
+    let are = subst (λ (u : State). FieldsAre r (fields_of r words u) u c.expand.new.self.fields (Ok tt)) (sym back) c.in_ok-expand.ensures.fields in
+    let new : State = record { held = c.carry_out.new.session; locals = c.expand.new.self.locals; status = c.in_ok-progress.field-0; printed = c.carry_out.new.output; steps = c.expand.new.self.steps + 1 } in
+    subst (λ (u : State). (begin : Begin) → simple r begin (fields_of r words u) u ≡ Ends Exited new) back
+    (simple_left r words t c.expand.new.self.fields.done are.0 (made_fields (fields_of r words t) c.expand.new.self.fields are.1) c.carry_out.new.session c.carry_out.new.output c.in_ok-progress.field-0 (c.expand.new.self.steps + 1) c.in_ok-progress.ensures (add-one _) (sym c.of.ensures ∙ c.in-End.is))
+
+pub returns-in_default : goal.returns-in_default
+returns-in_default c =
+    let r = rules_of c.args.given.now in
+    let words = map (word_atoms c.args.text.now) c.args.words.now in
+    let s = state_of c.args.session.now c.args.progress.now in
+    let t = state_of c.args.session.now c.expand.new.self in
+    let back : t ≡ s = c.in_ok-expand.ensures.same c.args.session.now in
+    let are = subst (λ (u : State). FieldsAre r (fields_of r words u) u c.expand.new.self.fields (Ok tt)) (sym back) c.in_ok-expand.ensures.fields in
+    let new : State = record { held = c.carry_out.new.session; locals = c.expand.new.self.locals; status = c.in_ok-progress.field-0; printed = c.carry_out.new.output; steps = c.expand.new.self.steps + 1 } in
+    subst (λ (u : State). Did r (λ (q : Rules) begin v. simple q begin (fields_of q words v) v) (λ follow q begin. follows q begin follow) u new (Ok c.of.result)) back
+    (simple_done r words t c.expand.new.self.fields.done are.0 (made_fields (fields_of r words t) c.expand.new.self.fields are.1) c.carry_out.new.session c.carry_out.new.output c.in_ok-progress.field-0 (c.expand.new.self.steps + 1) c.of.result c.in_ok-progress.ensures (add-one _) c.of.ensures c.in_default.not-End)

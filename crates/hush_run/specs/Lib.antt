@@ -1,0 +1,12 @@
+pub mod Stops
+pub mod Meaning
+pub mod Counting
+pub mod Stacks
+pub mod Calls
+pub mod Resume
+pub mod Turns
+pub mod Rises
+pub mod Steps
+pub mod Names
+pub mod Advances
+pub mod Runs

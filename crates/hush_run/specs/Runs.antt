@@ -1,0 +1,48 @@
+-- What a run leaves, and what its outcome tells (docs/runs.md, "Meaning").
+use Rattle.std.specs.Prelude.{◌≡◌, ◌≤◌, Option, Some, None}
+use Rattle.env_session.specs.Session.{Held}
+use Rattle.hush_syntax.specs.Grammar.{Chains}
+use Rattle.hush_commands.specs.Limits.{Bounds}
+use Rattle.hush_commands.specs.Stubs.{Statuses}
+use Rattle.hush_run.specs.declared.ending.Ending.{Ending}
+use Rattle.hush_run.specs.declared.ending.Ending.TheVariants as ending
+use Rattle.hush_run.specs.declared.ending.Reason.{Reason}
+use Rattle.hush_run.specs.declared.ending.Reason.TheVariants as reason
+use Rattle.hush_run.specs.declared.ending.Stop.{Stop}
+use Rattle.hush_run.specs.declared.ending.Stop.TheVariants as stop
+use Rattle.hush_run.specs.declared.outcome.Outcome.{Outcome}
+use Rattle.hush_run.specs.Meaning.{Rules, State, meaning, within}
+
+-- what a run is given
+abbrev pub rules : Statuses → Bounds → Rules
+rules stubs limits = record { stubs = stubs; limits = limits }
+
+-- the ending of the definition; none where memory was refused
+abbrev pub reason_of : Ending → Option Reason
+reason_of ending.Finished = Some reason.Finished
+reason_of ending.Exited = Some reason.Exited
+reason_of ending.Steps = Some reason.Steps
+reason_of ending.Depth = Some reason.Depth
+reason_of ending.Word = Some reason.Word
+reason_of ending.Output = Some reason.Output
+reason_of ending.Memory = None
+
+abbrev pub stop_reason : Stop → Option Reason
+stop_reason (stop.Ended reason) = Some reason
+stop_reason stop.Memory = None
+
+-- the session, the status, the steps that are counted and the text are those of a state
+pub record Shows (s : State) (now : Held) (outcome : Outcome) : Type 0 where
+  pub held : now ≡ s.held
+  pub status : outcome.status ≡ s.status
+  pub steps : outcome.steps ≡ s.steps
+  pub text : outcome.text.items ≡ s.printed.text
+
+-- by the definition's ending: it is the meaning's and so is all that the run leaves; or memory was refused, and what
+-- stands is what the run leaves that may count no more steps than were counted
+abbrev pub RunsBy : Option Reason → Rules → Option Chains → (old new : Held) → Outcome → Type 0
+RunsBy (Some reason) rules tree old new outcome = ((meaning rules tree old).0 ≡ reason) × Shows (meaning rules tree old).1 new outcome
+RunsBy None rules tree old new outcome = (outcome.steps ≤ rules.limits.steps) × Shows (meaning (within outcome.steps rules) tree old).1 new outcome
+
+abbrev pub Runs : Rules → Option Chains → (old new : Held) → Outcome → Type 0
+Runs rules tree old new outcome = RunsBy (reason_of outcome.ending) rules tree old new outcome

@@ -1,0 +1,16 @@
+-- Why a run stops.
+use Rattle.hush_commands.specs.declared.expansion_fault.ExpansionFault.{ExpansionFault}
+use Rattle.hush_commands.specs.declared.expansion_fault.ExpansionFault.TheVariants as expansion
+use Rattle.hush_commands.specs.declared.output.PrintFault.{PrintFault}
+use Rattle.hush_commands.specs.declared.output.PrintFault.TheVariants as print
+use Rattle.hush_run.specs.declared.ending.Reason.TheVariants as reason
+use Rattle.hush_run.specs.declared.ending.Stop.{Stop}
+use Rattle.hush_run.specs.declared.ending.Stop.TheVariants.{Ended, Memory}
+
+abbrev pub expansion_stop : ExpansionFault → Stop
+expansion_stop expansion.Word = Ended reason.Word
+expansion_stop expansion.Memory = Memory
+
+abbrev pub print_stop : PrintFault → Stop
+print_stop print.Output = Ended reason.Output
+print_stop print.Memory = Memory

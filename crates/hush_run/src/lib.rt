@@ -1,0 +1,22 @@
+//! Dry runs of boot scripts: a script run over a session under limits, with hardware answered by stand-ins.
+//! docs/runs.md states the rules.
+#![tactic(auto)]
+
+mod advancing;
+mod calls;
+mod descent;
+mod ending;
+pub mod frames;
+mod machine;
+mod members;
+mod names;
+mod node_step;
+mod outcome;
+mod progress;
+mod rising;
+mod steps;
+mod turns;
+
+pub use ending::Ending;
+pub use hush_commands::{Limits, StubFault, Stubs};
+pub use outcome::{Outcome, run};

@@ -1,0 +1,97 @@
+//! The step that a node is.
+ghost use Rattle.std.specs.Prelude.{◌≡◌, ℕ, List, ◌≤◌, Some, IfOk};
+ghost use Rattle.hush_words.specs.Words.{Atom};
+ghost use Rattle.hush_syntax.specs.Grammar.{For, Chains};
+ghost use Rattle.hush_syntax.specs.Nodes.{At, OfCommand};
+ghost use Rattle.hush_syntax.specs.Scripts.{sub_at};
+ghost use Rattle.hush_run.specs.Meaning.{Rules, Begin, State, follows, bindings, chains};
+ghost use Rattle.hush_run.specs.Resume.{sub_does, room, IsStep};
+ghost use Rattle.hush_run.specs.Steps.{state_of, rules_of, Did};
+ghost use Rattle.hush_run.specs.Turns.{due_does, due_room, IsDue};
+
+use crate::ending::Stop;
+use crate::progress::{Given, Progress};
+use crate::steps::{assign_step, head_step, simple_step};
+use crate::turns::Due;
+use env_session::Session;
+use hush_commands::{FieldQueue, Follow};
+use hush_syntax::{Node, NodeId, Script};
+
+/// Does the step that a node is: what is due behind it.
+pub(crate) fn node_step(
+    given: &Given<'_>,
+    session: &mut Session,
+    progress: &mut Progress,
+    script: &Script,
+    node: NodeId,
+) -> Result<Due, Stop>
+    requires { IsStep (sub_at script.now node) }
+    ensures step { Did (rules_of given.now) (λ rules begin. sub_does rules begin (sub_at script.now node)) (λ due rules begin. due_does rules begin (sub_at script.now) due) (state_of session.old progress.old) (state_of session.new progress.new) result }
+    ensures due { IfOk result (λ due. IsDue (sub_at script.now) due × (due_room (sub_at script.now) due ≤ room (sub_at script.now node))) }
+{
+    match script.node(node) {
+        Node::Simple { words } => {
+            match simple_step(given, session, progress, script.text(), words) {
+                Ok(follow) => Ok(due_behind(follow)),
+                Err(stop) => Err(stop),
+            }
+        }
+        Node::Assign { name, value } => {
+            match assign_step(given, session, progress, script.text(), name, value) {
+                Ok(()) => Ok(Due::Over),
+                Err(stop) => Err(stop),
+            }
+        }
+        Node::For { words, .. } => {
+            match head_step(given, session, progress, script.text(), words) {
+                Ok(fields) => Ok(due_binding(node, fields)),
+                Err(stop) => Err(stop),
+            }
+        }
+        Node::List(_)
+        | Node::Chain(_)
+        | Node::If { .. }
+        | Node::While { .. }
+        | Node::Until { .. } => unreachable!(),
+    }
+}
+
+/// What is due behind a simple command.
+fn due_behind(follow: Follow) -> Due
+    ensures due { (at : At) → IsDue at result × (due_room at result ≤ 1) }
+    ensures same { (rules : Rules) (begin : Begin) (at : At) (s : State) → follows rules begin follow s ≡ due_does rules begin at result s }
+{
+    match follow {
+        Follow::Next | Follow::End => Due::Over,
+        Follow::Starts(names) => {
+            if names.is_empty() {
+                Due::Over
+            } else {
+                Due::Start { names }
+            }
+        }
+        Follow::Deletes { force, names } => {
+            if names.is_empty() {
+                Due::Over
+            } else {
+                Due::Delete {
+                    force,
+                    failed: false,
+                    names,
+                }
+            }
+        }
+    }
+}
+
+/// What is due behind the head of a `for` with these fields.
+fn due_binding(node: NodeId, fields: FieldQueue) -> Due
+    ensures due { (at : At) (name : List ℕ) (words : List (List Atom)) (d : Chains) → at node ≡ Some (OfCommand (For name words d)) → IsDue at result × (due_room at result ≤ room (at node)) }
+    ensures same { (rules : Rules) (begin : Begin) (at : At) (name : List ℕ) (words : List (List Atom)) (d : Chains) (s : State) → at node ≡ Some (OfCommand (For name words d)) → bindings rules name (chains rules begin d) fields s ≡ due_does rules begin at result s }
+{
+    if fields.is_empty() {
+        Due::Over
+    } else {
+        Due::Binding { node, fields }
+    }
+}

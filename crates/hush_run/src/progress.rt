@@ -1,0 +1,131 @@
+//! What a run is given, and what it changes.
+ghost use Rattle.std.specs.Prelude.{◌≡◌, ◌<◌, map, IfOk};
+ghost use Rattle.hush_words.specs.Parts.{word_atoms};
+ghost use Rattle.env_session.specs.Session.{Held};
+ghost use Rattle.hush_run.specs.Meaning.{Rules, Goes, step, fails, fields_of, first_state};
+
+use crate::ending::{Reason, Stop};
+use env_session::Session;
+use hush_commands::{FieldBuffer, Limits, Locals, Message, Output, Scope, Stubs};
+use hush_syntax::{Text, Word};
+use std::alloc::Global;
+
+/// What a run is given: what stands in for hardware, and its limits.
+#[derive(Clone, Copy)]
+pub(crate) struct Given<'a> {
+    pub(crate) alloc: Global,
+    pub(crate) stubs: &'a Stubs,
+    pub(crate) limits: Limits,
+}
+
+/// What a run changes, but for the session.
+#[derive(Drop)]
+pub(crate) struct Progress {
+    pub(crate) locals: Locals,
+    pub(crate) status: u8,
+    pub(crate) output: Output,
+    /// How many steps are counted.
+    pub(crate) steps: u32,
+    /// The fields of the step that is being done.
+    pub(crate) fields: FieldBuffer,
+    /// The name that it assigns to.
+    pub(crate) name: Vec<u8>,
+}
+
+impl Progress {
+    ghost use Rattle.hush_run.specs.Steps.{state_of, rules_of, value_of, FieldsAre, MayStep, Did};
+
+    /// Status 0, no local variables and no text. It takes no memory.
+    pub(crate) fn new(given: &Given<'_>) -> Progress
+        ensures { (held : Held) → state_of held result ≡ first_state (rules_of given.now) held }
+    {
+        Progress {
+            locals: Locals::new(given.alloc),
+            status: 0,
+            output: Output::new(given.alloc, given.limits.output()),
+            steps: 0,
+            fields: FieldBuffer::new(given.alloc),
+            name: Vec::new(given.alloc),
+        }
+    }
+
+    /// Where one more step may be counted, expands words to the fields of that step.
+    pub(crate) fn expand(
+        &mut self,
+        given: &Given<'_>,
+        session: &Session,
+        text: &Text,
+        words: &[Word],
+    ) -> Result<(), Stop>
+        ensures same { (held : Held) → state_of held self.new ≡ state_of held self.old }
+        ensures fields { FieldsAre (rules_of given.now) (fields_of (rules_of given.now) (map (word_atoms text.now) words.now) (state_of session.now self.old)) (state_of session.now self.old) self.new.fields result }
+        ensures counts { IfOk result (λ u. self.new.steps < 1000000) }
+    {
+        self.may_step(given)?;
+        let scope = Scope {
+            text,
+            vars: session.vars(),
+            locals: &self.locals,
+            status: self.status,
+        };
+        self.fields.expand(&scope, words, given.limits.word())?;
+        Ok(())
+    }
+
+    /// Where one more step may be counted, expands the word of an assignment to the one field of that step.
+    pub(crate) fn expand_value(
+        &mut self,
+        given: &Given<'_>,
+        session: &Session,
+        text: &Text,
+        word: Word,
+    ) -> Result<(), Stop>
+        ensures same { (held : Held) → state_of held self.new ≡ state_of held self.old }
+        ensures fields { FieldsAre (rules_of given.now) (value_of (rules_of given.now) (word_atoms text.now word) (state_of session.now self.old)) (state_of session.now self.old) self.new.fields result }
+        ensures counts { IfOk result (λ u. self.new.steps < 1000000) }
+    {
+        self.may_step(given)?;
+        let scope = Scope {
+            text,
+            vars: session.vars(),
+            locals: &self.locals,
+            status: self.status,
+        };
+        self.fields.expand_value(&scope, word, given.limits.word())?;
+        Ok(())
+    }
+
+    /// A step that fails with a message.
+    pub(crate) fn fail(&mut self, message: Message, name: &[u8]) -> Result<(), Stop>
+        requires { self.old.steps < u32.MAX }
+        ensures status { IfOk result (λ u. self.new.status ≡ 1) }
+        ensures told { (rules : Rules) (held : Held) → self.old.steps < rules.limits.steps → Did rules (λ r begin. step r (fails message name.now)) (λ u r begin. Goes) (state_of held self.old) (state_of held self.new) result }
+    {
+        message.tell(name, &mut self.output)?;
+        self.status = 1;
+        self.steps += 1;
+        Ok(())
+    }
+
+    /// A step that fails since the name that it assigns to is that of a variable.
+    pub(crate) fn refuse_name(&mut self) -> Result<(), Stop>
+        requires { self.old.steps < u32.MAX }
+        ensures { (rules : Rules) (held : Held) → self.old.steps < rules.limits.steps → Did rules (λ r begin. step r (fails Message.IsVariable self.old.name.items)) (λ u r begin. Goes) (state_of held self.old) (state_of held self.new) result }
+    {
+        Message::IsVariable.tell(&self.name, &mut self.output)?;
+        self.status = 1;
+        self.steps += 1;
+        Ok(())
+    }
+
+    /// Whether one more step may be counted.
+    pub(crate) fn may_step(&self, given: &Given<'_>) -> Result<(), Stop>
+        ensures may { MayStep (rules_of given.now) self.now.steps result }
+        ensures counts { IfOk result (λ u. self.now.steps < 1000000) }
+    {
+        if self.steps >= given.limits.steps() {
+            return Err(Stop::Ended(Reason::Steps));
+        }
+        Ok(())
+    }
+}
