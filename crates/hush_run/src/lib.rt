@@ -15,6 +15,8 @@ mod outcome;
 mod progress;
 mod rising;
 mod steps;
+#[cfg(test)]
+mod tests;
 mod turns;
 
 pub use ending::Ending;
