@@ -137,15 +137,15 @@ fn frames_hold_three_for_each_level(rt: HostRuntime) -> Result<(), Fail> {
         Ok(script) => script.root(),
         Err(_) => None,
     };
-    let frames = (Frames::new(rt.alloc(), 0), Frames::new(rt.alloc(), 16));
-    match (root, frames) {
-        (Some(root), (Ok(mut few), Ok(mut many))) => {
-            push_all(&mut few, root, 195);
-            assert!(rt; come_back(&mut few, 195));
-            push_all(&mut many, root, 3315);
-            assert!(rt; come_back(&mut many, 3315));
-        }
-        _ => assert!(rt; false, "a root and frames"),
-    }
+    let Some(root) = root else {
+        assert!(rt; false, "a root");
+        return Ok(());
+    };
+    let mut few = Frames::new(rt.alloc(), 0)?;
+    push_all(&mut few, root, 195);
+    assert!(rt; come_back(&mut few, 195));
+    let mut many = Frames::new(rt.alloc(), 16)?;
+    push_all(&mut many, root, 3315);
+    assert!(rt; come_back(&mut many, 3315));
     Ok(())
 }
