@@ -1,5 +1,6 @@
 //! Runs by their rules (docs/runs.md). Texts, statuses and steps are worked out by hand.
 
+mod boards;
 mod exits;
 mod limited;
 mod rows;
@@ -55,8 +56,19 @@ fn ran(
     script: &[u8],
     limits: [u32; 4],
 ) -> Result<Option<Outcome>, AllocError> {
+    ran_with(alloc, session, b"mmc\nusb 1\n", script, limits)
+}
+
+/// The same with the stand-ins of a file.
+fn ran_with(
+    alloc: Global,
+    session: &mut Session,
+    stubs: &[u8],
+    script: &[u8],
+    limits: [u32; 4],
+) -> Result<Option<Outcome>, AllocError> {
     let script = Script::parse(alloc, Vec::from_slice(alloc, script)?).ok();
-    let stubs = Stubs::parse(alloc, b"mmc\nusb 1\n").ok();
+    let stubs = Stubs::parse(alloc, stubs).ok();
     let [steps, depth, word, output] = limits;
     let limits = Limits::new(steps, depth, word, output);
     match (script, stubs, limits) {
