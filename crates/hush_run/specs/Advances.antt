@@ -1,4 +1,4 @@
--- One step of a run, whatever it is.
+-- One step of a run, whatever it is. (How the code goes about it; what a run means stands in Meaning.)
 use Rattle.std.specs.Prelude.{◌≡◌, ℕ, suc, ◌+◌, ◌*◌, ◌≤◌, List, length, Option, Result, Ok, Err}
 use Rattle.hush_syntax.specs.Scripts.{Parsed}
 use Rattle.hush_syntax.specs.Grammar.{Chains}

@@ -1,4 +1,4 @@
--- What is left where a part is done.
+-- What is left where a part is done. (How the code goes about it; what a run means stands in Meaning.)
 use Rattle.std.specs.Prelude.{◌≡◌, ℕ, ◌+◌, ◌*◌, ◌≤◌, List, [], ◌∷◌, length, Option, Some, None}
 use Rattle.hush_run.specs.declared.frames.Frame.{Frame}
 use Rattle.hush_run.specs.declared.turns.Due.{Due}

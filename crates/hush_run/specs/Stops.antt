@@ -1,4 +1,4 @@
--- Why a run stops.
+-- Why a run stops. (How the code goes about it; what a run means stands in Meaning.)
 use Rattle.hush_commands.specs.declared.expansion_fault.ExpansionFault.{ExpansionFault}
 use Rattle.hush_commands.specs.declared.expansion_fault.ExpansionFault.TheVariants as expansion
 use Rattle.hush_commands.specs.declared.output.PrintFault.{PrintFault}

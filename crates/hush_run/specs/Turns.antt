@@ -1,4 +1,4 @@
--- What a frame comes to where what stood above it is done.
+-- What a frame comes to where what stood above it is done. (How the code goes about it; what a run means stands in Meaning.)
 use Rattle.std.specs.Prelude.{◌≡◌, ℕ, suc, ◌<◌, ◌≤◌, List, length, Option, Some, None, IsSome}
 use Rattle.hush_syntax.specs.declared.nodes.NodeId.{NodeId}
 use Rattle.hush_run.specs.declared.frames.Frame.{Frame}

@@ -25,9 +25,9 @@ pub struct Outcome {
 
 /// Runs a script over a session under limits: what docs/runs.md, "Meaning", gives for it, whatever the session holds.
 ///
-/// A run begins with status 0 and no local variables, and leaves the session's marks as they were. Where a growth is
-/// refused it ends as `Memory`, and what stands is what a run with the limit of the counted steps leaves. It doesn't
-/// recurse: the room for frames and scripts is taken at the start.
+/// A run begins with status 0 and no local variables; it makes no mark and lets none go. Where a growth is refused it
+/// ends as `Memory`, and what stands is what a run with the limit of the counted steps leaves. It doesn't recurse: the
+/// room for frames and scripts is taken at the start.
 pub fn run(
     alloc: Global,
     session: &mut Session,
