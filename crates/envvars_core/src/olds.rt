@@ -63,12 +63,11 @@ impl Olds {
         }
     }
 
-    /// Whether a name is kept, and where it was found or would stand. A spot that is guessed is looked at first.
-    fn find(&self, guess: Near, name: &[u8]) -> (bool, Near)
+    /// Whether a name is kept, and where it was found or would stand. What has the number that is given is looked at first.
+    fn find(&self, near: Near, name: &[u8]) -> (bool, Near)
         ensures { result.0 ≡ env.contains_key self.now name.now }
     {
-        let (kept, near) = self.texts.find_near(guess, name);
-        (kept.is_some(), near)
+        self.texts.find_near(near, name)
     }
 
     /// Whether a name is kept.
@@ -80,25 +79,26 @@ impl Olds {
 
     /// Keeps the old value of a name, unless one is kept already, and answers whether it is kept only now.
     /// Where memory runs out, nothing has changed.
-    /// `near` is where a look-up of the name ended among the variables: the first guess of where it is kept.
+    /// `near` is where a look-up of the name ended among the variables. It comes back with the number of the kept name.
     pub(crate) fn keep(
         &mut self,
         near: Near,
         name: &[u8],
         old: Option<&[u8]>,
-    ) -> Result<bool, Memory>
+    ) -> Result<(bool, Near), Memory>
         requires name_form { IsTrue (is_name name.now) }
         requires value_form { IfSome (option_copied old) (λ v. IsTrue (is_value v)) }
         ensures kept { OnOk result (self.new ≡ kept self.old name.now (option_copied old.entry)) }
-        ensures added { IfOk result (λ added. added ≡ not (env.contains_key self.old name.now)) }
+        ensures added { IfOk result (λ kept. kept.0 ≡ not (env.contains_key self.old name.now)) }
         ensures unchanged { OnErr result (self.new ≡ self.old) }
     {
-        let (is_kept, near) = self.find(near, name);
+        let (is_kept, at) = self.find(near, name);
+        let near = near.numbered_as(at);
         if is_kept {
-            return Ok(false);
+            return Ok((false, near));
         }
-        self.add(near, name, old)?;
-        Ok(true)
+        self.add(at, name, old)?;
+        Ok((true, near))
     }
 
     /// Keeps the old value of a name that isn't kept yet. Where memory runs out, nothing has changed.
@@ -111,6 +111,7 @@ impl Olds {
     {
         let text = Text::marked(self.alloc, name, old)?;
         self.texts.add(near, text)?;
+        self.texts.number(name);
         Ok(())
     }
 

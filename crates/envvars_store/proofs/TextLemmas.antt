@@ -2,12 +2,15 @@
 use Rattle.std.proofs.Common.{◌≡◌, ℕ, ◌+◌, ◌-◌, Bool, false, true, cond, T, List, [], ◌∷◌, ◌++◌, length, All, Option, Some, None, is_some, option_map, map, sym, ap, subst, ◌∙◌, refl, arith, append-nil}
 use Rattle.std.specs.FinMap as env
 use Rattle.std.specs.FinMap.Entries.{put, find, is_sorted}
+use Rattle.std.specs.Ordering.{eq_by_cmp}
 use Rattle.std.specs.Cmp.{tied_itself}
 use Rattle.std.proofs.lemmas.Cmp.{nat_list_cmp_total}
 use Rattle.std.proofs.lemmas.List.{map-append}
 use Rattle.envimg_core.specs.Environment.{Pair, bytes_cmp, Environment}
 use Rattle.envvars_store.specs.Laying.{pair_of, IsPlaced}
 use Rattle.envvars_store.specs.Runs.{Run, flat, listed, IsFilled, IsFormed, IsLaid, AreTexts}
+use Rattle.envvars_store.specs.Names.{IsNameOf, AreNamesOf}
+use Rattle.envvars_store.specs.declared.naming.Names.{Names}
 use Rattle.envvars_store.specs.declared.slots.Place.{Place}
 use Rattle.envvars_store.specs.declared.slots.Slot.{Slot}
 use Rattle.envvars_store.specs.declared.slots.Slot.TheVariants.{Placed}
@@ -89,3 +92,18 @@ is_some-map f (Some x) = refl
 -- whether a name that was looked up is there
 pub is_there : {A : Type 0} (f : A → List ℕ) (found : Option A) (m : Environment) (q : List ℕ) (b : Bool) → option_map f found ≡ env.get m q → b ≡ is_some found → env.contains_key m q ≡ b
 is_there f found m q b e is = ap is_some (sym e) ∙ is_some-map f found ∙ sym is
+
+-- names of variables are so still where there is one variable more
+some_more : {A : Type 0} (b : Bool) (v : A) (o : Option A) → is_some o ≡ true → is_some (cond b (Some v) o) ≡ true
+some_more true v o e = refl
+some_more false v o e = e
+
+pub names_more : (m : Environment) (k v : List ℕ) (names : Names) → AreNamesOf m names → AreNamesOf (env.insert m k v) names
+names_more m k v names h =
+    λ i r w.
+    let n = h i r w in
+    record {
+      ordered = n.ordered;
+      within = n.within;
+      there = ap is_some (env.get-insert nat_list_cmp_total m k v _) ∙ some_more (eq_by_cmp bytes_cmp _ k) v (env.get m _) n.there;
+    }

@@ -1,4 +1,5 @@
 pub mod Laying
+pub mod Names
 pub mod Order
 pub mod Pieces
 pub mod Runs

@@ -25,23 +25,6 @@ pub(crate) fn locate(area: &[u8], runs: &[Run], name: &[u8]) -> Result<Spot, Spo
     }
 }
 
-/// The same, by a look at a spot that is guessed, if any is. Another than the right one only costs time.
-#[inline(always)]
-pub(crate) fn locate_guessed(
-    area: &[u8],
-    runs: &[Run],
-    name: &[u8],
-    guess: Option<Spot>,
-) -> Result<Spot, Spot>
-    requires { IsLaid area.now runs.now }
-    ensures { MatchResult result (IsFoundAt name.now area.now runs.now) (IsGapAt name.now area.now runs.now) }
-{
-    match guess {
-        Some(spot) if stands_at(area, runs, name, spot) => Ok(spot),
-        _ => locate(area, runs, name),
-    }
-}
-
 /// The same, from a spot where it may be. Any spot may be given; another than the right one only costs time.
 pub(crate) fn locate_near(area: &[u8], runs: &[Run], name: &[u8], near: Spot) -> Result<Spot, Spot>
     requires { IsLaid area.now runs.now }

@@ -1,9 +1,10 @@
 // Variables in texts of their own, which can be taken out again.
-ghost use Rattle.std.specs.Prelude.{◌≡◌, ◌+◌, Some, All, false, OnOk, OnErr, IfSome, MatchOption, option_map};
+ghost use Rattle.std.specs.Prelude.{◌≡◌, ◌+◌, Some, All, true, false, OnOk, OnErr, IfSome, MatchOption, option_map};
 ghost use Rattle.std.specs.FinMap as env;
 ghost use Rattle.envvars_store.specs.Variable.{IsVariable};
 
 use crate::iterating::Iter;
+use crate::naming::Names;
 use crate::placing::{forget, set};
 use crate::runs::{Run, take_last};
 use crate::slots::Slot;
@@ -17,6 +18,8 @@ use std::marker::Model;
 pub struct Texts {
     runs: Vec<Run>,
     count: usize,
+    // The names that got a number since a variable was last taken out.
+    names: Names,
 }
 
 impl Model for Texts {
@@ -24,7 +27,8 @@ impl Model for Texts {
     ghost use Rattle.std.specs.FinMap as env;
     ghost use Rattle.std.specs.Coded.{coded_list, coded_ℕ};
     ghost use Rattle.envimg_core.specs.Environment.{Environment};
-    ghost use Rattle.envvars_store.specs.Runs.{listed, AreTexts};
+    ghost use Rattle.envvars_store.specs.Runs.{listed};
+    ghost use Rattle.envvars_store.specs.Names.{AreNamed};
 
     ghost Value = { Environment };
 
@@ -32,7 +36,7 @@ impl Model for Texts {
 
     ghost view = { λ t. env.from_sorted (listed [] t.runs.items) };
 
-    ghost invariant = { λ t. AreTexts t.runs.items t.count };
+    ghost invariant = { λ t. AreNamed t.runs.items t.count t.names };
 }
 
 impl Texts {
@@ -43,6 +47,7 @@ impl Texts {
         Texts {
             runs: Vec::new(alloc),
             count: 0,
+            names: Names::new(alloc),
         }
     }
 
@@ -58,22 +63,28 @@ impl Texts {
         ensures value { option_map (λ v. v.now) result.0 ≡ env.get self.now name.now }
         ensures formed { IfSome result.0 (λ v. IsVariable (name.now, v.now)) }
     {
-        find_among(&[], &self.runs, name, None)
+        find_among(&[], &self.runs, name)
     }
 
-    /// The same, by a look at the spot at which a look-up of the name ended among other variables, where these stand in as
-    /// many runs: it stands there where both have the same names from the same writes. Any may be given; another than the
-    /// right one only costs time.
-    pub fn find_near(&self, near: Near, name: &[u8]) -> (Option<&[u8]>, Near)
-        ensures value { option_map (λ v. v.now) result.0 ≡ env.get self.now name.now }
-        ensures formed { IfSome result.0 (λ v. IsVariable (name.now, v.now)) }
+    /// Whether there is a variable of a name, and where it was found or would stand, with its number. What stands under the
+    /// number that is given is looked at first. Any may be given; another than the right one only costs time.
+    pub fn find_near(&self, near: Near, name: &[u8]) -> (bool, Near)
+        ensures { result.0 ≡ env.contains_key self.now name.now }
     {
-        let guess = if near.runs == self.runs.len() {
-            Some(near.spot)
-        } else {
-            None
-        };
-        find_among(&[], &self.runs, name, guess)
+        if self.names.is(near.number, name) {
+            return (true, near);
+        }
+        let (value, at) = self.find(name);
+        match value {
+            Some(_) => (true, at),
+            None => (
+                false,
+                Near {
+                    spot: at.spot,
+                    number: self.names.next(),
+                },
+            ),
+        }
     }
 
     /// Adds a variable whose name is new. It is refused only for memory, and then nothing has changed.
@@ -87,9 +98,19 @@ impl Texts {
             return Err(AllocError);
         };
         let alloc = *self.runs.allocator();
+        self.names.reserve(text.name())?;
+        let text = text.numbered(near.number);
         set(alloc, &[], &mut self.runs, Slot::Owned(text), near.spot)?;
         self.count = count;
         Ok(())
+    }
+
+    /// Gives the name of a variable that was just added the next number, which the variable has already.
+    pub fn number(&mut self, name: &[u8])
+        requires { env.contains_key self.old name.now ≡ true }
+        ensures { self.new ≡ self.old }
+    {
+        self.names.add(name);
     }
 
     /// Takes the variable of a name away, if there is one. It takes no memory.
@@ -98,6 +119,7 @@ impl Texts {
     {
         let (value, near) = self.find(name);
         let is_there = value.is_some();
+        self.names = Names::new(*self.runs.allocator());
         forget(&[], &mut self.runs, name, near.spot);
         if is_there {
             self.count = self.count.saturating_sub(1);
@@ -109,6 +131,8 @@ impl Texts {
         ensures { MatchOption result ((self.old ≡ env.empty) × (self.new ≡ env.empty))
             (λ t. (env.get self.old t.0 ≡ Some t.1) × (self.new ≡ env.remove self.old t.0)) }
     {
+        let alloc = *self.runs.allocator();
+        self.names = Names::new(alloc);
         match take_last(&mut self.runs) {
             None => None,
             Some(Slot::Owned(text)) => {

@@ -3,6 +3,7 @@ ghost use Rattle.std.specs.Prelude.{◌≡◌, IfOk};
 ghost use Rattle.envvars_store.specs.Laying.{pair_of, IsPlaced};
 ghost use Rattle.envvars_store.specs.Variable.{joined};
 
+use crate::naming::NO_NUMBER;
 use crate::writing::Text;
 use std::alloc::{AllocError, Global};
 
@@ -43,6 +44,14 @@ impl Slot {
         match self {
             Slot::Placed(place) => &area[place.middle as usize + 1..place.end as usize],
             Slot::Owned(text) => text.value(),
+        }
+    }
+
+    /// The number under which its name may be kept: a hint.
+    pub(crate) fn number(&self) -> u32 {
+        match self {
+            Slot::Placed(_) => NO_NUMBER,
+            Slot::Owned(text) => text.number(),
         }
     }
 

@@ -5,8 +5,9 @@ ghost use Rattle.envimg_core.specs.Environment.{bytes_cmp, is_name, is_value};
 ghost use Rattle.envvars_store.specs.Runs.{listed, IsLaid};
 ghost use Rattle.envvars_store.specs.Variable.{IsVariable, joined};
 
-use crate::finding::{locate, locate_guessed};
+use crate::finding::locate;
 use crate::iterating::{Iter, Lines};
+use crate::naming::NO_NUMBER;
 use crate::placing::{forget, set};
 use crate::runs::{Run, Spot, replace_at};
 use crate::slots::Slot;
@@ -44,33 +45,44 @@ impl Model for Variables {
 #[derive(Clone, Copy)]
 pub struct Near {
     pub(crate) spot: Spot,
-    // How many runs there were.
-    pub(crate) runs: usize,
+    // The number that the name has, or gets, among texts.
+    pub(crate) number: u32,
+}
+
+impl Near {
+    /// The same spot, with the number that a look-up of the name found among texts. A write keeps it with the variable.
+    pub fn numbered_as(self, other: Near) -> Near {
+        Near {
+            spot: self.spot,
+            number: other.number,
+        }
+    }
 }
 
 /// The value of a name among variables, if it has one, and where it was found or would stand.
-/// A spot that is guessed is looked at first.
 #[inline(always)]
 pub(crate) fn find_among<'a>(
     area: &'a [u8],
     runs: &'a [Run],
     name: &[u8],
-    guess: Option<Spot>,
 ) -> (Option<&'a [u8]>, Near)
     requires { IsLaid area.now runs.now }
     ensures value { option_map (λ v. v.now) result.0 ≡ env.get (env.from_sorted {R = bytes_cmp} (listed area.now runs.now)) name.now }
     ensures formed { IfSome result.0 (λ v. IsVariable (name.now, v.now)) }
 {
-    let count = runs.len();
-    match locate_guessed(area, runs, name, guess) {
-        Ok(at) => (
-            Some(runs[at.run][at.place].value(area)),
+    match locate(area, runs, name) {
+        Ok(at) => {
+            let slot = &runs[at.run][at.place];
+            let number = slot.number();
+            (Some(slot.value(area)), Near { spot: at, number })
+        }
+        Err(spot) => (
+            None,
             Near {
-                spot: at,
-                runs: count,
+                spot,
+                number: NO_NUMBER,
             },
         ),
-        Err(spot) => (None, Near { spot, runs: count }),
     }
 }
 
@@ -99,7 +111,7 @@ impl Variables {
         ensures value { option_map (λ v. v.now) result.0 ≡ env.get self.now name.now }
         ensures formed { IfSome result.0 (λ v. IsVariable (name.now, v.now)) }
     {
-        find_among(&self.area, &self.runs, name, None)
+        find_among(&self.area, &self.runs, name)
     }
 
     /// Gives a name a value. The name is a name and the value a value (docs/images.md).
@@ -112,7 +124,7 @@ impl Variables {
         ensures err { OnErr result (self.new ≡ self.old) }
     {
         let alloc = *self.area.allocator();
-        let text = Text::new(alloc, name, value)?;
+        let text = Text::new(alloc, name, value)?.numbered(near.number);
         set(
             alloc,
             &self.area,

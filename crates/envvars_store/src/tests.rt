@@ -163,11 +163,49 @@ fn a_text_is_found_from_any_spot(rt: HostRuntime) -> Result<(), Fail> {
     for other in [b"a", b"b", b"c", b"d", b"e"] {
         let (_, near) = variables.find(other);
         let (none, _) = texts.find_near(near, b"a");
-        assert_eq!(rt; none, None);
+        assert!(rt; !none);
         let (two, _) = texts.find_near(near, b"b");
-        assert_eq!(rt; two, Some(b"2".as_slice()));
+        assert!(rt; two);
         let (four, _) = texts.find_near(near, b"d");
-        assert_eq!(rt; four, Some(b"4".as_slice()));
+        assert!(rt; four);
+    }
+    Ok(())
+}
+
+// Each name is looked for with the number of each. A name that was taken out isn't found under the number that it had.
+#[test]
+fn a_number_is_no_more_than_a_hint(rt: HostRuntime) -> Result<(), Fail> {
+    let alloc = rt.alloc();
+    let mut texts = Texts::new(alloc);
+    let (_, any) = texts.find(b"a");
+    let mut nears = Vec::new(alloc);
+    for name in [b"c", b"a", b"b"] {
+        let (is_there, near) = texts.find_near(any, name);
+        assert!(rt; !is_there);
+        if !is_there {
+            texts.add(near, Text::new(alloc, name, b"1")?)?;
+        }
+        let (is_added, _) = texts.find_near(near, name);
+        assert!(rt; is_added);
+        if is_added {
+            texts.number(name);
+        }
+        nears.push(near)?;
+    }
+    for near in nears.iter() {
+        for name in [b"a", b"b", b"c"] {
+            let (is_there, _) = texts.find_near(*near, name);
+            assert!(rt; is_there);
+        }
+        let (is_there, _) = texts.find_near(*near, b"d");
+        assert!(rt; !is_there);
+    }
+    texts.remove(b"a");
+    for near in nears.iter() {
+        let (is_there, _) = texts.find_near(*near, b"a");
+        assert!(rt; !is_there);
+        let (is_left, _) = texts.find_near(*near, b"b");
+        assert!(rt; is_left);
     }
     Ok(())
 }

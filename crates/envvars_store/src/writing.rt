@@ -3,6 +3,7 @@ ghost use Rattle.std.specs.Prelude.{◌≡◌, ◌++◌, None, Some, IfOk, IfErr
 ghost use Rattle.envimg_core.specs.Environment.{is_name, is_value};
 ghost use Rattle.envvars_store.specs.Variable.{IsVariable, joined, marked, unmarked};
 
+use crate::naming::NO_NUMBER;
 use std::alloc::{AllocError, Global};
 use std::marker::Model;
 
@@ -22,7 +23,9 @@ pub fn unmarked(value: &[u8]) -> Option<&[u8]>
 #[derive(Drop)]
 pub struct Text {
     bytes: Vec<u8>,
-    middle: usize,
+    middle: u32,
+    // The number under which the name may be kept: a hint.
+    number: u32,
 }
 
 impl Model for Text {
@@ -58,21 +61,27 @@ impl Text {
         Text::joined(alloc, name, old.unwrap_or(&[]), &[MARK])
     }
 
-    // The variable `name` whose value is a front and a rest.
+    // The variable `name` whose value is a front and a rest. For a name of 4 GiB there is no memory.
     #[inline(always)]
     fn joined(alloc: Global, name: &[u8], front: &[u8], rest: &[u8]) -> Result<Text, AllocError>
         requires name_form { IsTrue (is_name name.now) }
         requires value_form { IsTrue (is_value (front.now ++ rest.now)) }
         ensures { IfOk result (λ t. t ≡ (name.now, front.now ++ rest.now)) }
     {
-        let middle = name.len();
-        let length = (middle + front.len() + 1).saturating_add(rest.len());
+        let Ok(middle) = u32::try_from(name.len()) else {
+            return Err(AllocError);
+        };
+        let length = (name.len() + front.len() + 1).saturating_add(rest.len());
         let mut bytes = Vec::with_capacity(alloc, length)?;
         bytes.extend_from_slice(name)?;
         bytes.push(b'=')?;
         bytes.extend_from_slice(front)?;
         bytes.extend_from_slice(rest)?;
-        Ok(Text { bytes, middle })
+        Ok(Text {
+            bytes,
+            middle,
+            number: NO_NUMBER,
+        })
     }
 
     /// The variable without its mark, or the text again where a mark is its whole value.
@@ -80,11 +89,24 @@ impl Text {
         ensures value { IfOk result (λ t. (t.0 ≡ self.0) × (unmarked self.1 ≡ Some t.1)) }
         ensures none { IfErr result (λ t. (t ≡ self) × (unmarked self.1 ≡ None)) }
     {
-        if self.bytes.len() - self.middle < 3 {
+        if self.bytes.len() - (self.middle as usize) < 3 {
             return Err(self);
         }
         let _mark = self.bytes.pop();
         Ok(self)
+    }
+
+    /// The same variable with another number.
+    pub(crate) fn numbered(mut self, number: u32) -> Text
+        ensures { result ≡ self }
+    {
+        self.number = number;
+        self
+    }
+
+    /// Its number.
+    pub(crate) fn number(&self) -> u32 {
+        self.number
     }
 
     /// Its name.
@@ -92,14 +114,14 @@ impl Text {
         ensures name { result.now ≡ self.now.0 }
         ensures form { IsVariable self.now }
     {
-        &self.bytes[..self.middle]
+        &self.bytes[..self.middle as usize]
     }
 
     /// Its value.
     pub fn value(&self) -> &[u8]
         ensures { result.now ≡ self.now.1 }
     {
-        &self.bytes[self.middle + 1..]
+        &self.bytes[self.middle as usize + 1..]
     }
 
     /// Name, `=` and value in one piece.
@@ -117,6 +139,7 @@ impl Text {
         Ok(Text {
             bytes: Vec::from_slice(alloc, &self.bytes)?,
             middle: self.middle,
+            number: self.number,
         })
     }
 }

@@ -24,8 +24,6 @@ mod scope;
 mod statuses;
 mod stub_line;
 mod stubs;
-#[cfg(test)]
-mod tests;
 pub mod writing;
 
 pub use carrying::carry_out;

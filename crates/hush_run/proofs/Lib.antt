@@ -9,3 +9,4 @@ mod NodeLemmas
 mod Halting
 mod AdvanceLemmas
 mod OutcomeLemmas
+mod MeaningRows

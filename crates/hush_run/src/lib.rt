@@ -15,8 +15,6 @@ mod outcome;
 mod progress;
 mod rising;
 mod steps;
-#[cfg(test)]
-mod tests;
 mod turns;
 
 pub use ending::Ending;

@@ -15,6 +15,7 @@ mod sessions;
 mod showing;
 mod texts;
 mod variables;
+mod whole_runs;
 
 use std::io;
 
@@ -26,5 +27,6 @@ fn main(rt: HostRuntime) -> io::Result<()> {
     defaulting::sweep(rt.alloc(), &mut rt.stdout())?;
     sessions::sweep(rt.alloc(), &mut rt.stdout())?;
     scripts::sweep(rt.alloc(), &mut rt.stdout())?;
-    runs::sweep(rt.alloc(), &mut rt.stdout())
+    runs::sweep(rt.alloc(), &mut rt.stdout())?;
+    whole_runs::sweep(rt.alloc(), &mut rt.stdout())
 }

@@ -55,7 +55,7 @@ impl Vars {
         if same_value(old, value) {
             return Ok(());
         }
-        let added = olds.keep(near, name, old)?;
+        let (added, near) = olds.keep(near, name, old)?;
         match self.set(near, name, value, size) {
             Ok(()) => Ok(()),
             Err(Memory) => {

@@ -2,23 +2,23 @@ use Rattle.std.proofs.Common.{ap, sym, refl, ◌∙◌, Some}
 use Rattle.envvars_store.proofs.PlaceLemmas.{spot_read, spot_within, spot_placed, got, got_nothing, got_formed}
 use Rattle.envvars_store.proofs.storing.find_among.Goals as goal
 
-pub index-requires : goal.index-requires
-index-requires c = spot_within c.args.name.now c.args.area.now c.args.runs.now c.in-Ok.at c.index-runs-at.result c.in-Ok.ensures c.index-runs-at.is
+pub index-slot-requires : goal.index-slot-requires
+index-slot-requires c = spot_within c.args.name.now c.args.area.now c.args.runs.now c.in-Ok.at c.index-runs-at.result c.in-Ok.ensures c.index-runs-at.is
 
 pub value-requires : goal.value-requires
 value-requires c =
-    let x = spot_read _ _ c.args.runs.now c.in-Ok.at c.index-runs-at.result c.index.result.now c.in-Ok.ensures c.index-runs-at.is c.index.ensures in
-    spot_placed _ _ c.args.runs.now c.in-Ok.at c.index.result.now c.requires c.in-Ok.ensures x
+    let x = spot_read _ _ c.args.runs.now c.in-Ok.at c.index-runs-at.result c.index-slot.result.now c.in-Ok.ensures c.index-runs-at.is c.index-slot.ensures in
+    spot_placed _ _ c.args.runs.now c.in-Ok.at c.index-slot.result.now c.requires c.in-Ok.ensures x
 
 pub returns-in-Ok-clause-value : goal.returns-in-Ok-clause-value
 returns-in-Ok-clause-value c =
-    let x = spot_read _ _ c.args.runs.now c.in-Ok.at c.index-runs-at.result c.index.result.now c.in-Ok.ensures c.index-runs-at.is c.index.ensures in
-    ap Some c.value.ensures ∙ sym (got _ _ c.in-Ok.at c.args.name.now c.index.result.now c.requires c.in-Ok.ensures x)
+    let x = spot_read _ _ c.args.runs.now c.in-Ok.at c.index-runs-at.result c.index-slot.result.now c.in-Ok.ensures c.index-runs-at.is c.index-slot.ensures in
+    ap Some c.value.ensures ∙ sym (got _ _ c.in-Ok.at c.args.name.now c.index-slot.result.now c.requires c.in-Ok.ensures x)
 
 pub returns-in-Ok-clause-formed : goal.returns-in-Ok-clause-formed
 returns-in-Ok-clause-formed c =
-    let x = spot_read _ _ c.args.runs.now c.in-Ok.at c.index-runs-at.result c.index.result.now c.in-Ok.ensures c.index-runs-at.is c.index.ensures in
-    got_formed c.args.area.now c.args.area.now c.args.runs.now c.in-Ok.at c.args.name.now c.value.result.now c.index.result.now c.requires c.in-Ok.ensures x refl c.value.ensures
+    let x = spot_read _ _ c.args.runs.now c.in-Ok.at c.index-runs-at.result c.index-slot.result.now c.in-Ok.ensures c.index-runs-at.is c.index-slot.ensures in
+    got_formed c.args.area.now c.args.area.now c.args.runs.now c.in-Ok.at c.args.name.now c.value.result.now c.index-slot.result.now c.requires c.in-Ok.ensures x refl c.value.ensures
 
 pub returns-in-Err-clause-value : goal.returns-in-Err-clause-value
 returns-in-Err-clause-value c = sym (got_nothing _ _ c.in-Err.spot c.args.name.now c.requires c.in-Err.ensures)

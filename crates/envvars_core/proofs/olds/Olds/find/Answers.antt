@@ -1,5 +1,7 @@
-use Rattle.envvars_core.proofs.OldLemmas.{kept-found}
+use Rattle.std.proofs.Common.{ap, ◌∙◌}
+use Rattle.std.specs.FinMap as env
+use Rattle.envvars_core.proofs.OldLemmas.{kept-contains}
 use Rattle.envvars_core.proofs.olds.Olds.find.Goals as goal
 
 pub returns : goal.returns
-returns c = kept-found (λ v. v.now) c.find_near.result.0 c.self.inside.texts c.args.name.now c.args.self.now c.is_some.result c.find_near.ensures.value c.self.view_is c.is_some.ensures
+returns c = c.find_near.ensures ∙ kept-contains c.self.inside.texts c.args.name.now ∙ ap (λ o. env.contains_key o c.args.name.now) c.self.view_is

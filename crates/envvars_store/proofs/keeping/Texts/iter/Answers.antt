@@ -4,7 +4,7 @@ use Rattle.envvars_store.proofs.PlaceLemmas.{formed_entries, listed_lent}
 use Rattle.envvars_store.proofs.keeping.Texts.iter.Goals as goal
 
 pub returns-clause-entries : goal.returns-clause-entries
-returns-clause-entries c = c.new.ensures ∙ listed_lent [] [] _ _ refl c.deref.ensures.value ∙ given_entries _ _ c.self.invariant.laid.sorted c.self.view_is
+returns-clause-entries c = c.new.ensures ∙ listed_lent [] [] _ _ refl c.deref.ensures.value ∙ given_entries _ _ c.self.invariant.texts.laid.sorted c.self.view_is
 
 pub returns-clause-formed : goal.returns-clause-formed
-returns-clause-formed c = formed_entries [] c.self.inside.runs.items c.args.self.now c.self.invariant.laid c.self.view_is
+returns-clause-formed c = formed_entries [] c.self.inside.runs.items c.args.self.now c.self.invariant.texts.laid c.self.view_is

@@ -7,15 +7,21 @@ use Rattle.envvars_store.proofs.keeping.Texts.remove.Goals as goal
 pub invariant_of-self : goal.invariant_of-self
 invariant_of-self c =
     let there = is_there (λ v. v.now) c.find.result.0 c.args.self.now c.args.name.now true c.find.ensures.value (sym c.if-is_there.true ∙ c.is_some-is_there.ensures) in
-    subst (AreTexts c.forget.new.runs.items) (sym c.saturating_sub-self-inside.ensures) (texts_removed c.self.inside.runs.items c.forget.new.runs.items c.args.self.now c.args.name.now c.self.inside.count true c.self.invariant c.self.view_is c.forget.ensures.laid c.forget.ensures.gone there)
+    record {
+      texts = subst (AreTexts c.forget.new.runs.items) (sym c.saturating_sub-self-inside.ensures) (texts_removed c.self.inside.runs.items c.forget.new.runs.items c.args.self.now c.args.name.now c.self.inside.count true c.self.invariant.texts c.self.view_is c.forget.ensures.laid c.forget.ensures.gone there);
+      named = c.new.ensures _;
+    }
 
 pub invariant_of-self-else-is_there : goal.invariant_of-self-else-is_there
 invariant_of-self-else-is_there c =
     let there = is_there (λ v. v.now) c.find.result.0 c.args.self.now c.args.name.now false c.find.ensures.value (sym c.if-is_there.false ∙ c.is_some-is_there.ensures) in
-    texts_removed c.self.inside.runs.items c.forget.new.runs.items c.args.self.now c.args.name.now c.self.inside.count false c.self.invariant c.self.view_is c.forget.ensures.laid c.forget.ensures.gone there
+    record {
+      texts = texts_removed c.self.inside.runs.items c.forget.new.runs.items c.args.self.now c.args.name.now c.self.inside.count false c.self.invariant.texts c.self.view_is c.forget.ensures.laid c.forget.ensures.gone there;
+      named = c.new.ensures _;
+    }
 
 pub returns-then-is_there : goal.returns-then-is_there
-returns-then-is_there c = forget_env [] [] c.self.inside.runs.items c.forget.new.runs.items c.args.name.now c.args.self.now refl c.self.invariant.laid c.self.view_is c.forget.ensures.gone
+returns-then-is_there c = forget_env [] [] c.self.inside.runs.items c.forget.new.runs.items c.args.name.now c.args.self.now refl c.self.invariant.texts.laid c.self.view_is c.forget.ensures.gone
 
 pub returns-else-is_there : goal.returns-else-is_there
-returns-else-is_there c = forget_env [] [] c.self.inside.runs.items c.forget.new.runs.items c.args.name.now c.args.self.now refl c.self.invariant.laid c.self.view_is c.forget.ensures.gone
+returns-else-is_there c = forget_env [] [] c.self.inside.runs.items c.forget.new.runs.items c.args.name.now c.args.self.now refl c.self.invariant.texts.laid c.self.view_is c.forget.ensures.gone

@@ -1,0 +1,181 @@
+-- Worked examples of docs/runs.md, "Meaning", which the checker computes from the definitions, from a script's bytes on.
+use Rattle.std.proofs.Common.{◌≡◌, ℕ, List, [], ◌∷◌, codes, refl, Option, Some, None, option_map}
+use Rattle.std.specs.FinMap.{empty, get, get-empty, get-insert}
+use Rattle.std.specs.Cmp.Lexicographic.{nat_list_cmp_total}
+use Rattle.std.specs.Fmt.{digits}
+use Rattle.env_session.specs.Session.{Held}
+use Rattle.hush_words.specs.Words.{is_blank, ends_word, begins_name, is_in_name, follows_dollar, is_special, is_bare, is_inner, is_escaped}
+use Rattle.hush_words.specs.Reading.{dollar_at, inner_escape, inner_at, double_at, piece_at, passed_at, lexeme_at, tokens_of}
+use Rattle.hush_words.specs.Forms.{is_plain, name_of, assignment_of}
+use Rattle.hush_syntax.specs.Keywords.{keyword_of}
+use Rattle.hush_syntax.specs.Reading.{command, read}
+use Rattle.hush_commands.specs.Builtins.{builtin_of}
+use Rattle.hush_commands.specs.Expansion.{fields}
+use Rattle.hush_commands.specs.Limits.{bounds}
+use Rattle.hush_commands.specs.Stubs.{Statuses}
+use Rattle.hush_run.specs.declared.ending.Reason.{Reason}
+use Rattle.hush_run.specs.declared.ending.Reason.TheVariants.{Finished, Exited, Steps, Depth, Word, Output}
+use Rattle.hush_run.specs.Meaning.{Rules, State, step, effect, turns, start, looked_up, meaning}
+
+-- what a run tells: ending, status, counted steps and text
+abbrev Told : Type 0
+Told = Reason × ℕ × ℕ × List ℕ
+
+abbrev told : Reason × State → Told
+told run = (run.0, run.1.status, run.1.steps, run.1.printed.text)
+
+-- limits, and no stand-ins
+abbrev under : (steps depth word output : ℕ) → Rules
+under steps depth word output = record { stubs = (let none : Statuses = empty in none); limits = bounds steps depth word output }
+
+abbrev usual : Rules
+usual = under 1000 4 256 4096
+
+-- what the run of a text comes to, where the text is a script
+abbrev comes_to : Rules → Held → List ℕ → Option Told
+comes_to rules held text = option_map (λ tree. told (meaning rules tree held)) (read text)
+
+-- a text without a command
+no_command : (held : Held) → comes_to usual held (codes "# nothing") ≡ Some (Finished, 0, 0, [])
+unfolding read tokens_of lexeme_at passed_at piece_at is_bare ends_word is_special is_blank command keyword_of is_plain name_of assignment_of begins_name is_in_name meaning step builtin_of effect fields
+no_command held = refl
+
+-- a chain goes from the left
+and_or : (held : Held) → comes_to usual held (codes "false && echo a || echo b") ≡ Some (Finished, 0, 2, codes "b\n")
+unfolding read tokens_of lexeme_at passed_at piece_at is_bare ends_word is_special is_blank command keyword_of is_plain name_of assignment_of begins_name is_in_name meaning step builtin_of effect fields
+and_or held = refl
+
+-- both joints have the same rank
+or_and : (held : Held) → comes_to usual held (codes "true || echo a && echo b") ≡ Some (Finished, 0, 2, codes "b\n")
+unfolding read tokens_of lexeme_at passed_at piece_at is_bare ends_word is_special is_blank command keyword_of is_plain name_of assignment_of begins_name is_in_name meaning step builtin_of effect fields
+or_and held = refl
+
+-- no branch runs
+no_branch : (held : Held) → comes_to usual held (codes "if false; then echo a; fi") ≡ Some (Finished, 0, 1, [])
+unfolding read tokens_of lexeme_at passed_at piece_at is_bare ends_word is_special is_blank command keyword_of is_plain name_of assignment_of begins_name is_in_name meaning step builtin_of effect fields
+no_branch held = refl
+
+-- the first branch whose condition holds
+later_branch : (held : Held) → comes_to usual held (codes "if false; then echo a; elif true; then echo b; else echo c; fi") ≡ Some (Finished, 0, 3, codes "b\n")
+unfolding read tokens_of lexeme_at passed_at piece_at is_bare ends_word is_special is_blank command keyword_of is_plain name_of assignment_of begins_name is_in_name meaning step builtin_of effect fields
+later_branch held = refl
+
+-- the status is that of the branch
+branch_status : (held : Held) → comes_to usual held (codes "if false; true; then false; else echo c; fi") ≡ Some (Finished, 1, 3, [])
+unfolding read tokens_of lexeme_at passed_at piece_at is_bare ends_word is_special is_blank command keyword_of is_plain name_of assignment_of begins_name is_in_name meaning step builtin_of effect fields
+branch_status held = refl
+
+-- a loop without a turn
+no_turn : (held : Held) → comes_to usual held (codes "while false; do echo a; done; echo $?") ≡ Some (Finished, 0, 2, codes "0\n")
+unfolding read tokens_of lexeme_at passed_at piece_at is_bare ends_word is_special is_blank command keyword_of is_plain name_of assignment_of begins_name is_in_name dollar_at follows_dollar digits turns meaning step builtin_of effect fields
+no_turn held = refl
+
+-- a loop that never ends
+endless : (held : Held) → comes_to (under 10 4 256 4096) held (codes "while true; do echo -n a; done") ≡ Some (Steps, 0, 10, codes "aaaaa")
+unfolding read tokens_of lexeme_at passed_at piece_at is_bare ends_word is_special is_blank command keyword_of is_plain name_of assignment_of begins_name is_in_name turns meaning step builtin_of effect fields
+endless held = refl
+
+-- a for without fields
+no_fields : (held : Held) → comes_to usual held (codes "false; for i in; do echo a; done; echo $?") ≡ Some (Finished, 0, 3, codes "0\n")
+unfolding read tokens_of lexeme_at passed_at piece_at is_bare ends_word is_special is_blank command keyword_of is_plain name_of assignment_of begins_name is_in_name dollar_at follows_dollar digits meaning step builtin_of effect fields
+no_fields held = refl
+
+-- the status at the end of an if belongs to no step
+status_of_no_step : (held : Held) → comes_to (under 1 4 256 4096) held (codes "if false; then a; fi; echo") ≡ Some (Steps, 0, 1, [])
+unfolding read tokens_of lexeme_at passed_at piece_at is_bare ends_word is_special is_blank command keyword_of is_plain name_of assignment_of begins_name is_in_name meaning step builtin_of effect fields
+status_of_no_step held = refl
+
+-- no step may be counted
+no_step : (held : Held) → comes_to (under 0 4 256 4096) held (codes "exit") ≡ Some (Steps, 0, 0, [])
+unfolding read tokens_of lexeme_at passed_at piece_at is_bare ends_word is_special is_blank command keyword_of is_plain name_of assignment_of begins_name is_in_name meaning step builtin_of effect fields
+no_step held = refl
+
+-- an exit without a word
+exit_with_the_status : (held : Held) → comes_to usual held (codes "false; exit; echo a") ≡ Some (Exited, 1, 2, [])
+unfolding read tokens_of lexeme_at passed_at piece_at is_bare ends_word is_special is_blank command keyword_of is_plain name_of assignment_of begins_name is_in_name meaning step builtin_of effect fields
+exit_with_the_status held = refl
+
+-- an exit within a loop
+exit_from_a_loop : (held : Held) → comes_to usual held (codes "while true; do echo a; exit 3; done; echo b") ≡ Some (Exited, 3, 3, codes "a\n")
+unfolding read tokens_of lexeme_at passed_at piece_at is_bare ends_word is_special is_blank command keyword_of is_plain name_of assignment_of begins_name is_in_name turns meaning step builtin_of effect fields
+exit_from_a_loop held = refl
+
+-- an exit with another word
+wrong_exit : (held : Held) → comes_to usual held (codes "exit x; echo $?") ≡ Some (Finished, 0, 2, codes "## Error: wrong use of 'exit'\n1\n")
+unfolding read tokens_of lexeme_at passed_at piece_at is_bare ends_word is_special is_blank command keyword_of is_plain name_of assignment_of begins_name is_in_name dollar_at follows_dollar digits meaning step builtin_of effect fields
+wrong_exit held = refl
+
+-- a text that doesn't fit
+text_too_long : (held : Held) → comes_to (under 1000 4 256 3) held (codes "echo ab; echo c") ≡ Some (Output, 0, 1, codes "ab\n")
+unfolding read tokens_of lexeme_at passed_at piece_at is_bare ends_word is_special is_blank command keyword_of is_plain name_of assignment_of begins_name is_in_name meaning step builtin_of effect fields
+text_too_long held = refl
+
+-- a word that is too large
+word_too_large : (held : Held) → comes_to (under 1000 4 8 4096) held (codes "false; echo abcdefghi") ≡ Some (Word, 1, 1, [])
+unfolding read tokens_of lexeme_at passed_at piece_at is_bare ends_word is_special is_blank command keyword_of is_plain name_of assignment_of begins_name is_in_name meaning step builtin_of effect fields
+word_too_large held = refl
+
+-- numbers compared
+compared : (held : Held) → comes_to usual held (codes "test 010 -eq 8 && echo c") ≡ Some (Finished, 0, 2, codes "c\n")
+unfolding read tokens_of lexeme_at passed_at piece_at is_bare ends_word is_special is_blank command keyword_of is_plain name_of assignment_of begins_name is_in_name meaning step builtin_of effect fields
+compared held = refl
+
+-- a name that isn't there
+absent_name : (held : Held) → get held.now.env (codes "z") ≡ None → comes_to usual held (codes "run z") ≡ Some (Finished, 1, 2, codes "## Error: \"z\" not defined\n")
+unfolding read tokens_of lexeme_at passed_at piece_at is_bare ends_word is_special is_blank command keyword_of is_plain name_of assignment_of begins_name is_in_name start meaning step builtin_of effect fields
+absent_name held h = simp (h, looked_up)
+
+-- a value that isn't a script
+no_script : (held : Held) → get held.now.env (codes "a") ≡ Some (codes "if") → comes_to usual held (codes "run a") ≡ Some (Finished, 1, 2, codes "## Error: syntax error in \"a\"\n")
+unfolding read tokens_of lexeme_at passed_at piece_at is_bare ends_word is_special is_blank command keyword_of is_plain name_of assignment_of begins_name is_in_name start meaning step builtin_of effect fields
+no_script held h = simp (h, looked_up)
+
+-- a value that starts itself
+starts_itself : (held : Held) → get held.now.env (codes "r") ≡ Some (codes "run r") → comes_to (under 1000 1 256 4096) held (codes "run r") ≡ Some (Depth, 0, 3, [])
+unfolding read tokens_of lexeme_at passed_at piece_at is_bare ends_word is_special is_blank command keyword_of is_plain name_of assignment_of begins_name is_in_name start meaning step builtin_of effect fields
+starts_itself held h = simp (h, looked_up)
+
+-- a start that fails is the last
+first_that_fails : (held : Held) → get held.now.env (codes "a") ≡ Some (codes "echo 1; false") → comes_to usual held (codes "run a b; echo $?") ≡ Some (Finished, 0, 5, codes "1\n1\n")
+unfolding read tokens_of lexeme_at passed_at piece_at is_bare ends_word is_special is_blank command keyword_of is_plain name_of assignment_of begins_name is_in_name dollar_at follows_dollar digits start meaning step builtin_of effect fields
+first_that_fails held h = simp (h, looked_up)
+
+-- an exit within a started value
+exit_from_a_start : (held : Held) → get held.now.env (codes "a") ≡ Some (codes "exit 3; echo x") → comes_to usual held (codes "run a; echo y") ≡ Some (Exited, 3, 3, [])
+unfolding read tokens_of lexeme_at passed_at piece_at is_bare ends_word is_special is_blank command keyword_of is_plain name_of assignment_of begins_name is_in_name start meaning step builtin_of effect fields
+exit_from_a_start held h = simp (h, looked_up)
+
+-- an unknown command
+unknown_command : (held : Held) → comes_to usual held (codes "ls") ≡ Some (Finished, 1, 1, codes "Unknown command 'ls' - try 'help'\n")
+unfolding read tokens_of lexeme_at passed_at piece_at is_bare ends_word is_special is_blank command keyword_of is_plain name_of assignment_of begins_name is_in_name meaning step builtin_of effect fields
+unknown_command held = simp get-empty
+
+-- a deletion of a name that isn't there
+deleted : (held : Held) → get held.now.env (codes "q") ≡ None → comes_to usual held (codes "env delete q; true") ≡ Some (Finished, 0, 3, codes "## Error: \"q\" not defined\n")
+unfolding read tokens_of lexeme_at passed_at piece_at is_bare ends_word is_special is_blank command keyword_of is_plain name_of assignment_of begins_name is_in_name meaning step builtin_of effect fields
+deleted held h = simp h
+
+-- an assignment to a variable of the environment
+refused_name : (held : Held) → get held.now.env (codes "x") ≡ Some (codes "a") → comes_to usual held (codes "x=1; echo $?") ≡ Some (Finished, 0, 2, codes "## Error: \"x\" is an environment variable\n1\n")
+unfolding read tokens_of lexeme_at passed_at piece_at is_bare ends_word is_special is_blank command keyword_of is_plain name_of assignment_of begins_name is_in_name dollar_at follows_dollar digits meaning step builtin_of effect fields
+refused_name held h = simp h
+
+-- a local variable
+local_variable : (held : Held) → get held.now.env (codes "x") ≡ None → comes_to usual held (codes "x=a; echo $x") ≡ Some (Finished, 0, 2, codes "a\n")
+unfolding read tokens_of lexeme_at passed_at piece_at is_bare ends_word is_special is_blank command keyword_of is_plain name_of assignment_of begins_name is_in_name dollar_at follows_dollar meaning step builtin_of effect fields
+local_variable held h = simp (h, get-insert {X = List ℕ} nat_list_cmp_total)
+
+-- the status of the last body
+last_body : (held : Held) → get held.now.env (codes "x") ≡ None → comes_to (under 4 4 256 4096) held (codes "until test $x = a; do x=a; false; done") ≡ Some (Finished, 1, 4, [])
+unfolding read tokens_of lexeme_at passed_at piece_at is_bare ends_word is_special is_blank command keyword_of is_plain name_of assignment_of begins_name is_in_name dollar_at follows_dollar turns meaning step builtin_of effect fields
+last_body held h = simp (h, get-insert {X = List ℕ} nat_list_cmp_total, get-empty)
+
+-- one field after the other
+each_field : (held : Held) → get held.now.env (codes "i") ≡ None → comes_to usual held (codes "for i in a b; do echo $i; done") ≡ Some (Finished, 0, 5, codes "a\nb\n")
+unfolding read tokens_of lexeme_at passed_at piece_at is_bare ends_word is_special is_blank command keyword_of is_plain name_of assignment_of begins_name is_in_name dollar_at follows_dollar meaning step builtin_of effect fields
+each_field held h = simp (h, get-insert {X = List ℕ} nat_list_cmp_total)
+
+-- words are cut, but for what stands in quotes
+fields_of_words : (held : Held) → get held.now.env (codes "x") ≡ None → comes_to usual held (codes "x=\"1 2\"; echo $x \"3 4\" \"\"") ≡ Some (Finished, 0, 2, codes "1 2 3 4 \n")
+unfolding read tokens_of lexeme_at passed_at piece_at is_bare ends_word is_special is_blank command keyword_of is_plain name_of assignment_of begins_name is_in_name dollar_at follows_dollar double_at inner_at inner_escape is_inner is_escaped meaning step builtin_of effect fields
+fields_of_words held h = simp (h, get-insert {X = List ℕ} nat_list_cmp_total)
