@@ -1,5 +1,8 @@
-//! Tests of runs by their rules (docs/runs.md). They stand apart from `hush_run`, so that it is proved once.
+//! Tests of runs through the library (docs/runs.md). They stand apart from `hush_run`, so that it is proved once.
+//! Scripts with what they come to are data: scripts/runs.
 #![tactic(auto)]
 
 #[cfg(test)]
-mod tests;
+mod frames;
+#[cfg(test)]
+mod running;
