@@ -1,6 +1,7 @@
-//! One measurement of a run: `bench_run STEPS [run]`, with the script on standard input. Without `run` everything is made
-//! ready and the run itself left out. Prints the status, the counted steps and the length of the text, and then the
-//! nanoseconds that the run took. Without words a thousand steps are allowed and no time is printed.
+//! One measurement of runs: `bench_run STEPS RUNS`, with the script on standard input. It is run so many times, one run
+//! after the other over one session, and parsed anew before each; with 0 everything is made ready and nothing is run.
+//! Prints the status, the counted steps and the length of the text of the last, and then the nanoseconds that all took.
+//! Without words there is one run with a thousand steps, and no time is printed.
 #![tactic(auto)]
 
 use env_session::{Session, Stored};
@@ -28,17 +29,16 @@ fn main(rt: HostRuntime) -> io::Result<()> {
     let words: Vec<String> = env::args(&rt)?.collect(rt.alloc())?;
     let mut source = Vec::new(rt.alloc());
     rt.stdin().read_to_end(&mut source)?;
-    let (steps, wanted, timed) = match words.as_slice() {
-        [_, steps] => (steps.parse::<u32>().unwrap_or(0), false, true),
-        [_, steps, _] => (steps.parse::<u32>().unwrap_or(0), true, true),
-        _ => (1000, true, false),
+    let (steps, runs, timed) = match words.as_slice() {
+        [_, steps, runs] => (number(steps), number(runs), true),
+        _ => (1000, 1, false),
     };
     let Ran {
         status,
         steps,
         printed,
         taken,
-    } = measure(&rt, source, steps, wanted)?;
+    } = measure(&rt, &source, steps, runs)?;
     if timed {
         println!(rt; "{status} {steps} {printed} {taken}")
     } else {
@@ -46,31 +46,38 @@ fn main(rt: HostRuntime) -> io::Result<()> {
     }
 }
 
-fn measure(rt: &HostRuntime, source: Vec<u8>, steps: u32, wanted: bool) -> io::Result<Ran> {
+/// The number that a word says, or 0.
+fn number(word: &str) -> u32 {
+    word.parse::<u32>().unwrap_or(0)
+}
+
+/// Runs a script so many times.
+fn measure(rt: &HostRuntime, source: &[u8], steps: u32, runs: u32) -> io::Result<Ran> {
     let mut session = session(rt)?;
-    let script = Script::parse(rt.alloc(), source).ok();
-    let stubs = Stubs::parse(rt.alloc(), b"").ok();
-    let limits = Limits::new(steps, 8, 65_536, 16_777_216);
+    let Ok(stubs) = Stubs::parse(rt.alloc(), b"") else {
+        return Err(Error::from(ErrorKind::OutOfMemory));
+    };
+    let Some(limits) = Limits::new(steps, 8, 65_536, 16_777_216) else {
+        return Err(Error::from(ErrorKind::InvalidInput));
+    };
+    let mut ran = Ran {
+        status: 0,
+        steps: 0,
+        printed: 0,
+        taken: 0,
+    };
     let start = Instant::now(rt)?;
-    match (script, stubs, limits) {
-        (Some(script), Some(stubs), Some(limits)) if wanted => {
-            let outcome = run(rt.alloc(), &mut session, &script, &stubs, &limits);
-            let taken = start.elapsed(rt)?.as_nanos();
-            Ok(Ran {
-                status: outcome.status,
-                steps: outcome.steps,
-                printed: outcome.text.len(),
-                taken,
-            })
-        }
-        (Some(_script), Some(_stubs), Some(_limits)) => Ok(Ran {
-            status: 0,
-            steps: 0,
-            printed: 0,
-            taken: 0,
-        }),
-        _ => Err(Error::from(ErrorKind::InvalidInput)),
+    for _ in 0..runs {
+        let Ok(script) = Script::parse(rt.alloc(), Vec::from_slice(rt.alloc(), source)?) else {
+            return Err(Error::from(ErrorKind::InvalidInput));
+        };
+        let outcome = run(rt.alloc(), &mut session, &script, &stubs, &limits);
+        ran.status = outcome.status;
+        ran.steps = outcome.steps;
+        ran.printed = outcome.text.len();
     }
+    ran.taken = start.elapsed(rt)?.as_nanos();
+    Ok(ran)
 }
 
 /// A session without variables.
