@@ -29,6 +29,11 @@ pub(crate) fn session(alloc: Global, size: u32) -> Result<Session, AllocError> {
     Session::start(alloc, stored, defaults).map_err(|_| AllocError)
 }
 
+/// Bytes so many times over. Its contract says nothing of them, since a proof need not hold so many.
+pub(crate) fn repeated(alloc: Global, bytes: &[u8], count: u32) -> Result<Vec<u8>, AllocError> {
+    bytes.repeat(alloc, count as usize)
+}
+
 /// The words of a text.
 pub(crate) fn words_of(alloc: Global, lexed: &Lexed) -> Result<Vec<Word>, AllocError> {
     let mut words = Vec::new(alloc);

@@ -1,6 +1,6 @@
 //! The calls that take memory, each with as much as it may be given, and ample memory for it.
 
-use crate::fixtures::{OUTPUT, WORD, carried, fields, session, words_of};
+use crate::fixtures::{OUTPUT, WORD, carried, fields, repeated, session, words_of};
 use env_session::{Session, Side};
 use envvars_core::Vars;
 use hush_commands::{FieldBuffer, Locals, Output, PrintFault, Scope, Stubs};
@@ -17,7 +17,7 @@ fn command_of(alloc: Global, text: &[u8], len: u32, count: u32) -> Result<FieldB
     let mut words = Vec::from_slice(alloc, text)?;
     for _ in 0..count {
         words.push(b' ')?;
-        words.extend_from_slice(&b"v".repeat(alloc, len as usize)?)?;
+        words.extend_from_slice(&repeated(alloc, b"v", len)?)?;
     }
     fields(alloc, &words)
 }
@@ -42,7 +42,7 @@ fn carry_all(
 fn local_variables(alloc: Global) -> Result<Locals, AllocError> {
     let mut locals = Locals::new(alloc);
     let half = WORD as usize / 2;
-    locals.set(alloc, b"long", &b"v".repeat(alloc, WORD as usize)?)?;
+    locals.set(alloc, b"long", &repeated(alloc, b"v", WORD)?)?;
     locals.set(alloc, b"letters", &b"a ".repeat(alloc, half)?)?;
     Ok(locals)
 }
@@ -115,7 +115,7 @@ fn assigned(alloc: Global, locals: &Locals, text: &[u8]) -> Result<FieldBuffer, 
 #[test]
 fn the_largest_value_is_assigned(rt: HostRuntime) -> Result<(), Fail> {
     let mut locals = local_variables(rt.alloc())?;
-    let name = b"n".repeat(rt.alloc(), WORD as usize)?;
+    let name = repeated(rt.alloc(), b"n", WORD)?;
     let buffer = assigned(rt.alloc(), &locals, b"v=\"$letters\"")?;
     for value in buffer.fields() {
         locals.set(rt.alloc(), &name, value)?;
@@ -126,7 +126,7 @@ fn the_largest_value_is_assigned(rt: HostRuntime) -> Result<(), Fail> {
 
 #[test]
 fn a_stand_in_of_the_longest_name_is_read(rt: HostRuntime) -> Result<(), Fail> {
-    let name = b"n".repeat(rt.alloc(), OUTPUT as usize)?;
+    let name = repeated(rt.alloc(), b"n", OUTPUT)?;
     match Stubs::parse(rt.alloc(), &name) {
         Ok(stubs) => assert_eq!(rt; stubs.status(&name), Some(0)),
         Err(fault) => assert!(rt; false, "{fault:?}"),
@@ -174,7 +174,7 @@ fn the_largest_variables_are_set_and_printed(rt: HostRuntime) -> Result<(), Fail
     let mut session = session(rt.alloc(), IMAGE)?;
     let mut output = Output::new(rt.alloc(), OUTPUT);
     let mut text = Vec::from_slice(rt.alloc(), b"setexpr ")?;
-    text.extend_from_slice(&b"v".repeat(rt.alloc(), 65_000)?)?;
+    text.extend_from_slice(&repeated(rt.alloc(), b"v", 65_000)?)?;
     text.extend_from_slice(b" 0 - 1")?;
     let calculated = carried(
         rt.alloc(),
