@@ -1,58 +1,89 @@
 -- A block and what it prints.
-use Rattle.std.proofs.Common.{◌≡◌, ℕ, ◌++◌, List, Option, Bool, true, false, IsTrue, refl, sym, ap, subst, ◌∙◌, inl, inr, codes, ◌⊎◌}
+use Rattle.std.proofs.Common.{◌≡◌, ℕ, ◌++◌, List, Option, Some, None, Bool, refl, sym, ap, subst, ◌∙◌, codes}
+use Rattle.env_session.specs.Session.{Held}
+use Rattle.hush_syntax.specs.Grammar.{Chains}
+use Rattle.hush_syntax.specs.Reading.{read}
+use Rattle.hush_run.specs.declared.ending.Ending.{Ending}
+use Rattle.hush_run.specs.declared.ending.Ending.TheVariants.{Finished, Exited, Steps, Depth, Word, Output, Memory}
+use Rattle.hush_run.specs.declared.ending.Reason.{Reason}
+use Rattle.hush_run.specs.declared.ending.Reason.TheVariants as reason
+use Rattle.hush_run.specs.declared.outcome.Outcome.{Outcome}
+use Rattle.hush_run.specs.Meaning.{Rules, State, meaning, within}
+use Rattle.hush_run.specs.Runs.{Runs, RunsBy, Shows, reason_of}
 use Rattle.fw_session.specs.Input.{Item, Block}
 use Rattle.fw_session.specs.Streams.{Writes}
-use Rattle.hush_run.specs.Meaning.{Rules}
-use Rattle.fw_session.specs.Replies.{Table, Ran, Note, Through, Refused, Stopped, Reply, reply, MayStand, said, ran_reply, tried}
+use Rattle.fw_session.specs.Tables.{table_in}
+use Rattle.fw_session.specs.Replies.{Table, Note, Through, Refused, Stopped, reply, MayStand, said, tried, stopped_run, run_reply, ending_of, ending_line, RunStops}
 use Rattle.fw_session.specs.Hearing.{Answered}
-use Rattle.fw_session.specs.StandIn.{RunsAs, ran_of, ending_line_of}
-use Rattle.fw_session.specs.declared.stand_in.Outcome.{Outcome}
-use Rattle.fw_session.specs.declared.stand_in.SyntaxFault.{SyntaxFault}
-use Rattle.fw_session.specs.declared.stand_in.SyntaxFault.TheVariants.{Other, Memory}
 
-pub no_memory : (rules : Rules) (h : Table) (text : List ℕ) (out out' : Option (List ℕ)) (n n' : ℕ) (ok : Bool) → Writes out out' n n' (said (codes "[Memory]")) ok → Answered rules h (Block text) out out' n n' h ok
+pub no_room : (rules : Rules) (t : Table) (text : List ℕ) (out out' : Option (List ℕ)) (n n' : ℕ) (ok : Bool) → Writes out out' n n' (said (codes "[Memory]")) ok → Answered rules t (Block text) out out' n n' t ok
 unfolding reply MayStand
-no_memory rules h text out out' n n' ok w = record { note = Refused; may = tt; wrote = w; table = refl }
+no_room rules t text out out' n n' ok w = record { note = Refused; may = tt; wrote = w; table = refl }
 
-pub no_script : (rules : Rules) (h : Table) (text : List ℕ) (out out' : Option (List ℕ)) (n n' : ℕ) (ok : Bool) → rules.is_script text ≡ false →
-    Writes out out' n n' (said (codes "[Syntax]")) ok → Answered rules h (Block text) out out' n n' h ok
+pub no_script : (rules : Rules) (t : Table) (text : List ℕ) (out out' : Option (List ℕ)) (n n' : ℕ) (ok : Bool) → read text ≡ None →
+    Writes out out' n n' (said (codes "[Syntax]")) ok → Answered rules t (Block text) out out' n n' t ok
 unfolding reply MayStand
-no_script rules h text out out' n n' ok e w = record {
+no_script rules t text out out' n n' ok e w = record {
   note = Through;
   may = tt;
-  wrote = subst (λ (v : Bool). Writes out out' n n' (tried rules h text v).text ok) (sym e) w;
-  table = subst (λ (v : Bool). h ≡ (tried rules h text v).table) (sym e) refl;
+  wrote = subst (λ v. Writes out out' n n' (tried rules t v).text ok) (sym e) w;
+  table = subst (λ v. t ≡ (tried rules t v).table) (sym e) refl;
 }
 
-ran_through : (rules : Rules) (h h' : Table) (text : List ℕ) (o : Outcome) (out out' : Option (List ℕ)) (n n' : ℕ) (ok : Bool) → rules.is_script text ≡ true → ran_of o h' ≡ rules.meaning h text →
-    Writes out out' n n' (o.text.items ++ ending_line_of o) ok → Answered rules h (Block text) out out' n n' h' ok
+-- what a run prints is what its state tells
+shown : (e : Ending) (s : State) (t : Table) (now : Held) (o : Outcome) → Shows s now o → o.text.items ++ ending_line e o.status o.steps ≡ (run_reply e s t).text
+shown e s t now o x =
+    ap (λ (v : List ℕ). v ++ ending_line e o.status o.steps) x.text
+    ∙ ap (λ (v : ℕ). s.printed.text ++ ending_line e v o.steps) x.status
+    ∙ ap (λ (v : ℕ). s.printed.text ++ ending_line e s.status v) x.steps
+
+ran_through : (rules : Rules) (reason : Reason) (tree : Option Chains) (h h' : Held) (names : List (Option (List ℕ))) (text : List ℕ) (o : Outcome) (out out' : Option (List ℕ)) (n n' : ℕ) (ok : Bool) → read text ≡ Some tree →
+    RunsBy (Some reason) rules tree h h' o → Writes out out' n n' (o.text.items ++ ending_line (ending_of reason) o.status o.steps) ok →
+    Answered rules (table_in h names) (Block text) out out' n n' (table_in h' names) ok
 unfolding reply MayStand
-ran_through rules h h' text o out out' n n' ok good e w =
-    let w' : Writes out out' n n' (ran_reply (rules.meaning h text)).text ok = subst (λ (r : Ran). Writes out out' n n' (ran_reply r).text ok) e w in
-    let k' : h' ≡ (ran_reply (rules.meaning h text)).table = ap (λ (r : Ran). r.table) e in
+ran_through rules reason tree h h' names text o out out' n n' ok e r w =
+    let t = table_in h names in
+    let s = (meaning rules tree h).1 in
+    let w1 : Writes out out' n n' (run_reply (ending_of reason) s t).text ok = subst (λ v. Writes out out' n n' v ok) (shown (ending_of reason) s t h' o r.1) w in
+    let w2 : Writes out out' n n' (tried rules t (Some tree)).text ok = subst (λ (v : Reason). Writes out out' n n' (run_reply (ending_of v) s t).text ok) (sym r.0) w1 in
+    let k : table_in h' names ≡ (tried rules t (Some tree)).table = ap (λ v. table_in v names) r.1.held in
     record {
       note = Through;
       may = tt;
-      wrote = subst (λ (v : Bool). Writes out out' n n' (tried rules h text v).text ok) (sym good) w';
-      table = subst (λ (v : Bool). h' ≡ (tried rules h text v).table) (sym good) k';
+      wrote = subst (λ v. Writes out out' n n' (tried rules t v).text ok) (sym e) w2;
+      table = subst (λ v. table_in h' names ≡ (tried rules t v).table) (sym e) k;
     }
 
-ran_stopped : (rules : Rules) (h h' : Table) (text : List ℕ) (o : Outcome) (out out' : Option (List ℕ)) (n n' k : ℕ) (ok : Bool) → IsTrue (rules.is_script text) → IsTrue (rules.stops_after h text k) → ran_of o h' ≡ rules.stopped h text k →
-    Writes out out' n n' (o.text.items ++ ending_line_of o) ok → Answered rules h (Block text) out out' n n' h' ok
+ran_stopped : (rules : Rules) (tree : Option Chains) (h h' : Held) (names : List (Option (List ℕ))) (text : List ℕ) (o : Outcome) (out out' : Option (List ℕ)) (n n' : ℕ) (ok : Bool) → read text ≡ Some tree →
+    RunsBy None rules tree h h' o → Writes out out' n n' (o.text.items ++ ending_line Memory o.status o.steps) ok →
+    Answered rules (table_in h names) (Block text) out out' n n' (table_in h' names) ok
 unfolding reply MayStand
-ran_stopped rules h h' text o out out' n n' k ok good may e w = record {
-  note = Stopped k;
-  may = (good, may);
-  wrote = subst (λ (r : Ran). Writes out out' n n' (ran_reply r).text ok) e w;
-  table = ap (λ (r : Ran). r.table) e;
-}
+ran_stopped rules tree h h' names text o out out' n n' ok e r w =
+    let t = table_in h names in
+    let s = (meaning (within o.steps rules) tree h).1 in
+    let w1 : Writes out out' n n' (stopped_run rules t o.steps (Some tree)).text ok = subst (λ v. Writes out out' n n' v ok) (shown Memory s t h' o r.1) w in
+    let m : RunStops rules t o.steps (Some tree) = (r.0, sym r.1.steps) in
+    let k : table_in h' names ≡ (stopped_run rules t o.steps (Some tree)).table = ap (λ v. table_in v names) r.1.held in
+    record {
+      note = Stopped o.steps;
+      may = subst (λ v. RunStops rules t o.steps v) (sym e) m;
+      wrote = subst (λ v. Writes out out' n n' (stopped_run rules t o.steps v).text ok) (sym e) w1;
+      table = subst (λ v. table_in h' names ≡ (stopped_run rules t o.steps v).table) (sym e) k;
+    }
 
-pub block_ran : (rules : Rules) (h h' : Table) (text source : List ℕ) (o : Outcome) (out out' : Option (List ℕ)) (n n' : ℕ) (ok : Bool) → source ≡ text → IsTrue (rules.is_script text) → RunsAs rules h source o h' →
-    Writes out out' n n' (o.text.items ++ ending_line_of o) ok → Answered rules h (Block text) out out' n n' h' ok
-block_ran rules h h' text source o out out' n n' ok same good (inl e) w = ran_through rules h h' text o out out' n n' ok good (e ∙ ap (rules.meaning h) same) w
-block_ran rules h h' text source o out out' n n' ok same good (inr r) w =
-    ran_stopped rules h h' text o out out' n n' r.0 ok good (subst (λ s. IsTrue (rules.stops_after h s r.0)) same r.1) (r.2 ∙ ap (λ s. rules.stopped h s r.0) same) w
+ran_by : (e : Ending) (rules : Rules) (tree : Option Chains) (h h' : Held) (names : List (Option (List ℕ))) (text : List ℕ) (o : Outcome) (out out' : Option (List ℕ)) (n n' : ℕ) (ok : Bool) → read text ≡ Some tree →
+    RunsBy (reason_of e) rules tree h h' o → Writes out out' n n' (o.text.items ++ ending_line e o.status o.steps) ok →
+    Answered rules (table_in h names) (Block text) out out' n n' (table_in h' names) ok
+ran_by Finished = λ rules. ran_through rules reason.Finished
+ran_by Exited = λ rules. ran_through rules reason.Exited
+ran_by Steps = λ rules. ran_through rules reason.Steps
+ran_by Depth = λ rules. ran_through rules reason.Depth
+ran_by Word = λ rules. ran_through rules reason.Word
+ran_by Output = λ rules. ran_through rules reason.Output
+ran_by Memory = ran_stopped
 
-pub other_fault : (f : SyntaxFault) (b : Bool) → f ≡ Other → (f ≡ Memory) ⊎ (b ≡ false) → b ≡ false
-other_fault f b is (inl m) = absurd (let bad : Other ≡ Memory = sym is ∙ m in cc)
-other_fault f b is (inr e) = e
+pub block_ran : (rules : Rules) (tree : Option Chains) (h h' : Held) (names : List (Option (List ℕ))) (text source : List ℕ) (o : Outcome) (out out' : Option (List ℕ)) (n n' : ℕ) (ok : Bool) → read source ≡ Some tree → source ≡ text →
+    Runs rules tree h h' o → Writes out out' n n' (o.text.items ++ ending_line o.ending o.status o.steps) ok →
+    Answered rules (table_in h names) (Block text) out out' n n' (table_in h' names) ok
+block_ran rules tree h h' names text source o out out' n n' ok e same r w =
+    ran_by o.ending rules tree h h' names text o out out' n n' ok (sym (ap read same) ∙ e) r w

@@ -7,6 +7,7 @@ use Rattle.std.proofs.KnownBytes.{Consumes-nil, Consumes-trans, Consumes-kept}
 use Rattle.fw_session.specs.Input.{items_of, to_last_dot}
 use Rattle.hush_run.specs.Meaning.{Rules}
 use Rattle.fw_session.specs.Replies.{Table}
+use Rattle.fw_session.specs.Tables.{table_of}
 use Rattle.fw_session.specs.Ends.{Said, Broke, Ends}
 use Rattle.fw_session.specs.Hearing.{Heard, HeardBroke, IsPending}
 use Rattle.std.proofs.lemmas.List.{take-append-le, length-take-le}

@@ -3,6 +3,7 @@ use Rattle.std.proofs.Common.{◌≡◌, ℕ, ◌+◌, ◌<◌, length, get_or, 
 use Rattle.fw_session.specs.Input.{Item, Block, Dot, items_of, to_last_dot, is_dot_line}
 use Rattle.hush_run.specs.Meaning.{Rules}
 use Rattle.fw_session.specs.Replies.{Table}
+use Rattle.fw_session.specs.Tables.{table_of}
 use Rattle.fw_session.specs.Ends.{Said, Broke, Says}
 use Rattle.fw_session.specs.Hearing.{Heard, HeardBroke, EndWhole, IsPending, IsLine, block_items}
 use Rattle.std.proofs.lemmas.List.{take_more, take-append-drop}

@@ -1,27 +1,90 @@
 -- Dot lines and what they print.
-use Rattle.std.proofs.Common.{◌≡◌, ℕ, suc, ◌+◌, ◌-◌, ◌<◌, ◌≤◌, length, take, get_or, ◌++◌, List, [], ◌∷◌, Option, Bool, true, false, refl, sym, ap, subst, ◌∙◌, codes, arith}
-use Rattle.std.specs.Prelude.{map, if◌then◌else◌, zero}
+use Rattle.std.proofs.Common.{◌≡◌, ℕ, suc, ◌+◌, ◌-◌, ◌<◌, ◌≤◌, length, take, get_or, ◌++◌, List, [], ◌∷◌, Option, Some, None, Bool, true, false, refl, sym, ap, subst, ◌∙◌, codes, arith}
+use Rattle.std.specs.Prelude.{map, if◌then◌else◌, zero, nat_lt}
 use Rattle.std.specs.List.{flat_map}
 use Rattle.std.specs.FinMap as env
 use Rattle.std.proofs.lemmas.List.{take_more}
 use Rattle.std.proofs.Common.{append_assoc}
 use Rattle.envimg_core.specs.Environment.{Environment, Pair}
-use Rattle.fw_session.proofs.StreamLemmas.{writes_none, writes_then, writes_broke}
-use Rattle.env_session.specs.Session.{Table, undone, undone_above, IsStopped, saved, side_of, last_saved}
+use Rattle.env_session.specs.Session.{Held, undone, undone_above, IsStopped, saved, side_of, last_saved}
 use Rattle.env_session.specs.declared.stored.Side.{Side}
+use Rattle.hush_commands.specs.Saving.{saved_line}
+use Rattle.fw_session.proofs.StreamLemmas.{writes_none, writes_then, writes_broke}
+use Rattle.fw_session.specs.Orders.{asked_by}
 use Rattle.fw_session.specs.Streams.{Writes}
-use Rattle.fw_session.specs.Replies.{Table, Note, Through, Refused, Stopped, OrderNote, order_reply, said, saved_line, listing, line_of, trimmed, onto_trimmed, is_end_blank, order_in, order_of}
-use Rattle.fw_session.specs.Hearing.{Obeyed}
+use Rattle.fw_session.specs.Tables.{table_in, MarksNamed}
+use Rattle.fw_session.specs.Replies.{Table, Note, Through, Refused, Stopped, Asked, Undo, Save, Print, Mark, UndoTo, Unknown, asked_reply, AskedNote, said, listing, line_of, standing, last_named, trimmed, onto_trimmed, is_end_blank, asked_in, asked}
+use Rattle.fw_session.specs.Hearing.{Obeyed, Undid}
 use Rattle.fw_session.specs.declared.orders.Order.{Order}
-use Rattle.fw_session.specs.declared.orders.Order.TheVariants.{Undo, Save, Print, Unknown}
 
-pub undo_stopped : (h h' : Table) (order : Order) (k : ℕ) (out out' : Option (List ℕ)) (n n' : ℕ) (ok : Bool) → order ≡ Undo → IsStopped 0 h h' k → Writes out out' n n' (said (codes "[Memory]")) ok → Obeyed h order out out' n n' h' ok
-undo_stopped h h' order k out out' n n' ok is s w =
-    subst (λ o. Obeyed h o out out' n n' h' ok) (sym is) (record { note = Stopped k; may = subst (λ v. IsStopped 0 h v k) s.left s; wrote = w; table = s.left })
+-- an undo to a mark that stands
+pub undo_done : (h h' : Held) (names : List (Option (List ℕ))) (k : ℕ) (out out' : Option (List ℕ)) (n n' : ℕ) (ok : Bool) → h' ≡ undone k h → Writes out out' n n' (said (codes "[Undone]")) ok →
+    Undid (table_in h names) (Some k) out out' n n' (table_in h' names) ok
+undo_done h h' names k out out' n n' ok e w = record { note = Through; may = tt; wrote = w; table = ap (λ v. table_in v names) e }
 
-pub save_done : (h h' : Table) (order : Order) (side : Side) (out out' : Option (List ℕ)) (n n' : ℕ) (ok : Bool) → order ≡ Save → side ≡ side_of h → h' ≡ saved h → Writes out out' n n' (saved_line side) ok → Obeyed h order out out' n n' h' ok
-save_done h h' order side out out' n n' ok is which table w =
-    subst (λ o. Obeyed h o out out' n n' h' ok) (sym is) (record { note = Through; may = tt; wrote = subst (λ s. Writes out out' n n' (saved_line s) ok) which w; table = table })
+pub undo_stopped : (h h' : Held) (names : List (Option (List ℕ))) (k j : ℕ) (out out' : Option (List ℕ)) (n n' : ℕ) (ok : Bool) → IsStopped k h h' j → Writes out out' n n' (said (codes "[Memory]")) ok →
+    Undid (table_in h names) (Some k) out out' n n' (table_in h' names) ok
+undo_stopped h h' names k j out out' n n' ok s w =
+    record { note = Stopped j; may = subst (λ v. IsStopped k h v j) s.left s; wrote = w; table = ap (λ v. table_in v names) s.left }
+
+pub undo_obeyed : (t t' : Table) (out out' : Option (List ℕ)) (n n' : ℕ) (ok : Bool) → Undid t (Some 0) out out' n n' t' ok → Obeyed t Undo out out' n n' t' ok
+undo_obeyed t t' out out' n n' ok u = record { note = u.note; may = u.may; wrote = u.wrote; table = u.table }
+
+undo_to_obeyed : (t t' : Table) (name : List ℕ) (found : Option ℕ) (out out' : Option (List ℕ)) (n n' : ℕ) (ok : Bool) → found ≡ last_named name (standing t) → Undid t found out out' n n' t' ok → Obeyed t (UndoTo name) out out' n n' t' ok
+undo_to_obeyed t t' name found out out' n n' ok e u =
+    let v : Undid t (last_named name (standing t)) out out' n n' t' ok = subst (λ f. Undid t f out out' n n' t' ok) e u in
+    record { note = v.note; may = v.may; wrote = v.wrote; table = v.table }
+
+pub found_obeyed : (t t' : Table) (name : List ℕ) (k : ℕ) (marks : List (Option (List ℕ))) (out out' : Option (List ℕ)) (n n' : ℕ) (ok : Bool) → marks ≡ standing t → Some k ≡ last_named name marks → Undid t (Some k) out out' n n' t' ok →
+    Obeyed t (UndoTo name) out out' n n' t' ok
+found_obeyed t t' name k marks out out' n n' ok s e u = undo_to_obeyed t t' name (Some k) out out' n n' ok (e ∙ ap (last_named name) s) u
+
+pub gone_obeyed : (t : Table) (name : List ℕ) (marks : List (Option (List ℕ))) (out out' : Option (List ℕ)) (n n' : ℕ) (ok : Bool) → marks ≡ standing t → None ≡ last_named name marks → Writes out out' n n' (said (codes "[Gone]")) ok →
+    Obeyed t (UndoTo name) out out' n n' t ok
+gone_obeyed t name marks out out' n n' ok s e w =
+    let u : Undid t None out out' n n' t ok = record { note = Through; may = tt; wrote = w; table = refl } in
+    undo_to_obeyed t t name None out out' n n' ok (e ∙ ap (last_named name) s) u
+
+pub save_done : (h h' : Held) (names : List (Option (List ℕ))) (side : Side) (out out' : Option (List ℕ)) (n n' : ℕ) (ok : Bool) → side ≡ side_of h → h' ≡ saved h → Writes out out' n n' (saved_line side) ok →
+    Obeyed (table_in h names) Save out out' n n' (table_in h' names) ok
+save_done h h' names side out out' n n' ok which e w =
+    record { note = Through; may = tt; wrote = subst (λ s. Writes out out' n n' (saved_line s) ok) which w; table = ap (λ v. table_in v names) e }
+
+pub save_refused : (h h' : Held) (names : List (Option (List ℕ))) (out out' : Option (List ℕ)) (n n' : ℕ) (ok : Bool) → h' ≡ h → last_saved (side_of h) h.marks ≡ false → Writes out out' n n' (said (codes "[Memory]")) ok →
+    Obeyed (table_in h names) Save out out' n n' (table_in h' names) ok
+save_refused h h' names out out' n n' ok e may w = record { note = Refused; may = may; wrote = w; table = ap (λ v. table_in v names) e }
+
+pub print_done : (t : Table) (out out' : Option (List ℕ)) (n n' : ℕ) (ok : Bool) → Writes out out' n n' (listing t.held.now.env) ok → Obeyed t Print out out' n n' t ok
+print_done t out out' n n' ok w = record { note = Through; may = tt; wrote = w; table = refl }
+
+pub unknown_told : (t : Table) (out out' : Option (List ℕ)) (n n' : ℕ) (ok : Bool) → Writes out out' n n' (said (codes "[Unknown]")) ok → Obeyed t Unknown out out' n n' t ok
+unknown_told t out out' n n' ok w = record { note = Through; may = tt; wrote = w; table = refl }
+
+pub mark_made : (t t' : Table) (name : List ℕ) (made : Bool) (out out' : Option (List ℕ)) (n n' : ℕ) (ok : Bool) → MarksNamed t name t' made → made ≡ true → Writes out out' n n' (said (codes "[Marked]")) ok → Obeyed t (Mark name) out out' n n' t' ok
+mark_made t t' name false out out' n n' ok m e w = absurd (cc)
+mark_made t t' name true out out' n n' ok m e w =
+    let room : (nat_lt 64 (length t.held.marks)) ≡ false = m.0 in
+    record {
+      note = Through;
+      may = tt;
+      wrote = rw room w;
+      table = rw room m.1;
+    }
+
+pub mark_full : (t t' : Table) (name : List ℕ) (made : Bool) (out out' : Option (List ℕ)) (n n' : ℕ) (ok : Bool) → MarksNamed t name t' made → made ≡ false → Writes out out' n n' (said (codes "[Full]")) ok → Obeyed t (Mark name) out out' n n' t' ok
+mark_full t t' name true out out' n n' ok m e w = absurd (cc)
+mark_full t t' name false out out' n n' ok m e w =
+    let full : (nat_lt 64 (length t.held.marks)) ≡ true = m.0 in
+    record {
+      note = Through;
+      may = tt;
+      wrote = rw full w;
+      table = rw full m.1;
+    }
+
+-- what an order asks for
+pub obeyed_as : (t t' : Table) (a a' : Asked) (out out' : Option (List ℕ)) (n n' : ℕ) (ok : Bool) → a' ≡ a → Obeyed t a out out' n n' t' ok → Obeyed t a' out out' n n' t' ok
+obeyed_as t t' a a' out out' n n' ok e o = subst (λ v. Obeyed t v out out' n n' t' ok) (sym e) o
 
 lines_joined : (ps : List Pair) → flat_map (λ x. x ++ 10 ∷ []) (map (λ p. p.0 ++ 61 ∷ p.1) ps) ≡ flat_map line_of ps
 lines_joined [] = refl
@@ -82,6 +145,6 @@ pub trim_none : (line : List ℕ) (n : ℕ) → n ≤ 0 → (n ≤ length line) 
 trim_none line zero z was = was.1
 trim_none line (suc n) z was = absurd (omega arith)
 
-pub order_known : (line word : List ℕ) (order : Order) → order ≡ order_in word → trimmed line ≡ word → order ≡ order_of line
-unfolding order_of
-order_known line word order e t = e ∙ ap order_in (sym t)
+pub order_known : (line word : List ℕ) (order : Order) → asked_by order ≡ asked_in word → trimmed line ≡ word → asked_by order ≡ asked line
+unfolding asked
+order_known line word order e t = e ∙ ap asked_in (sym t)

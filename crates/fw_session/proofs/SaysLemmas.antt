@@ -7,12 +7,11 @@ use Rattle.std.specs.declared.alloc.Global.{Global}
 use Rattle.fw_session.specs.Input.{Item, Block, Dot}
 use Rattle.fw_session.specs.Streams.{Counts, Writes}
 use Rattle.hush_run.specs.Meaning.{Rules}
-use Rattle.fw_session.specs.Replies.{Table, Note, Reply, reply, replies, MayStand, AllStand, order_of}
+use Rattle.fw_session.specs.Replies.{Table, Note, Reply, reply, replies, MayStand, AllStand, Asked, asked}
 use Rattle.fw_session.specs.Ends.{Said, Broke, Says}
 use Rattle.fw_session.specs.Hearing.{Answered, Obeyed, block_items}
 use Rattle.std.proofs.lemmas.Bool.{eqb-true, eqb-false}
 use Rattle.std.proofs.lemmas.List.{take_all}
-use Rattle.fw_session.specs.declared.orders.Order.{Order}
 use Rattle.fw_session.proofs.StreamLemmas.{counts_none, counts_then}
 
 pub after_text : (rules : Rules) (h : Table) (xs ys : List Item) (ns ms : List Note) → AllStand rules h xs ns →
@@ -146,10 +145,10 @@ says_one rules h h' item out out' n n' false p = record {
   table = p.table;
 }
 
-pub says_order : (rules : Rules) (h h' : Table) (line : List ℕ) (order : Order) (out out' : Option (List ℕ)) (n n' : ℕ) (ok : Bool) → order ≡ order_of line → Obeyed h order out out' n n' h' ok → Says rules h (Dot line ∷ []) out out' n n' h' ok
+pub says_order : (rules : Rules) (h h' : Table) (line : List ℕ) (a : Asked) (out out' : Option (List ℕ)) (n n' : ℕ) (ok : Bool) → a ≡ asked line → Obeyed h a out out' n n' h' ok → Says rules h (Dot line ∷ []) out out' n n' h' ok
 unfolding reply MayStand
-says_order rules h h' line order out out' n n' ok e p =
-    let q : Obeyed h (order_of line) out out' n n' h' ok = subst (λ o. Obeyed h o out out' n n' h' ok) e p in
+says_order rules h h' line a out out' n n' ok e p =
+    let q : Obeyed h (asked line) out out' n n' h' ok = subst (λ o. Obeyed h o out out' n n' h' ok) e p in
     says_one rules h h' (Dot line) out out' n n' ok (record { note = q.note; may = q.may; wrote = q.wrote; table = q.table })
 
 pub says_no_block : (rules : Rules) (h : Table) (bytes : List ℕ) (k : ℕ) (out : Option (List ℕ)) (n : ℕ) → length bytes ≡ k → (k == 0) ≡ true → Said rules h (block_items bytes) out out n n h
@@ -162,11 +161,11 @@ says_block rules h h' [] block k out out' n n' ok l e is p = absurd (eqb-false _
 says_block rules h h' (b ∷ bs) block k out out' n n' ok l e is p = says_one rules h h' (Block (b ∷ bs)) out out' n n' ok (subst (λ v. Answered rules h (Block v) out out' n n' h' ok) is p)
 
 -- a block and then a dot line
-pub says_both : (rules : Rules) (h h' h'' : Table) (block block' line line' : List ℕ) (order : Order) (out out' out'' : Option (List ℕ)) (n n' n'' : ℕ) (ok : Bool) → block' ≡ block → order ≡ order_of line' → line' ≡ line →
-    Said rules h (block_items block') out out' n n' h' → Obeyed h' order out' out'' n' n'' h'' ok → Says rules h (block_items block ++ Dot line ∷ []) out out'' n n'' h'' ok
-says_both rules h h' h'' block block' line line' order out out' out'' n n' n'' ok eb eo el p q =
+pub says_both : (rules : Rules) (h h' h'' : Table) (block block' line line' : List ℕ) (a : Asked) (out out' out'' : Option (List ℕ)) (n n' n'' : ℕ) (ok : Bool) → block' ≡ block → a ≡ asked line' → line' ≡ line →
+    Said rules h (block_items block') out out' n n' h' → Obeyed h' a out' out'' n' n'' h'' ok → Says rules h (block_items block ++ Dot line ∷ []) out out'' n n'' h'' ok
+says_both rules h h' h'' block block' line line' a out out' out'' n n' n'' ok eb eo el p q =
     says_then rules h h' h'' (block_items block) (Dot line ∷ []) out out' out'' n n' n'' ok (subst (λ b. Said rules h (block_items b) out out' n n' h') eb p)
-    (says_order rules h' h'' line order out' out'' n' n'' ok (eo ∙ ap order_of el) q)
+    (says_order rules h' h'' line a out' out'' n' n'' ok (eo ∙ ap asked el) q)
 
 pub says_first : (rules : Rules) (h h' : Table) (block block' line : List ℕ) (out out' : Option (List ℕ)) (n n' : ℕ) (ok : Bool) → ok ≡ false → block' ≡ block → Says rules h (block_items block') out out' n n' h' ok →
     Says rules h (block_items block ++ Dot line ∷ []) out out' n n' h' ok

@@ -15,7 +15,7 @@ pub(crate) fn unnamed(session: &Session) -> Names
     ensures { names_of result.items ≡ replicate (length session.now.marks) None }
 {
     let mut names = ArrayVec::new();
-    for _ in 0..=session.marks() {
+    for _mark in 0..=session.marks() {
         names.push(None);
     }
     names
