@@ -5,15 +5,13 @@ use Rattle.hush_syntax.specs.Grammar.{Chains}
 use Rattle.hush_syntax.specs.Reading.{read}
 use Rattle.hush_run.specs.declared.ending.Ending.{Ending}
 use Rattle.hush_run.specs.declared.ending.Ending.TheVariants.{Finished, Exited, Steps, Depth, Word, Output, Memory}
-use Rattle.hush_run.specs.declared.ending.Reason.{Reason}
-use Rattle.hush_run.specs.declared.ending.Reason.TheVariants as reason
 use Rattle.hush_run.specs.declared.outcome.Outcome.{Outcome}
 use Rattle.hush_run.specs.Meaning.{Rules, State, meaning, within}
-use Rattle.hush_run.specs.Runs.{Runs, RunsBy, Shows, reason_of}
+use Rattle.hush_run.specs.Runs.{Runs, RunsBy, Shows, reason_of, ending_of}
 use Rattle.fw_session.specs.Input.{Item, Block}
 use Rattle.fw_session.specs.Streams.{Writes}
 use Rattle.fw_session.specs.Tables.{table_in}
-use Rattle.fw_session.specs.Replies.{Table, Note, Through, Refused, Stopped, reply, MayStand, said, tried, stopped_run, run_reply, ending_of, ending_line, RunStops}
+use Rattle.fw_session.specs.Replies.{Table, Note, Through, Refused, Stopped, reply, MayStand, said, tried, stopped_run, run_reply, ending_line, RunStops}
 use Rattle.fw_session.specs.Hearing.{Answered}
 
 pub no_room : (rules : Rules) (t : Table) (text : List ℕ) (out out' : Option (List ℕ)) (n n' : ℕ) (ok : Bool) → Writes out out' n n' (said (codes "[Memory]")) ok → Answered rules t (Block text) out out' n n' t ok
@@ -37,21 +35,21 @@ shown e s t now o x =
     ∙ ap (λ (v : ℕ). s.printed.text ++ ending_line e v o.steps) x.status
     ∙ ap (λ (v : ℕ). s.printed.text ++ ending_line e s.status v) x.steps
 
-ran_through : (rules : Rules) (reason : Reason) (tree : Option Chains) (h h' : Held) (names : List (Option (List ℕ))) (text : List ℕ) (o : Outcome) (out out' : Option (List ℕ)) (n n' : ℕ) (ok : Bool) → read text ≡ Some tree →
-    RunsBy (Some reason) rules tree h h' o → Writes out out' n n' (o.text.items ++ ending_line (ending_of reason) o.status o.steps) ok →
+ran_through : (rules : Rules) (e : Ending) (tree : Option Chains) (h h' : Held) (names : List (Option (List ℕ))) (text : List ℕ) (o : Outcome) (out out' : Option (List ℕ)) (n n' : ℕ) (ok : Bool) → read text ≡ Some tree →
+    ending_of (meaning rules tree h).0 ≡ e → Shows (meaning rules tree h).1 h' o → Writes out out' n n' (o.text.items ++ ending_line e o.status o.steps) ok →
     Answered rules (table_in h names) (Block text) out out' n n' (table_in h' names) ok
 unfolding reply MayStand
-ran_through rules reason tree h h' names text o out out' n n' ok e r w =
+ran_through rules e tree h h' names text o out out' n n' ok is told shows w =
     let t = table_in h names in
     let s = (meaning rules tree h).1 in
-    let w1 : Writes out out' n n' (run_reply (ending_of reason) s t).text ok = subst (λ v. Writes out out' n n' v ok) (shown (ending_of reason) s t h' o r.1) w in
-    let w2 : Writes out out' n n' (tried rules t (Some tree)).text ok = subst (λ (v : Reason). Writes out out' n n' (run_reply (ending_of v) s t).text ok) (sym r.0) w1 in
-    let k : table_in h' names ≡ (tried rules t (Some tree)).table = ap (λ v. table_in v names) r.1.held in
+    let w1 : Writes out out' n n' (run_reply e s t).text ok = subst (λ v. Writes out out' n n' v ok) (shown e s t h' o shows) w in
+    let w2 : Writes out out' n n' (tried rules t (Some tree)).text ok = subst (λ (v : Ending). Writes out out' n n' (run_reply v s t).text ok) (sym told) w1 in
+    let k : table_in h' names ≡ (tried rules t (Some tree)).table = ap (λ v. table_in v names) shows.held in
     record {
       note = Through;
       may = tt;
-      wrote = subst (λ v. Writes out out' n n' (tried rules t v).text ok) (sym e) w2;
-      table = subst (λ v. table_in h' names ≡ (tried rules t v).table) (sym e) k;
+      wrote = subst (λ v. Writes out out' n n' (tried rules t v).text ok) (sym is) w2;
+      table = subst (λ v. table_in h' names ≡ (tried rules t v).table) (sym is) k;
     }
 
 ran_stopped : (rules : Rules) (tree : Option Chains) (h h' : Held) (names : List (Option (List ℕ))) (text : List ℕ) (o : Outcome) (out out' : Option (List ℕ)) (n n' : ℕ) (ok : Bool) → read text ≡ Some tree →
@@ -74,13 +72,13 @@ ran_stopped rules tree h h' names text o out out' n n' ok e r w =
 ran_by : (e : Ending) (rules : Rules) (tree : Option Chains) (h h' : Held) (names : List (Option (List ℕ))) (text : List ℕ) (o : Outcome) (out out' : Option (List ℕ)) (n n' : ℕ) (ok : Bool) → read text ≡ Some tree →
     RunsBy (reason_of e) rules tree h h' o → Writes out out' n n' (o.text.items ++ ending_line e o.status o.steps) ok →
     Answered rules (table_in h names) (Block text) out out' n n' (table_in h' names) ok
-ran_by Finished = λ rules. ran_through rules reason.Finished
-ran_by Exited = λ rules. ran_through rules reason.Exited
-ran_by Steps = λ rules. ran_through rules reason.Steps
-ran_by Depth = λ rules. ran_through rules reason.Depth
-ran_by Word = λ rules. ran_through rules reason.Word
-ran_by Output = λ rules. ran_through rules reason.Output
-ran_by Memory = ran_stopped
+ran_by Finished rules tree h h' names text o out out' n n' ok is r w = ran_through rules Finished tree h h' names text o out out' n n' ok is (ap ending_of r.0) r.1 w
+ran_by Exited rules tree h h' names text o out out' n n' ok is r w = ran_through rules Exited tree h h' names text o out out' n n' ok is (ap ending_of r.0) r.1 w
+ran_by Steps rules tree h h' names text o out out' n n' ok is r w = ran_through rules Steps tree h h' names text o out out' n n' ok is (ap ending_of r.0) r.1 w
+ran_by Depth rules tree h h' names text o out out' n n' ok is r w = ran_through rules Depth tree h h' names text o out out' n n' ok is (ap ending_of r.0) r.1 w
+ran_by Word rules tree h h' names text o out out' n n' ok is r w = ran_through rules Word tree h h' names text o out out' n n' ok is (ap ending_of r.0) r.1 w
+ran_by Output rules tree h h' names text o out out' n n' ok is r w = ran_through rules Output tree h h' names text o out out' n n' ok is (ap ending_of r.0) r.1 w
+ran_by Memory rules tree h h' names text o out out' n n' ok is r w = ran_stopped rules tree h h' names text o out out' n n' ok is r w
 
 pub block_ran : (rules : Rules) (tree : Option Chains) (h h' : Held) (names : List (Option (List ℕ))) (text source : List ℕ) (o : Outcome) (out out' : Option (List ℕ)) (n n' : ℕ) (ok : Bool) → read source ≡ Some tree → source ≡ text →
     Runs rules tree h h' o → Writes out out' n n' (o.text.items ++ ending_line o.ending o.status o.steps) ok →

@@ -10,9 +10,8 @@ use Rattle.hush_syntax.specs.Reading.{read}
 use Rattle.hush_commands.specs.Saving.{saved_line}
 use Rattle.hush_run.specs.declared.ending.Ending.{Ending}
 use Rattle.hush_run.specs.declared.ending.Ending.TheVariants as ending
-use Rattle.hush_run.specs.declared.ending.Reason.{Reason}
-use Rattle.hush_run.specs.declared.ending.Reason.TheVariants as reason
 use Rattle.hush_run.specs.Meaning.{Rules, State, meaning, within}
+use Rattle.hush_run.specs.Runs.{ending_of}
 use Rattle.fw_session.specs.Input.{Item, Block, Dot, items_of}
 
 -- a session, and a name for each of its marks from the opening on; those that it had before have none
@@ -136,14 +135,6 @@ ending_name ending.Depth = codes "Depth"
 ending_name ending.Word = codes "Word"
 ending_name ending.Output = codes "Output"
 ending_name ending.Memory = codes "Memory"
-
-abbrev pub ending_of : Reason → Ending
-ending_of reason.Finished = ending.Finished
-ending_of reason.Exited = ending.Exited
-ending_of reason.Steps = ending.Steps
-ending_of reason.Depth = ending.Depth
-ending_of reason.Word = ending.Word
-ending_of reason.Output = ending.Output
 
 -- `[ENDING STATUS STEPS]` and a newline
 abbrev pub ending_line : Ending → (status steps : ℕ) → List ℕ
