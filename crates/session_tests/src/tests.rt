@@ -124,7 +124,7 @@ fn start(alloc: Global, copies: Copies) -> Result<Option<Session>, AllocError> {
         Some(copy) => Some(Vec::from_slice(alloc, copy)?),
         None => None,
     };
-    match Geometry::new(layout, copies.first.len() as u32) {
+    match Geometry::new(layout, u32::try_from(copies.first.len()).unwrap_or(0)) {
         Some(geometry) => {
             let defaults = Vars::empty(alloc, geometry.room());
             let stored = Stored {
