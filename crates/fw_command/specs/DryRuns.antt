@@ -1,4 +1,4 @@
--- What the words of `session` ask for (docs/tools.md, "Dry runs").
+-- What the words of `session` ask for (docs/dry-runs.md, "The subcommand").
 use Rattle.std.specs.Prelude.{ℕ, ◌==◌, ◌&&◌, not, nat_le, Bool, List, [], ◌∷◌, ◌++◌, length, Option, Some, None, Result, Ok, Err, codes, if◌then◌else◌, option_map}
 use Rattle.std.specs.Char.{is_ascii_digit}
 use Rattle.std.specs.List.{list_all}
