@@ -2,12 +2,13 @@
 use Rattle.std.proofs.Common.{◌≡◌, ◌⊎◌, ℕ, ◌+◌, ◌<◌, ◌≤◌, length, ◌++◌, List, [], ◌∷◌, Option, refl, sym, ap, subst, ◌∙◌, inl, inr, arith, take, length-append, append-nil, append_assoc}
 use Rattle.std.specs.Prelude.{zero, suc}
 use Rattle.fw_session.proofs.CutLemmas.{pending_none}
+use Rattle.env_session.specs.Session.{Held}
 use Rattle.std.specs.Io.KnownBytes.{Consumes, Keeps, IsAtEnd}
 use Rattle.std.proofs.KnownBytes.{Consumes-nil, Consumes-trans, Consumes-kept}
 use Rattle.fw_session.specs.Input.{items_of, to_last_dot}
 use Rattle.hush_run.specs.Meaning.{Rules}
 use Rattle.fw_session.specs.Replies.{Table}
-use Rattle.fw_session.specs.Tables.{table_of}
+use Rattle.fw_session.specs.Tables.{names_of, table_in, table_of}
 use Rattle.fw_session.specs.Ends.{Said, Broke, Ends}
 use Rattle.fw_session.specs.Hearing.{Heard, HeardBroke, IsPending}
 use Rattle.std.proofs.lemmas.List.{take-append-le, length-take-le}
@@ -20,10 +21,25 @@ use Rattle.fw_session.specs.declared.ending.SessionEnding.{SessionEnding}
 use Rattle.fw_session.specs.declared.ending.SessionEnding.TheVariants.{Done, ReadFault, TooLong, WriteFault, Memory}
 use Rattle.fw_session.proofs.HearLemmas.{heard_none, heard_then, heard_broke, said_whole, broke_whole, said_all, broke_all}
 
-pub ends_as : (e e' : SessionEnding) (rules : Rules) (h h' h'' : Table) (i i' o o' : Option (List ℕ)) (r r' w w' : ℕ) → h'' ≡ h' → e' ≡ e → r' ≡ r → w' ≡ w → Ends e rules h i i' o o' r w h' → Ends e' rules h i i' o o' r' w' h''
+ends_as : (e e' : SessionEnding) (rules : Rules) (h h' h'' : Table) (i i' o o' : Option (List ℕ)) (r r' w w' : ℕ) → h'' ≡ h' → e' ≡ e → r' ≡ r → w' ≡ w → Ends e rules h i i' o o' r w h' → Ends e' rules h i i' o o' r' w' h''
 ends_as e e' rules h h' h'' i i' o o' r r' w w' a b c d x =
     subst (λ v. Ends v rules h i i' o o' r' w' h'') (sym b)
     (subst (λ v. Ends e rules h i i' o o' v w' h'') (sym c) (subst (λ v. Ends e rules h i i' o o' r v h'') (sym d) (subst (λ v. Ends e rules h i i' o o' r w v) (sym a) x)))
+
+-- what is handed out of a talk
+pub ended_as : (e e' : SessionEnding) (rules : Rules) (h : Table) (talk : Talk) (now : Held) (i i' o o' : Option (List ℕ)) (r r' w' : ℕ) → now ≡ talk.session → e' ≡ e → r' ≡ r → w' ≡ talk.written →
+    Ends e rules h i i' o o' r talk.written (table_of talk) → (names : List (Option (List ℕ))) × Ends e' rules h i i' o o' r' w' (table_in now names)
+ended_as e e' rules h talk now i i' o o' r r' w' a b c d x =
+    let names = names_of talk.names.items in (names, ends_as e e' rules h (table_of talk) (table_in now names) i i' o o' r r' talk.written w' (ap (λ v. table_in v names) a) b c d x)
+
+pub finishes_as : (e e' : SessionEnding) (rules : Rules) (h : Table) (bytes : List ℕ) (talk : Talk) (now : Held) (o o' : Option (List ℕ)) (n w' : ℕ) → now ≡ talk.session → e' ≡ e → w' ≡ talk.written →
+    Finishes rules h bytes o o' n talk.written (table_of talk) e → (names : List (Option (List ℕ))) × Finishes rules h bytes o o' n w' (table_in now names) e'
+finishes_as e e' rules h bytes talk now o o' n w' a b d x =
+    let names = names_of talk.names.items in (
+      names,
+      subst (λ v. Finishes rules h bytes o o' n w' (table_in now names) v) (sym b)
+      (subst (λ v. Finishes rules h bytes o o' n v (table_in now names) e) (sym d) (subst (λ v. Finishes rules h bytes o o' n talk.written (table_in v names) e) (sym a) x)),
+    )
 
 pub reading_more : (rules : Rules) (h : Table) (i i' i'' o o' o'' : Option (List ℕ)) (read count : ℕ) (piece : List ℕ) (old new : Talk) → Reading rules h i i' o o' read old → Consumes i' i'' piece → length piece ≡ count → read + count ≤ 16777216 →
     HearsAll rules piece old new o' o'' → Reading rules h i i'' o o'' (read + count) new

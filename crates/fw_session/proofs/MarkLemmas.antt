@@ -1,8 +1,8 @@
 -- The marks of a session and the table of their names.
 use Rattle.std.proofs.Common.{◌≡◌, ◌↔◌, ℕ, suc, ◌+◌, ◌<◌, ◌≤◌, List, [], ◌∷◌, ◌++◌, length, take, Bool, true, false, Option, Some, None, Result, Ok, Err, refl, sym, ap, subst, ◌∙◌, arith}
-use Rattle.std.specs.Prelude.{map, option_map, replicate, nat_lt}
+use Rattle.std.specs.Prelude.{map, option_map, replicate, nat_lt, min}
 use Rattle.std.proofs.lemmas.Bool.{le-ltb, lt-ltb, ltb-true, ltb-false}
-use Rattle.std.proofs.lemmas.List.{map-append, take-map, length-take}
+use Rattle.std.proofs.lemmas.List.{map-append, take-map, take_all}
 use Rattle.std.proofs.lemmas.Grind.{replicate_next}
 use Rattle.arrayvec.specs.ArrayVec.{ArrayVec}
 use Rattle.env_session.specs.Session.{Held, marked}
@@ -21,6 +21,14 @@ one_unnamed names names' n was is = ap names_of is ∙ names_more names None ∙
 -- the first names are those of the marks that stand
 pub names_taken : (names shown : List (Option (ArrayVec ℕ))) (h : Held) (k : ℕ) → shown ≡ take k names → take k names ≡ take (length h.marks) names → names_of shown ≡ standing (table_in h (names_of names))
 names_taken names shown h k is same = ap names_of (is ∙ same) ∙ sym (take-map (λ n. option_map (λ v. v.items) n) (length h.marks) names)
+
+pub first_taken : {A : Type 0} (xs ys : List A) (k n m : ℕ) → ys ≡ xs → k ≡ min (length ys) n → n ≡ m → take k xs ≡ take m xs
+first_taken xs ys k n m same is e =
+    let few : k ≡ min (length xs) n = is ∙ ap (λ v. min (length v) n) same in
+    elim (nat_lt n (length xs)) as (λ b. nat_lt n (length xs) ≡ b → take k xs ≡ take m xs) [
+      true ↦ λ l. (let lt = ltb-true n (length xs) l in let k_is : k ≡ m = omega (arith, lt, few, e) in ap (λ (v : ℕ). take v xs) k_is)
+      | false ↦ λ l. (let le = ltb-false n (length xs) l in take_all k xs (omega (arith, le, few)) ∙ sym (take_all m xs (omega (arith, le, e))))
+    ] refl
 
 -- a mark is made
 pub mark_named : (h h' : Held) (names cut names' : List (Option (ArrayVec ℕ))) (name : ArrayVec ℕ) → length h.marks < 65 → h' ≡ marked h → cut ≡ take (length h.marks) names → names' ≡ cut ++ Some name ∷ [] →

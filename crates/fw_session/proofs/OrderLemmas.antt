@@ -1,12 +1,14 @@
 -- Dot lines and what they print.
-use Rattle.std.proofs.Common.{◌≡◌, ℕ, suc, ◌+◌, ◌-◌, ◌<◌, ◌≤◌, length, take, get_or, ◌++◌, List, [], ◌∷◌, Option, Some, None, Bool, true, false, refl, sym, ap, subst, ◌∙◌, codes, arith}
+use Rattle.std.proofs.Common.{◌≡◌, ℕ, suc, ◌+◌, ◌-◌, ◌<◌, ◌≤◌, length, take, get_or, ◌++◌, List, [], ◌∷◌, Option, Some, None, Err, Bool, true, false, refl, sym, ap, subst, ◌∙◌, codes, arith}
 use Rattle.std.specs.Prelude.{map, if◌then◌else◌, zero, nat_lt}
 use Rattle.std.specs.List.{flat_map}
 use Rattle.std.specs.FinMap as env
 use Rattle.std.proofs.lemmas.List.{take_more}
 use Rattle.std.proofs.Common.{append_assoc}
 use Rattle.envimg_core.specs.Environment.{Environment, Pair}
-use Rattle.env_session.specs.Session.{Held, undone, undone_above, IsStopped, saved, side_of, last_saved}
+use Rattle.env_session.specs.Session.{Held, undone, undone_above, IsStopped, UndoesTo, saved, side_of, last_saved}
+use Rattle.env_session.specs.declared.faults.UndoFault.{UndoFault}
+use Rattle.env_session.specs.declared.faults.UndoFault.TheVariants.{Memory}
 use Rattle.env_session.specs.declared.stored.Side.{Side}
 use Rattle.hush_commands.specs.Saving.{saved_line}
 use Rattle.fw_session.proofs.StreamLemmas.{writes_none, writes_then, writes_broke}
@@ -26,6 +28,9 @@ pub undo_stopped : (h h' : Held) (names : List (Option (List ℕ))) (k j : ℕ) 
     Undid (table_in h names) (Some k) out out' n n' (table_in h' names) ok
 undo_stopped h h' names k j out out' n n' ok s w =
     record { note = Stopped j; may = subst (λ v. IsStopped k h v j) s.left s; wrote = w; table = ap (λ v. table_in v names) s.left }
+
+pub undo_refused : (k : ℕ) (h h' : Held) (fault : UndoFault) → fault ≡ Memory → UndoesTo k h h' (Err fault) → (j : ℕ) × IsStopped k h h' j
+undo_refused k h h' fault e u = subst (λ f. UndoesTo k h h' (Err f)) e u
 
 pub undo_obeyed : (t t' : Table) (out out' : Option (List ℕ)) (n n' : ℕ) (ok : Bool) → Undid t (Some 0) out out' n n' t' ok → Obeyed t Undo out out' n n' t' ok
 undo_obeyed t t' out out' n n' ok u = record { note = u.note; may = u.may; wrote = u.wrote; table = u.table }

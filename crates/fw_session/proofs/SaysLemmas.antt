@@ -177,6 +177,12 @@ says_first rules h h' block block' line out out' n n' ok not eb p =
 pub says_items : (rules : Rules) (h h' : Table) (xs ys : List Item) (out out' : Option (List ℕ)) (n n' : ℕ) (ok : Bool) → ys ≡ xs → Says rules h xs out out' n n' h' ok → Says rules h ys out out' n n' h' ok
 says_items rules h h' xs ys out out' n n' ok e p = subst (λ v. Says rules h v out out' n n' h' ok) (sym e) p
 
+pub says_true : (rules : Rules) (h h' : Table) (items : List Item) (out out' : Option (List ℕ)) (n n' : ℕ) (ok : Bool) → ok ≡ true → Says rules h items out out' n n' h' ok → Said rules h items out out' n n' h'
+says_true rules h h' items out out' n n' ok e s = subst (λ v. Says rules h items out out' n n' h' v) e s
+
+pub says_false : (rules : Rules) (h h' : Table) (items : List Item) (out out' : Option (List ℕ)) (n n' : ℕ) (ok : Bool) → ok ≡ false → Says rules h items out out' n n' h' ok → Broke rules h items out out' n n' h'
+says_false rules h h' items out out' n n' ok e s = subst (λ v. Says rules h items out out' n n' h' v) e s
+
 -- a slice to the end
 pub slice_rest : (n : ℕ) (xs ys : List ℕ) → ys ≡ xs → take (length ys - n) (drop n ys) ≡ drop n xs
 slice_rest n xs ys e = take_all (length ys - n) (drop n ys) (omega (arith, length-drop n ys)) ∙ ap (drop n) e

@@ -24,7 +24,11 @@ pub(crate) fn obey<W: Write>(
     ensures { Obeyed (table_in session.old (names_of names.old.items)) (asked_by order) (W.contents output.old) (W.contents output.new) written.old written.new (table_in session.new (names_of names.new.items)) result }
 {
     match order {
-        Order::Undo => undo(session, names, 0, output, written),
+        Order::Undo => {
+            // Does nothing: it tells the prover that the opening stands.
+            let _marks = session.marks();
+            undo(session, names, 0, output, written)
+        }
         Order::Save => match session.save() {
             Ok(Side::First) => write_text(output, b"Saved copy 1\n", written),
             Ok(Side::Second) => write_text(output, b"Saved copy 2\n", written),
@@ -57,6 +61,7 @@ fn undo<W: Write>(
     requires { found < length session.old.marks }
     ensures { Undid (table_in session.old (names_of names.now.items)) (Some found) (W.contents output.old) (W.contents output.new) written.old written.new (table_in session.new (names_of names.now.items)) result }
 {
+    // Does nothing: it tells the prover that there are at most 65 marks.
     let _marks = session.marks();
     match session.undo_to(found as u32) {
         Ok(()) => write_text(output, b"[Undone]\n", written),

@@ -8,5 +8,5 @@ returns-in-Ok g c = λ names.
 pub returns-in-Memory : goal.returns-in-Memory
 returns-in-Memory g c = λ names. no_room _ _ c.args.block.items _ _ _ _ c.write_text.result c.write_text.ensures
 
-pub returns-in-default : goal.returns-in-default
-returns-in-default g c = λ names. ?
+pub returns-in_default : goal.returns-in_default
+returns-in_default g c = λ names. no_script _ _ c.args.block.items _ _ _ _ c.write_text-in_default.result (c.in-Err.ensures.unread c.in_default.not-Memory) c.write_text-in_default.ensures
