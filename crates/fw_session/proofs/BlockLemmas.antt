@@ -8,10 +8,10 @@ use Rattle.hush_run.specs.declared.ending.Ending.TheVariants.{Finished, Exited, 
 use Rattle.hush_run.specs.declared.outcome.Outcome.{Outcome}
 use Rattle.hush_run.specs.Meaning.{Rules, State, meaning, within}
 use Rattle.hush_run.specs.Runs.{Runs, RunsBy, Shows, reason_of, ending_of}
-use Rattle.fw_session.specs.Input.{Item, Block}
+use Rattle.fw_session.specs.Input.{Block}
 use Rattle.fw_session.specs.Streams.{Writes}
 use Rattle.fw_session.specs.Tables.{table_in}
-use Rattle.fw_session.specs.Replies.{Table, Note, Through, Refused, Stopped, reply, MayStand, said, tried, stopped_run, run_reply, ending_line, RunStops}
+use Rattle.fw_session.specs.Replies.{Table, Through, Refused, Stopped, reply, MayStand, said, tried, stopped_run, run_reply, ending_line, RunStops}
 use Rattle.fw_session.specs.Hearing.{Answered}
 
 pub no_room : (rules : Rules) (t : Table) (text : List ℕ) (out out' : Option (List ℕ)) (n n' : ℕ) (ok : Bool) → Writes out out' n n' (said (codes "[Memory]")) ok → Answered rules t (Block text) out out' n n' t ok

@@ -2,8 +2,8 @@
 use Rattle.std.proofs.lemmas.List.{drop-append-le, take-append-le, take-append-drop, take_all, drop_all, length-append}
 use Rattle.std.proofs.lemmas.List.Folds.{list_all-append}
 use Rattle.std.proofs.lemmas.Bool.{ne_eqb, eq-eqb}
-use Rattle.std.proofs.Common.{◌≡◌, ℕ, zero, suc, ◌+◌, ◌<◌, ◌≤◌, ◌==◌, ◌++◌, ◌&&◌, ◌||◌, not, if◌then◌else◌, get_or, List, [], ◌∷◌, length, take, drop, Bool, true, false, refl, sym, ap, subst, ◌∙◌, arith, append_assoc, append-nil}
-use Rattle.std.specs.List.{list_any, list_all}
+use Rattle.std.proofs.Common.{◌≡◌, ℕ, zero, suc, ◌<◌, ◌≤◌, ◌==◌, ◌++◌, ◌&&◌, ◌||◌, not, if◌then◌else◌, get_or, List, [], ◌∷◌, length, take, drop, true, false, refl, sym, ap, subst, ◌∙◌, arith, append_assoc, append-nil}
+use Rattle.std.specs.List.{list_any}
 use Rattle.fw_session.specs.Input.{Item, Block, Dot, onto, lines_of, is_dot_line, joined, items_in, items_of, is_ended, is_whole, to_last_dot}
 use Rattle.fw_session.specs.Hearing.{block_items, before, IsPlain, no_newline, IsPending, IsLine, EndWhole}
 
@@ -11,7 +11,7 @@ line_cut : (line xs : List ℕ) → no_newline line ≡ true → lines_of (line 
 line_cut [] xs e = refl
 line_cut (b ∷ bs) xs e =
     elim (b == 10) as (λ v. (not v && no_newline bs ≡ true) → (if v then (b ∷ []) ∷ lines_of (bs ++ 10 ∷ xs) else onto b (lines_of (bs ++ 10 ∷ xs))) ≡ (b ∷ (bs ++ 10 ∷ [])) ∷ lines_of xs) [
-      true ↦ λ k. absurd (cc)
+      | true ↦ λ k. absurd (cc)
       | false ↦ λ k. ap (onto b) (line_cut bs xs k)
     ] e
 
@@ -20,7 +20,7 @@ last_line b [] e =
     elim (b == 10) as (λ v. (not v && true ≡ true) → (if v then (b ∷ []) ∷ [] else (b ∷ []) ∷ []) ≡ (b ∷ []) ∷ []) [ true ↦ λ k. refl | false ↦ λ k. refl ] e
 last_line b (c ∷ cs) e =
     elim (b == 10) as (λ v. (not v && no_newline (c ∷ cs) ≡ true) → (if v then (b ∷ []) ∷ lines_of (c ∷ cs) else onto b (lines_of (c ∷ cs))) ≡ (b ∷ c ∷ cs) ∷ []) [
-      true ↦ λ k. absurd (cc)
+      | true ↦ λ k. absurd (cc)
       | false ↦ λ k. ap (onto b) (last_line c cs k)
     ] e
 
@@ -125,9 +125,9 @@ none_whole bytes start p =
     let line = drop start bytes in
     subst (λ t. to_last_dot (items_of t) ≡ []) (take-append-drop start bytes)
     (elim (is_dot_line line) as (λ v. is_dot_line line ≡ v → to_last_dot (items_of (block ++ line)) ≡ []) [
-        true ↦ λ d. ap to_last_dot (rest_dot block line p.plain p.unended d) ∙ no_whole_dot block line (not_ended line p.unended)
-        | false ↦ λ d. ap to_last_dot (rest_block block line p.plain p.unended d) ∙ no_dot (block ++ line)
-      ] refl)
+      | true ↦ λ d. ap to_last_dot (rest_dot block line p.plain p.unended d) ∙ no_whole_dot block line (not_ended line p.unended)
+      | false ↦ λ d. ap to_last_dot (rest_block block line p.plain p.unended d) ∙ no_dot (block ++ line)
+    ] refl)
 
 any_whole : (xs rest : List Item) (item : Item) → is_whole item ≡ true → list_any is_whole (xs ++ item ∷ rest) ≡ true
 any_whole [] rest item e = rw e refl
@@ -172,7 +172,7 @@ pending_more bytes start byte p other =
       within = omega (arith, p.within, length-append bytes (byte ∷ []));
       plain = subst IsPlain (sym (take-append-le start bytes (byte ∷ []) p.within)) p.plain;
       unended =
-        ap no_newline (drop-append-le start bytes (byte ∷ []) p.within)
+          ap no_newline (drop-append-le start bytes (byte ∷ []) p.within)
           ∙ no_newline-append (drop start bytes) (byte ∷ []) p.unended (ap (λ v. not v && true) e);
     }
 
@@ -185,7 +185,6 @@ line_ended bytes start byte p e = record {
   unended = p.unended;
 }
 
-
 pub pending_none : IsPending [] 0
 pending_none = record { within = omega arith; plain = plain_none; unended = refl }
 
@@ -194,7 +193,7 @@ pub line_joins : (bytes : List ℕ) (start : ℕ) → IsLine bytes start → is_
 line_joins bytes start p d =
     let d' : is_dot_line (p.line ++ 10 ∷ []) ≡ false = subst (λ t. is_dot_line t ≡ false) p.line_is d in
     let e : take start bytes ++ (p.line ++ 10 ∷ []) ≡ take (length bytes) bytes =
-      ap (λ t. take start bytes ++ t) (sym p.line_is) ∙ take-append-drop start bytes ∙ sym (take_all (length bytes) bytes (omega arith)) in
+    ap (λ t. take start bytes ++ t) (sym p.line_is) ∙ take-append-drop start bytes ∙ sym (take_all (length bytes) bytes (omega arith)) in
     record {
       within = omega arith;
       plain = subst IsPlain e (plain_more (take start bytes) p.line p.plain p.unended d');

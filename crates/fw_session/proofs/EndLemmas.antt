@@ -1,20 +1,18 @@
 -- How a whole call ends.
-use Rattle.std.proofs.Common.{◌≡◌, ◌⊎◌, ℕ, ◌+◌, ◌<◌, ◌≤◌, length, ◌++◌, List, [], ◌∷◌, Option, refl, sym, ap, subst, ◌∙◌, inl, inr, arith, take, length-append, append-nil, append_assoc}
+use Rattle.std.proofs.Common.{◌≡◌, ℕ, ◌+◌, ◌<◌, ◌≤◌, length, ◌++◌, List, [], ◌∷◌, Option, refl, sym, ap, subst, ◌∙◌, inl, inr, arith, take, length-append, append-nil, append_assoc}
 use Rattle.std.specs.Prelude.{zero, suc}
 use Rattle.fw_session.proofs.CutLemmas.{pending_none}
 use Rattle.env_session.specs.Session.{Held}
 use Rattle.std.specs.Io.KnownBytes.{Consumes, Keeps, IsAtEnd}
 use Rattle.std.proofs.KnownBytes.{Consumes-nil, Consumes-trans, Consumes-kept}
-use Rattle.fw_session.specs.Input.{items_of, to_last_dot}
 use Rattle.hush_run.specs.Meaning.{Rules}
 use Rattle.fw_session.specs.Replies.{Table}
 use Rattle.fw_session.specs.Tables.{names_of, table_in, table_of}
-use Rattle.fw_session.specs.Ends.{Said, Broke, Ends}
+use Rattle.fw_session.specs.Ends.{Ends}
 use Rattle.fw_session.specs.Hearing.{Heard, HeardBroke, IsPending}
 use Rattle.std.proofs.lemmas.List.{take-append-le, length-take-le}
 use Rattle.std.proofs.Common.{Err}
 use Rattle.fw_session.specs.declared.ending.Stop.{Stop}
-use Rattle.fw_session.specs.declared.ending.Stop.TheVariants as Stop
 use Rattle.fw_session.specs.Talks.{Hears, Reading, HearsAll, HearsSome, Finishes}
 use Rattle.fw_session.specs.declared.talking.Talk.{Talk}
 use Rattle.fw_session.specs.declared.ending.SessionEnding.{SessionEnding}
@@ -38,7 +36,7 @@ finishes_as e e' rules h bytes talk now o o' n w' a b d x =
     let names = names_of talk.names.items in (
       names,
       subst (λ v. Finishes rules h bytes o o' n w' (table_in now names) v) (sym b)
-      (subst (λ v. Finishes rules h bytes o o' n v (table_in now names) e) (sym d) (subst (λ v. Finishes rules h bytes o o' n talk.written (table_in v names) e) (sym a) x)),
+          (subst (λ v. Finishes rules h bytes o o' n v (table_in now names) e) (sym d) (subst (λ v. Finishes rules h bytes o o' n talk.written (table_in v names) e) (sym a) x)),
     )
 
 pub reading_more : (rules : Rules) (h : Table) (i i' i'' o o' o'' : Option (List ℕ)) (read count : ℕ) (piece : List ℕ) (old new : Talk) → Reading rules h i i' o o' read old → Consumes i' i'' piece → length piece ≡ count → read + count ≤ 16777216 →
@@ -96,7 +94,7 @@ write_failed rules h i i' i'' o o' o'' read count piece old new r gave is room s
     s.1,
     ap (λ v. r.bytes ++ v) s.2 ∙ sym (append_assoc r.bytes s.0 s.1),
     broke_whole rules (r.bytes ++ s.0) h (table_of new) o o'' 0 new.written
-    (heard_broke rules [] old.bytes.items r.bytes s.0 h (table_of old) (table_of new) o o' o'' 0 old.written new.written r.heard s.3),
+        (heard_broke rules [] old.bytes.items r.bytes s.0 h (table_of old) (table_of new) o o' o'' 0 old.written new.written r.heard s.3),
   ),
 )
 
@@ -110,7 +108,7 @@ no_room rules h i i' i'' o o' o'' read count piece old new r gave is room s = (
     s.1,
     ap (λ v. r.bytes ++ v) s.2 ∙ sym (append_assoc r.bytes s.0 s.1),
     said_whole rules (r.bytes ++ s.0) s.3.0 s.3.1 h (table_of new) o o'' 0 new.written s.3.2
-    (heard_then rules [] old.bytes.items s.3.0 r.bytes s.0 h (table_of old) (table_of new) o o' o'' 0 old.written new.written r.heard s.3.3),
+        (heard_then rules [] old.bytes.items s.3.0 r.bytes s.0 h (table_of old) (table_of new) o o' o'' 0 old.written new.written r.heard s.3.3),
   ),
 )
 
@@ -122,7 +120,7 @@ reading_none rules h i o talk e z s w = record {
   consumed = Consumes-nil i;
   pending = subst (λ b. IsPending b talk.start) (sym e) (subst (λ k. IsPending [] k) (sym z) pending_none);
   heard =
-    subst (λ b. Heard rules [] [] b h (table_of talk) o o 0 talk.written) (sym e)
+      subst (λ b. Heard rules [] [] b h (table_of talk) o o 0 talk.written) (sym e)
       (subst (λ v. Heard rules [] [] [] h v o o 0 talk.written) (sym s) (subst (λ v. Heard rules [] [] [] h h o o 0 v) (sym w) (heard_none rules [] h o 0)));
 }
 

@@ -1,16 +1,15 @@
 -- What was heard, piece after piece.
-use Rattle.std.proofs.Common.{◌≡◌, ℕ, ◌+◌, ◌<◌, length, get_or, Err, Ok, ◌++◌, List, [], ◌∷◌, Option, Bool, true, false, refl, sym, ap, subst, ◌∙◌, append_assoc, append-nil, take, drop}
-use Rattle.fw_session.specs.Input.{Item, Block, Dot, items_of, to_last_dot, is_dot_line}
+use Rattle.std.proofs.Common.{◌≡◌, ℕ, ◌+◌, ◌<◌, length, get_or, Err, ◌++◌, List, [], ◌∷◌, Option, Bool, true, false, refl, sym, ap, subst, ◌∙◌, append_assoc, append-nil, take, drop}
+use Rattle.fw_session.specs.Input.{Dot, items_of, to_last_dot, is_dot_line}
 use Rattle.hush_run.specs.Meaning.{Rules}
 use Rattle.fw_session.specs.Replies.{Table}
 use Rattle.fw_session.specs.Tables.{table_of}
 use Rattle.fw_session.specs.Ends.{Said, Broke, Says}
-use Rattle.fw_session.specs.Hearing.{Heard, HeardBroke, EndWhole, IsPending, IsLine, block_items}
+use Rattle.fw_session.specs.Hearing.{Heard, HeardBroke, IsPending, IsLine, block_items}
 use Rattle.std.proofs.lemmas.List.{take_more, take-append-drop}
-use Rattle.fw_session.specs.Talks.{HearsAll, HearsLine, HearsSome, HearsByte, Hears}
+use Rattle.fw_session.specs.Talks.{HearsAll, HearsLine, HearsByte, Hears}
 use Rattle.fw_session.specs.declared.talking.Talk.{Talk}
 use Rattle.fw_session.specs.declared.ending.Stop.{Stop}
-use Rattle.fw_session.specs.declared.ending.Stop.TheVariants as Stop
 use Rattle.fw_session.proofs.CutLemmas.{end_none, end_then, line_cuts, line_whole, whole_is, whole_alone, pending_more, pending_none, line_ended}
 use Rattle.fw_session.proofs.SaysLemmas.{said_none, said_then, said_broke}
 
@@ -23,7 +22,7 @@ pub heard_then : (rules : Rules) (p p' p'' a b : List ℕ) (h h' h'' : Table) (o
 heard_then rules p p' p'' a b h h' h'' out out' out'' n n' n'' s t = record {
   items = s.items ++ t.items;
   cuts = λ xs.
-    ap (λ v. items_of (p ++ v)) (append_assoc a b xs) ∙ s.cuts (b ++ xs) ∙ ap (λ v. s.items ++ v) (t.cuts xs) ∙ sym (append_assoc s.items t.items (items_of (p'' ++ xs)));
+      ap (λ v. items_of (p ++ v)) (append_assoc a b xs) ∙ s.cuts (b ++ xs) ∙ ap (λ v. s.items ++ v) (t.cuts xs) ∙ sym (append_assoc s.items t.items (items_of (p'' ++ xs)));
   whole = end_then s.items t.items s.whole t.whole;
   said = said_then rules h h' h'' s.items t.items out out' out'' n n' n'' s.said t.said;
 }
@@ -115,7 +114,7 @@ pub dot_heard : (rules : Rules) (old new : Talk) (out out' : Option (List ℕ)) 
 dot_heard rules old new out out' true p d e z s = (
   subst (λ b. IsPending b new.start) (sym e) (subst (λ k. IsPending [] k) (sym z) pending_none),
   subst (λ b. Heard rules old.bytes.items [] b (table_of old) (table_of new) out out' old.written new.written) (sym e)
-  (heard_line rules old.bytes.items old.start (table_of old) (table_of new) out out' old.written new.written p d s),
+      (heard_line rules old.bytes.items old.start (table_of old) (table_of new) out out' old.written new.written p d s),
 )
 dot_heard rules old new out out' false p d e z s = broke_line rules old.bytes.items old.start (table_of old) (table_of new) out out' old.written new.written p d s
 
@@ -125,7 +124,7 @@ pub hears_more : (rules : Rules) (piece : List ℕ) (i : ℕ) (old mid new : Tal
 hears_more rules piece i old mid new out out' out'' lt s t = (
   t.0,
   subst (λ b. Heard rules old.bytes.items b new.bytes.items (table_of old) (table_of new) out out'' old.written new.written) (sym (take_more piece i 0 lt))
-  (heard_then rules old.bytes.items mid.bytes.items new.bytes.items (take i piece) (get_or piece i 0 ∷ []) (table_of old) (table_of mid) (table_of new) out out' out'' old.written mid.written new.written s.1 t.1),
+      (heard_then rules old.bytes.items mid.bytes.items new.bytes.items (take i piece) (get_or piece i 0 ∷ []) (table_of old) (table_of mid) (table_of new) out out' out'' old.written mid.written new.written s.1 t.1),
 )
 
 pub hears_stopped : (rules : Rules) (piece : List ℕ) (i : ℕ) (old mid new : Talk) (out out' out'' : Option (List ℕ)) (stop : Stop) → i < length piece →
@@ -139,7 +138,7 @@ hears_stopped rules piece i old mid new out out' out'' Stop.Memory lt s t = (
     t.1,
     t.2,
     subst (λ b. Heard rules old.bytes.items b t.0 (table_of old) (table_of new) out out'' old.written new.written) (append-nil (take i piece))
-    (heard_then rules old.bytes.items mid.bytes.items t.0 (take i piece) [] (table_of old) (table_of mid) (table_of new) out out' out'' old.written mid.written new.written s.1 t.3),
+        (heard_then rules old.bytes.items mid.bytes.items t.0 (take i piece) [] (table_of old) (table_of mid) (table_of new) out out' out'' old.written mid.written new.written s.1 t.3),
   ),
 )
 hears_stopped rules piece i old mid new out out' out'' Stop.Write lt s t = (
@@ -147,5 +146,5 @@ hears_stopped rules piece i old mid new out out' out'' Stop.Write lt s t = (
   drop (i + 1) piece,
   sym (take-append-drop (i + 1) piece),
   subst (λ b. HeardBroke rules old.bytes.items b (table_of old) (table_of new) out out'' old.written new.written) (sym (take_more piece i 0 lt))
-  (heard_broke rules old.bytes.items mid.bytes.items (take i piece) (get_or piece i 0 ∷ []) (table_of old) (table_of mid) (table_of new) out out' out'' old.written mid.written new.written s.1 t),
+      (heard_broke rules old.bytes.items mid.bytes.items (take i piece) (get_or piece i 0 ∷ []) (table_of old) (table_of mid) (table_of new) out out' out'' old.written mid.written new.written s.1 t),
 )

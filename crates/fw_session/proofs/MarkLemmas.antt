@@ -1,6 +1,6 @@
 -- The marks of a session and the table of their names.
-use Rattle.std.proofs.Common.{◌≡◌, ◌↔◌, ℕ, suc, ◌+◌, ◌<◌, ◌≤◌, List, [], ◌∷◌, ◌++◌, length, take, Bool, true, false, Option, Some, None, Result, Ok, Err, refl, sym, ap, subst, ◌∙◌, arith}
-use Rattle.std.specs.Prelude.{map, option_map, replicate, nat_lt, min}
+use Rattle.std.proofs.Common.{◌≡◌, ◌↔◌, ℕ, ◌+◌, ◌<◌, ◌≤◌, List, [], ◌∷◌, ◌++◌, length, take, true, false, Option, Some, None, Result, Ok, Err, refl, sym, ap, ◌∙◌, arith}
+use Rattle.std.specs.Prelude.{option_map, replicate, nat_lt, min}
 use Rattle.std.proofs.lemmas.Bool.{le-ltb, lt-ltb, ltb-true, ltb-false}
 use Rattle.std.proofs.lemmas.List.{map-append, take-map, take_all}
 use Rattle.std.proofs.lemmas.Grind.{replicate_next}
@@ -8,7 +8,7 @@ use Rattle.arrayvec.specs.ArrayVec.{ArrayVec}
 use Rattle.env_session.specs.Session.{Held, marked}
 use Rattle.env_session.specs.declared.faults.MarkFault.{MarkFault}
 use Rattle.env_session.specs.declared.faults.MarkFault.TheVariants.{Full}
-use Rattle.fw_session.specs.Replies.{Table, standing}
+use Rattle.fw_session.specs.Replies.{standing}
 use Rattle.fw_session.specs.Tables.{names_of, table_in, MarksNamed}
 
 -- a list of names with one more
@@ -26,7 +26,7 @@ pub first_taken : {A : Type 0} (xs ys : List A) (k n m : ℕ) → ys ≡ xs → 
 first_taken xs ys k n m same is e =
     let few : k ≡ min (length xs) n = is ∙ ap (λ v. min (length v) n) same in
     elim (nat_lt n (length xs)) as (λ b. nat_lt n (length xs) ≡ b → take k xs ≡ take m xs) [
-      true ↦ λ l. (let lt = ltb-true n (length xs) l in let k_is : k ≡ m = omega (arith, lt, few, e) in ap (λ (v : ℕ). take v xs) k_is)
+      | true ↦ λ l. (let lt = ltb-true n (length xs) l in let k_is : k ≡ m = omega (arith, lt, few, e) in ap (λ (v : ℕ). take v xs) k_is)
       | false ↦ λ l. (let le = ltb-false n (length xs) l in take_all k xs (omega (arith, le, few)) ∙ sym (take_all m xs (omega (arith, le, e))))
     ] refl
 
@@ -35,7 +35,7 @@ pub mark_named : (h h' : Held) (names cut names' : List (Option (ArrayVec ℕ)))
     MarksNamed (table_in h (names_of names)) name.items (table_in h' (names_of names')) true
 mark_named h h' names cut names' name few e c is =
     let n : names_of names' ≡ standing (table_in h (names_of names)) ++ Some name.items ∷ [] =
-      ap names_of is ∙ names_more cut (Some name) ∙ ap (λ v. v ++ Some name.items ∷ []) (names_taken names cut h (length h.marks) c refl) in
+    ap names_of is ∙ names_more cut (Some name) ∙ ap (λ v. v ++ Some name.items ∷ []) (names_taken names cut h (length h.marks) c refl) in
     (le-ltb 64 (length h.marks) (omega (arith, few)), ap (λ v. table_in v (names_of names')) e ∙ ap (table_in (marked h)) n)
 
 -- no mark is made where 64 stand
@@ -45,7 +45,7 @@ mark_not_made h h' names name full e = (lt-ltb 64 (length h.marks) (omega (arith
 below : (k : ℕ) → (65 ≤ k → ⊥) → k < 65
 below k never =
     elim (nat_lt 64 k) as (λ b. nat_lt 64 k ≡ b → k < 65) [
-      true ↦ λ e. absurd (never (ltb-true 64 k e))
+      | true ↦ λ e. absurd (never (ltb-true 64 k e))
       | false ↦ λ e. (let le = ltb-false 64 k e in omega arith)
     ] refl
 

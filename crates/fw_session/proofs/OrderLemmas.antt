@@ -6,7 +6,7 @@ use Rattle.std.specs.FinMap as env
 use Rattle.std.proofs.lemmas.List.{take_more}
 use Rattle.std.proofs.Common.{append_assoc}
 use Rattle.envimg_core.specs.Environment.{Environment, Pair}
-use Rattle.env_session.specs.Session.{Held, undone, undone_above, IsStopped, UndoesTo, saved, side_of, last_saved}
+use Rattle.env_session.specs.Session.{Held, undone, IsStopped, UndoesTo, saved, side_of, last_saved}
 use Rattle.env_session.specs.declared.faults.UndoFault.{UndoFault}
 use Rattle.env_session.specs.declared.faults.UndoFault.TheVariants.{Memory}
 use Rattle.env_session.specs.declared.stored.Side.{Side}
@@ -15,7 +15,7 @@ use Rattle.fw_session.proofs.StreamLemmas.{writes_none, writes_then, writes_brok
 use Rattle.fw_session.specs.Orders.{asked_by}
 use Rattle.fw_session.specs.Streams.{Writes}
 use Rattle.fw_session.specs.Tables.{table_in, MarksNamed}
-use Rattle.fw_session.specs.Replies.{Table, Note, Through, Refused, Stopped, Asked, Undo, Save, Print, Mark, UndoTo, Unknown, asked_reply, AskedNote, said, listing, line_of, standing, last_named, trimmed, onto_trimmed, is_end_blank, asked_in, asked}
+use Rattle.fw_session.specs.Replies.{Table, Through, Refused, Stopped, Asked, Undo, Save, Print, Mark, UndoTo, Unknown, said, listing, line_of, standing, last_named, trimmed, onto_trimmed, is_end_blank, asked_in, asked}
 use Rattle.fw_session.specs.Hearing.{Obeyed, Undid}
 use Rattle.fw_session.specs.declared.orders.Order.{Order}
 

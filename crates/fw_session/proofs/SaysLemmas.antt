@@ -1,13 +1,13 @@
 -- One item after another.
-use Rattle.std.proofs.Common.{◌≡◌, ◌==◌, suc, ◌-◌, take, drop, length-drop, ℕ, ◌+◌, ◌<◌, ◌++◌, List, [], ◌∷◌, length, Option, Bool, true, false, refl, sym, ap, subst, ◌∙◌, arith, append_assoc, append-nil}
+use Rattle.std.proofs.Common.{◌≡◌, ◌==◌, ◌-◌, take, drop, length-drop, ℕ, ◌++◌, List, [], ◌∷◌, length, Option, Bool, true, false, refl, sym, ap, subst, ◌∙◌, arith, append_assoc, append-nil}
 use Rattle.std.proofs.KnownBytes.{Appends-trans, Appends-nil}
 use Rattle.std.specs.Io.KnownBytes.{Appends}
 use Rattle.std.specs.Prelude.{Vec, vec_len}
 use Rattle.std.specs.declared.alloc.Global.{Global}
 use Rattle.fw_session.specs.Input.{Item, Block, Dot}
-use Rattle.fw_session.specs.Streams.{Counts, Writes}
+use Rattle.fw_session.specs.Streams.{Counts}
 use Rattle.hush_run.specs.Meaning.{Rules}
-use Rattle.fw_session.specs.Replies.{Table, Note, Reply, reply, replies, MayStand, AllStand, Asked, asked}
+use Rattle.fw_session.specs.Replies.{Table, Note, reply, replies, MayStand, AllStand, Asked, asked}
 use Rattle.fw_session.specs.Ends.{Said, Broke, Says}
 use Rattle.fw_session.specs.Hearing.{Answered, Obeyed, block_items}
 use Rattle.std.proofs.lemmas.Bool.{eqb-true, eqb-false}
@@ -172,7 +172,7 @@ pub says_first : (rules : Rules) (h h' : Table) (block block' line : List ℕ) (
 says_first rules h h' block block' line out out' n n' ok not eb p =
     subst (λ v. Says rules h (block_items block ++ Dot line ∷ []) out out' n n' h' v) (sym not)
     (subst (λ b. Broke rules h (block_items b ++ Dot line ∷ []) out out' n n' h') eb
-      (broke_more rules h h' (block_items block') (Dot line ∷ []) out out' n n' (subst (λ v. Says rules h (block_items block') out out' n n' h' v) not p)))
+    (broke_more rules h h' (block_items block') (Dot line ∷ []) out out' n n' (subst (λ v. Says rules h (block_items block') out out' n n' h' v) not p)))
 
 pub says_items : (rules : Rules) (h h' : Table) (xs ys : List Item) (out out' : Option (List ℕ)) (n n' : ℕ) (ok : Bool) → ys ≡ xs → Says rules h xs out out' n n' h' ok → Says rules h ys out out' n n' h' ok
 says_items rules h h' xs ys out out' n n' ok e p = subst (λ v. Says rules h v out out' n n' h' ok) (sym e) p

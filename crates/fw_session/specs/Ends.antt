@@ -1,10 +1,8 @@
 -- How a session over a reader and a writer ends.
-use Rattle.std.specs.Prelude.{◌≡◌, ◌⊎◌, ℕ, ◌+◌, ◌<◌, ◌≤◌, ◌==◌, Bool, true, false, if◌then◌else◌, List, [], ◌∷◌, ◌++◌, Option, length, take, drop, Vec}
-use Rattle.std.specs.List.{list_any}
-use Rattle.std.specs.declared.alloc.Global.{Global}
+use Rattle.std.specs.Prelude.{◌≡◌, ◌⊎◌, ℕ, ◌<◌, ◌≤◌, Bool, true, false, List, [], ◌∷◌, ◌++◌, Option, length}
 use Rattle.std.specs.Io.KnownBytes.{Appends, Consumes, IsAtEnd}
-use Rattle.fw_session.specs.Input.{Item, Block, Dot, is_dot_line, joined, items_of, to_last_dot}
-use Rattle.fw_session.specs.Streams.{counted, Counts, Writes}
+use Rattle.fw_session.specs.Input.{Item, items_of, to_last_dot}
+use Rattle.fw_session.specs.Streams.{Counts}
 use Rattle.hush_run.specs.Meaning.{Rules}
 use Rattle.fw_session.specs.Replies.{Table, Note, reply, replies, MayStand, AllStand}
 use Rattle.fw_session.specs.declared.ending.SessionEnding.{SessionEnding}
@@ -59,7 +57,7 @@ Ends TooLong rules h input input' out out' read written h' =
 Ends WriteFault rules h input input' out out' read written h' =
     (bytes : List ℕ) × IsRead input input' bytes read
     × (((front : List ℕ) × (rest : List ℕ) × (bytes ≡ front ++ rest) × Broke rules h (to_last_dot (items_of front)) out out' 0 written h')
-      ⊎ (IsAtEnd input' × Broke rules h (items_of bytes) out out' 0 written h'))
+    ⊎ (IsAtEnd input' × Broke rules h (items_of bytes) out out' 0 written h'))
 Ends Memory rules h input input' out out' read written h' =
     (bytes : List ℕ) × IsRead input input' bytes read
     × ((front : List ℕ) × (rest : List ℕ) × (bytes ≡ front ++ rest) × Said rules h (to_last_dot (items_of front)) out out' 0 written h')

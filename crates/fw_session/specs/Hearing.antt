@@ -1,13 +1,11 @@
 -- A line after another: what is answered, and what waits.
-use Rattle.std.specs.Prelude.{◌≡◌, ◌⊎◌, ℕ, ◌+◌, ◌<◌, ◌≤◌, ◌==◌, Bool, true, false, not, IsTrue, if◌then◌else◌, List, [], ◌∷◌, ◌++◌, Option, length, take, drop, Result, Ok, Err}
+use Rattle.std.specs.Prelude.{◌≡◌, ℕ, ◌<◌, ◌≤◌, ◌==◌, Bool, true, not, List, [], ◌∷◌, ◌++◌, Option, length, take, drop}
 use Rattle.std.specs.List.{list_all}
-use Rattle.fw_session.specs.Input.{Item, Block, Dot, is_dot_line, joined, items_of, to_last_dot}
-use Rattle.fw_session.specs.Streams.{Counts, Writes}
+use Rattle.fw_session.specs.Input.{Item, Block, joined, items_of, to_last_dot}
+use Rattle.fw_session.specs.Streams.{Writes}
 use Rattle.hush_run.specs.Meaning.{Rules}
 use Rattle.fw_session.specs.Replies.{Table, Note, Asked, reply, undo_reply, asked_reply, MayStand, UndoNote, AskedNote}
-use Rattle.fw_session.specs.Ends.{Said, Broke, Says}
-use Rattle.fw_session.specs.declared.ending.Stop.{Stop}
-use Rattle.fw_session.specs.declared.ending.Stop.TheVariants as Stop
+use Rattle.fw_session.specs.Ends.{Said, Broke}
 
 -- an item for these bytes, if there are any
 abbrev pub block_items : List ℕ → List Item

@@ -1,5 +1,5 @@
 -- What the blocks and dot lines of a session print, and what they leave (docs/dry-runs.md, "What is printed").
-use Rattle.std.specs.Prelude.{◌≡◌, ℕ, zero, suc, ◌≤◌, ◌==◌, ◌||◌, ◌&&◌, nat_le, nat_lt, not, Bool, true, false, if◌then◌else◌, List, [], ◌∷◌, ◌++◌, length, take, drop, map, codes, decimal, Option, Some, None}
+use Rattle.std.specs.Prelude.{◌≡◌, ℕ, suc, ◌≤◌, ◌==◌, ◌||◌, ◌&&◌, nat_le, nat_lt, not, Bool, true, false, if◌then◌else◌, List, [], ◌∷◌, ◌++◌, length, take, drop, codes, decimal, Option, Some, None}
 use Rattle.std.specs.List.{flat_map, list_any}
 use Rattle.std.specs.Str.{bytes_eq}
 use Rattle.std.specs.FinMap as env
@@ -12,7 +12,7 @@ use Rattle.hush_run.specs.declared.ending.Ending.{Ending}
 use Rattle.hush_run.specs.declared.ending.Ending.TheVariants as ending
 use Rattle.hush_run.specs.Meaning.{Rules, State, meaning, within}
 use Rattle.hush_run.specs.Runs.{ending_of}
-use Rattle.fw_session.specs.Input.{Item, Block, Dot, items_of}
+use Rattle.fw_session.specs.Input.{Item, Block, Dot}
 
 -- a session, and a name for each of its marks from the opening on; those that it had before have none
 pub record Table : Type 0 where

@@ -1,5 +1,5 @@
 -- What the code holds of a session with the names of its marks.
-use Rattle.std.specs.Prelude.{◌≡◌, ℕ, ◌<◌, Bool, true, false, nat_lt, List, [], ◌∷◌, ◌++◌, length, map, option_map, replicate, Option, Some, None}
+use Rattle.std.specs.Prelude.{◌≡◌, ℕ, Bool, true, false, nat_lt, List, [], ◌∷◌, ◌++◌, length, map, option_map, replicate, Option, Some, None}
 use Rattle.env_session.specs.Session.{Held, marked}
 use Rattle.arrayvec.specs.ArrayVec.{ArrayVec}
 use Rattle.fw_session.specs.declared.talking.Talk.{Talk}

@@ -1,15 +1,14 @@
 -- What the handling of a piece of input does to a talk.
 use Rattle.std.specs.Io.KnownBytes.{Consumes}
-use Rattle.std.specs.Prelude.{◌≡◌, ◌≢◌, ◌≤◌, ℕ, Bool, true, false, List, [], ◌∷◌, ◌++◌, Option, length, Result, Ok, Err}
+use Rattle.std.specs.Prelude.{◌≡◌, ◌≤◌, ℕ, Bool, true, false, List, [], ◌∷◌, ◌++◌, Option, length, Result, Ok, Err}
 use Rattle.fw_session.specs.Input.{items_of}
 use Rattle.hush_run.specs.Meaning.{Rules}
 use Rattle.fw_session.specs.Replies.{Table}
 use Rattle.fw_session.specs.Tables.{table_of}
-use Rattle.fw_session.specs.Ends.{Said, Broke, Says}
+use Rattle.fw_session.specs.Ends.{Said, Broke}
 use Rattle.fw_session.specs.Hearing.{Heard, HeardBroke, IsPending}
 use Rattle.fw_session.specs.declared.talking.Talk.{Talk}
 use Rattle.fw_session.specs.declared.ending.Stop.{Stop}
-use Rattle.fw_session.specs.declared.ending.Stop.TheVariants as Stop
 use Rattle.fw_session.specs.declared.ending.SessionEnding.{SessionEnding}
 use Rattle.fw_session.specs.declared.ending.SessionEnding.TheVariants.{Done, ReadFault, TooLong, WriteFault, Memory}
 

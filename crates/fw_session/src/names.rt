@@ -39,7 +39,11 @@ pub(crate) fn name_in(rest: &[u8]) -> Option<Name>
         return None;
     }
     let name = skipped(&rest[1..]);
-    if is_name(name) { Some(copied(name)) } else { None }
+    if is_name(name) {
+        Some(copied(name))
+    } else {
+        None
+    }
 }
 
 /// The bytes behind the blanks at the front.

@@ -117,12 +117,7 @@ fn finished<W: Write>(
 }
 
 /// Answers what waits at the end of the input.
-fn answer_rest<W: Write>(
-    talk: &mut Talk,
-    stubs: &Stubs,
-    limits: &Limits,
-    output: &mut W,
-) -> bool
+fn answer_rest<W: Write>(talk: &mut Talk, stubs: &Stubs, limits: &Limits, output: &mut W) -> bool
     requires { IsPending talk.old.bytes.items talk.old.start }
     ensures { Says (rules stubs.now limits.now) (table_of talk.old) (items_of talk.old.bytes.items) (W.contents output.old) (W.contents output.new) talk.old.written talk.new.written (table_of talk.new) result }
 {
@@ -134,12 +129,7 @@ fn answer_rest<W: Write>(
 }
 
 /// Answers the dot line that is there as far as it goes, and before it the block.
-fn answer_dot<W: Write>(
-    talk: &mut Talk,
-    stubs: &Stubs,
-    limits: &Limits,
-    output: &mut W,
-) -> bool
+fn answer_dot<W: Write>(talk: &mut Talk, stubs: &Stubs, limits: &Limits, output: &mut W) -> bool
     requires { talk.old.start ≤ length talk.old.bytes.items }
     ensures empty { talk.new.bytes.items ≡ [] }
     ensures start { talk.new.start ≡ 0 }
@@ -159,12 +149,7 @@ fn answer_dot<W: Write>(
 }
 
 /// Answers the block that waits, if it has bytes.
-fn answer_block<W: Write>(
-    talk: &mut Talk,
-    stubs: &Stubs,
-    limits: &Limits,
-    output: &mut W,
-) -> bool
+fn answer_block<W: Write>(talk: &mut Talk, stubs: &Stubs, limits: &Limits, output: &mut W) -> bool
     ensures empty { talk.new.bytes.items ≡ [] }
     ensures start { talk.new.start ≡ talk.old.start }
     ensures says { Says (rules stubs.now limits.now) (table_of talk.old) (block_items talk.old.bytes.items) (W.contents output.old) (W.contents output.new) talk.old.written talk.new.written (table_of talk.new) result }
@@ -173,7 +158,15 @@ fn answer_block<W: Write>(
         return true;
     }
     let block = mem::replace(&mut talk.bytes, Vec::new(talk.alloc));
-    run_block(talk.alloc, &mut talk.session, stubs, limits, block, output, &mut talk.written)
+    run_block(
+        talk.alloc,
+        &mut talk.session,
+        stubs,
+        limits,
+        block,
+        output,
+        &mut talk.written,
+    )
 }
 
 /// Handles a piece of the input.
@@ -222,12 +215,7 @@ fn hear_byte<W: Write>(
 }
 
 /// Handles a whole line.
-fn hear_line<W: Write>(
-    talk: &mut Talk,
-    stubs: &Stubs,
-    limits: &Limits,
-    output: &mut W,
-) -> bool
+fn hear_line<W: Write>(talk: &mut Talk, stubs: &Stubs, limits: &Limits, output: &mut W) -> bool
     requires { IsLine talk.old.bytes.items talk.old.start }
     ensures { HearsLine (rules stubs.now limits.now) talk.old talk.new (W.contents output.old) (W.contents output.new) result }
 {

@@ -1,4 +1,4 @@
-use Rattle.std.proofs.Common.{sym, ap, ◌∙◌, arith}
+use Rattle.std.proofs.Common.{sym, ap, ◌∙◌}
 use Rattle.env_session.specs.declared.stored.Side.TheVariants.{First, Second}
 use Rattle.fw_session.specs.Orders.{asked_by}
 use Rattle.fw_session.specs.Tables.{table_in, names_of}
@@ -19,7 +19,7 @@ pub returns-in-Ok-Second : goal.returns-in-Ok-Second
 returns-in-Ok-Second g c =
     obeyed_as _ _ _ _ _ _ _ _ c.write_text-in-Ok-Second.result (ap asked_by c.in-Save.is)
     (save_done c.args.session.now c.save.new.self (names_of c.args.names.now.items) Second _ _ _ _ c.write_text-in-Ok-Second.result (sym c.in-Ok-Second.field-0-is ∙ c.in-Ok-Second.ensures.side) c.in-Ok-Second.ensures.saved
-      c.write_text-in-Ok-Second.ensures)
+    c.write_text-in-Ok-Second.ensures)
 
 pub returns-in-Err : goal.returns-in-Err
 returns-in-Err g c =

@@ -1,5 +1,4 @@
-use Rattle.std.proofs.Common.{sym, ap, ◌∙◌}
-use Rattle.std.specs.FinMap as env
+use Rattle.std.proofs.Common.{ap, ◌∙◌}
 use Rattle.fw_session.proofs.OrderLemmas.{lines_init, lines_broke, lines_more}
 use Rattle.fw_session.proofs.obeying.write_lines.Goals as goal
 

@@ -1,4 +1,4 @@
-use Rattle.std.proofs.Common.{◌≡◌, ◌++◌, ◌∷◌, [], ℕ, List, true, Bool}
+use Rattle.std.proofs.Common.{◌≡◌, ◌++◌, ◌∷◌, [], ℕ, List, true}
 use Rattle.std.specs.List.{flat_map}
 use Rattle.fw_session.specs.Streams.{Writes}
 use Rattle.fw_session.specs.Replies.{listing}

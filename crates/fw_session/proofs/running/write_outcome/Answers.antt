@@ -1,4 +1,4 @@
-use Rattle.std.proofs.Common.{◌∙◌, ◌++◌, subst, ap}
+use Rattle.std.proofs.Common.{◌∙◌}
 use Rattle.fw_session.proofs.StreamLemmas.{writes_two, writes_one}
 use Rattle.fw_session.proofs.running.write_outcome.Goals as goal
 

@@ -1,5 +1,3 @@
-use Rattle.std.proofs.Common.{ap, ◌∙◌, ◌-◌, length, drop, arith, length-drop}
-use Rattle.std.proofs.lemmas.List.{take_all}
 use Rattle.fw_session.proofs.SaysLemmas.{says_both, says_first, slice_rest}
 use Rattle.fw_session.proofs.talking.answer_dot.Goals as goal
 

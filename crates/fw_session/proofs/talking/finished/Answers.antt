@@ -1,7 +1,4 @@
-use Rattle.std.proofs.Common.{subst}
 use Rattle.fw_session.specs.declared.ending.SessionEnding.TheVariants.{Done, WriteFault}
-use Rattle.fw_session.specs.Input.{items_of}
-use Rattle.fw_session.specs.Ends.{Says}
 use Rattle.fw_session.proofs.EndLemmas.{finishes_as}
 use Rattle.fw_session.proofs.SaysLemmas.{says_true, says_false}
 use Rattle.fw_session.proofs.talking.finished.Goals as goal

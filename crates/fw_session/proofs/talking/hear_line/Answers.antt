@@ -1,4 +1,4 @@
-use Rattle.std.proofs.Common.{arith, subst, sym, ◌∙◌}
+use Rattle.std.proofs.Common.{subst, sym, ◌∙◌}
 use Rattle.fw_session.specs.Hearing.{IsPending}
 use Rattle.fw_session.proofs.CutLemmas.{is_dot, is_plain, line_joins}
 use Rattle.fw_session.proofs.HearLemmas.{dot_heard, heard_none}

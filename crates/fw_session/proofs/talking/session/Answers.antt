@@ -16,8 +16,11 @@ pub returns-in-Ok-eq0 : goal.returns-in-Ok-eq0
 returns-in-Ok-eq0 g c =
     let same = c.read.auto.buf in
     let room : 0 < length c.read.new.buf = omega (arith, length-take c.min-most.result c.loop-read.piece) in
-    let ends = c.finished.ensures.ends in (ends.0, at_its_end _ _ _ _ _ _ _ _ _ c.loop-read.read _ _ c.in-Ok-eq0.field-0 c.read.new.buf c.finished.result.ending c.loop-read.talk c.loop-read.invariant c.in-Ok-eq0.field-0-test c.in-Ok-eq0.ensures.bytes room c.finished.ensures.read
-    ends.1)
+    let ends = c.finished.ensures.ends in (
+      ends.0,
+      at_its_end _ _ _ _ _ _ _ _ _ c.loop-read.read _ _ c.in-Ok-eq0.field-0 c.read.new.buf c.finished.result.ending c.loop-read.talk c.loop-read.invariant c.in-Ok-eq0.field-0-test c.in-Ok-eq0.ensures.bytes room c.finished.ensures.read
+          ends.1,
+    )
 
 pub loop-read-preserved : goal.loop-read-preserved
 loop-read-preserved g c =
@@ -33,7 +36,7 @@ returns-in-Err-Write g c =
     let room : c.loop-read.read + c.in-Ok.count ≤ 16777216 = omega (arith, length-take c.min-most.result c.loop-read.piece) in
     ended_as WriteFault c.ended-in-Err-Write.result.ending _ _ c.hear.new.talk _ _ _ _ _ _ _ _ c.ended-in-Err-Write.ensures.session c.ended-in-Err-Write.ensures.ending c.ended-in-Err-Write.ensures.read c.ended-in-Err-Write.ensures.written
     (write_failed _ _ _ _ _ _ _ _ _ c.in-Ok.count _ c.loop-read.talk c.hear.new.talk c.loop-read.invariant (gave_piece _ _ _ _ _ le c.in-Ok.ensures.bytes.0) (piece_long _ _ _ le) room
-      (stopped_by_write _ _ c.loop-read.talk c.hear.new.talk _ _ c.in-Err-Write.field-0 c.in-Err-Write.field-0-is c.in-Err-Write.ensures))
+    (stopped_by_write _ _ c.loop-read.talk c.hear.new.talk _ _ c.in-Err-Write.field-0 c.in-Err-Write.field-0-is c.in-Err-Write.ensures))
 
 pub returns-in-Err-Memory : goal.returns-in-Err-Memory
 returns-in-Err-Memory g c =
@@ -42,7 +45,7 @@ returns-in-Err-Memory g c =
     let room : c.loop-read.read + c.in-Ok.count ≤ 16777216 = omega (arith, length-take c.min-most.result c.loop-read.piece) in
     ended_as Memory c.ended-in-Err-Memory.result.ending _ _ c.hear.new.talk _ _ _ _ _ _ _ _ c.ended-in-Err-Memory.ensures.session c.ended-in-Err-Memory.ensures.ending c.ended-in-Err-Memory.ensures.read c.ended-in-Err-Memory.ensures.written
     (no_room _ _ _ _ _ _ _ _ _ c.in-Ok.count _ c.loop-read.talk c.hear.new.talk c.loop-read.invariant (gave_piece _ _ _ _ _ le c.in-Ok.ensures.bytes.0) (piece_long _ _ _ le) room
-      (stopped_by_memory _ _ c.loop-read.talk c.hear.new.talk _ _ c.in-Err-Memory.field-0 c.in-Err-Memory.field-0-is c.in-Err-Memory.ensures))
+    (stopped_by_memory _ _ c.loop-read.talk c.hear.new.talk _ _ c.in-Err-Memory.field-0 c.in-Err-Memory.field-0-is c.in-Err-Memory.ensures))
 
 pub returns-in-Err-read : goal.returns-in-Err-read
 returns-in-Err-read g c =
@@ -53,8 +56,11 @@ pub returns-in-Ok-eq0-read : goal.returns-in-Ok-eq0-read
 returns-in-Ok-eq0-read g c =
     let same = c.read-2.auto.buf in
     let room : 0 < length c.read-2.new.buf = omega (arith, length-take 1 c.loop-read.piece) in
-    let ends = c.finished-in-Ok-eq0-read.ensures.ends in (ends.0, at_its_end _ _ _ _ _ _ _ _ _ c.loop-read.read _ _ c.in-Ok-eq0-read.field-0 c.read-2.new.buf c.finished-in-Ok-eq0-read.result.ending c.loop-read.talk c.loop-read.invariant c.in-Ok-eq0-read.field-0-test c.in-Ok-eq0-read.ensures.bytes room
-    c.finished-in-Ok-eq0-read.ensures.read ends.1)
+    let ends = c.finished-in-Ok-eq0-read.ensures.ends in (
+      ends.0,
+      at_its_end _ _ _ _ _ _ _ _ _ c.loop-read.read _ _ c.in-Ok-eq0-read.field-0 c.read-2.new.buf c.finished-in-Ok-eq0-read.result.ending c.loop-read.talk c.loop-read.invariant c.in-Ok-eq0-read.field-0-test c.in-Ok-eq0-read.ensures.bytes room
+          c.finished-in-Ok-eq0-read.ensures.read ends.1,
+    )
 
 pub returns-in-Ok-read : goal.returns-in-Ok-read
 returns-in-Ok-read g c =
