@@ -22,7 +22,7 @@ use std::test::Fail;
 const USUAL: [u32; 4] = [1000, 4, 256, 4096];
 
 /// How many bytes a call of the reader gives at the most, and a call of the writer takes.
-const STEPS: [(usize, usize); 4] = [(usize::MAX, usize::MAX), (1, usize::MAX), (7, 1), (1, 3)];
+const STEPS: &[(usize, usize)] = &[(usize::MAX, usize::MAX), (1, usize::MAX), (7, 1), (1, 3)];
 
 /// The copies of an environment.
 #[derive(Clone, Copy)]
@@ -76,6 +76,12 @@ struct Slow<'a> {
     fails: bool,
 }
 
+impl<'a> Slow<'a> {
+    fn new(rest: &'a [u8], step: usize, fails: bool) -> Slow<'a> {
+        Slow { rest, step, fails }
+    }
+}
+
 impl Read for Slow<'_> {
     fn read(&mut self, buf: &mut [u8]) -> io::Result<usize> {
         if self.rest.is_empty() && self.fails {
@@ -97,6 +103,22 @@ struct Narrow {
     fails: bool,
 }
 
+impl Narrow {
+    /// One that takes all.
+    fn new(alloc: Global, step: usize) -> Narrow {
+        Narrow::of_room(alloc, step, usize::MAX, true)
+    }
+
+    fn of_room(alloc: Global, step: usize, room: usize, fails: bool) -> Narrow {
+        Narrow {
+            taken: Vec::new(alloc),
+            step,
+            room,
+            fails,
+        }
+    }
+}
+
 impl Write for Narrow {
     fn write(&mut self, buf: &[u8]) -> io::Result<usize> {
         let count = buf.len().min(self.step).min(self.room);
@@ -115,16 +137,9 @@ impl Write for Narrow {
 
 /// A session over these copies, with an empty default environment.
 fn start(alloc: Global, copies: Copies) -> Result<Option<Session>, AllocError> {
-    let layout = match copies.second {
-        Some(_) => Layout::Redundant,
-        None => Layout::Single,
-    };
     let first = Vec::from_slice(alloc, copies.first)?;
-    let second = match copies.second {
-        Some(copy) => Some(Vec::from_slice(alloc, copy)?),
-        None => None,
-    };
-    match Geometry::new(layout, u32::try_from(copies.first.len()).unwrap_or(0)) {
+    let second = second_of(alloc, copies)?;
+    match geometry_of(copies) {
         Some(geometry) => {
             let defaults = Vars::empty(alloc, geometry.room());
             let stored = Stored {
@@ -135,6 +150,21 @@ fn start(alloc: Global, copies: Copies) -> Result<Option<Session>, AllocError> {
             Ok(Session::start(alloc, stored, defaults).ok())
         }
         None => Ok(None),
+    }
+}
+
+fn second_of(alloc: Global, copies: Copies) -> Result<Option<Vec<u8>>, AllocError> {
+    match copies.second {
+        Some(copy) => Ok(Some(Vec::from_slice(alloc, copy)?)),
+        None => Ok(None),
+    }
+}
+
+fn geometry_of(copies: Copies) -> Option<Geometry> {
+    let size = u32::try_from(copies.first.len()).ok()?;
+    match copies.second {
+        Some(_) => Geometry::new(Layout::Redundant, size),
+        None => Geometry::new(Layout::Single, size),
     }
 }
 
@@ -157,21 +187,54 @@ fn talked<R: Read, W: Write>(
     }
 }
 
-/// Whether these are the session's variables, each with a `;` behind it.
-fn shows(session: &Session, left: &[u8]) -> bool {
-    let mut rest = left;
-    for line in session.vars().lines() {
-        match rest.strip_prefix(line) {
-            Some(behind) => rest = behind.strip_prefix(b";").unwrap_or(b"no line"),
-            None => return false,
-        }
-    }
-    rest.is_empty()
+/// Whether these are the lines of the session's variables.
+fn shows(session: &Session, left: &[&[u8]]) -> bool {
+    session.vars().lines().eq(left.iter().copied())
 }
 
 /// Whether these are the session's copies.
 fn holds(session: &Session, copies: Copies) -> bool {
     session.copy(Side::First) == Some(copies.first) && session.copy(Side::Second) == copies.second
+}
+
+/// How a session ends, the counts of its bytes, and the variables and marks that it leaves.
+#[derive(Clone, Copy)]
+struct Wanted {
+    ending: SessionEnding,
+    read: u64,
+    written: u64,
+    left: &'static [&'static [u8]],
+    marks: u32,
+}
+
+/// A session with the usual limits comes to what is wanted, where this is the text that it would print.
+fn comes_to<R: Read>(
+    rt: &impl Abort,
+    alloc: Global,
+    begun: Option<Session>,
+    input: &mut R,
+    output: Narrow,
+    text: &[u8],
+    wanted: Wanted,
+) {
+    let mut output = output;
+    match talked(alloc, begun, USUAL, input, &mut output) {
+        Some(end) => {
+            assert_eq!(rt; (end.ending, end.read), (wanted.ending, wanted.read));
+            assert_eq!(rt;
+                (end.written, end.session.marks()),
+                (wanted.written, wanted.marks)
+            );
+            assert!(rt; shows(&end.session, wanted.left));
+            assert!(rt; is_front(&output.taken, text, end.written));
+        }
+        None => assert!(rt; false, "a session"),
+    }
+}
+
+/// Whether these are so many first bytes of a text.
+fn is_front(taken: &[u8], text: &[u8], count: u64) -> bool {
+    taken.len() as u64 == count && text.starts_with(taken)
 }
 
 /// A row with so many bytes to each call of the reader and of the writer.
@@ -184,17 +247,8 @@ fn row_comes(
     steps: (usize, usize),
 ) -> Result<(), Fail> {
     let text = row.input;
-    let mut input = Slow {
-        rest: text,
-        step: steps.0,
-        fails: false,
-    };
-    let mut output = Narrow {
-        taken: Vec::new(alloc),
-        step: steps.1,
-        room: usize::MAX,
-        fails: true,
-    };
+    let mut input = Slow::new(text, steps.0, false);
+    let mut output = Narrow::new(alloc, steps.1);
     match talked(
         alloc,
         start(alloc, copies)?,
@@ -231,7 +285,7 @@ fn come(
 ) -> Result<(), Fail> {
     for row in rows {
         for steps in STEPS {
-            row_comes(rt, alloc, copies, limits, row, steps)?;
+            row_comes(rt, alloc, copies, limits, row, *steps)?;
         }
     }
     Ok(())

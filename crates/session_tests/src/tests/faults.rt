@@ -1,195 +1,172 @@
 //! Readers and writers that fail, after each count of bytes.
 
-use crate::tests::{LARGE, Narrow, Slow, USUAL, holds, shows, start, talked};
+use crate::tests::{LARGE, Narrow, Slow, Wanted, comes_to, start};
 use fw_session::SessionEnding;
 use std::alloc::{AllocError, Global};
 use std::process::Abort;
 use std::test::Fail;
 
 /// A block or a dot line, what it prints, and the variables and the number of marks behind it.
-type Item = (&'static [u8], &'static [u8], &'static [u8], u32);
+type Item = (&'static [u8], &'static [u8], &'static [&'static [u8]], u32);
 
 /// A session with every dot line, and blocks of each kind; the last line has no newline.
-const ITEMS: [Item; 18] = [
-    (b"setenv a 1; echo $a\n", b"1\n[Finished 0 2]\n", b"a=1;", 0),
-    (b".mark p\n", b"[Marked]\n", b"a=1;", 1),
+const ITEMS: &[Item] = &[
+    (
+        b"setenv a 1; echo $a\n",
+        b"1\n[Finished 0 2]\n",
+        &[b"a=1"],
+        0,
+    ),
+    (b".mark p\n", b"[Marked]\n", &[b"a=1"], 1),
     (
         b"if usb x\nthen echo b\nelse setenv a 2\nfi\n",
         b"+ usb x\n[Finished 0 2]\n",
-        b"a=2;",
+        &[b"a=2"],
         1,
     ),
-    (b".save \t\r\n", b"Saved copy 1\n", b"a=2;", 1),
-    (b".mark q\n", b"[Marked]\n", b"a=2;", 2),
-    (b"\n", b"[Finished 0 0]\n", b"a=2;", 2),
-    (b".print\n", b"a=2\n", b"a=2;", 2),
+    (b".save \t\r\n", b"Saved copy 1\n", &[b"a=2"], 1),
+    (b".mark q\n", b"[Marked]\n", &[b"a=2"], 2),
+    (b"\n", b"[Finished 0 0]\n", &[b"a=2"], 2),
+    (b".print\n", b"a=2\n", &[b"a=2"], 2),
     (
         b"setenv b 3; exit 4; echo no\n",
         b"[Exited 4 2]\n",
-        b"a=2;b=3;",
+        &[b"a=2", b"b=3"],
         2,
     ),
-    (b".print\n", b"a=2\nb=3\n", b"a=2;b=3;", 2),
-    (b".undo q\n", b"[Undone]\n", b"a=2;", 2),
-    (b".undo\tp\n", b"[Undone]\n", b"a=1;", 1),
-    (b".undo q\n", b"[Gone]\n", b"a=1;", 1),
-    (b".undo\n", b"[Undone]\n", b"", 0),
-    (b".print\n", b"", b"", 0),
-    (b".what\n", b"[Unknown]\n", b"", 0),
-    (b"echo \"c\n", b"[Syntax]\n", b"", 0),
-    (b".mark\n", b"[Unknown]\n", b"", 0),
-    (b"setenv c 1", b"[Finished 0 1]\n", b"c=1;", 0),
+    (b".print\n", b"a=2\nb=3\n", &[b"a=2", b"b=3"], 2),
+    (b".undo q\n", b"[Undone]\n", &[b"a=2"], 2),
+    (b".undo\tp\n", b"[Undone]\n", &[b"a=1"], 1),
+    (b".undo q\n", b"[Gone]\n", &[b"a=1"], 1),
+    (b".undo\n", b"[Undone]\n", &[], 0),
+    (b".print\n", b"", &[], 0),
+    (b".what\n", b"[Unknown]\n", &[], 0),
+    (b"echo \"c\n", b"[Syntax]\n", &[], 0),
+    (b".mark\n", b"[Unknown]\n", &[], 0),
+    (b"setenv c 1", b"[Finished 0 1]\n", &[b"c=1"], 0),
 ];
 
-/// How far a session comes: the bytes of its input and of its output, and the variables and marks.
-#[derive(Clone, Copy)]
-pub(super) struct Far {
-    pub(super) read: usize,
-    pub(super) written: usize,
-    left: &'static [u8],
-    marks: u32,
+fn items() -> &'static [Item] {
+    ITEMS
 }
 
-/// Where a session begins.
-const BEGUN: Far = Far {
-    read: 0,
-    written: 0,
-    left: b"",
-    marks: 0,
-};
-
-/// Behind an item.
-fn behind(far: Far, item: Item) -> Far {
-    let (input, text, left, marks) = item;
-    Far {
-        read: far.read.saturating_add(input.len()),
-        written: far.written.saturating_add(text.len()),
-        left,
-        marks,
-    }
-}
-
-fn is_dot(item: Item) -> bool {
+fn is_dot(item: &Item) -> bool {
     item.0.starts_with(b".")
 }
 
-/// How far so many bytes of the input bring it, where the reader then fails: up to the last whole dot line.
-pub(super) fn brought(count: usize) -> Far {
-    let mut far = BEGUN;
-    let mut last = BEGUN;
-    for item in ITEMS {
-        far = behind(far, item);
-        if is_dot(item) && far.read <= count {
-            last = far;
-        }
+/// What the first items come to.
+pub(super) fn behind(count: usize) -> Wanted {
+    let mut wanted = Wanted {
+        ending: SessionEnding::Done,
+        read: 0,
+        written: 0,
+        left: &[],
+        marks: 0,
+    };
+    for (input, text, left, marks) in items().iter().take(count) {
+        wanted.read = wanted.read.saturating_add(input.len() as u64);
+        wanted.written = wanted.written.saturating_add(text.len() as u64);
+        wanted.left = left;
+        wanted.marks = *marks;
     }
-    last
+    wanted
 }
 
-/// How far a writer lets it come that takes so many bytes: behind the block or dot line whose text it doesn't take
-/// whole. A block is answered when the dot line after it, or the end, has been read.
-fn broken(room: usize) -> Far {
-    let mut far = BEGUN;
-    let mut found: Option<Far> = None;
-    let mut is_block = false;
-    for item in ITEMS {
-        far = behind(far, item);
-        match found {
-            None => {
-                is_block = !is_dot(item);
-                if room < far.written {
-                    found = Some(far);
-                }
-            }
-            Some(at) => {
-                if is_block {
-                    is_block = false;
-                    found = Some(Far {
-                        read: far.read,
-                        ..at
-                    });
-                }
-            }
+/// How many items are answered of so many bytes of the input, where the reader then fails: those up to the last whole
+/// dot line.
+pub(super) fn answered(count: u64) -> usize {
+    let mut answered = 0;
+    for (index, item) in items().iter().enumerate() {
+        if is_dot(item) && behind(index + 1).read <= count {
+            answered = index + 1;
         }
     }
-    found.unwrap_or(far)
+    answered
+}
+
+/// Which item prints the first byte that a writer of so much room doesn't take.
+fn broken(room: u64) -> usize {
+    let mut broken = 0;
+    for count in 1..=items().len() {
+        if behind(count).written <= room {
+            broken = count;
+        }
+    }
+    broken
+}
+
+/// How many items are read when this one is answered: a dot line at once, a block behind the dot line after it, or at
+/// the end.
+fn read_for(index: usize) -> usize {
+    match items().get(index) {
+        Some(item) if is_dot(item) => index.saturating_add(1),
+        _ => index.saturating_add(2),
+    }
+}
+
+/// What a session comes to whose writer has so much room, and whose reader gives a byte a call.
+fn broken_off(room: u64) -> Wanted {
+    let index = broken(room);
+    Wanted {
+        ending: SessionEnding::WriteFault,
+        read: behind(read_for(index)).read,
+        written: room,
+        ..behind(index.saturating_add(1))
+    }
 }
 
 /// The whole input, and the whole output.
 pub(super) fn whole(alloc: Global) -> Result<(Vec<u8>, Vec<u8>), AllocError> {
     let mut input = Vec::new(alloc);
     let mut text = Vec::new(alloc);
-    for item in ITEMS {
+    for item in items() {
         input.extend_from_slice(item.0)?;
         text.extend_from_slice(item.1)?;
     }
     Ok((input, text))
 }
 
-/// A session over streams that give and take so much comes so far.
-fn comes_so_far(
+/// A session over these streams comes to what is wanted.
+fn ends_so(
     rt: &impl Abort,
     alloc: Global,
     input: Slow<'_>,
     output: Narrow,
     text: &[u8],
-    ending: SessionEnding,
-    far: Far,
+    wanted: Wanted,
 ) -> Result<(), Fail> {
     let mut input = input;
-    let mut output = output;
-    match talked(alloc, start(alloc, LARGE)?, USUAL, &mut input, &mut output) {
-        Some(end) => {
-            let counts = (end.read, end.written, end.session.marks());
-            let wanted = (far.read as u64, far.written as u64, far.marks);
-            assert_eq!(rt; (end.ending, counts), (ending, wanted));
-            assert!(rt; Some(output.taken.as_slice()) == text.get(..far.written));
-            assert!(rt; shows(&end.session, far.left));
-        }
-        None => assert!(rt; false, "a session"),
-    }
+    comes_to(
+        rt,
+        alloc,
+        start(alloc, LARGE)?,
+        &mut input,
+        output,
+        text,
+        wanted,
+    );
     Ok(())
 }
 
 /// How many bytes a call moves.
-const EACH: [usize; 3] = [1, 5, usize::MAX];
+const EACH: &[usize] = &[1, 5, usize::MAX];
 
 #[test]
 fn a_session_whole(rt: HostRuntime) -> Result<(), Fail> {
     let (input, text) = whole(rt.alloc())?;
-    for (give, take) in [
-        (1, 1),
-        (1, usize::MAX),
-        (2, 3),
-        (usize::MAX, 1),
-        (usize::MAX, usize::MAX),
-    ] {
-        let reader = Slow {
-            rest: &input,
-            step: give,
-            fails: false,
-        };
-        let writer = Narrow {
-            taken: Vec::new(rt.alloc()),
-            step: take,
-            room: text.len(),
-            fails: true,
-        };
-        let far = Far {
-            read: input.len(),
-            written: text.len(),
-            left: b"c=1;",
-            marks: 0,
-        };
-        comes_so_far(
-            &rt,
-            rt.alloc(),
-            reader,
-            writer,
-            &text,
-            SessionEnding::Done,
-            far,
-        )?;
+    for give in EACH {
+        for take in EACH {
+            let reader = Slow::new(&input, *give, false);
+            let writer = Narrow::of_room(rt.alloc(), *take, text.len(), true);
+            ends_so(
+                &rt,
+                rt.alloc(),
+                reader,
+                writer,
+                &text,
+                behind(items().len()),
+            )?;
+        }
     }
     Ok(())
 }
@@ -199,30 +176,14 @@ fn a_reader_that_fails_after_each_count_of_bytes(rt: HostRuntime) -> Result<(), 
     let (input, text) = whole(rt.alloc())?;
     for count in 0..=input.len() {
         for step in EACH {
-            let reader = Slow {
-                rest: input.get(..count).ok_or("shorter")?,
-                step,
-                fails: true,
+            let reader = Slow::new(input.get(..count).ok_or("shorter")?, *step, true);
+            let writer = Narrow::new(rt.alloc(), usize::MAX);
+            let wanted = Wanted {
+                ending: SessionEnding::ReadFault,
+                read: count as u64,
+                ..behind(answered(count as u64))
             };
-            let writer = Narrow {
-                taken: Vec::new(rt.alloc()),
-                step: usize::MAX,
-                room: usize::MAX,
-                fails: true,
-            };
-            let far = Far {
-                read: count,
-                ..brought(count)
-            };
-            comes_so_far(
-                &rt,
-                rt.alloc(),
-                reader,
-                writer,
-                &text,
-                SessionEnding::ReadFault,
-                far,
-            )?;
+            ends_so(&rt, rt.alloc(), reader, writer, &text, wanted)?;
         }
     }
     Ok(())
@@ -233,64 +194,26 @@ fn a_writer_that_takes_each_count_of_bytes(rt: HostRuntime) -> Result<(), Fail> 
     let (input, text) = whole(rt.alloc())?;
     for room in 0..text.len() {
         for step in EACH {
-            let reader = Slow {
-                rest: &input,
-                step: 1,
-                fails: false,
-            };
-            let writer = Narrow {
-                taken: Vec::new(rt.alloc()),
-                step,
-                room,
-                fails: room % 2 == 0,
-            };
-            let far = Far {
-                written: room,
-                ..broken(room)
-            };
-            comes_so_far(
-                &rt,
-                rt.alloc(),
-                reader,
-                writer,
-                &text,
-                SessionEnding::WriteFault,
-                far,
-            )?;
+            let reader = Slow::new(&input, 1, false);
+            let writer = Narrow::of_room(rt.alloc(), *step, room, room % 2 == 0);
+            let wanted = broken_off(room as u64);
+            ends_so(&rt, rt.alloc(), reader, writer, &text, wanted)?;
         }
     }
     Ok(())
 }
 
 #[test]
-fn a_writer_that_takes_nothing_of_a_piece(rt: HostRuntime) -> Result<(), Fail> {
+fn a_writer_that_fails_behind_a_reader_that_gives_all(rt: HostRuntime) -> Result<(), Fail> {
     let (input, text) = whole(rt.alloc())?;
     for room in 0..text.len() {
-        let reader = Slow {
-            rest: &input,
-            step: usize::MAX,
-            fails: false,
+        let reader = Slow::new(&input, usize::MAX, false);
+        let writer = Narrow::of_room(rt.alloc(), usize::MAX, room, room % 2 == 1);
+        let wanted = Wanted {
+            read: input.len() as u64,
+            ..broken_off(room as u64)
         };
-        let writer = Narrow {
-            taken: Vec::new(rt.alloc()),
-            step: usize::MAX,
-            room,
-            fails: room % 2 == 1,
-        };
-        let far = Far {
-            read: input.len(),
-            written: room,
-            ..broken(room)
-        };
-        comes_so_far(
-            &rt,
-            rt.alloc(),
-            reader,
-            writer,
-            &text,
-            SessionEnding::WriteFault,
-            far,
-        )?;
+        ends_so(&rt, rt.alloc(), reader, writer, &text, wanted)?;
     }
     Ok(())
 }

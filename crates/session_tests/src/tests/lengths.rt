@@ -1,6 +1,6 @@
 //! Inputs that are long, or never end.
 
-use crate::tests::{LARGE, USUAL, shows, start, talked};
+use crate::tests::{LARGE, Narrow, Wanted, comes_to, start};
 use fw_session::SessionEnding;
 use std::alloc::Global;
 use std::io::{self, Read};
@@ -53,7 +53,8 @@ struct Row {
     ending: SessionEnding,
     given: u64,
     text: &'static [u8],
-    left: &'static [u8],
+    left: &'static [&'static [u8]],
+    marks: u32,
 }
 
 fn comes(rt: &impl Abort, alloc: Global, row: &Row) -> Result<(), Fail> {
@@ -65,64 +66,68 @@ fn comes(rt: &impl Abort, alloc: Global, row: &Row) -> Result<(), Fail> {
         fails,
         given: 0,
     };
-    let mut output = Vec::new(alloc);
+    let wanted = Wanted {
+        ending: row.ending,
+        read: row.given.min(MOST),
+        written: row.text.len() as u64,
+        left: row.left,
+        marks: row.marks,
+    };
     let begun = start(alloc, LARGE)?;
-    match talked(alloc, begun, USUAL, &mut input, &mut output) {
-        Some(end) => {
-            assert_eq!(rt; output.as_slice(), row.text);
-            let counts = (end.read, input.given, end.written);
-            let wanted = (row.given.min(MOST), row.given, row.text.len() as u64);
-            assert_eq!(rt; (end.ending, counts), (row.ending, wanted));
-            assert!(rt; shows(&end.session, row.left));
-        }
-        None => assert!(rt; false, "a session"),
-    }
+    let output = Narrow::new(alloc, usize::MAX);
+    comes_to(rt, alloc, begun, &mut input, output, row.text, wanted);
+    assert_eq!(rt; input.given, row.given);
     Ok(())
 }
 
 /// Inputs that fill the most bytes, or pass them. A newline that is the one byte more ends no line.
-const ROWS: [Row; 5] = [
+const ROWS: &[Row] = &[
     Row {
         input: (b"setenv a 1\n.mark p\nsetenv a 2\n", u64::MAX, b"", false),
         ending: SessionEnding::TooLong,
         given: MOST + 1,
         text: b"[Finished 0 1]\n[Marked]\n",
-        left: b"a=1;",
+        left: &[b"a=1"],
+        marks: 1,
     },
     Row {
         input: (b"setenv a 1\n#", MOST - 12, b"", false),
         ending: SessionEnding::Done,
         given: MOST,
         text: b"[Finished 0 1]\n",
-        left: b"a=1;",
+        left: &[b"a=1"],
+        marks: 0,
     },
     Row {
         input: (b".", MOST - 1, b"", false),
         ending: SessionEnding::Done,
         given: MOST,
         text: b"[Unknown]\n",
-        left: b"",
+        left: &[],
+        marks: 0,
     },
     Row {
         input: (b"setenv a 1\n.", MOST - 12, b"\n", false),
         ending: SessionEnding::TooLong,
         given: MOST + 1,
         text: b"",
-        left: b"",
+        left: &[],
+        marks: 0,
     },
     Row {
         input: (b"setenv a 1\n.", MOST - 13, b"\n.save\n", false),
         ending: SessionEnding::TooLong,
         given: MOST + 1,
         text: b"[Finished 0 1]\n[Unknown]\n",
-        left: b"a=1;",
+        left: &[b"a=1"],
+        marks: 0,
     },
 ];
 
 #[test]
 fn an_input_that_is_too_long(rt: HostRuntime) -> Result<(), Fail> {
     for row in ROWS {
-        comes(&rt, rt.alloc(), &row)?;
+        comes(&rt, rt.alloc(), row)?;
     }
     Ok(())
 }
@@ -140,7 +145,8 @@ fn lines_that_end_about_where_a_piece_ends(rt: HostRuntime) -> Result<(), Fail> 
             ending: SessionEnding::Done,
             given: fill + 39,
             text: b"[Finished 0 1]\na=1\n[Finished 0 1]\na=1\nb=2\n",
-            left: b"a=1;b=2;",
+            left: &[b"a=1", b"b=2"],
+            marks: 0,
         };
         comes(&rt, rt.alloc(), &row)?;
     }
@@ -148,19 +154,32 @@ fn lines_that_end_about_where_a_piece_ends(rt: HostRuntime) -> Result<(), Fail> 
 }
 
 #[test]
-fn ten_thousand_times_the_same(rt: HostRuntime) -> Result<(), Fail> {
+fn a_thousand_times_the_same(rt: HostRuntime) -> Result<(), Fail> {
     let mut input = Vec::new(rt.alloc());
     let mut text = Vec::new(rt.alloc());
-    for _ in 0..10_000u32 {
+    for _ in 0..1000u32 {
         input.extend_from_slice(b"setenv a 1\n.mark p\nsetenv a 2\n.undo p\n.print\n.undo\n")?;
         text.extend_from_slice(
             b"[Finished 0 1]\n[Marked]\n[Finished 0 1]\n[Undone]\na=1\n[Undone]\n",
         )?;
     }
-    let mut output = Vec::new(rt.alloc());
+    let wanted = Wanted {
+        ending: SessionEnding::Done,
+        read: 51_000,
+        written: 61_000,
+        left: &[],
+        marks: 0,
+    };
     let begun = start(rt.alloc(), LARGE)?;
-    let end = talked(rt.alloc(), begun, USUAL, &mut input.as_slice(), &mut output);
-    assert!(rt; output == text);
-    assert!(rt; end.is_some_and(|end| end.written == text.len() as u64));
+    let output = Narrow::new(rt.alloc(), usize::MAX);
+    comes_to(
+        &rt,
+        rt.alloc(),
+        begun,
+        &mut input.as_slice(),
+        output,
+        &text,
+        wanted,
+    );
     Ok(())
 }

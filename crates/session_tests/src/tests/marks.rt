@@ -1,6 +1,6 @@
 //! Marks and their names.
 
-use crate::tests::{LARGE, Narrow, SMALL, USUAL, come, marked, says, shows, start, talked};
+use crate::tests::{LARGE, Narrow, SMALL, USUAL, Wanted, come, comes_to, marked, says, start};
 use fw_session::SessionEnding;
 use std::test::Fail;
 
@@ -54,16 +54,24 @@ fn sixty_four_marks_stand(rt: HostRuntime) -> Result<(), Fail> {
     }
     input.extend_from_slice(b".mark n\n.undo n\n.undo m\n.mark n\n.undo\n.mark n\n")?;
     text.extend_from_slice(b"[Full]\n[Gone]\n[Undone]\n[Full]\n[Undone]\n[Marked]\n")?;
-    let mut output = Vec::new(rt.alloc());
+    let wanted = Wanted {
+        ending: SessionEnding::Done,
+        read: 558,
+        written: 624,
+        left: &[],
+        marks: 1,
+    };
     let begun = start(rt.alloc(), SMALL)?;
-    match talked(rt.alloc(), begun, USUAL, &mut input.as_slice(), &mut output) {
-        Some(end) => {
-            assert_eq!(rt; output.as_slice(), text.as_slice());
-            let counts = (end.read, end.written, end.session.marks());
-            assert_eq!(rt; (end.ending, counts), (SessionEnding::Done, (558, 624, 1)));
-        }
-        None => assert!(rt; false, "a session"),
-    }
+    let output = Narrow::new(rt.alloc(), usize::MAX);
+    comes_to(
+        &rt,
+        rt.alloc(),
+        begun,
+        &mut input.as_slice(),
+        output,
+        &text,
+        wanted,
+    );
     Ok(())
 }
 
@@ -77,21 +85,15 @@ fn marks_that_stood_before_have_no_name(rt: HostRuntime) -> Result<(), Fail> {
     }
     let mut input: &[u8] =
         b"setenv a 2\n.undo p\n.undo 1\n.mark p\nsetenv a 3\n.undo p\n.print\n.undo 2\n";
-    let wanted: &[u8] =
-        b"[Finished 0 1]\n[Gone]\n[Gone]\n[Marked]\n[Finished 0 1]\n[Undone]\na=2\n[Gone]\n";
-    let mut output = Narrow {
-        taken: Vec::new(rt.alloc()),
-        step: usize::MAX,
-        room: usize::MAX,
-        fails: true,
+    let text = b"[Finished 0 1]\n[Gone]\n[Gone]\n[Marked]\n[Finished 0 1]\n[Undone]\na=2\n[Gone]\n";
+    let wanted = Wanted {
+        ending: SessionEnding::Done,
+        read: input.len() as u64,
+        written: text.len() as u64,
+        left: &[b"a=2"],
+        marks: 3,
     };
-    match talked(rt.alloc(), begun, USUAL, &mut input, &mut output) {
-        Some(end) => {
-            assert_eq!(rt; output.taken.as_slice(), wanted);
-            assert_eq!(rt; (end.ending, end.session.marks()), (SessionEnding::Done, 3));
-            assert!(rt; shows(&end.session, b"a=2;"));
-        }
-        None => assert!(rt; false, "a session"),
-    }
+    let output = Narrow::new(rt.alloc(), usize::MAX);
+    comes_to(&rt, rt.alloc(), begun, &mut input, output, text, wanted);
     Ok(())
 }

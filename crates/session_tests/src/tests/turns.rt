@@ -1,6 +1,6 @@
 //! An answer is written before the next byte is read.
 
-use crate::tests::faults::{brought, whole};
+use crate::tests::faults::{answered, behind, whole};
 use crate::tests::{LARGE, USUAL, start, talked};
 use std::cell::RefCell;
 use std::io::{self, Read, Write};
@@ -75,14 +75,17 @@ fn each_answer_is_there_before_the_next_byte(rt: HostRuntime) -> Result<(), Fail
     };
     let mut screen = Screen { log: &log };
     let begun = start(rt.alloc(), LARGE)?;
-    let end = talked(rt.alloc(), begun, USUAL, &mut keys, &mut screen);
-    assert!(rt; end.is_some_and(|end| end.written == text.len() as u64));
+    match talked(rt.alloc(), begun, USUAL, &mut keys, &mut screen) {
+        Some(end) => assert_eq!(rt; end.written, text.len() as u64),
+        None => assert!(rt; false, "a session"),
+    }
     let Ok(log) = log.try_borrow() else {
         return Err(Fail::from("the log is lent"));
     };
     assert_eq!(rt; log.seen.len(), input.len() + 1);
     for (count, written) in log.seen.iter().enumerate() {
-        assert_eq!(rt; *written, brought(count).written, "behind {count} bytes");
+        let wanted = behind(answered(count as u64));
+        assert_eq!(rt; *written as u64, wanted.written, "behind {count} bytes");
     }
     Ok(())
 }
