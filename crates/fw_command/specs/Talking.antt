@@ -25,27 +25,23 @@ abbrev pub is_kept : Bool → SessionEnding → Bool
 is_kept write ending.Done = write
 is_kept write other = false
 
-abbrev pub to_keep : Bool → SessionEnding → Held → Option Held
-to_keep write end session = if is_kept write end then Some session else None
+-- what is said at an ending
+abbrev pub text_for : SessionEnding → Option Text
+text_for ending.Done = None
+text_for ending.ReadFault = Some (message_of Read)
+text_for ending.TooLong = Some (codes "fwenv: input too long" ++ 10 ∷ [])
+text_for ending.WriteFault = Some (message_of Write)
+text_for ending.Memory = Some (message_of Memory)
 
-abbrev pub too_long : Text
-too_long = codes "fwenv: input too long" ++ 10 ∷ []
-
-abbrev pub SaysWhy : Text → Option (List ℕ) → Option (List ℕ) → ℕ → Type 0
-SaysWhy text old new status = AppendsFront old new text × (status ≡ 1)
-
--- what is said at each ending, and the status
-abbrev pub Reports : SessionEnding → Option (List ℕ) → Option (List ℕ) → ℕ → Type 0
-Reports ending.Done old new status = (new ≡ old) × (status ≡ 0)
-Reports ending.ReadFault old new status = SaysWhy (message_of Read) old new status
-Reports ending.WriteFault old new status = SaysWhy (message_of Write) old new status
-Reports ending.Memory old new status = SaysWhy (message_of Memory) old new status
-Reports ending.TooLong old new status = SaysWhy too_long old new status
+-- it is said as far as standard error takes it, and the status is 1; or there is nothing to be said
+abbrev pub Reports : Option Text → Option (List ℕ) → Option (List ℕ) → ℕ → Type 0
+Reports None old new status = (new ≡ old) × (status ≡ 0)
+Reports (Some text) old new status = AppendsFront old new text × (status ≡ 1)
 
 -- where copies are written back, one of them may be one that can't be
 abbrev pub Leaves : Bool → SessionEnding → Option (List ℕ) → Option (List ℕ) → ℕ → Type 0
-Leaves true end old new status = (SaysSome old new × (status ≡ 1)) ⊎ Reports end old new status
-Leaves false end old new status = Reports end old new status
+Leaves true end old new status = (SaysSome old new × (status ≡ 1)) ⊎ Reports (text_for end) old new status
+Leaves false end old new status = Reports (text_for end) old new status
 
 -- standard input is answered over a session, with these stand-ins
 abbrev pub TriesWith : DryRun → Statuses → Held → Streams → Streams → ℕ → Type 0

@@ -1,9 +1,9 @@
 //! The subcommands over the files that the words name.
 ghost use Rattle.std.specs.Prelude.{◌≡◌, ◌≤◌, ◌∷◌, [], List, IfOk, MatchOption, Some, map, unwrap_or};
 ghost use Rattle.envimg_core.specs.Pieces.{Entry};
-ghost use Rattle.fw_command.specs.Acting.{Acts, Closes, SaysOnly, Uses, UsesTool};
+ghost use Rattle.fw_command.specs.Acting.{Acts, Closes, Uses, UsesTool};
 ghost use Rattle.fw_command.specs.Calls.{call_view, task_view, texts};
-ghost use Rattle.fw_command.specs.Saying.{SaysSome};
+ghost use Rattle.fw_command.specs.Saying.{SaysOnly, SaysSome};
 ghost use Rattle.fw_tools.specs.Printing.{printed};
 ghost use Rattle.fw_tools.specs.Setting.{Changes, import_effect, joined, script_effect, set_effect};
 ghost use Rattle.fw_tools.specs.Tool.{Printed};

@@ -69,13 +69,15 @@ pub(crate) fn read_call<'m, 'w>(
 ) -> Result<Call<'m, 'w>, WordFault<'w>>
     ensures { word_seen call_view result ≡ call_of order name.now (rows_of (found_of found.now)) }
 {
-    let job = read_job(name, found)?;
-    Ok(Call {
-        config: first_or(found, "config", CONFIG),
-        default: first(found, "default"),
-        order: either_order(order, chosen_order(found)),
-        job,
-    })
+    match read_job(name, found) {
+        Ok(job) => Ok(Call {
+            config: first_or(found, "config", CONFIG),
+            default: first(found, "default"),
+            order: either_order(order, chosen_order(found)),
+            job,
+        }),
+        Err(fault) => Err(fault),
+    }
 }
 
 /// What the words of the subcommand `name` ask to be done over its session.

@@ -262,47 +262,47 @@ fn stubs<'a>(alloc: Global) -> Arg<'a>
         .help("The stand-ins, a line NAME [STATUS] for each command that only hardware has")
 }
 
+/// `--write`
+fn write<'a>(alloc: Global) -> Arg<'a>
+    ensures rule { rule_of result ≡ words.write }
+    ensures local { result.global ≡ false }
+{
+    flag(alloc, "write")
+        .long("write")
+        .help("Writes the copies back that the session changed, where its input came to its end")
+}
+
 /// An option that takes a number.
-fn number<'a>(alloc: Global, id: &'static str, usual: &'static str) -> Arg<'a>
-    ensures rule { rule_of result ≡ words.number id.now usual.now }
+fn number<'a>(alloc: Global, id: &'a str, usual: &'a str, help: &'a str) -> Arg<'a>
+    ensures rule { rule_of result ≡ words.number id.entry.now usual.entry.now }
     ensures local { result.global ≡ false }
 {
     Arg::new(alloc, id)
         .long(id)
         .value_name("N")
         .default_value(usual)
+        .help(help)
 }
 
 /// `session`
 fn session<'a>(alloc: Global) -> Result<Command<'a>, AllocError>
     ensures { IfOk result (IsTool words.session) }
 {
-    let write = flag(alloc, "write").long("write").help(
-        "Writes the copies back that the session changed, where its input came to its end",
-    );
-    let steps = number(alloc, "steps", STEPS).help(
-        "How many steps a block may take, at most 1000000",
-    );
-    let depth = number(alloc, "depth", DEPTH).help(
-        "How many starts by run may stand inside one another, at most 16",
-    );
-    let word = number(alloc, "word", WORD).help("How many bytes a word may have, at most 65536");
-    let output = number(alloc, "output", OUTPUT).help(
-        "How many bytes a block may print, at most 16777216",
-    );
+    let steps = "How many steps a block may take, at most 1000000";
+    let depth = "How many starts by run may stand inside one another, at most 16";
+    let word = "How many bytes a word may have, at most 65536";
+    let output = "How many bytes a block may print, at most 16777216";
     let command = Command::new(alloc, "session")
-        .about(
-            "Tries boot scripts: runs the blocks and dot lines of standard input, and writes nothing without --write",
-        )
+        .about("Tries boot scripts: runs the blocks and dot lines of standard input, and writes nothing without --write")
         .after_help("Example:\n  echo 'run bootcmd' | fwenv session --stubs stand-ins.txt")
         .arg(config(alloc))?
         .arg(default(alloc))?
         .arg(big_endian(alloc))?
-        .arg(write)?
+        .arg(write(alloc))?
         .arg(stubs(alloc))?
-        .arg(steps)?
-        .arg(depth)?
-        .arg(word)?
-        .arg(output)?;
+        .arg(number(alloc, "steps", STEPS, steps))?
+        .arg(number(alloc, "depth", DEPTH, depth))?
+        .arg(number(alloc, "word", WORD, word))?
+        .arg(number(alloc, "output", OUTPUT, output))?;
     Ok(command)
 }

@@ -1,10 +1,12 @@
 //! Files that are read whole, and why a file can not be used.
-ghost use Rattle.std.specs.Prelude.{◌≡◌, ◌≤◌, Ok, IfOk, MatchOption, length, map};
+ghost use Rattle.std.specs.Prelude.{◌≡◌, ◌≤◌, Ok, IfOk, MatchOption, length, map, option_map};
 ghost use Rattle.std.specs.Result.{result_ok};
 ghost use Rattle.fw_command.specs.Saying.{SaysSome};
 ghost use Rattle.envcfg_core.specs.Entries.{entry_view};
 ghost use Rattle.envcfg_core.specs.Import.{import_of};
 ghost use Rattle.envcfg_core.specs.SetScript.{set_script_of};
+ghost use Rattle.fw_command.specs.Talking.{StandsIn};
+ghost use Rattle.hush_commands.specs.Stubs.{stubs_of};
 
 use crate::messages::{
     CANNOT_READ_FILE, CANNOT_WRITE_FILE, COLON, FWENV, IN_LINE, NEWLINE, OUT_OF_MEMORY, TOO_SHORT,
@@ -105,7 +107,9 @@ fn script_from(alloc: Global, text: &[u8]) -> Result<Vec<TextEntry>, FileFault>
 pub(crate) fn read_stubs<X: Files + AllocGlobal>(
     rt: &X,
     path: Option<&str>,
-) -> Result<Stubs, FileFault> {
+) -> Result<Stubs, FileFault>
+    ensures { IfOk result (StandsIn (option_map (λ p. p.now) path.entry)) }
+{
     match path {
         None => stubs_from(rt.alloc(), b""),
         Some(path) => stubs_from(rt.alloc(), &read_file(rt, path)?),
@@ -113,7 +117,9 @@ pub(crate) fn read_stubs<X: Files + AllocGlobal>(
 }
 
 /// The stand-ins in a text.
-fn stubs_from(alloc: Global, text: &[u8]) -> Result<Stubs, FileFault> {
+fn stubs_from(alloc: Global, text: &[u8]) -> Result<Stubs, FileFault>
+    ensures { IfOk result (λ stubs. stubs_of text.now ≡ Ok stubs) }
+{
     match Stubs::parse(alloc, text) {
         Ok(stubs) => Ok(stubs),
         Err(StubFault::Memory) => Err(FileFault::Memory),

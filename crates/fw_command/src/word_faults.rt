@@ -9,9 +9,9 @@ use std::io::Write;
 /// A text about wrong words, with the word that is at fault in its middle.
 #[derive(Clone, Copy, Debug)]
 pub(crate) struct WordFault<'w> {
-    pub(crate) front: &'static [u8],
+    pub(crate) front: &'w [u8],
     pub(crate) word: &'w str,
-    pub(crate) back: &'static [u8],
+    pub(crate) back: &'w [u8],
 }
 
 impl<'w> WordFault<'w> {
