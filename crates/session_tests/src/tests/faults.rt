@@ -56,20 +56,28 @@ fn is_dot(item: &Item) -> bool {
 
 /// What the first items come to.
 pub(super) fn behind(count: usize) -> Wanted {
-    let mut wanted = Wanted {
-        ending: SessionEnding::Done,
-        read: 0,
-        written: 0,
-        left: &[],
-        marks: 0,
-    };
-    for (input, text, left, marks) in items().iter().take(count) {
-        wanted.read = wanted.read.saturating_add(input.len() as u64);
-        wanted.written = wanted.written.saturating_add(text.len() as u64);
-        wanted.left = left;
-        wanted.marks = *marks;
+    let mut read = 0u64;
+    let mut written = 0u64;
+    for (input, text, _, _) in items().iter().take(count) {
+        read = read.saturating_add(input.len() as u64);
+        written = written.saturating_add(text.len() as u64);
     }
-    wanted
+    let (left, marks) = left_by(count);
+    Wanted {
+        ending: SessionEnding::Done,
+        read,
+        written,
+        left,
+        marks,
+    }
+}
+
+/// The variables and the number of marks behind the first items.
+fn left_by(count: usize) -> (&'static [&'static [u8]], u32) {
+    match items().iter().take(count).last() {
+        Some((_, _, left, marks)) => (*left, *marks),
+        None => (&[], 0),
+    }
 }
 
 /// How many items are answered of so many bytes of the input, where the reader then fails: those up to the last whole
