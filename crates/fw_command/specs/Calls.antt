@@ -6,7 +6,7 @@ use Rattle.clap.specs.Words.{Row, Text, all_of, first_of}
 use Rattle.clap.specs.declared.parser.matches.ValueSource.{ValueSource}
 use Rattle.clap.specs.declared.parser.matches.ValueSource.TheVariants.{CommandLine}
 use Rattle.envimg_core.specs.declared.order.Order.{Order}
-use Rattle.fw_command.specs.DryRuns.{DryRun, and_then, dry_run_of, dry_run_view}
+use Rattle.fw_command.specs.DryRuns.{DryRun, dry_run_of, dry_run_view}
 use Rattle.fw_command.specs.Values.{all_values, first_or, is_given}
 use Rattle.fw_command.specs.Words.{big_endian, either_order, order_by, source_in}
 use Rattle.fw_command.specs.declared.calls.Call as calls
@@ -60,9 +60,17 @@ task_of name rows =
     else if bytes_eq name (codes "import") then Ok (Import (first_or [] (codes "file") rows))
     else set_task (first_of (codes "name") rows) (first_of (codes "script") rows) (all_values (codes "words") rows)
 
+abbrev pub tried : Result DryRun Text → Result Job Text
+tried (Ok run) = Ok (Tries run)
+tried (Err text) = Err text
+
+abbrev pub called : Result Task Text → Result Job Text
+called (Ok task) = Ok (Tool task)
+called (Err text) = Err text
+
 -- what the subcommand of this name does, or the text for what is wrong with its words
 abbrev pub job_of : Text → List Row → Result Job Text
-job_of name rows = if bytes_eq name (codes "session") then and_then (dry_run_of rows) (λ run. Ok (Tries run)) else and_then (task_of name rows) (λ task. Ok (Tool task))
+job_of name rows = if bytes_eq name (codes "session") then tried (dry_run_of rows) else called (task_of name rows)
 
 -- with its files and its byte order
 abbrev pub with_files : Order → List Row → Result Job Text → Result Call Text

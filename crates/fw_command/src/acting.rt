@@ -1,8 +1,8 @@
 //! The subcommands over the files that the words name.
 ghost use Rattle.std.specs.Prelude.{◌≡◌, ◌≤◌, ◌∷◌, [], List, IfOk, MatchOption, Some, map, unwrap_or};
 ghost use Rattle.envimg_core.specs.Pieces.{Entry};
-ghost use Rattle.fw_command.specs.Acting.{Acts, Closes, Uses, UsesTool};
-ghost use Rattle.fw_command.specs.Calls.{call_view, task_view, texts};
+ghost use Rattle.fw_command.specs.Acting.{Acts, Closes, DoesJob, Uses, UsesTool};
+ghost use Rattle.fw_command.specs.Calls.{call_view, job_view, task_view, texts};
 ghost use Rattle.fw_command.specs.Saying.{SaysOnly, SaysSome};
 ghost use Rattle.fw_tools.specs.Printing.{printed};
 ghost use Rattle.fw_tools.specs.Setting.{Changes, import_effect, joined, script_effect, set_effect};
@@ -48,9 +48,24 @@ fn use_files<X: Files + AllocGlobal, R: Read, W: Write, E: Write>(
 {
     let source = read_source(rt, call.order, call.config, errors)?;
     let session = open(rt, &source, call.default, errors)?;
-    match &call.job {
-        Job::Tool(task) => use_tool(rt, &source, session, *task, output, errors),
-        Job::DryRun(run) => talk(rt, &source, session, run, input, output, errors),
+    work(rt, &source, session, call.job, input, output, errors)
+}
+
+/// Works on a session, and leaves it; none where a file can't be used.
+fn work<X: Files + AllocGlobal, R: Read, W: Write, E: Write>(
+    rt: &X,
+    source: &Source,
+    opened: Session,
+    job: Job<'_, '_>,
+    input: &mut R,
+    output: &mut W,
+    errors: &mut E,
+) -> Option<u8>
+    ensures { DoesJob (job_view job.entry) opened (record { input = R.remaining input.old; output = W.contents output.old; errors = E.contents errors.old }) (record { input = R.remaining input.new; output = W.contents output.new; errors = E.contents errors.new }) (unwrap_or result 1) }
+{
+    match job {
+        Job::Tool(task) => use_tool(rt, source, opened, task, output, errors),
+        Job::DryRun(run) => talk(rt, source, opened, &run, input, output, errors),
     }
 }
 

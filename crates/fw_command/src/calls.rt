@@ -2,7 +2,8 @@
 ghost use Rattle.std.specs.Prelude.{◌≡◌, map, option_copied, option_map};
 ghost use Rattle.clap.specs.Words.{all_of, first_of, found_of, rows_of};
 ghost use Rattle.fw_command.specs.Words.{either_order};
-ghost use Rattle.fw_command.specs.Calls.{call_of, call_view, job_of, job_view, seen, set_task, task_of, task_view, texts};
+ghost use Rattle.fw_command.specs.Calls.{call_of, call_view, called, job_of, job_view, seen, tried, set_task, task_of, task_view, texts};
+ghost use Rattle.fw_command.specs.DryRuns.{dry_run_of};
 ghost use Rattle.fw_command.specs.Values.{first_or, is_given};
 ghost use Rattle.fw_command.specs.WordFaults.{word_seen};
 
@@ -85,11 +86,25 @@ fn read_job<'m, 'w>(name: &str, found: &'m ArgMatches<'w>) -> Result<Job<'m, 'w>
     ensures { word_seen job_view result ≡ job_of name.now (rows_of (found_of found.now)) }
 {
     if name == "session" {
-        return match read_dry_run(found) {
-            Ok(run) => Ok(Job::DryRun(run)),
-            Err(fault) => Err(fault),
-        };
+        return dry_job(found);
     }
+    tool_job(name, found)
+}
+
+/// The dry run that the words of `session` ask for.
+fn dry_job<'m, 'w>(found: &'m ArgMatches<'w>) -> Result<Job<'m, 'w>, WordFault<'w>>
+    ensures { word_seen job_view result ≡ tried (dry_run_of (rows_of (found_of found.now))) }
+{
+    match read_dry_run(found) {
+        Ok(run) => Ok(Job::DryRun(run)),
+        Err(fault) => Err(fault),
+    }
+}
+
+/// The tool that the words of another subcommand call.
+fn tool_job<'m, 'w>(name: &str, found: &'m ArgMatches<'w>) -> Result<Job<'m, 'w>, WordFault<'w>>
+    ensures { word_seen job_view result ≡ called (task_of name.now (rows_of (found_of found.now))) }
+{
     match read_task(name, found) {
         Ok(task) => Ok(Job::Tool(task)),
         Err(text) => Err(WordFault::of(text)),

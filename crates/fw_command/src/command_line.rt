@@ -267,9 +267,9 @@ fn write<'a>(alloc: Global) -> Arg<'a>
     ensures rule { rule_of result ≡ words.write }
     ensures local { result.global ≡ false }
 {
-    flag(alloc, "write")
-        .long("write")
-        .help("Writes the copies back that the session changed, where its input came to its end")
+    flag(alloc, "write").long("write").help(
+        "Writes the copies back that the session changed, where its input came to its end",
+    )
 }
 
 /// An option that takes a number.
@@ -293,7 +293,9 @@ fn session<'a>(alloc: Global) -> Result<Command<'a>, AllocError>
     let word = "How many bytes a word may have, at most 65536";
     let output = "How many bytes a block may print, at most 16777216";
     let command = Command::new(alloc, "session")
-        .about("Tries boot scripts: runs the blocks and dot lines of standard input, and writes nothing without --write")
+        .about(
+            "Tries boot scripts: runs the blocks and dot lines of standard input, and writes nothing without --write",
+        )
         .after_help("Example:\n  echo 'run bootcmd' | fwenv session --stubs stand-ins.txt")
         .arg(config(alloc))?
         .arg(default(alloc))?
