@@ -9,7 +9,7 @@ use Rattle.fw_session.specs.declared.ending.SessionEnding.{SessionEnding}
 use Rattle.fw_command.specs.DryRuns.{DryRun}
 use Rattle.fw_command.specs.Saying.{SaysSome}
 use Rattle.fw_command.specs.Talking.{Leaves, Reports, StandsIn, TriesOver, TriesWith, text_for}
-use Rattle.fw_tools.specs.Streams.{Streams}
+use Rattle.fw_tools.specs.Streams.{AppendsFront, Streams}
 
 pub tried_over : {E : Type 0} (run : DryRun) (session : Held) (old : Streams) (outcome : Result Statuses E) (stubs : Statuses) (errors : Option (List ℕ)) (new : Streams) (status : ℕ) →
     Some stubs ≡ result_ok outcome → IfOk outcome (StandsIn run.stubs) → errors ≡ old.errors →
@@ -25,9 +25,9 @@ tried_over run session old (Err e) stubs errors new status is stands same tries 
     no : Some stubs ≡ None → ⊥
     no e = cc
 
-pub left_alone : (kept : Bool) (end : SessionEnding) (old new : Option (List ℕ)) (status : ℕ) → kept ≡ false → Reports (text_for end) old new status → Leaves kept end old new status
-left_alone true end old new status is reports = inr reports
-left_alone false end old new status is reports = reports
+pub reported : (kept : Bool) (end : SessionEnding) (old new : Option (List ℕ)) (status : ℕ) → Reports (text_for end) old new status → Leaves kept end old new status
+reported true end old new status reports = inr reports
+reported false end old new status reports = reports
 
 pub not_written : (kept : Bool) (end : SessionEnding) (old new : Option (List ℕ)) (status : ℕ) → kept ≡ true → SaysSome old new → status ≡ 1 → Leaves kept end old new status
 not_written true end old new status is says one = inl (says, one)
@@ -35,3 +35,9 @@ not_written false end old new status is says one = absurd cc
 
 pub no_stand_ins : (stubs : Statuses) → stubs_of [] ≡ Ok stubs → stubs ≡ names.empty
 no_stand_ins stubs is = sym (ap (λ r. unwrap_or (result_ok r) names.empty) is)
+
+pub nothing_told : (told : Option (List ℕ)) (old new : Option (List ℕ)) (status : ℕ) → None ≡ told → new ≡ old → status ≡ 0 → Reports told old new status
+nothing_told told old new status none same zero = subst (λ t. Reports t old new status) none (same, zero)
+
+pub text_told : (text : List ℕ) (told : Option (List ℕ)) (old new : Option (List ℕ)) (status : ℕ) → Some text ≡ told → AppendsFront old new text → status ≡ 1 → Reports told old new status
+text_told text told old new status is said one = subst (λ t. Reports t old new status) is (said, one)

@@ -48,7 +48,7 @@ fn use_files<X: Files + AllocGlobal, R: Read, W: Write, E: Write>(
 {
     let source = read_source(rt, call.order, call.config, errors)?;
     let session = open(rt, &source, call.default, errors)?;
-    work(rt, &source, session, call.job, input, output, errors)
+    work(rt, &source, session, &call.job, input, output, errors)
 }
 
 /// Works on a session, and leaves it; none where a file can't be used.
@@ -56,16 +56,16 @@ fn work<X: Files + AllocGlobal, R: Read, W: Write, E: Write>(
     rt: &X,
     source: &Source,
     opened: Session,
-    job: Job<'_, '_>,
+    job: &Job<'_, '_>,
     input: &mut R,
     output: &mut W,
     errors: &mut E,
 ) -> Option<u8>
-    ensures { DoesJob (job_view job.entry) opened (record { input = R.remaining input.old; output = W.contents output.old; errors = E.contents errors.old }) (record { input = R.remaining input.new; output = W.contents output.new; errors = E.contents errors.new }) (unwrap_or result 1) }
+    ensures { DoesJob (job_view job.now) opened (record { input = R.remaining input.old; output = W.contents output.old; errors = E.contents errors.old }) (record { input = R.remaining input.new; output = W.contents output.new; errors = E.contents errors.new }) (unwrap_or result 1) }
 {
     match job {
-        Job::Tool(task) => use_tool(rt, source, opened, task, output, errors),
-        Job::DryRun(run) => talk(rt, source, opened, &run, input, output, errors),
+        Job::Tool(task) => use_tool(rt, source, opened, *task, output, errors),
+        Job::DryRun(run) => talk(rt, source, opened, run, input, output, errors),
     }
 }
 

@@ -18,7 +18,7 @@ pub(crate) fn read_number(text: &[u8], most: u32) -> Option<u32>
         }
         number = (number * 10 + u64::from(*digit - b'0')).min(past);
     }
-    if number == past {
+    if number >= past {
         return None;
     }
     Some(number as u32)
