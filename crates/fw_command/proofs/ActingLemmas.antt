@@ -102,9 +102,9 @@ leaves_small false end old new status reports = reports_small (text_for end) old
 
 job_small : (job : Job) (session : Held) (old new : Streams) (status : ℕ) → DoesJob job session old new status → status ≤ 1
 job_small (Tool task) session old new status (unread, uses) = tool_small task session _ _ status uses
-job_small (Tries run) session old new status (inl (unread, said, is)) = omega (arith, is)
-job_small (Tries run) session old new status (inr (stubs, stand, end, read, written, after, ends, leaves)) = leaves_small (is_kept run.write end) end _ _ status leaves
+job_small (Tries run) session old new status (inl stopped) = omega (arith, stopped.1.1)
+job_small (Tries run) session old new status (inr (stubs, stand, tries)) = leaves_small (is_kept run.write tries.0) tries.0 _ _ status tries.5
 
 pub uses_small : (call : Call) (old new : Streams) (status : ℕ) → Uses call old new status → status ≤ 1
-uses_small call old new status (inl (unread, said, is)) = omega (arith, is)
+uses_small call old new status (inl stopped) = omega (arith, stopped.1.1)
 uses_small call old new status (inr (session, warned, opening, front, does)) = job_small call.job session _ new status does

@@ -25,8 +25,8 @@ returns-in_err-output c =
     ap (word_seen (λ l. l)) same
     ∙ output_wrong (rows_of (found_of c.args.found.now)) c.in_ok-steps.steps c.in_ok-depth.depth c.in_ok-word.word (fault_text c.in_err-output.field-0.0) c.in_ok-steps.ensures.read c.in_ok-depth.ensures.read c.in_ok-word.ensures.read c.in_err-output.ensures.read
 
-pub returns-in-Some : goal.returns-in-Some
-returns-in-Some c =
+pub returns : goal.returns
+returns c =
     ap (λ l. Ok l) c.in-Some.ensures.1
     ∙ limits_found (rows_of (found_of c.args.found.now)) c.in_ok-steps.steps c.in_ok-depth.depth c.in_ok-word.word c.in_ok-output.output c.in_ok-steps.ensures.read c.in_ok-depth.ensures.read c.in_ok-word.ensures.read c.in_ok-output.ensures.read
 

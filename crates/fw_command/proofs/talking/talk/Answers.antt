@@ -5,9 +5,9 @@ use Rattle.fw_command.proofs.TalkLemmas.{tried_over}
 use Rattle.fw_command.proofs.talking.talk.Goals as goal
 
 pub returns-in_err-stubs : goal.returns-in_err-stubs
-returns-in_err-stubs g c = inl (refl, (refl, c.in_err-stubs.ensures.said), ap (λ o. unwrap_or o 1) c.from_residual.ensures)
+returns-in_err-stubs g c = inl (refl, ((refl, c.in_err-stubs.ensures.said), ap (λ o. unwrap_or o 1) c.from_residual.ensures))
 
 pub returns : goal.returns
 returns g c =
     tried_over (dry_run_view c.args.run.now) c.args.opened _ c.read_stubs.result c.in_ok-stubs.stubs _ _ _ c.in_ok-stubs.ensures.value c.read_stubs.ensures c.in_ok-stubs.ensures.said
-    (c.session.result.ending, c.session.result.read, c.session.result.written, _, c.session.ensures.1, c.leave.ensures)
+    (c.session-end.result.ending, c.session-end.result.read, c.session-end.result.written, _, c.session-end.ensures.1, c.leave.ensures)
