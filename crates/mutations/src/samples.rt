@@ -131,7 +131,7 @@ pub const STAND_IN_NAMES: [&[u8]; 8] = [
     b"mmc/dev",
 ];
 
-pub const SCRIPTS: [&[u8]; 9] = [
+pub const SCRIPTS: [&[u8]; 10] = [
     b"a=1; for i in a${x}b \"${x}\" \"\"; do echo \"[$i]\"; done\n",
     b"if test $n -gt 0; then run s\nelif false; then exit 3\nelse echo $?; fi && echo ok || echo no\n",
     b"while test $n -lt 4; do setexpr n $n + 1; done; echo $n\nsaveenv\nprintenv n\n",
@@ -139,11 +139,12 @@ pub const SCRIPTS: [&[u8]; 9] = [
     b"setenv a 'echo 1; false'; setenv b 'echo 2'; run a b; echo $?; run z\nenv delete a b\n",
     b"run t && mmc dev 0 || usb start\nexit 300\nexit 4\n",
     b"r=2; run r\n",
+    b"until false; do m=$n; done\n",
     b"setenv -f n x; setenv n x; env delete -f n; env exists n; setenv c 2; setenv c 3; setenv o\n",
     b"if a; then\n  a=1 b\nfi\n",
 ];
 
-pub const SCRIPT_TOKENS: [&[u8]; 32] = [
+pub const SCRIPT_TOKENS: [&[u8]; 34] = [
     b"'",
     b"\"",
     b"\\",
@@ -176,4 +177,6 @@ pub const SCRIPT_TOKENS: [&[u8]; 32] = [
     b"=",
     b"$x$x$x$x$x",
     b" setenv x $x$x;",
+    b";w=0123456789012345678901234567890123456789012345678901234567890123456789;",
+    b"if if if if if if if if if if if if if if if if if if if if if if if if if if if if if if if if if if if if if if if if if if if if if if if if if if if if if if if if if if if if if if if if if if ",
 ];
