@@ -63,12 +63,18 @@ impl Tally {
         Ok(())
     }
 
-    /// Prints how many inputs there were, and then each answer in the order of their names.
-    pub fn print(&self, rt: &HostRuntime, title: &str) -> io::Result<()> {
+    /// How many inputs were answered.
+    pub fn count(&self) -> u64 {
         let mut count = 0u64;
         for row in self.rows.values() {
             count = count.wrapping_add(row.count);
         }
+        count
+    }
+
+    /// Prints how many inputs there were, and then each answer in the order of their names.
+    pub fn print(&self, rt: &HostRuntime, title: &str) -> io::Result<()> {
+        let count = self.count();
         println!(rt; "{title}: {count}")?;
         for (name, row) in &self.rows {
             println!(rt; "  {name:<14} {:>8} {:>20}", row.count, row.sum)?;

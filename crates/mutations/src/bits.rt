@@ -117,7 +117,7 @@ fn opened(
     other: Choice,
 ) -> Result<Answer, Fault> {
     let [first, second] = copies;
-    let defaults = defaults(alloc, pair.geometry.room(), &[]);
+    let defaults = defaults(alloc, &pair.geometry, &[]);
     let session = over(alloc, pair.geometry, first, Some(second), defaults)?;
     holds(
         "a start leaves both copies",

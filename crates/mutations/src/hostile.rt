@@ -42,7 +42,7 @@ fn large_session(alloc: Global) -> Result<Session, Fault> {
         geometry,
         &copy,
         None,
-        defaults(alloc, geometry.room(), &[]),
+        defaults(alloc, &geometry, &[]),
     )
 }
 

@@ -187,7 +187,7 @@ fn started(alloc: Global, geometry: &Geometry, copy: &[u8]) -> Result<Session, F
         Layout::Single => None,
         Layout::Redundant => Some(erased.as_slice()),
     };
-    let defaults = defaults(alloc, geometry.room(), &DEFAULTS);
+    let defaults = defaults(alloc, geometry, &DEFAULTS);
     let session = over(alloc, *geometry, copy, second, defaults)?;
     holds(
         "a start leaves the first copy",

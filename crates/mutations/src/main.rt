@@ -62,7 +62,8 @@ fn told(rt: &HostRuntime, title: &str, tally: &Tally, made: Result<(), Fault>) -
             Ok(true)
         }
         Err(fault) => {
-            println!(rt; "{title}: {fault:?}")?;
+            let count = tally.count();
+            println!(rt; "{title}, the input behind {count}: {fault:?}")?;
             Ok(false)
         }
     }

@@ -19,10 +19,10 @@ const DEFAULTS: [(&[u8], &[u8]); 6] = [
     (b"x", b"1 2"),
 ];
 
-/// The default environment of a room of so many bytes: these entries, as far as they fit.
-pub fn defaults(alloc: Global, room: u32, entries: &[(&[u8], &[u8])]) -> Vars {
+/// The default environment of these entries, as far as they fit.
+pub fn defaults(alloc: Global, geometry: &Geometry, entries: &[(&[u8], &[u8])]) -> Vars {
     let none = Vars::empty(alloc, 1);
-    let mut vars = Vars::empty(alloc, room.max(1));
+    let mut vars = Vars::empty(alloc, geometry.room());
     for (name, value) in entries {
         let _fits = vars.write(name, Some(value), true, &none).is_ok();
     }
@@ -58,7 +58,7 @@ pub fn session(alloc: Global) -> Result<Session, Fault> {
         return Err(Fault::Wrong("there is a geometry"));
     };
     let erased = erased(alloc, geometry)?;
-    let defaults = defaults(alloc, geometry.room(), &DEFAULTS);
+    let defaults = defaults(alloc, &geometry, &DEFAULTS);
     over(alloc, geometry, &erased, Some(&erased), defaults)
 }
 
