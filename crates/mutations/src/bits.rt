@@ -32,7 +32,7 @@ fn with_turned(alloc: Global, copy: &[u8], at: usize, bit: usize) -> Result<Vec<
 pub fn images(alloc: Global, tally: &mut Tally) -> Result<(), Fault> {
     for (layout, order) in SHAPES {
         for entries in AREAS {
-            let geometry = geometry(layout, order, entries)?;
+            let geometry = geometry(layout, order, entries.len())?;
             let copy = image(alloc, &geometry, 7, entries)?;
             let whole = judged(alloc, &geometry, &copy)?;
             holds("an image is accepted", whole.name == "accepted")?;
@@ -74,7 +74,7 @@ pub fn pairs(alloc: Global, tally: &mut Tally) -> Result<(), Fault> {
             continue;
         }
         for entries in AREAS {
-            let geometry = geometry(layout, order, entries)?;
+            let geometry = geometry(layout, order, entries.len())?;
             for (first, second) in FLAGS {
                 let first = image(alloc, &geometry, first, entries)?;
                 let second = image(alloc, &geometry, second, OTHER)?;

@@ -35,11 +35,9 @@ pub fn head(layout: Layout) -> usize {
     }
 }
 
-/// The geometry of an image with room for these entries and a little more.
-pub fn geometry(layout: Layout, order: Order, entries: &[u8]) -> Result<Geometry, Fault> {
-    let size = head(layout)
-        .saturating_add(entries.len())
-        .saturating_add(SPARE);
+/// The geometry of an image with room for so many bytes of entries and a little more.
+pub fn geometry(layout: Layout, order: Order, length: usize) -> Result<Geometry, Fault> {
+    let size = head(layout).saturating_add(length).saturating_add(SPARE);
     match Geometry::with_order(layout, u32::try_from(size).unwrap_or(0), order) {
         Some(geometry) => Ok(geometry),
         None => Err(Fault::Wrong("there is a geometry")),
@@ -279,7 +277,7 @@ pub fn mutated(alloc: Global, random: &mut Random) -> Result<Answer, Fault> {
         .copied()
         .unwrap_or((Layout::Single, Order::Little));
     let entries = random.pick(&AREAS);
-    let geometry = geometry(layout, order, entries)?;
+    let geometry = geometry(layout, order, entries.len())?;
     let whole = image(alloc, &geometry, (random.below(256) & 255) as u8, entries)?;
     let mut copy = mutant(alloc, &whole, &AREA_TOKENS, random)?;
     if random.below(8) != 0 {
