@@ -1,5 +1,5 @@
 //! Files that are read whole, and why a file can not be used.
-ghost use Rattle.std.specs.Prelude.{◌≡◌, ◌≤◌, Ok, IfOk, MatchOption, length, map, option_map};
+ghost use Rattle.std.specs.Prelude.{◌≡◌, ◌≤◌, Ok, Some, IfOk, MatchOption, length, map, option_map};
 ghost use Rattle.std.specs.Result.{result_ok};
 ghost use Rattle.fw_command.specs.Saying.{SaysSome};
 ghost use Rattle.envcfg_core.specs.Entries.{entry_view};
@@ -112,8 +112,16 @@ pub(crate) fn read_stubs<X: Files + AllocGlobal>(
 {
     match path {
         None => stubs_from(rt.alloc(), b""),
-        Some(path) => stubs_from(rt.alloc(), &read_file(rt, path)?),
+        Some(path) => read_stub_file(rt, path),
     }
+}
+
+/// Reads the stand-ins in a file.
+fn read_stub_file<X: Files + AllocGlobal>(rt: &X, path: &str) -> Result<Stubs, FileFault>
+    ensures { IfOk result (StandsIn (Some path.now)) }
+{
+    let text = read_file(rt, path)?;
+    stubs_from(rt.alloc(), &text)
 }
 
 /// The stand-ins in a text.
