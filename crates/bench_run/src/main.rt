@@ -16,12 +16,16 @@ use std::{env, io};
 /// The bytes of the image; all of them FF, so that it holds no variables.
 const SIZE: u32 = 16_384;
 
-/// What a run left, and the nanoseconds that it took.
+/// What the last run left, and what all took.
 #[derive(Clone, Copy)]
 pub struct Ran {
+    /// The status of the last run.
     pub status: u8,
+    /// The steps that it counted.
     pub steps: u32,
+    /// The bytes that it printed.
     pub printed: usize,
+    /// The nanoseconds that all runs took.
     pub taken: u128,
 }
 

@@ -8,6 +8,7 @@ use hush_syntax::Script;
 use std::alloc::{AllocError, Global};
 use std::io::{self, Write};
 
+/// Every form of a script, each loop, and commands of each kind.
 const SCRIPT: &[u8] = b"x='a b'; for i in $x \"$x\" ''; do echo \"[$i]\"; done
 if test -z \"$x\"; then echo no; elif true && false; then echo no; else setenv n 1; fi
 while test $n -lt 3; do setexpr n $n + 1; done
@@ -17,6 +18,7 @@ y=1; run v none; echo $?
 printenv n; env exists w && saveenv; nosuch; env delete -f w; exit 4; echo no
 ";
 
+/// What it prints with ample memory.
 const TEXT: &[u8] =
     b"[a]\n[b]\n[a b]\n[]\n+ mmc 1\n## Error: \"none\" not defined\n1\nn=3\nSaved copy 1\nUnknown command 'nosuch' - try 'help'\n";
 
