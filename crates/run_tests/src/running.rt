@@ -8,6 +8,31 @@ use hush_syntax::Script;
 use std::alloc::{AllocError, Global};
 use std::test::Fail;
 
+/// A script, and its ending, status, steps and text.
+type Row = (&'static [u8], Ending, u8, u32, &'static [u8]);
+
+/// Runs that end in different ways, each over what the ones before it left.
+const ROWS: [Row; 6] = [
+    (b"setenv n ab; echo $n", Ending::Finished, 0, 2, b"ab\n"),
+    (
+        b"mmc dev $n; exit; echo",
+        Ending::Exited,
+        3,
+        2,
+        b"+ mmc dev ab\n",
+    ),
+    (b"while true; do true; done", Ending::Steps, 0, 20, b""),
+    (b"setenv n 'run n'; run n", Ending::Depth, 0, 4, b""),
+    (
+        b"for i in $n; do echo $i; done",
+        Ending::Finished,
+        0,
+        5,
+        b"run\nn\n",
+    ),
+    (b"env delete n; echo $?$n", Ending::Finished, 0, 3, b"0\n"),
+];
+
 /// A session without variables over a single image of 4,096 bytes, all of them FF.
 fn session(alloc: Global) -> Result<Option<Session>, AllocError> {
     let Some(geometry) = Geometry::new(Layout::Single, 4096) else {
@@ -37,32 +62,12 @@ fn ran(alloc: Global, session: &mut Session, script: &[u8]) -> Result<Option<Out
 
 #[test]
 fn a_session_goes_on_behind_each_ending(rt: HostRuntime) -> Result<(), Fail> {
-    let rows: [(&[u8], Ending, u8, u32, &[u8]); 6] = [
-        (b"setenv n ab; echo $n", Ending::Finished, 0, 2, b"ab\n"),
-        (
-            b"mmc dev $n; exit; echo",
-            Ending::Exited,
-            3,
-            2,
-            b"+ mmc dev ab\n",
-        ),
-        (b"while true; do true; done", Ending::Steps, 0, 20, b""),
-        (b"setenv n 'run n'; run n", Ending::Depth, 0, 4, b""),
-        (
-            b"for i in $n; do echo $i; done",
-            Ending::Finished,
-            0,
-            5,
-            b"run\nn\n",
-        ),
-        (b"env delete n; echo $?$n", Ending::Finished, 0, 3, b"0\n"),
-    ];
     let Some(mut session) = session(rt.alloc())? else {
         assert!(rt; false, "a session");
         return Ok(());
     };
     let mark = session.mark().ok();
-    for (script, ending, status, steps, text) in rows {
+    for (script, ending, status, steps, text) in ROWS {
         let Some(outcome) = ran(rt.alloc(), &mut session, script)? else {
             assert!(rt; false, "{script:?} runs");
             return Ok(());
