@@ -7,29 +7,32 @@ use Rattle.envimg_core.specs.Environment.{Environment}
 use Rattle.envimg_core.specs.Pieces.{Entry}
 use Rattle.envvars_core.specs.declared.refusals.Refusal.{Refusal}
 use Rattle.fw_command.proofs.SayLemmas.{front_said, said_then}
-use Rattle.fw_command.specs.Acting.{Acts, Closes, IsOpening, SaysOnly, Scene, Uses}
-use Rattle.fw_command.specs.Calls.{Call, Task}
+use Rattle.fw_command.specs.Acting.{Acts, Closes, DoesJob, IsOpening, Scene, Uses, UsesTool}
+use Rattle.fw_command.specs.Saying.{SaysOnly, Stops}
+use Rattle.fw_command.specs.Calls.{Call, Job, Task, Tool, Tries}
 use Rattle.fw_command.specs.Opening.{warning}
 use Rattle.fw_tools.specs.Exporting.{export_texts, status_for}
 use Rattle.fw_tools.specs.Printing.{complaint, named, one_name, printed, status_of}
 use Rattle.fw_tools.specs.Setting.{Changing, Effect, Ends, count_status, script_effect, unless_refused}
-use Rattle.fw_tools.specs.Streams.{AppendsFront, Writers}
+use Rattle.fw_command.specs.Talking.{Leaves, Reports, is_kept, text_for}
+use Rattle.fw_session.specs.declared.ending.SessionEnding.{SessionEnding}
+use Rattle.fw_tools.specs.Streams.{AppendsFront, Streams, Writers}
 use Rattle.fw_tools.specs.Tool.{Printed, Texts}
 use Rattle.fw_tools.specs.declared.ending.StreamFault.{StreamFault}
 use Rattle.fw_tools.specs.declared.ending.StreamFault.TheVariants.{Read, Write, Memory}
 use Rattle.fw_tools.specs.declared.ending.ToolEnd.{ToolEnd}
 
--- a session was opened, and then a file couldn't be used
-pub stopped_before : (call : Call) (old : Writers) (warned : Option (List ℕ)) (text : List ℕ) (new : Writers) (status : ℕ) →
-    AppendsFront old.errors warned text → SaysOnly (record { output = old.output; errors = warned }) new → status ≡ 1 → Uses call old new status
-stopped_before call old warned text new status front says is = inl ((says.0, said_then old.errors warned new.errors (front_said old.errors warned text front) says.1), is)
-
--- a session was opened, the task done, and the session closed
-pub used_session : (call : Call) (old : Writers) (session : Held) (warned : Option (List ℕ)) (after : Scene) (end : ToolEnd) (errors : Option (List ℕ)) (status : ℕ) →
+-- a session was opened, with a warning or none, and worked on
+pub opened_session : (call : Call) (old : Streams) (session : Held) (warned : Option (List ℕ)) (new : Streams) (status : ℕ) →
     IsOpening call.order session → AppendsFront old.errors warned (warning session.now.current) →
-    Acts call.task (record { session = session; writers = record { output = old.output; errors = warned } }) after end → Closes end after.writers.errors errors status →
-    Uses call old (record { output = after.writers.output; errors = errors }) status
-used_session call old session warned after end errors status opening front acts closes = inr (session, warned, after, end, opening, front, acts, refl, closes)
+    DoesJob call.job session (record { input = old.input; output = old.output; errors = warned }) new status → Uses call old new status
+opened_session call old session warned new status opening front does = inr (session, warned, opening, front, does)
+
+-- a tool's task was done, and the session closed
+pub used_tool : (task : Task) (session : Held) (old : Writers) (after : Scene) (end : ToolEnd) (errors : Option (List ℕ)) (status : ℕ) →
+    Acts task (record { session = session; writers = old }) after end → Closes end after.writers.errors errors status →
+    UsesTool task session old (record { output = after.writers.output; errors = errors }) status
+used_tool task session old after end errors status acts closes = inr (after, end, acts, refl, closes)
 
 -- each status is 0 or 1
 printed_small : (fault : Option StreamFault) (old new : Writers) (texts : Texts) (status : ℕ) → texts.status ≤ 1 → Printed fault old new texts status → status ≤ 1
@@ -84,6 +87,24 @@ closes_small : (end : ToolEnd) (old new : Option (List ℕ)) (status : ℕ) → 
 closes_small end old new status small (inl failed) = omega (arith, failed.1)
 closes_small end old new status small (inr closed) = omega (arith, closed.1, small)
 
-pub uses_small : (call : Call) (old new : Writers) (status : ℕ) → Uses call old new status → status ≤ 1
-uses_small call old new status (inl stopped) = omega (arith, stopped.1)
-uses_small call old new status (inr (session, warned, after, end, opening, front, acts, same, closes)) = closes_small end _ _ status (acts_small call.task _ after end acts) closes
+tool_small : (task : Task) (session : Held) (old new : Writers) (status : ℕ) → UsesTool task session old new status → status ≤ 1
+tool_small task session old new status (inl stopped) = omega (arith, stopped.1)
+tool_small task session old new status (inr (after, end, acts, same, closes)) = closes_small end _ _ status (acts_small task _ after end acts) closes
+
+reports_small : (text : Option (List ℕ)) (old new : Option (List ℕ)) (status : ℕ) → Reports text old new status → status ≤ 1
+reports_small None old new status (same, is) = omega (arith, is)
+reports_small (Some text) old new status (said, is) = omega (arith, is)
+
+leaves_small : (kept : Bool) (end : SessionEnding) (old new : Option (List ℕ)) (status : ℕ) → Leaves kept end old new status → status ≤ 1
+leaves_small true end old new status (inl (said, is)) = omega (arith, is)
+leaves_small true end old new status (inr reports) = reports_small (text_for end) old new status reports
+leaves_small false end old new status reports = reports_small (text_for end) old new status reports
+
+job_small : (job : Job) (session : Held) (old new : Streams) (status : ℕ) → DoesJob job session old new status → status ≤ 1
+job_small (Tool task) session old new status (unread, uses) = tool_small task session _ _ status uses
+job_small (Tries run) session old new status (inl stopped) = omega (arith, stopped.1.1)
+job_small (Tries run) session old new status (inr (stubs, stand, tries)) = leaves_small (is_kept run.write tries.0) tries.0 _ _ status tries.5
+
+pub uses_small : (call : Call) (old new : Streams) (status : ℕ) → Uses call old new status → status ≤ 1
+uses_small call old new status (inl stopped) = omega (arith, stopped.1.1)
+uses_small call old new status (inr (session, warned, opening, front, does)) = job_small call.job session _ new status does

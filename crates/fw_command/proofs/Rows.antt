@@ -1,8 +1,9 @@
 -- What clap's rules say of some words, computed by the checker.
-use Rattle.std.proofs.Common.{◌≡◌, [], ◌∷◌, codes, refl}
+use Rattle.std.proofs.Common.{◌≡◌, [], ◌∷◌, Some, None, codes, refl}
 use Rattle.clap.proofs.OnLiterals.{clap_on_literals}
 use Rattle.clap.specs.declared.error.kind.ErrorKind.TheVariants.{ArgumentConflict, DisplayHelp, DisplayVersion, InvalidSubcommand, MissingRequiredArgument, TooManyValues, UnknownArgument}
 use Rattle.envimg_core.specs.declared.order.Order.TheVariants.{Little, Big}
+use Rattle.fw_command.specs.DryRuns.{number_in}
 use Rattle.fw_command.specs.Words.{faults, order_of}
 
 -- no word but the program's own name
@@ -110,3 +111,33 @@ no_word_exported = refl
 pub help_of_a_subcommand : faults (codes "fwenv" ∷ codes "export" ∷ codes "--help" ∷ []) ≡ DisplayHelp ∷ []
 unfolding clap_on_literals
 help_of_a_subcommand = refl
+
+-- a dry run
+pub session_alone : faults (codes "fwenv" ∷ codes "session" ∷ []) ≡ []
+unfolding clap_on_literals
+session_alone = refl
+
+pub session_limited : faults (codes "fwenv" ∷ codes "session" ∷ codes "--write" ∷ codes "--stubs" ∷ codes "f" ∷ codes "--steps" ∷ codes "5" ∷ []) ≡ []
+unfolding clap_on_literals
+session_limited = refl
+
+pub number_twice : faults (codes "fwenv" ∷ codes "session" ∷ codes "--word" ∷ codes "5" ∷ codes "--word" ∷ codes "5" ∷ []) ≡ ArgumentConflict ∷ []
+unfolding clap_on_literals
+number_twice = refl
+
+pub no_word_for_a_session : faults (codes "fwenv" ∷ codes "session" ∷ codes "a" ∷ []) ≡ UnknownArgument ∷ []
+unfolding clap_on_literals
+no_word_for_a_session = refl
+
+-- numbers
+pub largest_depth : number_in 16 (codes "0016") ≡ Some 16
+largest_depth = refl
+
+pub past_the_limit : number_in 16 (codes "17") ≡ None
+past_the_limit = refl
+
+pub no_digit : number_in 16 [] ≡ None
+no_digit = refl
+
+pub sign : number_in 16 (codes "+1") ≡ None
+sign = refl

@@ -102,6 +102,6 @@ called_is m name rows is has = pair_there (out-ArgMatches m).subcommand (λ b. (
 
 -- what a call does is what its words do
 pub called_does : (order : Order) (called : Option (Text × List Row)) (name : Text) (rows : List Row) (call : Result Call Text) (old new : Streams) (status : ℕ) →
-    called ≡ Some (name, rows) → call ≡ call_of order name rows → new.input ≡ old.input → Called call (writers_of old) (writers_of new) status → Does order called old new status
-called_does order called name rows call old new status is reads same done =
-    subst (λ k. Does order k old new status) (sym is) (same, subst (λ r. Called r (writers_of old) (writers_of new) status) reads done)
+    called ≡ Some (name, rows) → call ≡ call_of order name rows → Called call old new status → Does order called old new status
+called_does order called name rows call old new status is reads done =
+    subst (λ k. Does order k old new status) (sym is) (subst (λ r. Called r old new status) reads done)

@@ -6,13 +6,14 @@ use Rattle.envimg_core.specs.Pieces.{Entry}
 use Rattle.envimg_core.specs.declared.order.Order.{Order}
 use Rattle.envvars_core.specs.Variables.{Contents}
 use Rattle.clap.specs.Words.{Text}
-use Rattle.fw_command.specs.Calls.{Call, Task}
+use Rattle.fw_command.specs.Calls.{Call, Job, Tool, Tries, Task}
 use Rattle.fw_command.specs.Opening.{warning}
-use Rattle.fw_command.specs.Saying.{Says, SaysSome}
+use Rattle.fw_command.specs.Saying.{Says, SaysSome, SaysOnly, Stops}
 use Rattle.fw_tools.specs.Exporting.{export_texts}
 use Rattle.fw_tools.specs.Printing.{printed}
 use Rattle.fw_tools.specs.Setting.{Changes, Changing, Effect, import_effect, joined, script_effect, set_effect}
-use Rattle.fw_tools.specs.Streams.{AppendsFront, Writers}
+use Rattle.fw_command.specs.Talking.{TriesOver}
+use Rattle.fw_tools.specs.Streams.{AppendsFront, Streams, Writers, writers_of}
 use Rattle.fw_tools.specs.Tool.{Printed, Texts}
 use Rattle.fw_tools.specs.declared.ending.ToolEnd.{ToolEnd}
 
@@ -40,10 +41,6 @@ Acts (Task.SetScript path) old new end = (entries : List Entry) × ChangesAll ol
 Acts (Task.Import path) old new end = (entries : List Entry) × ChangesAll old new (import_effect old.session entries) entries end
 Acts Task.Export old new end = PrintsAll old new (export_texts old.session.now.env) end
 
--- nothing on standard output
-abbrev pub SaysOnly : Writers → Writers → Type 0
-SaysOnly old new = (new.output ≡ old.output) × SaysSome old.errors new.errors
-
 -- what stopped a tool is said, if anything did; or some text of a file that can't be written
 abbrev pub Closes : ToolEnd → Option (List ℕ) → Option (List ℕ) → ℕ → Type 0
 Closes end old new status = (SaysSome old new × (status ≡ 1)) ⊎ (Says end.fault old new × (status ≡ end.status))
@@ -53,19 +50,29 @@ abbrev pub IsOpening : Order → Held → Type 0
 IsOpening order session =
     (shape : Shape) × (first : List ℕ) × (second : Option (List ℕ)) × (defaults : Contents) × (shape.order ≡ order) × (session ≡ opened shape first second defaults)
 
--- a session is opened, with a warning where no copy is good, the task is done, and the copies are written back
-abbrev pub UsesSession : Call → Writers → Writers → ℕ → Type 0
+-- a task is done over a session, and the copies are written back; or its file can't be used
+abbrev pub UsesTool : Task → Held → Writers → Writers → ℕ → Type 0
+UsesTool task session old new status =
+    Stops old new status
+    ⊎ ((after : Scene) × (end : ToolEnd) × Acts task (record { session = session; writers = old }) after end
+    × (new.output ≡ after.writers.output) × Closes end after.writers.errors new.errors status)
+
+-- what is done over a session; a tool doesn't read standard input
+abbrev pub DoesJob : Job → Held → Streams → Streams → ℕ → Type 0
+DoesJob (Tool task) session old new status = (new.input ≡ old.input) × UsesTool task session (writers_of old) (writers_of new) status
+DoesJob (Tries run) session old new status = TriesOver run session old new status
+
+-- a session is opened, with a warning where no copy is good, and worked on
+abbrev pub UsesSession : Call → Streams → Streams → ℕ → Type 0
 UsesSession call old new status =
-    (session : Held) × (warned : Option (List ℕ)) × (after : Scene) × (end : ToolEnd)
-    × IsOpening call.order session × AppendsFront old.errors warned (warning session.now.current)
-    × Acts call.task (record { session = session; writers = record { output = old.output; errors = warned } }) after end
-    × (new.output ≡ after.writers.output) × Closes end after.writers.errors new.errors status
+    (session : Held) × (warned : Option (List ℕ)) × IsOpening call.order session × AppendsFront old.errors warned (warning session.now.current)
+    × DoesJob call.job session (record { input = old.input; output = old.output; errors = warned }) new status
 
--- or before that a file can't be used, or memory runs out: some text says so, status 1
-abbrev pub Uses : Call → Writers → Writers → ℕ → Type 0
-Uses call old new status = (SaysOnly old new × (status ≡ 1)) ⊎ UsesSession call old new status
+-- or before that a file can't be used, or memory runs out
+abbrev pub Uses : Call → Streams → Streams → ℕ → Type 0
+Uses call old new status = ((new.input ≡ old.input) × Stops (writers_of old) (writers_of new) status) ⊎ UsesSession call old new status
 
--- words of which clap's rules don't see what is wrong are answered with a text
-abbrev pub Called : Result Call Text → Writers → Writers → ℕ → Type 0
+-- words of which clap's rules don't see what is wrong are answered with a text, and nothing is read
+abbrev pub Called : Result Call Text → Streams → Streams → ℕ → Type 0
 Called (Ok call) old new status = Uses call old new status
-Called (Err text) old new status = (new.output ≡ old.output) × AppendsFront old.errors new.errors text × (status ≡ 1)
+Called (Err text) old new status = (new.input ≡ old.input) × (new.output ≡ old.output) × AppendsFront old.errors new.errors text × (status ≡ 1)

@@ -6,8 +6,12 @@ use Rattle.clap.specs.Words.{Row, Text, all_of, first_of}
 use Rattle.clap.specs.declared.parser.matches.ValueSource.{ValueSource}
 use Rattle.clap.specs.declared.parser.matches.ValueSource.TheVariants.{CommandLine}
 use Rattle.envimg_core.specs.declared.order.Order.{Order}
+use Rattle.fw_command.specs.DryRuns.{DryRun, dry_run_of, dry_run_view}
+use Rattle.fw_command.specs.Values.{all_values, first_or, is_given}
 use Rattle.fw_command.specs.Words.{big_endian, either_order, order_by, source_in}
 use Rattle.fw_command.specs.declared.calls.Call as calls
+use Rattle.fw_command.specs.declared.calls.Job as jobs
+use Rattle.fw_command.specs.declared.calls.Job.TheVariants as job
 use Rattle.fw_command.specs.declared.calls.Task as tasks
 use Rattle.fw_command.specs.declared.calls.Task.TheVariants as code
 
@@ -19,27 +23,17 @@ pub data Task : Type 0 where
   Import : Text → Task
   Export : Task
 
+-- what a subcommand does over its session: a tool works on it, or blocks of script and dot lines are tried
+pub data Job : Type 0 where
+  Tool : Task → Job
+  Tries : DryRun → Job
+
 -- a subcommand with its files: the configuration, and the default environment, if there is one
 pub record Call : Type 0 where
   pub config : Text
   pub default : Option Text
   pub order : Order
-  pub task : Task
-
--- a flag among the words
-abbrev pub given_by : Option ValueSource → Bool
-given_by (Some CommandLine) = true
-given_by source = false
-
-abbrev pub is_given : Text → List Row → Bool
-is_given id rows = given_by (source_in id rows)
-
--- the values of an argument, none where it isn't there
-abbrev pub all_values : Text → List Row → List Text
-all_values id rows = unwrap_or (all_of id rows) []
-
-abbrev pub first_or : Text → Text → List Row → Text
-first_or other id rows = unwrap_or (first_of id rows) other
+  pub job : Job
 
 -- what is wrong with the words of setenv
 abbrev pub usage : Text
@@ -66,19 +60,31 @@ task_of name rows =
     else if bytes_eq name (codes "import") then Ok (Import (first_or [] (codes "file") rows))
     else set_task (first_of (codes "name") rows) (first_of (codes "script") rows) (all_values (codes "words") rows)
 
+abbrev pub tried : Result DryRun Text → Result Job Text
+tried (Ok run) = Ok (Tries run)
+tried (Err text) = Err text
+
+abbrev pub called : Result Task Text → Result Job Text
+called (Ok task) = Ok (Tool task)
+called (Err text) = Err text
+
+-- what the subcommand of this name does, or the text for what is wrong with its words
+abbrev pub job_of : Text → List Row → Result Job Text
+job_of name rows = if bytes_eq name (codes "session") then tried (dry_run_of rows) else called (task_of name rows)
+
 -- with its files and its byte order
-abbrev pub with_files : Order → List Row → Result Task Text → Result Call Text
-with_files order rows (Ok task) = Ok (record {
+abbrev pub with_files : Order → List Row → Result Job Text → Result Call Text
+with_files order rows (Ok job) = Ok (record {
   config = first_or (codes "/etc/fw_env.config") (codes "config") rows;
   default = first_of (codes "default") rows;
   order = either_order order (order_by (source_in big_endian.id rows));
-  task = task;
+  job = job;
 })
 with_files order rows (Err text) = Err text
 
 -- what words ask for that choose a byte order before the subcommand
 abbrev pub call_of : Order → Text → List Row → Result Call Text
-call_of order name rows = with_files order rows (task_of name rows)
+call_of order name rows = with_files order rows (job_of name rows)
 
 -- the code's answers, seen so
 abbrev pub texts : Option (Bor (List (Bor Text))) → List Text
@@ -91,8 +97,12 @@ task_view (code.SetScript path) = SetScript path.now
 task_view (code.Import path) = Import path.now
 task_view code.Export = Export
 
+abbrev pub job_view : jobs.Job → Job
+job_view (job.Tool task) = Tool (task_view task)
+job_view (job.DryRun run) = Tries (dry_run_view run)
+
 abbrev pub call_view : calls.Call → Call
-call_view c = record { config = c.config.now; default = option_map (λ d. d.now) c.default; order = c.order; task = task_view c.task }
+call_view c = record { config = c.config.now; default = option_map (λ d. d.now) c.default; order = c.order; job = job_view c.job }
 
 abbrev pub seen : {A B : Type 0} → (A → B) → Result A (Bor Text) → Result B Text
 seen view (Ok a) = Ok (view a)

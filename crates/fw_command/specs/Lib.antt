@@ -1,7 +1,11 @@
 pub mod Acting
 pub mod Calls
 pub mod Copies
+pub mod DryRuns
 pub mod Opening
 pub mod Running
 pub mod Saying
+pub mod Talking
+pub mod Values
+pub mod WordFaults
 pub mod Words

@@ -59,13 +59,9 @@ AnswersWords words old new status =
     (new.input ≡ old.input)
     × (LacksMemory (writers_of old) (writers_of new) status ⊎ ((kind : ErrorKind) × IsAmong kind (faults words) × Answers kind (writers_of old) (writers_of new) status))
 
--- a subcommand is called with these words; standard input is not read
-abbrev pub CallsTool : Order → Text × List Row → Streams → Streams → ℕ → Type 0
-CallsTool order called old new status = (new.input ≡ old.input) × Called (call_of order called.0 called.1) (writers_of old) (writers_of new) status
-
 -- what is done for words with nothing wrong: a subcommand is called, or the image on standard input is shown in the byte order that they choose
 abbrev pub Does : Order → Option (Text × List Row) → Streams → Streams → ℕ → Type 0
-Does order (Some called) old new status = CallsTool order called old new status
+Does order (Some called) old new status = Called (call_of order called.0 called.1) old new status
 Does order None old new status = ShowsAndSays order old new status
 
 -- a whole run

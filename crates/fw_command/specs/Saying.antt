@@ -1,7 +1,7 @@
 -- What the program says on standard error (docs/tools.md, "Ends").
 use Rattle.std.specs.Prelude.{◌≡◌, ℕ, List, [], ◌∷◌, ◌++◌, Option, Some, None, codes}
 use Rattle.std.specs.Io.KnownBytes.{Appends}
-use Rattle.fw_tools.specs.Streams.{AppendsFront}
+use Rattle.fw_tools.specs.Streams.{AppendsFront, Writers}
 use Rattle.fw_tools.specs.declared.ending.StreamFault.{StreamFault}
 use Rattle.fw_tools.specs.declared.ending.StreamFault.TheVariants.{Read, Write, Memory}
 
@@ -19,3 +19,11 @@ Says (Some fault) err err' = AppendsFront err err' (message_of fault)
 -- some text is said, or nothing: a contract knows nothing of the file that it is about
 abbrev pub SaysSome : Option (List ℕ) → Option (List ℕ) → Type 0
 SaysSome old new = (text : List ℕ) × Appends old new text
+
+-- nothing on standard output
+abbrev pub SaysOnly : Writers → Writers → Type 0
+SaysOnly old new = (new.output ≡ old.output) × SaysSome old.errors new.errors
+
+-- a file can't be used, or memory runs out: some text says so, status 1
+abbrev pub Stops : Writers → Writers → ℕ → Type 0
+Stops old new status = SaysOnly old new × (status ≡ 1)

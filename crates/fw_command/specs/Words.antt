@@ -58,9 +58,25 @@ import = with_rule (tool (codes "import")) (record (one (codes "file")) { requir
 abbrev pub export : App
 export = tool (codes "export")
 
+abbrev pub write : Rule
+write = record (flag (codes "write")) { long = Some (codes "write") }
+
+abbrev pub stubs : Rule
+stubs = record (one (codes "stubs")) { long = Some (codes "stubs") }
+
+abbrev pub number : (id usual : Text) → Rule
+number id usual = record (one id) { long = Some id; defaults = usual ∷ [] }
+
+abbrev pub limited : App → App
+limited app =
+    with_rule (with_rule (with_rule (with_rule app (number (codes "steps") (codes "100000"))) (number (codes "depth") (codes "8"))) (number (codes "word") (codes "4096"))) (number (codes "output") (codes "1048576"))
+
+abbrev pub session : App
+session = limited (with_rule (with_rule (tool (codes "session")) write) stubs)
+
 -- the command
 abbrev pub fwenv : App
-fwenv = with_subcommand (with_subcommand (with_subcommand (with_subcommand top printenv.top) setenv.top) import.top) export.top
+fwenv = with_subcommand (with_subcommand (with_subcommand (with_subcommand (with_subcommand top printenv.top) setenv.top) import.top) export.top) session.top
 
 -- a command that clap's rules see so, alone and as the subcommand of another
 abbrev pub IsTool : App → Command → Type 0

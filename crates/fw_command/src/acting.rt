@@ -1,52 +1,88 @@
 //! The subcommands over the files that the words name.
 ghost use Rattle.std.specs.Prelude.{◌≡◌, ◌≤◌, ◌∷◌, [], List, IfOk, MatchOption, Some, map, unwrap_or};
 ghost use Rattle.envimg_core.specs.Pieces.{Entry};
-ghost use Rattle.fw_command.specs.Acting.{Acts, Closes, SaysOnly, Uses};
-ghost use Rattle.fw_command.specs.Calls.{call_view, task_view, texts};
-ghost use Rattle.fw_command.specs.Saying.{SaysSome};
+ghost use Rattle.fw_command.specs.Acting.{Acts, Closes, DoesJob, Uses, UsesTool};
+ghost use Rattle.fw_command.specs.Calls.{call_view, job_view, task_view, texts};
+ghost use Rattle.fw_command.specs.Saying.{SaysOnly, SaysSome};
 ghost use Rattle.fw_tools.specs.Printing.{printed};
 ghost use Rattle.fw_tools.specs.Setting.{Changes, import_effect, joined, script_effect, set_effect};
 ghost use Rattle.fw_tools.specs.Tool.{Printed};
 
-use crate::calls::{Call, Task};
+use crate::calls::{Call, Job, Task};
 use crate::closing::write_back;
 use crate::files::{read_entries, read_script, value_or_say};
 use crate::messages::OUT_OF_MEMORY;
 use crate::opening::{Source, open, read_source};
 use crate::running::report;
+use crate::talking::talk;
 use env_session::Session;
 use fw_tools::streams::say;
 use fw_tools::{ToolEnd, export, import, print_at_once, set_script, setenv};
 use std::alloc::{AllocError, Global};
-use std::io::Write;
+use std::io::{Read, Write};
 use std::rt::Files;
 
 /// Runs a subcommand and answers its exit status.
-pub(crate) fn run_tool<X: Files + AllocGlobal, W: Write, E: Write>(
+pub(crate) fn run_call<X: Files + AllocGlobal, R: Read, W: Write, E: Write>(
     rt: &X,
     call: &Call<'_, '_>,
+    input: &mut R,
     output: &mut W,
     errors: &mut E,
 ) -> u8
     ensures status { result ≤ 1 }
-    ensures uses { Uses (call_view call.now) (record { output = W.contents output.old; errors = E.contents errors.old }) (record { output = W.contents output.new; errors = E.contents errors.new }) result }
+    ensures uses { Uses (call_view call.now) (record { input = R.remaining input.old; output = W.contents output.old; errors = E.contents errors.old }) (record { input = R.remaining input.new; output = W.contents output.new; errors = E.contents errors.new }) result }
 {
-    use_files(rt, call, output, errors).unwrap_or(1)
+    use_files(rt, call, input, output, errors).unwrap_or(1)
 }
 
-/// Opens the session, lets the subcommand work on it, and writes it back; none where a file can't be used.
-fn use_files<X: Files + AllocGlobal, W: Write, E: Write>(
+/// Opens the session and lets the subcommand work on it; none where a file can't be used.
+fn use_files<X: Files + AllocGlobal, R: Read, W: Write, E: Write>(
     rt: &X,
     call: &Call<'_, '_>,
+    input: &mut R,
     output: &mut W,
     errors: &mut E,
 ) -> Option<u8>
-    ensures { Uses (call_view call.now) (record { output = W.contents output.old; errors = E.contents errors.old }) (record { output = W.contents output.new; errors = E.contents errors.new }) (unwrap_or result 1) }
+    ensures { Uses (call_view call.now) (record { input = R.remaining input.old; output = W.contents output.old; errors = E.contents errors.old }) (record { input = R.remaining input.new; output = W.contents output.new; errors = E.contents errors.new }) (unwrap_or result 1) }
 {
     let source = read_source(rt, call.order, call.config, errors)?;
-    let mut session = open(rt, &source, call.default, errors)?;
-    let end = act(rt, call.task, &mut session, output, errors)?;
-    finish(rt, &source, session, end, errors)
+    let session = open(rt, &source, call.default, errors)?;
+    work(rt, &source, session, &call.job, input, output, errors)
+}
+
+/// Works on a session, and leaves it; none where a file can't be used.
+fn work<X: Files + AllocGlobal, R: Read, W: Write, E: Write>(
+    rt: &X,
+    source: &Source,
+    opened: Session,
+    job: &Job<'_, '_>,
+    input: &mut R,
+    output: &mut W,
+    errors: &mut E,
+) -> Option<u8>
+    ensures { DoesJob (job_view job.now) opened (record { input = R.remaining input.old; output = W.contents output.old; errors = E.contents errors.old }) (record { input = R.remaining input.new; output = W.contents output.new; errors = E.contents errors.new }) (unwrap_or result 1) }
+{
+    match job {
+        Job::Tool(task) => use_tool(rt, source, opened, *task, output, errors),
+        Job::DryRun(run) => talk(rt, source, opened, run, input, output, errors),
+    }
+}
+
+/// Lets a tool work on the session, and writes it back; none where a file can't be used.
+fn use_tool<X: Files + AllocGlobal, W: Write, E: Write>(
+    rt: &X,
+    source: &Source,
+    opened: Session,
+    task: Task<'_, '_>,
+    output: &mut W,
+    errors: &mut E,
+) -> Option<u8>
+    ensures { UsesTool (task_view task.entry) opened (record { output = W.contents output.old; errors = E.contents errors.old }) (record { output = W.contents output.new; errors = E.contents errors.new }) (unwrap_or result 1) }
+{
+    let mut session = opened;
+    let end = act(rt, task, &mut session, output, errors)?;
+    finish(rt, source, session, end, errors)
 }
 
 /// Does a task over the session; none where a file can't be used, or memory ran out before.

@@ -2,14 +2,19 @@
 ghost use Rattle.std.specs.Prelude.{◌≡◌, map, option_copied, option_map};
 ghost use Rattle.clap.specs.Words.{all_of, first_of, found_of, rows_of};
 ghost use Rattle.fw_command.specs.Words.{either_order};
-ghost use Rattle.fw_command.specs.Calls.{call_of, call_view, first_or, is_given, seen, set_task, task_of, task_view, texts};
+ghost use Rattle.fw_command.specs.Calls.{call_of, call_view, called, job_of, job_view, seen, tried, set_task, task_of, task_view, texts};
+ghost use Rattle.fw_command.specs.DryRuns.{dry_run_of};
+ghost use Rattle.fw_command.specs.Values.{first_or, is_given};
+ghost use Rattle.fw_command.specs.WordFaults.{word_seen};
 
 use crate::command_line::{CONFIG, chosen_order, is_given};
+use crate::dry_runs::{DryRun, read_dry_run};
 use crate::messages::{NAME_AND_SCRIPT, NO_NAME};
+use crate::word_faults::WordFault;
 use clap::ArgMatches;
 use envimg_core::Order;
 
-/// A subcommand: its files, its byte order and its task.
+/// A subcommand: its files, its byte order, and what it does over their session.
 #[derive(Clone, Copy, Debug)]
 pub(crate) struct Call<'m, 'w> {
     /// The path of the configuration.
@@ -18,8 +23,17 @@ pub(crate) struct Call<'m, 'w> {
     pub(crate) default: Option<&'w str>,
     /// The byte order of the copies.
     pub(crate) order: Order,
-    /// What the tool is to do.
-    pub(crate) task: Task<'m, 'w>,
+    /// What it does over the session.
+    pub(crate) job: Job<'m, 'w>,
+}
+
+/// What a subcommand does over its session.
+#[derive(Clone, Copy, Debug)]
+pub(crate) enum Job<'m, 'w> {
+    /// A tool works on it.
+    Tool(Task<'m, 'w>),
+    /// Blocks of script and dot lines are tried on it.
+    DryRun(DryRun<'w>),
 }
 
 /// What a tool is to do.
@@ -47,22 +61,54 @@ pub(crate) enum Task<'m, 'w> {
     Export,
 }
 
-/// What the words of the subcommand `name` ask for, where `order` is the byte order that the words before it chose; or the
-/// text for what is wrong with them, which clap's rules don't see.
+/// What the words of the subcommand `name` ask for, where `order` is the byte order that the words before it chose; or
+/// what is wrong with them, which clap's rules don't see.
 pub(crate) fn read_call<'m, 'w>(
     order: Order,
     name: &str,
     found: &'m ArgMatches<'w>,
-) -> Result<Call<'m, 'w>, &'static [u8]>
-    ensures { seen call_view result ≡ call_of order name.now (rows_of (found_of found.now)) }
+) -> Result<Call<'m, 'w>, WordFault<'w>>
+    ensures { word_seen call_view result ≡ call_of order name.now (rows_of (found_of found.now)) }
 {
-    let task = read_task(name, found)?;
-    Ok(Call {
-        config: first_or(found, "config", CONFIG),
-        default: first(found, "default"),
-        order: either_order(order, chosen_order(found)),
-        task,
-    })
+    match read_job(name, found) {
+        Ok(job) => Ok(Call {
+            config: first_or(found, "config", CONFIG),
+            default: first(found, "default"),
+            order: either_order(order, chosen_order(found)),
+            job,
+        }),
+        Err(fault) => Err(fault),
+    }
+}
+
+/// What the words of the subcommand `name` ask to be done over its session.
+fn read_job<'m, 'w>(name: &str, found: &'m ArgMatches<'w>) -> Result<Job<'m, 'w>, WordFault<'w>>
+    ensures { word_seen job_view result ≡ job_of name.now (rows_of (found_of found.now)) }
+{
+    if name == "session" {
+        return dry_job(found);
+    }
+    tool_job(name, found)
+}
+
+/// The dry run that the words of `session` ask for.
+fn dry_job<'m, 'w>(found: &'m ArgMatches<'w>) -> Result<Job<'m, 'w>, WordFault<'w>>
+    ensures { word_seen job_view result ≡ tried (dry_run_of (rows_of (found_of found.now))) }
+{
+    match read_dry_run(found) {
+        Ok(run) => Ok(Job::DryRun(run)),
+        Err(fault) => Err(fault),
+    }
+}
+
+/// The tool that the words of another subcommand call.
+fn tool_job<'m, 'w>(name: &str, found: &'m ArgMatches<'w>) -> Result<Job<'m, 'w>, WordFault<'w>>
+    ensures { word_seen job_view result ≡ called (task_of name.now (rows_of (found_of found.now))) }
+{
+    match read_task(name, found) {
+        Ok(task) => Ok(Job::Tool(task)),
+        Err(text) => Err(WordFault::of(text)),
+    }
 }
 
 /// What the words of the subcommand `name` ask a tool to do.
@@ -113,14 +159,14 @@ fn values<'m, 'w>(found: &'m ArgMatches<'w>, id: &str) -> Option<&'m [&'w str]>
 }
 
 /// The first value of an argument.
-fn first<'w>(found: &ArgMatches<'w>, id: &str) -> Option<&'w str>
+pub(crate) fn first<'w>(found: &ArgMatches<'w>, id: &str) -> Option<&'w str>
     ensures { option_copied result ≡ first_of id.now (rows_of (found_of found.now)) }
 {
     found.get_str(id)
 }
 
 /// The first value of an argument, or another text where it has none.
-fn first_or<'w>(found: &ArgMatches<'w>, id: &str, other: &'w str) -> &'w str
+pub(crate) fn first_or<'w>(found: &ArgMatches<'w>, id: &str, other: &'w str) -> &'w str
     ensures { result.now ≡ first_or other.now id.now (rows_of (found_of found.now)) }
 {
     found.get_str(id).unwrap_or(other)

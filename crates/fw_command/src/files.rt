@@ -1,10 +1,12 @@
 //! Files that are read whole, and why a file can not be used.
-ghost use Rattle.std.specs.Prelude.{◌≡◌, ◌≤◌, Ok, IfOk, MatchOption, length, map};
+ghost use Rattle.std.specs.Prelude.{◌≡◌, ◌≤◌, Ok, Some, IfOk, MatchOption, length, map, option_map};
 ghost use Rattle.std.specs.Result.{result_ok};
 ghost use Rattle.fw_command.specs.Saying.{SaysSome};
 ghost use Rattle.envcfg_core.specs.Entries.{entry_view};
 ghost use Rattle.envcfg_core.specs.Import.{import_of};
 ghost use Rattle.envcfg_core.specs.SetScript.{set_script_of};
+ghost use Rattle.fw_command.specs.Talking.{StandsIn};
+ghost use Rattle.hush_commands.specs.Stubs.{stubs_of};
 
 use crate::messages::{
     CANNOT_READ_FILE, CANNOT_WRITE_FILE, COLON, FWENV, IN_LINE, NEWLINE, OUT_OF_MEMORY, TOO_SHORT,
@@ -13,6 +15,7 @@ use envcfg_core::{ConfigFault, TextEntry, TextFault, parse_import, parse_set_scr
 use envvars_core::Refusal;
 use fw_tools::StreamFault;
 use fw_tools::streams::{read_up_to, say, write_decimal, write_text, write_three, write_two};
+use hush_run::{StubFault, Stubs};
 use std::alloc::Global;
 use std::fs::OpenOptions;
 use std::io::Write;
@@ -36,6 +39,8 @@ pub(crate) enum FileFault {
     Config(ConfigFault),
     /// It is a text for import or a set script that is refused.
     Text(TextFault),
+    /// It is a stand-in file that is refused.
+    Stubs(StubFault),
     /// It is a default environment, and the entry in this line is refused.
     Default(usize, Refusal),
 }
@@ -98,6 +103,38 @@ fn script_from(alloc: Global, text: &[u8]) -> Result<Vec<TextEntry>, FileFault>
     }
 }
 
+/// Reads a stand-in file; without one there are no stand-ins.
+pub(crate) fn read_stubs<X: Files + AllocGlobal>(
+    rt: &X,
+    path: Option<&str>,
+) -> Result<Stubs, FileFault>
+    ensures { IfOk result (StandsIn (option_map (λ p. p.now) path.entry)) }
+{
+    match path {
+        None => stubs_from(rt.alloc(), b""),
+        Some(path) => read_stub_file(rt, path),
+    }
+}
+
+/// Reads the stand-ins in a file.
+fn read_stub_file<X: Files + AllocGlobal>(rt: &X, path: &str) -> Result<Stubs, FileFault>
+    ensures { IfOk result (StandsIn (Some path.now)) }
+{
+    let text = read_file(rt, path)?;
+    stubs_from(rt.alloc(), &text)
+}
+
+/// The stand-ins in a text.
+fn stubs_from(alloc: Global, text: &[u8]) -> Result<Stubs, FileFault>
+    ensures { IfOk result (λ stubs. stubs_of text.now ≡ Ok stubs) }
+{
+    match Stubs::parse(alloc, text) {
+        Ok(stubs) => Ok(stubs),
+        Err(StubFault::Memory) => Err(FileFault::Memory),
+        Err(fault) => Err(FileFault::Stubs(fault)),
+    }
+}
+
 /// The fault of a file whose text is refused.
 fn text_fault(fault: TextFault) -> FileFault {
     match fault {
@@ -139,6 +176,10 @@ pub(crate) fn say_fault<E: Write>(alloc: Global, errors: &mut E, path: &str, fau
             Err(_) => say(errors, OUT_OF_MEMORY),
         },
         FileFault::Text(refused) => match refused.to_string(alloc) {
+            Ok(name) => say_refused(errors, path, name.as_bytes()),
+            Err(_) => say(errors, OUT_OF_MEMORY),
+        },
+        FileFault::Stubs(refused) => match refused.to_string(alloc) {
             Ok(name) => say_refused(errors, path, name.as_bytes()),
             Err(_) => say(errors, OUT_OF_MEMORY),
         },

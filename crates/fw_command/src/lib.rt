@@ -1,4 +1,4 @@
-//! The program: its words, the files that they name, and the tools over them.
+//! The program: its words, the files that they name, and the tools and dry runs over them.
 #![tactic(auto)]
 
 mod acting;
@@ -6,11 +6,15 @@ mod calls;
 mod closing;
 mod command_line;
 mod copies;
+mod dry_runs;
 mod files;
 mod messages;
+mod numbers;
 mod opening;
 mod running;
+mod talking;
 #[cfg(test)]
 mod tests;
+mod word_faults;
 
 pub use running::{program, words_failed};

@@ -46,3 +46,22 @@ pub(crate) const NAME_AND_SCRIPT: &[u8] =
 
 pub(crate) const NO_NAME: &[u8] =
     b"error: the following required arguments were not provided:\n  <NAME|-s <FILE>>\n\nUsage: fwenv setenv [OPTIONS] [NAME] [WORDS]...\n\nFor more information, try '--help'.\n";
+
+/// Standard error where the input of a session is longer than it may be.
+pub(crate) const TOO_LONG: &[u8] = b"fwenv: input too long\n";
+
+/// Before a value that is no number within its limit.
+pub(crate) const INVALID_VALUE: &[u8] = b"error: invalid value '";
+
+/// Behind such a value of each option.
+pub(crate) const BAD_STEPS: &[u8] =
+    b"' for '--steps <N>': not a number from 0 to 1000000\n\nFor more information, try '--help'.\n";
+
+pub(crate) const BAD_DEPTH: &[u8] =
+    b"' for '--depth <N>': not a number from 0 to 16\n\nFor more information, try '--help'.\n";
+
+pub(crate) const BAD_WORD: &[u8] =
+    b"' for '--word <N>': not a number from 0 to 65536\n\nFor more information, try '--help'.\n";
+
+pub(crate) const BAD_OUTPUT: &[u8] =
+    b"' for '--output <N>': not a number from 0 to 16777216\n\nFor more information, try '--help'.\n";

@@ -7,7 +7,7 @@ ghost use Rattle.fw_tools.specs.Streams.{AppendsFront};
 ghost use Rattle.fw_command.specs.Words.{order_in};
 ghost use Rattle.std.specs.IoError.{error_kind};
 
-use crate::acting::run_tool;
+use crate::acting::run_call;
 use crate::calls::read_call;
 use crate::command_line::{chosen_order, read_words};
 use crate::messages::{CANNOT_READ, CANNOT_WRITE, NO_WORDS, NOT_UTF8, OUT_OF_MEMORY};
@@ -25,14 +25,15 @@ use std::rt::Files;
 ///
 /// Without a subcommand the variables of the image on `input` are printed ([`show`]), and with `--big-endian` those of an
 /// image of a big-endian board. A subcommand works on the copies that a configuration names ([`printenv`], [`setenv`],
-/// [`set_script`], [`import`], [`export`]), and writes back those that it changed. Help goes to `output`, status 0; a fault
-/// of the command line to `errors`, status 1. docs/tools.md has each text.
+/// [`set_script`], [`import`], [`export`], [`session`]), and writes back those that it changed. Help goes to `output`,
+/// status 0; a fault of the command line to `errors`, status 1. docs/tools.md has each text.
 ///
 /// [`printenv`]: fw_tools::printenv
 /// [`setenv`]: fw_tools::setenv
 /// [`set_script`]: fw_tools::set_script
 /// [`import`]: fw_tools::import
 /// [`export`]: fw_tools::export
+/// [`session`]: fw_session::session
 pub fn program<X: Files + AllocGlobal, S: AsStr, R: Read, W: Write, E: Write>(
     rt: &X,
     words: &[S],
@@ -70,11 +71,11 @@ fn act_on<X: Files + AllocGlobal, R: Read, W: Write, E: Write>(
     match matches.subcommand() {
         None => show_input(alloc, order, input, output, errors),
         Some((name, found)) => match read_call(order, name, found) {
-            Err(text) => {
-                say(errors, text);
+            Err(fault) => {
+                fault.say(errors);
                 1
             }
-            Ok(call) => run_tool(rt, &call, output, errors),
+            Ok(call) => run_call(rt, &call, input, output, errors),
         },
     }
 }

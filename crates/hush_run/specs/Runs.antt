@@ -27,6 +27,15 @@ reason_of ending.Word = Some reason.Word
 reason_of ending.Output = Some reason.Output
 reason_of ending.Memory = None
 
+-- the ending that tells it
+abbrev pub ending_of : Reason → Ending
+ending_of reason.Finished = ending.Finished
+ending_of reason.Exited = ending.Exited
+ending_of reason.Steps = ending.Steps
+ending_of reason.Depth = ending.Depth
+ending_of reason.Word = ending.Word
+ending_of reason.Output = ending.Output
+
 abbrev pub stop_reason : Stop → Option Reason
 stop_reason (stop.Ended reason) = Some reason
 stop_reason stop.Memory = None

@@ -39,11 +39,21 @@ fn disk(rt: &HostRuntime, fails: usize) -> Result<RefCell<Contents>, AllocError>
 
 /// What a run of `fwenv` with these words gives: the status, and what it wrote on both streams.
 fn run(rt: &HostRuntime, contents: &RefCell<Contents>, words: &[&str]) -> (u8, Vec<u8>, Vec<u8>) {
+    run_on(rt, contents, words, b"")
+}
+
+/// The same where this stands on standard input.
+fn run_on(
+    rt: &HostRuntime,
+    contents: &RefCell<Contents>,
+    words: &[&str],
+    bytes: &[u8],
+) -> (u8, Vec<u8>, Vec<u8>) {
     let disk = Disk {
         alloc: rt.alloc(),
         contents,
     };
-    let mut input: &[u8] = b"";
+    let mut input: &[u8] = bytes;
     let mut output = Vec::new(rt.alloc());
     let mut errors = Vec::new(rt.alloc());
     let status = program(&disk, words, &mut input, &mut output, &mut errors);
@@ -129,6 +139,26 @@ fn a_file_that_is_not_there_is_named(rt: HostRuntime) -> Result<(), Fail> {
         assert_eq!(rt; status, 1);
         assert!(rt; output.is_empty());
         assert!(rt; errors.as_slice() == text);
+    }
+    Ok(())
+}
+
+#[test]
+fn a_session_writes_only_where_that_is_asked_for(rt: HostRuntime) -> Result<(), Fail> {
+    let answered: &[u8] = b"[Finished 0 1]\nSaved copy 2\n";
+    let rows: [(&str, &[u8], u8, [u8; 32]); 3] = [
+        ("--steps=2", answered, 0, [0xFF; 32]),
+        ("--stubs=none", b"", 1, [0xFF; 32]),
+        ("--write", answered, 0, copy_of(TWO)),
+    ];
+    for (word, text, expected, second) in rows {
+        let contents = disk(&rt, usize::MAX)?;
+        let words = ["fwenv", "session", "-c", "config", word];
+        let (status, output, _) = run_on(&rt, &contents, &words, b"setenv a 2\n.save\n");
+        assert_eq!(rt; status, expected);
+        assert!(rt; output.as_slice() == text);
+        let stands = contents.try_borrow().ok().ok_or("lent")?;
+        assert!(rt; stands.bytes("second") == second.as_slice());
     }
     Ok(())
 }

@@ -1,14 +1,17 @@
 use Rattle.std.proofs.Common.{ap, ◌∙◌}
 use Rattle.clap.specs.Words.{found_of, rows_of}
-use Rattle.fw_command.specs.Calls.{task_view, with_files}
+use Rattle.fw_command.specs.Calls.{job_view, with_files}
 use Rattle.fw_command.specs.Words.{either_order}
 use Rattle.fw_command.proofs.CallLemmas.{with_files_is}
 use Rattle.fw_command.proofs.WordLemmas.{order_by_rows}
 use Rattle.fw_command.proofs.calls.read_call.Goals as goal
 
-pub returns : goal.returns
-returns c =
+pub returns-in-Ok : goal.returns-in-Ok
+returns-in-Ok c =
     let rows = rows_of (found_of c.args.found.now) in
-    with_files_is c.args.order rows _ _ _ (task_view c.in_ok-task.task) c.first_or.ensures c.first.ensures
+    with_files_is c.args.order rows _ _ _ (job_view c.in-Ok.job) c.first_or.ensures c.first.ensures
     (c.either_order.ensures ∙ ap (either_order c.args.order) (c.chosen_order.ensures ∙ order_by_rows c.args.found.now))
-    ∙ ap (with_files c.args.order rows) c.in_ok-task.ensures
+    ∙ ap (with_files c.args.order rows) c.in-Ok.ensures
+
+pub returns-in-Err : goal.returns-in-Err
+returns-in-Err c = ap (with_files c.args.order (rows_of (found_of c.args.found.now))) c.in-Err.ensures

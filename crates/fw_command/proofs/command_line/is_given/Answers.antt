@@ -1,6 +1,6 @@
 use Rattle.std.proofs.Common.{ap, ◌∙◌}
 use Rattle.clap.specs.Words.{found_of}
-use Rattle.fw_command.specs.Calls.{given_by}
+use Rattle.fw_command.specs.Values.{given_by}
 use Rattle.fw_command.proofs.WordLemmas.{source_found}
 use Rattle.fw_command.proofs.command_line.is_given.Goals as goal
 

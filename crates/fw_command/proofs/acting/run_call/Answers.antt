@@ -2,7 +2,7 @@ use Rattle.std.proofs.Common.{◌≤◌, subst, sym}
 use Rattle.fw_command.specs.Acting.{Uses}
 use Rattle.fw_command.specs.Calls.{call_view}
 use Rattle.fw_command.proofs.ActingLemmas.{uses_small}
-use Rattle.fw_command.proofs.acting.run_tool.Goals as goal
+use Rattle.fw_command.proofs.acting.run_call.Goals as goal
 
 pub returns-clause-status : goal.returns-clause-status
 returns-clause-status g c = subst (λ s. s ≤ 1) (sym c.unwrap_or.ensures) (uses_small (call_view c.args.call.now) _ _ _ c.use_files.ensures)

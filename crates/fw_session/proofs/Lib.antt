@@ -1,0 +1,10 @@
+mod BlockLemmas
+mod CutLemmas
+mod EndLemmas
+mod HearLemmas
+mod MarkLemmas
+mod NameLemmas
+mod OrderLemmas
+mod SaysLemmas
+mod SessionRows
+mod StreamLemmas

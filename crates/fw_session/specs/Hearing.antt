@@ -1,0 +1,78 @@
+-- A line after another: what is answered, and what waits.
+use Rattle.std.specs.Prelude.{◌≡◌, ℕ, ◌<◌, ◌≤◌, ◌==◌, Bool, true, not, List, [], ◌∷◌, ◌++◌, Option, length, take, drop}
+use Rattle.std.specs.List.{list_all}
+use Rattle.fw_session.specs.Input.{Item, Block, joined, items_of, to_last_dot}
+use Rattle.fw_session.specs.Streams.{Writes}
+use Rattle.hush_run.specs.Meaning.{Rules}
+use Rattle.fw_session.specs.Replies.{Table, Note, Asked, reply, undo_reply, asked_reply, MayStand, UndoNote, AskedNote}
+use Rattle.fw_session.specs.Ends.{Said, Broke}
+
+-- an item for these bytes, if there are any
+abbrev pub block_items : List ℕ → List Item
+block_items [] = []
+block_items (b ∷ bs) = Block (b ∷ bs) ∷ []
+
+-- a block, perhaps without bytes, before these items
+abbrev pub before : List ℕ → List Item → List Item
+before [] items = items
+before (b ∷ bs) items = joined (b ∷ bs) items
+
+-- whole lines that are no dot lines
+unfoldable pub IsPlain : List ℕ → Type 0
+IsPlain block = (xs : List ℕ) → items_of (block ++ xs) ≡ before block (items_of xs)
+
+abbrev pub no_newline : List ℕ → Bool
+no_newline bytes = list_all (λ b. not (b == 10)) bytes
+
+-- lines of a block, and then a line without its newline
+pub record IsPending (bytes : List ℕ) (start : ℕ) : Type 0 where
+  pub within : start ≤ length bytes
+  pub plain : IsPlain (take start bytes)
+  pub unended : no_newline (drop start bytes) ≡ true
+
+-- the same, with its newline
+pub record IsLine (bytes : List ℕ) (start : ℕ) : Type 0 where
+  pub line : List ℕ
+  pub line_is : drop start bytes ≡ line ++ 10 ∷ []
+  pub within : start < length bytes
+  pub plain : IsPlain (take start bytes)
+  pub unended : no_newline line ≡ true
+
+-- nothing after these items changes which of them are up to the last dot line
+unfoldable pub EndWhole : List Item → Type 0
+EndWhole items = (rest : List Item) → to_last_dot (items ++ rest) ≡ items ++ to_last_dot rest
+
+-- the bytes `bytes` waited, and `piece` came: some items were answered, and the bytes `bytes'` wait
+pub record Heard (rules : Rules) (bytes : List ℕ) (piece : List ℕ) (bytes' : List ℕ) (h : Table) (h' : Table) (out : Option (List ℕ)) (out' : Option (List ℕ)) (n : ℕ) (n' : ℕ) : Type 0 where
+  pub items : List Item
+  pub cuts : (xs : List ℕ) → items_of (bytes ++ (piece ++ xs)) ≡ items ++ items_of (bytes' ++ xs)
+  pub whole : EndWhole items
+  pub said : Said rules h items out out' n n' h'
+
+-- the same, and the writer failed at one of them
+pub record HeardBroke (rules : Rules) (bytes : List ℕ) (piece : List ℕ) (h : Table) (h' : Table) (out : Option (List ℕ)) (out' : Option (List ℕ)) (n : ℕ) (n' : ℕ) : Type 0 where
+  pub items : List Item
+  pub cuts : (xs : List ℕ) → items_of (bytes ++ (piece ++ xs)) ≡ items ++ items_of xs
+  pub whole : EndWhole items
+  pub broke : Broke rules h items out out' n n' h'
+
+-- an undo to a mark that was found
+pub record Undid (t : Table) (found : Option ℕ) (out : Option (List ℕ)) (out' : Option (List ℕ)) (n : ℕ) (n' : ℕ) (t' : Table) (ok : Bool) : Type 0 where
+  pub note : Note
+  pub may : UndoNote found t.held note
+  pub wrote : Writes out out' n n' (undo_reply found t note).text ok
+  pub table : t' ≡ (undo_reply found t note).table
+
+-- a dot line obeyed
+pub record Obeyed (t : Table) (asked : Asked) (out : Option (List ℕ)) (out' : Option (List ℕ)) (n : ℕ) (n' : ℕ) (t' : Table) (ok : Bool) : Type 0 where
+  pub note : Note
+  pub may : AskedNote t asked note
+  pub wrote : Writes out out' n n' (asked_reply t asked note).text ok
+  pub table : t' ≡ (asked_reply t asked note).table
+
+-- an item answered
+pub record Answered (rules : Rules) (h : Table) (item : Item) (out : Option (List ℕ)) (out' : Option (List ℕ)) (n : ℕ) (n' : ℕ) (h' : Table) (ok : Bool) : Type 0 where
+  pub note : Note
+  pub may : MayStand rules h item note
+  pub wrote : Writes out out' n n' (reply rules h item note).text ok
+  pub table : h' ≡ (reply rules h item note).table

@@ -1,0 +1,15 @@
+//! Dry runs over streams: blocks of script and dot lines are read, and what they do is written.
+//! docs/dry-runs.md states the rules.
+#![tactic(auto)]
+
+mod ending;
+mod marks;
+mod names;
+mod obeying;
+mod orders;
+mod running;
+mod streams;
+mod talking;
+
+pub use ending::{SessionEnd, SessionEnding};
+pub use talking::session;

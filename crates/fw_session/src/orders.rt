@@ -1,0 +1,84 @@
+//! Dot lines.
+ghost use Rattle.std.specs.Prelude.{◌≡◌, take, drop};
+ghost use Rattle.fw_session.specs.Replies.{asked, asked_in, named_in, is_end_blank};
+ghost use Rattle.fw_session.specs.Orders.{asked_by};
+
+use crate::names::{Name, name_in};
+
+/// What a dot line asks for.
+#[derive(Drop)]
+pub(crate) enum Order {
+    Undo,
+    Save,
+    Print,
+    Mark(Name),
+    UndoTo(Name),
+    Unknown,
+}
+
+/// What a dot line asks for.
+pub(crate) fn order_of(line: &[u8]) -> Order
+    ensures { asked_by result ≡ asked line.now }
+{
+    let mut length = line.len();
+    while length > 0 && is_end_blank(line[length - 1]) {
+        length -= 1;
+    }
+    order_in(&line[..length])
+}
+
+/// The same of a line without the blanks at its end.
+fn order_in(word: &[u8]) -> Order
+    ensures { asked_by result ≡ asked_in word.now }
+{
+    if word == b".undo".as_slice() {
+        Order::Undo
+    } else if word == b".save".as_slice() {
+        Order::Save
+    } else if word == b".print".as_slice() {
+        Order::Print
+    } else {
+        named_order_in(word)
+    }
+}
+
+/// The same of a line with a name, if it has one.
+fn named_order_in(word: &[u8]) -> Order
+    ensures { asked_by result ≡ named_in word.now }
+{
+    let front = front_of(word);
+    if front == b".mark".as_slice() {
+        match name_in(behind_of(word)) {
+            Some(name) => Order::Mark(name),
+            None => Order::Unknown,
+        }
+    } else if front == b".undo".as_slice() {
+        match name_in(behind_of(word)) {
+            Some(name) => Order::UndoTo(name),
+            None => Order::Unknown,
+        }
+    } else {
+        Order::Unknown
+    }
+}
+
+/// The first five bytes.
+fn front_of(word: &[u8]) -> &[u8]
+    ensures { result.now ≡ take 5 word.now }
+{
+    &word[..word.len().min(5)]
+}
+
+/// What stands behind the first five bytes.
+fn behind_of(word: &[u8]) -> &[u8]
+    ensures { result.now ≡ drop 5 word.now }
+{
+    &word[word.len().min(5)..]
+}
+
+/// Whether a byte is dropped at the end of a dot line.
+fn is_end_blank(byte: u8) -> bool
+    ensures { result ≡ is_end_blank byte }
+{
+    byte == b' ' || byte == b'\t' || byte == b'\r' || byte == b'\n'
+}

@@ -1,0 +1,90 @@
+//! Blocks: a script is read, run, and what it comes to is written.
+ghost use Rattle.std.specs.Prelude.{◌≡◌, ℕ, List, Option, ◌+◌, ◌≤◌, ◌++◌, [], length};
+ghost use Rattle.fw_session.specs.Input.{Block};
+ghost use Rattle.fw_session.specs.Replies.{ending_name, ending_line};
+ghost use Rattle.fw_session.specs.Hearing.{Answered};
+ghost use Rattle.fw_session.specs.Streams.{Writes};
+ghost use Rattle.fw_session.specs.Tables.{table_in};
+ghost use Rattle.hush_run.specs.Runs.{rules};
+
+use crate::streams::write_text;
+use arrayvec::ArrayVec;
+use env_session::Session;
+use hush_run::{Ending, Limits, Outcome, Stubs, run};
+use hush_syntax::{FaultKind, Script};
+use itoa::Buffer;
+use std::alloc::Global;
+use std::io::Write;
+
+/// Runs a block, and writes what it has to say.
+pub(crate) fn run_block<W: Write>(
+    alloc: Global,
+    session: &mut Session,
+    stubs: &Stubs,
+    limits: &Limits,
+    block: Vec<u8>,
+    output: &mut W,
+    written: &mut u64,
+) -> bool
+    ensures { (names : List (Option (List ℕ))) → Answered (rules stubs.now limits.now) (table_in session.old names) (Block block.items) (W.contents output.old) (W.contents output.new) written.old written.new (table_in session.new names) result }
+{
+    match Script::parse(alloc, block) {
+        Ok(script) => {
+            let outcome = run(alloc, session, &script, stubs, limits);
+            write_outcome(&outcome, output, written)
+        }
+        Err(fault) => match fault.kind {
+            FaultKind::Memory => write_text(output, b"[Memory]\n", written),
+            _ => write_text(output, b"[Syntax]\n", written),
+        },
+    }
+}
+
+/// Writes the text of a run, and how it ended.
+fn write_outcome<W: Write>(outcome: &Outcome, output: &mut W, written: &mut u64) -> bool
+    ensures { Writes (W.contents output.old) (W.contents output.new) written.old written.new (outcome.now.text.items ++ ending_line outcome.now.ending outcome.now.status outcome.now.steps) result }
+{
+    let line = ending_line(outcome);
+    write_text(output, &outcome.text, written) && write_text(output, &line, written)
+}
+
+/// `[ENDING STATUS STEPS]` and a newline.
+fn ending_line(outcome: &Outcome) -> ArrayVec<u8, 64>
+    ensures { result.items ≡ ending_line outcome.now.ending outcome.now.status outcome.now.steps }
+{
+    let mut line = ArrayVec::new();
+    put(&mut line, b"[");
+    put(&mut line, name_of(outcome.ending));
+    put(&mut line, b" ");
+    put(&mut line, Buffer::new().format(outcome.status).as_bytes());
+    put(&mut line, b" ");
+    put(&mut line, Buffer::new().format(outcome.steps).as_bytes());
+    put(&mut line, b"]\n");
+    line
+}
+
+/// Puts a short text behind a line.
+fn put(line: &mut ArrayVec<u8, 64>, text: &[u8])
+    requires { length line.old.items + length text.now ≤ 64 }
+    ensures { line.new.items ≡ line.old.items ++ text.now }
+{
+    for byte in text {
+        line.push(*byte);
+    }
+}
+
+/// The name of an ending.
+fn name_of(ending: Ending) -> &'static [u8]
+    ensures name { result.now ≡ ending_name ending }
+    ensures short { length result.now ≤ 8 }
+{
+    match ending {
+        Ending::Finished => b"Finished",
+        Ending::Exited => b"Exited",
+        Ending::Steps => b"Steps",
+        Ending::Depth => b"Depth",
+        Ending::Word => b"Word",
+        Ending::Output => b"Output",
+        Ending::Memory => b"Memory",
+    }
+}

@@ -1,0 +1,228 @@
+//! A session over a reader and a writer.
+ghost use Rattle.std.specs.Prelude.{◌≡◌, ◌+◌, ◌≤◌, ◌<◌, ◌++◌, [], ◌∷◌, ℕ, List, Option, length, take, drop};
+ghost use Rattle.fw_session.specs.Input.{Block, Dot, items_of};
+ghost use Rattle.fw_session.specs.Tables.{table_in, table_of, names_of, unnamed};
+ghost use Rattle.fw_session.specs.Ends.{Says, Ends};
+ghost use Rattle.fw_session.specs.Hearing.{IsPending, IsLine, block_items};
+ghost use Rattle.fw_session.specs.Talks.{Hears, HearsByte, HearsLine, Finishes};
+ghost use Rattle.hush_run.specs.Runs.{rules};
+
+use crate::ending::{SessionEnd, SessionEnding, Stop};
+use crate::marks::{Names, unnamed};
+use crate::obeying::obey;
+use crate::orders::order_of;
+use crate::running::run_block;
+use env_session::Session;
+use hush_run::{Limits, Stubs};
+use std::alloc::Global;
+use std::io::{Read, Write};
+use std::mem;
+
+/// The most bytes that are handled.
+const INPUT_LIMIT: usize = 16_777_216;
+
+/// How many bytes one read asks for at the most.
+const PIECE: usize = 4_096;
+
+/// A session with the part of its input that waits.
+#[derive(Drop)]
+pub(crate) struct Talk {
+    alloc: Global,
+    session: Session,
+    /// The names of its marks.
+    names: Names,
+    /// The block that is being read, and behind it the line that is being read.
+    bytes: Vec<u8>,
+    /// Where that line begins.
+    start: usize,
+    written: u64,
+}
+
+/// Answers blocks of script and dot lines, until the reader ends.
+pub fn session<R: Read, W: Write>(
+    alloc: Global,
+    session: Session,
+    stubs: &Stubs,
+    limits: &Limits,
+    input: &mut R,
+    output: &mut W,
+) -> SessionEnd
+    ensures { (names : List (Option (List ℕ))) × Ends result.ending (rules stubs.now limits.now) (unnamed session) (R.remaining input.old) (R.remaining input.new) (W.contents output.old) (W.contents output.new) result.read result.written (table_in result.session names) }
+{
+    let names = unnamed(&session);
+    let mut talk = Talk {
+        alloc,
+        session,
+        names,
+        bytes: Vec::new(alloc),
+        start: 0,
+        written: 0,
+    };
+    let mut piece = [0u8; PIECE];
+    let mut read: usize = 0;
+    while read < INPUT_LIMIT {
+        let most = (INPUT_LIMIT - read).min(PIECE);
+        match input.read(&mut piece[..most]) {
+            Err(_) => return ended(talk, SessionEnding::ReadFault, read),
+            Ok(0) => return finished(talk, stubs, limits, output, read),
+            Ok(count) => {
+                read += count;
+                match hear(&mut talk, stubs, limits, output, &piece[..count]) {
+                    Ok(()) => {}
+                    Err(Stop::Write) => return ended(talk, SessionEnding::WriteFault, read),
+                    Err(Stop::Memory) => return ended(talk, SessionEnding::Memory, read),
+                }
+            }
+        }
+    }
+    match input.read(&mut piece[..1]) {
+        Err(_) => ended(talk, SessionEnding::ReadFault, read),
+        Ok(0) => finished(talk, stubs, limits, output, read),
+        Ok(_) => ended(talk, SessionEnding::TooLong, read),
+    }
+}
+
+fn ended(talk: Talk, ending: SessionEnding, read: usize) -> SessionEnd
+    ensures session { result.session ≡ talk.session }
+    ensures ending { result.ending ≡ ending }
+    ensures read { result.read ≡ read }
+    ensures written { result.written ≡ talk.written }
+{
+    SessionEnd {
+        session: talk.session,
+        ending,
+        read: read as u64,
+        written: talk.written,
+    }
+}
+
+/// The input has ended: what waits is answered.
+fn finished<W: Write>(
+    talk: Talk,
+    stubs: &Stubs,
+    limits: &Limits,
+    output: &mut W,
+    read: usize,
+) -> SessionEnd
+    requires { IsPending talk.bytes.items talk.start }
+    ensures read { result.read ≡ read }
+    ensures ends { (names : List (Option (List ℕ))) × Finishes (rules stubs.now limits.now) (table_of talk) talk.bytes.items (W.contents output.old) (W.contents output.new) talk.written result.written (table_in result.session names) result.ending }
+{
+    let mut talk = talk;
+    if answer_rest(&mut talk, stubs, limits, output) {
+        ended(talk, SessionEnding::Done, read)
+    } else {
+        ended(talk, SessionEnding::WriteFault, read)
+    }
+}
+
+/// Answers what waits at the end of the input.
+fn answer_rest<W: Write>(talk: &mut Talk, stubs: &Stubs, limits: &Limits, output: &mut W) -> bool
+    requires { IsPending talk.old.bytes.items talk.old.start }
+    ensures { Says (rules stubs.now limits.now) (table_of talk.old) (items_of talk.old.bytes.items) (W.contents output.old) (W.contents output.new) talk.old.written talk.new.written (table_of talk.new) result }
+{
+    if talk.start < talk.bytes.len() && talk.bytes[talk.start] == b'.' {
+        answer_dot(talk, stubs, limits, output)
+    } else {
+        answer_block(talk, stubs, limits, output)
+    }
+}
+
+/// Answers the dot line that is there as far as it goes, and before it the block.
+fn answer_dot<W: Write>(talk: &mut Talk, stubs: &Stubs, limits: &Limits, output: &mut W) -> bool
+    requires { talk.old.start ≤ length talk.old.bytes.items }
+    ensures empty { talk.new.bytes.items ≡ [] }
+    ensures start { talk.new.start ≡ 0 }
+    ensures says { Says (rules stubs.now limits.now) (table_of talk.old) (block_items (take talk.old.start talk.old.bytes.items) ++ Dot (drop talk.old.start talk.old.bytes.items) ∷ []) (W.contents output.old) (W.contents output.new) talk.old.written talk.new.written (table_of talk.new) result }
+{
+    let order = order_of(&talk.bytes[talk.start..]);
+    talk.bytes.truncate(talk.start);
+    talk.start = 0;
+    answer_block(talk, stubs, limits, output)
+        && obey(
+            &mut talk.session,
+            &mut talk.names,
+            order,
+            output,
+            &mut talk.written,
+        )
+}
+
+/// Answers the block that waits, if it has bytes.
+fn answer_block<W: Write>(talk: &mut Talk, stubs: &Stubs, limits: &Limits, output: &mut W) -> bool
+    ensures empty { talk.new.bytes.items ≡ [] }
+    ensures start { talk.new.start ≡ talk.old.start }
+    ensures says { Says (rules stubs.now limits.now) (table_of talk.old) (block_items talk.old.bytes.items) (W.contents output.old) (W.contents output.new) talk.old.written talk.new.written (table_of talk.new) result }
+{
+    if talk.bytes.is_empty() {
+        return true;
+    }
+    let block = mem::replace(&mut talk.bytes, Vec::new(talk.alloc));
+    run_block(
+        talk.alloc,
+        &mut talk.session,
+        stubs,
+        limits,
+        block,
+        output,
+        &mut talk.written,
+    )
+}
+
+/// Handles a piece of the input.
+fn hear<W: Write>(
+    talk: &mut Talk,
+    stubs: &Stubs,
+    limits: &Limits,
+    output: &mut W,
+    piece: &[u8],
+) -> Result<(), Stop>
+    requires { IsPending talk.old.bytes.items talk.old.start }
+    ensures { Hears (rules stubs.now limits.now) piece.now talk.old talk.new (W.contents output.old) (W.contents output.new) result }
+{
+    for byte in piece {
+        match hear_byte(talk, stubs, limits, output, *byte) {
+            Ok(()) => {}
+            Err(stop) => return Err(stop),
+        }
+    }
+    Ok(())
+}
+
+/// Handles one byte of the input.
+fn hear_byte<W: Write>(
+    talk: &mut Talk,
+    stubs: &Stubs,
+    limits: &Limits,
+    output: &mut W,
+    byte: u8,
+) -> Result<(), Stop>
+    requires { IsPending talk.old.bytes.items talk.old.start }
+    ensures { HearsByte (rules stubs.now limits.now) byte talk.old talk.new (W.contents output.old) (W.contents output.new) result }
+{
+    match talk.bytes.push(byte) {
+        Err(_) => Err(Stop::Memory),
+        Ok(()) => {
+            if byte != b'\n' {
+                Ok(())
+            } else if hear_line(talk, stubs, limits, output) {
+                Ok(())
+            } else {
+                Err(Stop::Write)
+            }
+        }
+    }
+}
+
+/// Handles a whole line.
+fn hear_line<W: Write>(talk: &mut Talk, stubs: &Stubs, limits: &Limits, output: &mut W) -> bool
+    requires { IsLine talk.old.bytes.items talk.old.start }
+    ensures { HearsLine (rules stubs.now limits.now) talk.old talk.new (W.contents output.old) (W.contents output.new) result }
+{
+    if talk.bytes[talk.start] == b'.' {
+        answer_dot(talk, stubs, limits, output)
+    } else {
+        talk.start = talk.bytes.len();
+        true
+    }
+}
