@@ -9,6 +9,7 @@ mod defaulting;
 mod keeping;
 mod lines;
 mod many;
+mod pages;
 mod runs;
 mod scripts;
 mod sessions;
@@ -16,6 +17,7 @@ mod showing;
 mod texts;
 mod variables;
 mod whole_runs;
+mod whole_sessions;
 
 use std::io;
 
@@ -28,5 +30,6 @@ fn main(rt: HostRuntime) -> io::Result<()> {
     sessions::sweep(rt.alloc(), &mut rt.stdout())?;
     scripts::sweep(rt.alloc(), &mut rt.stdout())?;
     runs::sweep(rt.alloc(), &mut rt.stdout())?;
-    whole_runs::sweep(rt.alloc(), &mut rt.stdout())
+    whole_runs::sweep(rt.alloc(), &mut rt.stdout())?;
+    whole_sessions::sweep(rt.alloc(), &mut rt.stdout())
 }

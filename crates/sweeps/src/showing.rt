@@ -1,48 +1,13 @@
 //! `show` on one variable.
-ghost use Rattle.std.specs.Prelude.{◌≤◌};
 
 use crate::lines::{refused, row, wrong};
+use crate::pages::Page;
 use envimg_core::Order;
 use fw_tools::{StreamFault, ToolEnd, show};
 use std::alloc::Global;
 use std::io::{self, Write};
 
 const ONE_VARIABLE: [u8; 9] = [0xD2, 0x96, 0x62, 0x2B, b'a', b'=', b'b', 0, 0];
-
-/// A writer of at most 64 bytes that takes no memory.
-#[derive(Drop)]
-struct Page {
-    bytes: [u8; 64],
-    len: usize,
-    ghost within: { len ≤ 64 },
-}
-
-impl Page {
-    fn new() -> Page {
-        Page {
-            bytes: [0; 64],
-            len: 0,
-        }
-    }
-
-    fn text(&self) -> &[u8] {
-        &self.bytes[..self.len]
-    }
-}
-
-impl Write for Page {
-    fn write(&mut self, text: &[u8]) -> io::Result<usize> {
-        let start = self.len;
-        let count = text.len().min(64 - start);
-        self.bytes[start..start + count].copy_from_slice(&text[..count]);
-        self.len = start + count;
-        Ok(count)
-    }
-
-    fn flush(&mut self) -> io::Result<()> {
-        Ok(())
-    }
-}
 
 /// One call over fresh streams.
 fn show_once(alloc: Global, output: &mut Page, errors: &mut Page) -> ToolEnd {
