@@ -8,6 +8,9 @@ use std::io::{self, Write};
 /// More room than the variables take.
 const ROOM: u32 = 4096;
 
+/// The value of each variable.
+const ONE: Option<&[u8]> = Some(b"1");
+
 /// `v`, three digits and a letter.
 fn name(i: u32, letter: u8) -> [u8; 5] {
     [
@@ -109,21 +112,35 @@ fn copy<W: Write>(alloc: Global, out: &mut W, vars: &Vars) -> io::Result<Option<
     Ok(vars.copy(alloc, ROOM).ok())
 }
 
-/// Writes, removals, and a copy of what they leave, with writes into it.
-pub fn sweep<W: Write>(alloc: Global, out: &mut W) -> io::Result<()> {
-    let one = Some(b"1".as_slice());
-    let defaults = Vars::empty(alloc, 1);
-    let mut vars = Vars::empty(alloc, ROOM);
-    write_all(out, &mut vars, (0, 130), b'a', one, &defaults)?;
-    count_row(out, "many written", &vars, 130, b"130 variables")?;
-    write_all(out, &mut vars, (95, 105), b'b', one, &defaults)?;
-    count_row(out, "written between", &vars, 140, b"140 variables")?;
-    write_all(out, &mut vars, (5, 105), b'a', None, &defaults)?;
-    count_row(out, "taken out", &vars, 40, b"40 variables")?;
-    let Some(mut copied) = copy(alloc, out, &vars)? else {
+/// Names written one behind another, then between others, and taken out again.
+fn change<W: Write>(out: &mut W, vars: &mut Vars, defaults: &Vars) -> io::Result<()> {
+    write_all(out, vars, (0, 130), b'a', ONE, defaults)?;
+    count_row(out, "many written", vars, 130, b"130 variables")?;
+    write_all(out, vars, (95, 105), b'b', ONE, defaults)?;
+    count_row(out, "written between", vars, 140, b"140 variables")?;
+    write_all(out, vars, (5, 105), b'a', None, defaults)?;
+    count_row(out, "taken out", vars, 40, b"40 variables")
+}
+
+/// A copy of what that leaves, with writes into it.
+fn change_copy<W: Write>(
+    alloc: Global,
+    out: &mut W,
+    vars: &Vars,
+    defaults: &Vars,
+) -> io::Result<()> {
+    let Some(mut copied) = copy(alloc, out, vars)? else {
         return wrong(out, "copy of many");
     };
-    write_all(out, &mut copied, (0, 40), b'c', one, &defaults)?;
+    write_all(out, &mut copied, (0, 40), b'c', ONE, defaults)?;
     count_row(out, "written into a copy", &copied, 80, b"80 variables")?;
-    count_row(out, "copied from", &vars, 40, b"40 variables")
+    count_row(out, "copied from", vars, 40, b"40 variables")
+}
+
+/// Writes, removals, and a copy of what they leave, with writes into it.
+pub fn sweep<W: Write>(alloc: Global, out: &mut W) -> io::Result<()> {
+    let defaults = Vars::empty(alloc, 1);
+    let mut vars = Vars::empty(alloc, ROOM);
+    change(out, &mut vars, &defaults)?;
+    change_copy(alloc, out, &vars, &defaults)
 }

@@ -102,9 +102,12 @@ const COMMANDS: [Command; 11] = [
         text: b"saveenv",
         status: 0,
         printed: b"Saved copy 1\n",
-        after: b"b=first 1 2;p=101;r=3;",
+        after: BEHIND_COMMANDS,
     },
 ];
+
+/// The variables behind the last command.
+const BEHIND_COMMANDS: &[u8] = b"b=first 1 2;p=101;r=3;";
 
 /// Names, with what their deletion has to leave.
 const DELETIONS: [Command; 2] = [
@@ -288,7 +291,42 @@ fn deleted<W: Write>(
     row(out, "deletion", name)
 }
 
-/// Local variables, a value, and the commands one after the other.
+/// Two local variables, the first of them with two values one after the other.
+fn set_all<W: Write>(alloc: Global, out: &mut W, locals: &mut Locals) -> io::Result<()> {
+    let (old, new, other) = (
+        b"old".as_slice(),
+        b"1 2".as_slice(),
+        b" behind it".as_slice(),
+    );
+    set(alloc, out, locals, (b"x", old), [None, None])?;
+    set(alloc, out, locals, (b"x", new), [Some(old), None])?;
+    set(alloc, out, locals, (b"y", other), [Some(new), None])
+}
+
+/// The commands one after the other.
+fn carry_all<W: Write>(alloc: Global, out: &mut W, run: &mut Run) -> io::Result<()> {
+    let mut before = ALL;
+    for command in &COMMANDS {
+        carry(alloc, out, run, command, before)?;
+        before = command.after;
+    }
+    if is_bad(&run.session) {
+        return wrong(out, "saveenv");
+    }
+    Ok(())
+}
+
+/// The deletions behind them.
+fn delete_all<W: Write>(alloc: Global, out: &mut W, session: &mut Session) -> io::Result<()> {
+    let mut before = BEHIND_COMMANDS;
+    for deletion in &DELETIONS {
+        deleted(alloc, out, session, deletion, before)?;
+        before = deletion.after;
+    }
+    Ok(())
+}
+
+/// Local variables, a value, the commands and the deletions.
 pub fn sweep<W: Write>(alloc: Global, out: &mut W) -> io::Result<()> {
     let (Some(session), Some(stubs)) = (start(alloc, out)?, stand_ins(alloc, out)?) else {
         return wrong(out, "start of a run, made again");
@@ -299,32 +337,8 @@ pub fn sweep<W: Write>(alloc: Global, out: &mut W) -> io::Result<()> {
         locals: Locals::new(alloc),
         fields: FieldBuffer::new(alloc),
     };
-    let (old, new, other) = (
-        b"old".as_slice(),
-        b"1 2".as_slice(),
-        b" behind it".as_slice(),
-    );
-    set(alloc, out, &mut run.locals, (b"x", old), [None, None])?;
-    set(alloc, out, &mut run.locals, (b"x", new), [Some(old), None])?;
-    set(
-        alloc,
-        out,
-        &mut run.locals,
-        (b"y", other),
-        [Some(new), None],
-    )?;
+    set_all(alloc, out, &mut run.locals)?;
     assigned(alloc, out, &mut run)?;
-    let mut before = ALL;
-    for command in &COMMANDS {
-        carry(alloc, out, &mut run, command, before)?;
-        before = command.after;
-    }
-    if is_bad(&run.session) {
-        return wrong(out, "saveenv");
-    }
-    for deletion in &DELETIONS {
-        deleted(alloc, out, &mut run.session, deletion, before)?;
-        before = deletion.after;
-    }
-    Ok(())
+    carry_all(alloc, out, &mut run)?;
+    delete_all(alloc, out, &mut run.session)
 }
