@@ -38,7 +38,9 @@ pub(crate) struct Talk {
     written: u64,
 }
 
-/// Answers blocks of script and dot lines, until the reader ends.
+/// Answers the blocks of script and the dot lines of `input` on `output`, each before more is read, until the reader ends,
+/// a stream fails, or memory for the block that is being read is refused; `SessionEnding` says which. At most 16,777,217
+/// bytes are read. docs/dry-runs.md has the rules.
 pub fn session<R: Read, W: Write>(
     alloc: Global,
     session: Session,
