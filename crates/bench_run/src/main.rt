@@ -1,6 +1,7 @@
-//! One measurement of runs: `bench_run STEPS RUNS`, with the script on standard input. It is run so many times, one run
-//! after the other over one session, and parsed anew before each; with 0 everything is made ready and nothing is run.
-//! Prints the status, the counted steps and the length of the text of the last, and then the nanoseconds that all took.
+//! One measurement of runs: `bench_run STEPS RUNS [TIMES]`, with the script on standard input. It is run so many times, one
+//! run after the other over one session, and parsed anew before each; with 0 everything is made ready and nothing is run.
+//! Behind each run its text is written so many times, or not at all without a third word. Prints the status, the counted
+//! steps and the length of the text of the last, and then the nanoseconds that all took.
 //! Without words there is one run with a thousand steps, and no time is printed.
 #![tactic(auto)]
 
@@ -9,7 +10,7 @@ use envimg_core::{Geometry, Layout};
 use envvars_core::Vars;
 use hush_run::{Limits, Stubs, run};
 use hush_syntax::Script;
-use std::io::{Error, ErrorKind, Read};
+use std::io::{Error, ErrorKind, Read, Write};
 use std::time::Instant;
 use std::{env, io};
 
@@ -33,16 +34,17 @@ fn main(rt: HostRuntime) -> io::Result<()> {
     let words: Vec<String> = env::args(&rt)?.collect(rt.alloc())?;
     let mut source = Vec::new(rt.alloc());
     rt.stdin().read_to_end(&mut source)?;
-    let (steps, runs, timed) = match words.as_slice() {
-        [_, steps, runs] => (number(steps), number(runs), true),
-        _ => (1000, 1, false),
+    let (steps, runs, times, timed) = match words.as_slice() {
+        [_, steps, runs] => (number(steps), number(runs), 0, true),
+        [_, steps, runs, times] => (number(steps), number(runs), number(times), true),
+        _ => (1000, 1, 0, false),
     };
     let Ran {
         status,
         steps,
         printed,
         taken,
-    } = measure(&rt, &source, steps, runs)?;
+    } = measure(&rt, &source, steps, runs, times)?;
     if timed {
         println!(rt; "{status} {steps} {printed} {taken}")
     } else {
@@ -55,8 +57,8 @@ fn number(word: &str) -> u32 {
     word.parse::<u32>().unwrap_or(0)
 }
 
-/// Runs a script so many times.
-fn measure(rt: &HostRuntime, source: &[u8], steps: u32, runs: u32) -> io::Result<Ran> {
+/// Runs a script so many times, and writes the text of each run so many times.
+fn measure(rt: &HostRuntime, source: &[u8], steps: u32, runs: u32, times: u32) -> io::Result<Ran> {
     let mut session = session(rt)?;
     let Ok(stubs) = Stubs::parse(rt.alloc(), b"") else {
         return Err(Error::from(ErrorKind::OutOfMemory));
@@ -79,6 +81,9 @@ fn measure(rt: &HostRuntime, source: &[u8], steps: u32, runs: u32) -> io::Result
         ran.status = outcome.status;
         ran.steps = outcome.steps;
         ran.printed = outcome.text.len();
+        for _ in 0..times {
+            rt.stdout().write_all(&outcome.text)?;
+        }
     }
     ran.taken = start.elapsed(rt)?.as_nanos();
     Ok(ran)

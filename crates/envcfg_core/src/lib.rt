@@ -14,8 +14,6 @@ mod numerals;
 mod place;
 mod set_script;
 mod spelled;
-#[cfg(test)]
-mod tests;
 
 pub use config::{Config, ConfigFault, parse_config};
 pub use entry::{TextEntry, TextFault};

@@ -11,8 +11,6 @@ pub mod laws;
 mod order;
 mod pieces;
 mod state;
-#[cfg(test)]
-mod tests;
 mod writer;
 
 pub use area::entries;

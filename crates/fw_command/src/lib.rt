@@ -13,8 +13,6 @@ mod numbers;
 mod opening;
 mod running;
 mod talking;
-#[cfg(test)]
-mod tests;
 mod word_faults;
 
 pub use running::{program, words_failed};

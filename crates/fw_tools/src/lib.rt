@@ -11,8 +11,6 @@ mod saying;
 mod setting;
 mod showing;
 pub mod streams;
-#[cfg(test)]
-mod tests;
 
 pub use defaulting::defaults;
 pub use ending::{StreamFault, ToolEnd};

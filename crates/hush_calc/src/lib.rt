@@ -15,6 +15,3 @@ pub use calculation::{Calculated, SetexprFault, setexpr};
 pub use expression::test;
 pub use fields::Fields;
 pub use hexadecimal::Hexadecimal;
-
-#[cfg(test)]
-mod tests;

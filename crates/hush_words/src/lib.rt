@@ -21,6 +21,3 @@ pub use parts::{Part, Span, Word};
 pub use reading::read;
 pub use text::Text;
 pub use tokens::{Lexed, Token, TokenKind};
-
-#[cfg(test)]
-mod tests;

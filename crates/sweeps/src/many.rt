@@ -23,7 +23,7 @@ fn name(i: u32, letter: u8) -> [u8; 5] {
 }
 
 /// A number that is another where the variables are others, but for chance.
-fn digest(vars: &Vars) -> u32 {
+pub fn digest(vars: &Vars) -> u32 {
     let mut sum = 0u32;
     for line in vars.lines() {
         for byte in line {

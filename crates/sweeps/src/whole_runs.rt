@@ -1,4 +1,5 @@
-//! `run` on a script with every form and commands that print, write, delete, start, save and end it.
+//! `run` on a script with every form and commands that print, write, delete, start, save and end it, and on one of 1,000
+//! commands.
 
 use crate::lines::{refused, row, wrong};
 use crate::sessions::{shows, start};
@@ -22,8 +23,41 @@ printenv n; env exists w && saveenv; nosuch; env delete -f w; exit 4; echo no
 const TEXT: &[u8] =
     b"[a]\n[b]\n[a b]\n[]\n+ mmc 1\n## Error: \"none\" not defined\n1\nn=3\nSaved copy 1\nUnknown command 'nosuch' - try 'help'\n";
 
-/// The variables behind it.
-const AFTER: &[u8] = b"n=3;p=1;q=2;r=3;";
+/// More steps than either script takes.
+const STEPS: u32 = 2_000;
+
+/// A script, and what a run of it comes to with ample memory.
+#[derive(Clone, Copy)]
+struct Wanted {
+    name: &'static str,
+    /// The script is this, so many times.
+    piece: &'static [u8],
+    times: usize,
+    ending: Ending,
+    status: u8,
+    text: &'static [u8],
+    after: &'static [u8],
+}
+
+const EVERY_FORM: Wanted = Wanted {
+    name: "run",
+    piece: SCRIPT,
+    times: 1,
+    ending: Ending::Exited,
+    status: 4,
+    text: TEXT,
+    after: b"n=3;p=1;q=2;r=3;",
+};
+
+const LONG: Wanted = Wanted {
+    name: "long run",
+    piece: b"setexpr n 0$n + 1; true; true; true; true; true; true; true; true; true\n",
+    times: 100,
+    ending: Ending::Finished,
+    status: 0,
+    text: b"",
+    after: b"n=64;p=1;q=2;r=3;",
+};
 
 /// What a run needs beside its session.
 #[derive(Drop)]
@@ -32,8 +66,12 @@ struct Needs {
     stubs: Stubs,
 }
 
-fn parse_once(alloc: Global) -> Result<Option<Needs>, AllocError> {
-    let script = Script::parse(alloc, Vec::from_slice(alloc, SCRIPT)?).ok();
+fn parse_once(alloc: Global, wanted: Wanted) -> Result<Option<Needs>, AllocError> {
+    let mut text = Vec::new(alloc);
+    for _ in 0..wanted.times {
+        text.extend_from_slice(wanted.piece)?;
+    }
+    let script = Script::parse(alloc, text).ok();
     let stubs = Stubs::parse(alloc, b"mmc 3\n").ok();
     match (script, stubs) {
         (Some(script), Some(stubs)) => Ok(Some(Needs { script, stubs })),
@@ -42,12 +80,12 @@ fn parse_once(alloc: Global) -> Result<Option<Needs>, AllocError> {
 }
 
 /// What a run needs, parsed again where memory ran out.
-fn parse<W: Write>(alloc: Global, out: &mut W) -> io::Result<Option<Needs>> {
-    if let Ok(Some(needs)) = parse_once(alloc) {
+fn parse<W: Write>(alloc: Global, out: &mut W, wanted: Wanted) -> io::Result<Option<Needs>> {
+    if let Ok(Some(needs)) = parse_once(alloc, wanted) {
         return Ok(Some(needs));
     }
     refused(out, "what a run needs")?;
-    Ok(parse_once(alloc).unwrap_or(None))
+    Ok(parse_once(alloc, wanted).unwrap_or(None))
 }
 
 /// A session, and what a run over it came to.
@@ -86,46 +124,58 @@ fn is_same(one: &Done, other: &Done) -> bool {
 }
 
 /// The row of a run that memory didn't stop.
-fn told<W: Write>(out: &mut W, done: &Done) -> io::Result<()> {
-    let is_right = done.outcome.ending == Ending::Exited
-        && done.outcome.status == 4
-        && done.outcome.text.as_slice() == TEXT;
-    if is_right && shows(&done.session, AFTER) {
-        row(out, "run", AFTER)
+fn told<W: Write>(out: &mut W, wanted: Wanted, done: &Done) -> io::Result<()> {
+    let is_right = done.outcome.ending == wanted.ending
+        && done.outcome.status == wanted.status
+        && done.outcome.text.as_slice() == wanted.text;
+    if is_right && shows(&done.session, wanted.after) {
+        row(out, wanted.name, wanted.after)
     } else {
-        wrong(out, "run")
+        wrong(out, wanted.name)
     }
 }
 
 /// A run that memory stopped: it has left what a run leaves that may count no more steps than it did. Then the script is
 /// run again.
-fn stopped<W: Write>(alloc: Global, out: &mut W, needs: &Needs, done: &Done) -> io::Result<()> {
+fn stopped<W: Write>(
+    alloc: Global,
+    out: &mut W,
+    wanted: Wanted,
+    needs: &Needs,
+    done: &Done,
+) -> io::Result<()> {
     let Some(limited) = run_anew(alloc, out, needs, done.outcome.steps)? else {
         return wrong(out, "run with fewer steps");
     };
     if !is_same(done, &limited) {
         return wrong(out, "run that memory stopped");
     }
-    refused(out, "run")?;
-    match run_anew(alloc, out, needs, 1000)? {
-        Some(again) => told(out, &again),
+    refused(out, wanted.name)?;
+    match run_anew(alloc, out, needs, STEPS)? {
+        Some(again) => told(out, wanted, &again),
         None => wrong(out, "run, made again"),
     }
 }
 
-/// The script over a session that was just started, and again over another one where memory ran out.
-pub fn sweep<W: Write>(alloc: Global, out: &mut W) -> io::Result<()> {
-    let Some(needs) = parse(alloc, out)? else {
+/// A script over a session that was just started, and again over another one where memory ran out.
+fn sweep_script<W: Write>(alloc: Global, out: &mut W, wanted: Wanted) -> io::Result<()> {
+    let Some(needs) = parse(alloc, out, wanted)? else {
         return wrong(out, "what a run needs, made again");
     };
-    match run_anew(alloc, out, &needs, 1000)? {
+    match run_anew(alloc, out, &needs, STEPS)? {
         Some(done) => {
             if done.outcome.ending == Ending::Memory {
-                stopped(alloc, out, &needs, &done)
+                stopped(alloc, out, wanted, &needs, &done)
             } else {
-                told(out, &done)
+                told(out, wanted, &done)
             }
         }
         None => wrong(out, "start of a run"),
     }
+}
+
+/// Both scripts.
+pub fn sweep<W: Write>(alloc: Global, out: &mut W) -> io::Result<()> {
+    sweep_script(alloc, out, EVERY_FORM)?;
+    sweep_script(alloc, out, LONG)
 }

@@ -1,0 +1,172 @@
+//! Inputs that are damaged: small images with each of their bits turned, small texts and scripts cut at each place, a hundred
+//! thousand of all kinds changed at random, and long ones that are made to cost much. `mutations COUNT SEED` changes so many,
+//! from another seed; without words it is 100,000 from seed 1.
+//!
+//! What holds of every input is asserted: each call returns; a refusal is one of the named and has its place in the input;
+//! what is refused changes nothing; a good image that is written again has the same variables; a script that is accepted runs
+//! to a named ending within its limits; an undo brings back every byte. Where it doesn't hold the program says which input
+//! it was, and ends with status 1.
+//!
+//! It prints a table: how many inputs there were of each kind, and for each answer how often it came and the sum of its
+//! numbers, which are places of faults and checksums of what was read, printed and left. `scripts/mutations.py` works the
+//! same table out from docs/, with readers of its own.
+#![tactic(auto)]
+
+mod answers;
+mod bits;
+mod changes;
+mod configurations;
+mod hostile;
+mod images;
+mod kinds;
+mod random;
+mod samples;
+mod scripts;
+mod sessions;
+mod stand_ins;
+mod texts;
+
+use answers::{Fault, Tally};
+use kinds::{KINDS, Kind};
+use random::Random;
+use std::alloc::Global;
+use std::process::ExitCode;
+use std::{env, io};
+
+/// How many inputs are changed at random without words.
+const COUNT: u64 = 100_000;
+
+/// The seed without words.
+const SEED: u64 = 1;
+
+fn main(rt: HostRuntime) -> io::Result<ExitCode> {
+    let words: Vec<String> = env::args(&rt)?.collect(rt.alloc())?;
+    let (count, seed) = match words.as_slice() {
+        [_, count, seed] => (number(count), number(seed)),
+        _ => (COUNT, SEED),
+    };
+    let is_right = turn(&rt)? && cut(&rt)? && change(&rt, count, seed)? && be_hostile(&rt)?;
+    Ok(ExitCode::from(u8::from(!is_right)))
+}
+
+/// The number that a word says, or 0.
+fn number(word: &str) -> u64 {
+    word.parse::<u64>().unwrap_or(0)
+}
+
+/// Prints what was answered, or what is wrong. Answers whether nothing is.
+fn told(rt: &HostRuntime, title: &str, tally: &Tally, made: Result<(), Fault>) -> io::Result<bool> {
+    match made {
+        Ok(()) => {
+            tally.print(rt, title)?;
+            Ok(true)
+        }
+        Err(fault) => {
+            let count = tally.count();
+            println!(rt; "{title}, the input behind {count}: {fault:?}")?;
+            Ok(false)
+        }
+    }
+}
+
+/// Each bit turned.
+fn turn(rt: &HostRuntime) -> io::Result<bool> {
+    let mut alone = Tally::new(rt.alloc());
+    let made = bits::images(rt.alloc(), &mut alone);
+    let mut pairs = Tally::new(rt.alloc());
+    let made_pairs = bits::pairs(rt.alloc(), &mut pairs);
+    Ok(
+        told(rt, "images, each bit turned", &alone, made)?
+            && told(rt, "pairs, each bit turned", &pairs, made_pairs)?,
+    )
+}
+
+/// Each text cut at each place.
+fn cut(rt: &HostRuntime) -> io::Result<bool> {
+    for (kind, name) in KINDS {
+        let mut tally = Tally::new(rt.alloc());
+        let made = kind.cut(rt.alloc(), &mut tally);
+        let title = format!(in rt.alloc(); "{name}, cut at each place")?;
+        if !told(rt, &title, &tally, made)? {
+            return Ok(false);
+        }
+    }
+    Ok(true)
+}
+
+/// So many inputs changed at random: as many images as texts of each kind.
+fn change(rt: &HostRuntime, count: u64, seed: u64) -> io::Result<bool> {
+    let each = count.div_ceil(6);
+    if !change_each(rt, "images", None, seed, each)? {
+        return Ok(false);
+    }
+    for (kind, name) in KINDS {
+        if !change_each(rt, name, Some(kind), seed, each)? {
+            return Ok(false);
+        }
+    }
+    Ok(true)
+}
+
+/// So many texts of a kind, or images.
+fn change_each(
+    rt: &HostRuntime,
+    name: &str,
+    kind: Option<Kind>,
+    seed: u64,
+    count: u64,
+) -> io::Result<bool> {
+    let mut tally = Tally::new(rt.alloc());
+    for number in 0..count {
+        if let Err(fault) = change_one(rt.alloc(), kind, seed, number, &mut tally) {
+            println!(rt; "{name}, number {number} of seed {seed}: {fault:?}")?;
+            return Ok(false);
+        }
+    }
+    let title = format!(in rt.alloc(); "{name}, changed at random")?;
+    tally.print(rt, &title)?;
+    Ok(true)
+}
+
+fn change_one(
+    alloc: Global,
+    kind: Option<Kind>,
+    seed: u64,
+    number: u64,
+    tally: &mut Tally,
+) -> Result<(), Fault> {
+    let answer = match kind {
+        Some(kind) => kind.mutated(alloc, &mut Random::of(seed, kind.number(), number))?,
+        None => images::mutated(alloc, &mut Random::of(seed, 0, number))?,
+    };
+    tally.add(answer)?;
+    Ok(())
+}
+
+/// The long inputs.
+fn be_hostile(rt: &HostRuntime) -> io::Result<bool> {
+    let alloc = rt.alloc();
+    let rows = [
+        (
+            "a script of a million separators",
+            hostile::separators(alloc),
+        ),
+        (
+            "a script with a long name",
+            hostile::name_in_a_script(alloc),
+        ),
+        (
+            "an import with a long name",
+            hostile::name_in_an_import(alloc),
+        ),
+        ("orders of names", hostile::orders(alloc)),
+    ];
+    for (name, made) in rows {
+        if let Err(fault) = made {
+            println!(rt; "{name}: {fault:?}")?;
+            return Ok(false);
+        }
+        println!(rt; "{name}: as it has to be")?;
+    }
+    Ok(true)
+}

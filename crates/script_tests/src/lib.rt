@@ -1,0 +1,10 @@
+//! Tests of what reads scripts: words, trees, and the commands that compute. They stand apart from those crates, so that
+//! each of them is proved once.
+#![tactic(auto)]
+
+#[cfg(test)]
+mod calculations;
+#[cfg(test)]
+mod trees;
+#[cfg(test)]
+mod words;
