@@ -3,9 +3,9 @@
 ghost use Rattle.std.specs.Prelude.{◌≡◌, ℕ, List, fold, Some, false, not, if◌then◌else◌, IfOk, OnOk, OnErr, IfSome, IsTrue, MatchOption, option_copied, option_map};
 ghost use Rattle.std.specs.List.{list_all};
 ghost use Rattle.std.specs.FinMap as env;
-ghost use Rattle.envimg_core.specs.Environment.{is_name, is_value};
+ghost use Rattle.envimg_core.specs.Environment.{is_name, is_value, IsVariable};
 ghost use Rattle.envimg_core.specs.Pieces.{with_value, after_entry};
-ghost use Rattle.envvars_store.specs.Pairs.{IsVariable, unmarked};
+ghost use Rattle.envvars_store.specs.Pairs.{unmarked};
 ghost use Rattle.envvars_core.specs.Olds.{kept, restored, has_place};
 ghost use Rattle.envvars_core.specs.Kept.{kept_entries};
 

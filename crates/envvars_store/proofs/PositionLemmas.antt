@@ -5,11 +5,10 @@ use Rattle.std.specs.FinMap.Entries.{put, find, is_sorted}
 use Rattle.std.proofs.Math.Seq.{drop-cons, take-suc}
 use Rattle.std.proofs.lemmas.List.{map-append, drop_all}
 use Rattle.std.proofs.lemmas.List.Elements.{All-append, All-cons}
-use Rattle.envimg_core.specs.Environment.{Pair, bytes_cmp, Environment}
+use Rattle.envimg_core.specs.Environment.{Pair, bytes_cmp, Environment, IsVariable}
 use Rattle.envvars_store.specs.Order.{AllBefore, StartsAfter}
 use Rattle.envvars_store.specs.Laying.{pair_of, LiesIn}
-use Rattle.envvars_store.specs.Pairs.{IsVariable}
-use Rattle.envvars_store.specs.Runs.{Run, flat, pairs, listed, variables_at, front, rest, later, IsFilled, IsFormed, AreInOrder, StandsAt, BelongsAt}
+use Rattle.envvars_store.specs.Runs.{Run, flat, pairs, listed, variables_at, front, rest, later, IsFilled, HoldsVariable, AreInOrder, StandsAt, BelongsAt}
 use Rattle.envvars_store.specs.declared.variable.Variable.{Variable}
 use Rattle.envvars_store.specs.declared.runs.Position.{Position}
 use Rattle.envvars_store.proofs.OrderLemmas.{all_before_equal, all_before_greater, all_before_push, same_name, put_between, put_over, find_at, find_missed, without, without_at, without_missed}
@@ -50,7 +49,7 @@ pub record IsForgotten (area : List ℕ) (runs new : List Run) (q : List ℕ) : 
   pub in_order : AreInOrder area new
   pub gone : listed area new ≡ without q (listed area runs)
 
-written : (area : List ℕ) (runs new : List Run) (a m b : List Variable) (p : Variable) → AreInOrder area runs → flat runs ≡ a ++ (m ++ b) → LiesIn area p → IsFormed area p → All IsFilled new → flat new ≡ a ++ p ∷ b → put bytes_cmp (pair_of area p).0 (pair_of area p).1 (listed area runs) ≡ pairs area a ++ pair_of area p ∷ pairs area b → IsWritten area runs new p
+written : (area : List ℕ) (runs new : List Run) (a m b : List Variable) (p : Variable) → AreInOrder area runs → flat runs ≡ a ++ (m ++ b) → LiesIn area p → HoldsVariable area p → All IsFilled new → flat new ≡ a ++ p ∷ b → put bytes_cmp (pair_of area p).0 (pair_of area p).1 (listed area runs) ≡ pairs area a ++ pair_of area p ∷ pairs area b → IsWritten area runs new p
 written area runs new a m b p l all lies formed filled is at =
     let new_put : listed area new ≡ put bytes_cmp (pair_of area p).0 (pair_of area p).1 (listed area runs) = ap (pairs area) is ∙ pairs_cut area a p b ∙ sym at in
     record {
@@ -58,12 +57,12 @@ written area runs new a m b p l all lies formed filled is at =
         filled = filled;
         lies = subst (All (LiesIn area)) (sym is) (joined_with (LiesIn area) a m b p (subst (All (LiesIn area)) all l.lies) lies);
         sorted = subst (λ xs. T (is_sorted bytes_cmp xs)) (sym new_put) (sorted_put (pair_of area p).0 (pair_of area p).1 (listed area runs) l.sorted);
-        formed = subst (All (IsFormed area)) (sym is) (joined_with (IsFormed area) a m b p (subst (All (IsFormed area)) all l.formed) formed);
+        formed = subst (All (HoldsVariable area)) (sym is) (joined_with (HoldsVariable area) a m b p (subst (All (HoldsVariable area)) all l.formed) formed);
       };
       is_put = new_put;
     }
 
-pub written_over : (area : List ℕ) (runs new : List Run) (s : Position) (p : Variable) → AreInOrder area runs → LiesIn area p → IsFormed area p → StandsAt (pair_of area p).0 area runs s → All IsFilled new → flat new ≡ front runs s ++ p ∷ later runs s → IsWritten area runs new p
+pub written_over : (area : List ℕ) (runs new : List Run) (s : Position) (p : Variable) → AreInOrder area runs → LiesIn area p → HoldsVariable area p → StandsAt (pair_of area p).0 area runs s → All IsFilled new → flat new ≡ front runs s ++ p ∷ later runs s → IsWritten area runs new p
 written_over area runs new s p l lies formed f filled is =
     let there = variable_there (variables_at runs s.run) s.index f.index in
     let all : flat runs ≡ front runs s ++ there.0 ∷ later runs s = position_cut runs s there.0 f.run f.index there.1 in
@@ -71,7 +70,7 @@ written_over area runs new s p l lies formed f filled is =
     (ap (put bytes_cmp (pair_of area p).0 (pair_of area p).1) (ap (pairs area) all ∙ pairs_cut area (front runs s) there.0 (later runs s))
     ∙ put_over (pair_of area p).0 (pair_of area p).1 (pairs area (front runs s)) (pair_of area there.0) (pairs area (later runs s)) f.before (f.equal there.0 there.1))
 
-pub written_into : (area : List ℕ) (runs new : List Run) (s : Position) (p : Variable) → AreInOrder area runs → LiesIn area p → IsFormed area p → BelongsAt (pair_of area p).0 area runs s → All IsFilled new → flat new ≡ front runs s ++ p ∷ rest runs s → IsWritten area runs new p
+pub written_into : (area : List ℕ) (runs new : List Run) (s : Position) (p : Variable) → AreInOrder area runs → LiesIn area p → HoldsVariable area p → BelongsAt (pair_of area p).0 area runs s → All IsFilled new → flat new ≡ front runs s ++ p ∷ rest runs s → IsWritten area runs new p
 written_into area runs new s p l lies formed g filled is =
     let all : flat runs ≡ front runs s ++ rest runs s = gap_whole runs s in
     written area runs new (front runs s) [] (rest runs s) p l all lies formed filled is
@@ -92,7 +91,7 @@ forgotten area runs new s q l f filled is =
         filled = filled;
         lies = subst (All (LiesIn area)) (sym is) (kept (LiesIn area) (front runs s) (there.0 ∷ []) (later runs s) (subst (All (LiesIn area)) all l.lies));
         sorted = subst (λ xs. T (is_sorted bytes_cmp xs)) (sym new_gone) (sorted_without q (listed area runs) l.sorted);
-        formed = subst (All (IsFormed area)) (sym is) (kept (IsFormed area) (front runs s) (there.0 ∷ []) (later runs s) (subst (All (IsFormed area)) all l.formed));
+        formed = subst (All (HoldsVariable area)) (sym is) (kept (HoldsVariable area) (front runs s) (there.0 ∷ []) (later runs s) (subst (All (HoldsVariable area)) all l.formed));
       };
       gone = new_gone;
     }
@@ -112,7 +111,7 @@ laid_same area runs new l filled is =
       filled = filled;
       lies = subst (All (LiesIn area)) (sym is) l.lies;
       sorted = subst (λ xs. T (is_sorted bytes_cmp (pairs area xs))) (sym is) l.sorted;
-      formed = subst (All (IsFormed area)) (sym is) l.formed;
+      formed = subst (All (HoldsVariable area)) (sym is) l.formed;
     }
 
 -- what a look-up finds
@@ -165,7 +164,7 @@ laid_none area =
     }
 
 -- each variable of runs has its form
-formed_pairs : (area : List ℕ) (variables : List Variable) → All (IsFormed area) variables → All IsVariable (pairs area variables)
+formed_pairs : (area : List ℕ) (variables : List Variable) → All (HoldsVariable area) variables → All IsVariable (pairs area variables)
 formed_pairs area [] h = λ k d w. absurd (omega arith)
 formed_pairs area (x ∷ variables) h = All-cons IsVariable (pair_of area x) (pairs area variables) (h 0 x (omega arith)) (formed_pairs area variables (λ k d w. h (suc k) d (omega arith)))
 
@@ -186,7 +185,7 @@ laid_lent lent area runs more e f l = subst (λ a. AreInOrder a runs) (sym e) (s
 
 pub got_formed : (area lent : List ℕ) (runs : List Run) (s : Position) (q v : List ℕ) (x : Variable) → AreInOrder area runs → StandsAt q area runs s → x ≡ get_or (variables_at runs s.run) s.index x → lent ≡ area → v ≡ (pair_of lent x).1 → IsVariable (q, v)
 got_formed area lent runs s q v x l f e at is =
-    let formed : IsFormed area x = All_back (IsFormed area) (front runs s) (x ∷ later runs s) (subst (All (IsFormed area)) (position_cut runs s x f.run f.index e) l.formed) 0 x (omega arith) in
+    let formed : HoldsVariable area x = All_back (HoldsVariable area) (front runs s) (x ∷ later runs s) (subst (All (HoldsVariable area)) (position_cut runs s x f.run f.index e) l.formed) 0 x (omega arith) in
     let given : v ≡ (pair_of area x).1 = is ∙ ap (λ a. (pair_of a x).1) at in
     let with_name : IsVariable (q, (pair_of area x).1) = subst (λ n. IsVariable (n, (pair_of area x).1)) (sym (same_name q (pair_of area x).0 (f.equal x e))) formed in
     subst (λ w. IsVariable (q, w)) (sym given) with_name

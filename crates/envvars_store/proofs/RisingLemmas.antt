@@ -6,18 +6,17 @@ use Rattle.std.proofs.lemmas.Cmp.{nat_list_cmp_total}
 use Rattle.std.proofs.lemmas.List.{map-append}
 use Rattle.std.proofs.lemmas.List.Elements.{All-push}
 use Rattle.memchr.specs.Find.{IsFirstByte, is_byte}
-use Rattle.envimg_core.specs.Environment.{is_equals, bytes_cmp, Environment}
+use Rattle.envimg_core.specs.Environment.{is_equals, bytes_cmp, Environment, IsVariable}
 use Rattle.envimg_core.specs.Pieces.{entries_of, entry_of, has_name, after_entry}
 use Rattle.envvars_store.specs.Order.{AllBefore}
 use Rattle.envvars_store.specs.Laying.{pair_of, LiesIn}
 use Rattle.envvars_store.specs.Pieces.{IsPiece, IsNextSpan}
-use Rattle.envvars_store.specs.Runs.{Run, flat, pairs, listed, IsFilled, IsFormed, AreInOrder}
+use Rattle.envvars_store.specs.Runs.{Run, flat, pairs, listed, IsFilled, HoldsVariable, AreInOrder}
 use Rattle.envvars_store.specs.declared.variable.Span.{Span}
 use Rattle.envvars_store.specs.declared.variable.Variable.{Variable}
 use Rattle.envvars_store.specs.declared.variable.Variable.TheVariants.{Loaded}
 use Rattle.envvars_store.proofs.OrderLemmas.{turned, put_between, all_before_push}
 use Rattle.envvars_store.proofs.MapLemmas.{env_of, env_put, sorted_put}
-use Rattle.envvars_store.specs.Pairs.{IsVariable}
 use Rattle.envvars_store.proofs.CompareLemmas.{not_empty}
 use Rattle.envvars_store.proofs.EntryLemmas.{before_at, piece_read, piece_long, name_part, place_formed, place_gives}
 
@@ -47,7 +46,7 @@ risen area runs new at last p l rises next filled is =
         filled = filled;
         lies = subst (All (LiesIn area)) (sym is) (All-push (LiesIn area) (flat runs) (Loaded p) l.lies next.span);
         sorted = subst (λ xs. T (is_sorted bytes_cmp xs)) (sym put_is) (sorted_put n v es l.sorted);
-        formed = subst (All (IsFormed area)) (sym is) (All-push (IsFormed area) (flat runs) (Loaded p) l.formed next.formed);
+        formed = subst (All (HoldsVariable area)) (sym is) (All-push (HoldsVariable area) (flat runs) (Loaded p) l.formed next.formed);
       };
       is_put = put_is;
       rises = λ q g. subst (AllBefore q) (sym more) (all_before_push q es (n, v) (rises q (after_both q n last g next.rising)) g);

@@ -8,7 +8,7 @@ use Rattle.std.proofs.lemmas.Cmp.{nat_list_cmp_total}
 use Rattle.std.proofs.lemmas.List.{map-append}
 use Rattle.envimg_core.specs.Environment.{Pair, bytes_cmp, Environment}
 use Rattle.envvars_store.specs.Laying.{pair_of, LiesIn}
-use Rattle.envvars_store.specs.Runs.{Run, flat, listed, IsFilled, IsFormed, AreInOrder, AreTexts}
+use Rattle.envvars_store.specs.Runs.{Run, flat, listed, IsFilled, HoldsVariable, AreInOrder, AreTexts}
 use Rattle.envvars_store.specs.Names.{IsNameOf, AreNamesOf}
 use Rattle.envvars_store.specs.declared.naming.Names.{Names}
 use Rattle.envvars_store.specs.declared.variable.Span.{Span}
@@ -59,7 +59,7 @@ last_taken old new m x p count t at filled is called =
       filled = filled;
       lies = All_front (LiesIn []) (flat new) (x ∷ []) (subst (All (LiesIn [])) is t.in_order.lies);
       sorted = subst (λ xs. T (is_sorted bytes_cmp xs)) (sym gone) (sorted_without p.0 (listed [] old) t.in_order.sorted);
-      formed = All_front (IsFormed []) (flat new) (x ∷ []) (subst (All (IsFormed [])) is t.in_order.formed);
+      formed = All_front (HoldsVariable []) (flat new) (x ∷ []) (subst (All (HoldsVariable [])) is t.in_order.formed);
     } in
     record {
       texts = texts_removed old new m p.0 count true t at in_order gone (ap is_some had);

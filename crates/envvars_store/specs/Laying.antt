@@ -1,7 +1,6 @@
 -- How a variable lies in bytes: its name, a '=' in the middle, its value.
 use Rattle.std.specs.Prelude.{◌≡◌, ℕ, ◌+◌, ◌<◌, ◌≤◌, List, length, take, drop, slice_index, slice_range}
-use Rattle.envimg_core.specs.Environment.{Pair}
-use Rattle.envvars_store.specs.Pairs.{IsVariable}
+use Rattle.envimg_core.specs.Environment.{Pair, IsVariable}
 use Rattle.envvars_store.specs.declared.variable.Span.{Span}
 use Rattle.envvars_store.specs.declared.variable.Variable.{Variable}
 use Rattle.envvars_store.specs.declared.variable.Variable.TheVariants.{Loaded, Written}

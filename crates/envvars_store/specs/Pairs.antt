@@ -1,15 +1,7 @@
--- One variable: a name and its value, each of its form.
-use Rattle.std.specs.Prelude.{ℕ, ◌-◌, List, [], ◌∷◌, ◌++◌, length, take, IsTrue, Option, Some, None, unwrap_or, if◌then◌else◌}
+-- A variable that is lent, and a value with a mark.
+use Rattle.std.specs.Prelude.{ℕ, ◌-◌, List, [], ◌∷◌, ◌++◌, length, take, Option, Some, None, unwrap_or, if◌then◌else◌}
 use Rattle.std.specs.Borrow.{Bor}
-use Rattle.envimg_core.specs.Environment.{Pair, is_empty, is_name, is_value}
-
--- the name is a name, and the value a value
-abbrev pub IsVariable : Pair → Type 0
-IsVariable p = IsTrue (is_name p.0) × IsTrue (is_value p.1)
-
--- name, '=' and value in one text
-abbrev pub joined : Pair → List ℕ
-joined p = p.0 ++ 61 ∷ p.1
+use Rattle.envimg_core.specs.Environment.{Pair, is_empty}
 
 -- a variable whose name and value are lent
 abbrev pub lent_pair : Bor (List ℕ) × Bor (List ℕ) → Pair

@@ -1,11 +1,10 @@
 -- One piece of a data area.
 use Rattle.std.specs.Prelude.{◌≡◌, ℕ, ◌+◌, ◌<◌, false, List, [], ◌∷◌, ◌++◌, length, drop, filter, fold, All, slice_range}
 use Rattle.std.specs.declared.cmp.Ordering.TheVariants.{Greater}
-use Rattle.envimg_core.specs.Environment.{is_zero, is_equals, bytes_cmp, Environment}
+use Rattle.envimg_core.specs.Environment.{is_zero, is_equals, bytes_cmp, Environment, IsVariable}
 use Rattle.envimg_core.specs.Pieces.{entries_of, entry_of, has_name, after_entry}
 use Rattle.std.specs.FinMap.{insert}
 use Rattle.envvars_store.specs.Laying.{IsSpan}
-use Rattle.envvars_store.specs.Pairs.{IsVariable}
 use Rattle.envvars_store.specs.declared.variable.Span.{Span}
 
 -- a piece stands from one index to another, it is not empty, and the entries from its start on are its own and those behind it

@@ -3,8 +3,7 @@ use Rattle.std.specs.Prelude.{◌≡◌, ℕ, zero, suc, ◌<◌, ◌≤◌, T, 
 use Rattle.std.specs.declared.alloc.Global.{Global}
 use Rattle.std.specs.FinMap.Entries.{is_sorted}
 use Rattle.std.specs.declared.cmp.Ordering.TheVariants.{Equal}
-use Rattle.envimg_core.specs.Environment.{Pair, bytes_cmp}
-use Rattle.envvars_store.specs.Pairs.{IsVariable}
+use Rattle.envimg_core.specs.Environment.{Pair, bytes_cmp, IsVariable}
 use Rattle.envvars_store.specs.Order.{AllBefore, StartsAfter}
 use Rattle.envvars_store.specs.Laying.{pair_of, LiesIn}
 use Rattle.envvars_store.specs.declared.variable.Variable.{Variable}
@@ -47,15 +46,15 @@ abbrev pub IsFilled : Run → Type 0
 IsFilled r = 0 < vec_len r
 
 -- its name and value have their forms
-abbrev pub IsFormed : List ℕ → Variable → Type 0
-IsFormed area s = IsVariable (pair_of area s)
+abbrev pub HoldsVariable : List ℕ → Variable → Type 0
+HoldsVariable area s = IsVariable (pair_of area s)
 
 -- what holds of the runs over an area: no run is empty, each span lies in the area, and the variables stand in the order of their names, each of its form
 pub record AreInOrder (area : List ℕ) (runs : List Run) : Type 0 where
   pub filled : All IsFilled runs
   pub lies : All (LiesIn area) (flat runs)
   pub sorted : T (is_sorted bytes_cmp (listed area runs))
-  pub formed : All (IsFormed area) (flat runs)
+  pub formed : All (HoldsVariable area) (flat runs)
 
 -- what holds of runs of texts alone: they are in order over no area, and the count is that of their variables
 pub record AreTexts (runs : List Run) (count : ℕ) : Type 0 where

@@ -4,10 +4,10 @@ ghost use Rattle.std.specs.FinMap.Entries.{put, where_key};
 ghost use Rattle.envimg_core.specs.Environment.{bytes_cmp};
 ghost use Rattle.envvars_store.specs.Laying.{pair_of, LiesIn};
 ghost use Rattle.envvars_store.specs.Order.{is_other};
-ghost use Rattle.envvars_store.specs.Runs.{listed, IsFormed, AreInOrder};
+ghost use Rattle.envvars_store.specs.Runs.{listed, HoldsVariable, AreInOrder};
 
 use crate::finding::locate_near;
-use crate::runs::{Run, Position, insert_at, remove_at, replace_at};
+use crate::runs::{Position, Run, insert_at, remove_at, replace_at};
 use crate::variable::Variable;
 use std::alloc::{AllocError, Global};
 
@@ -21,7 +21,7 @@ pub(crate) fn set(
 ) -> Result<(), AllocError>
     requires in_order { AreInOrder area.now runs.old.items }
     requires lies { LiesIn area.now variable }
-    requires formed { IsFormed area.now variable }
+    requires formed { HoldsVariable area.now variable }
     ensures in_order { AreInOrder area.now runs.new.items }
     ensures ok { OnOk result (listed area.now runs.new.items
         ≡ put bytes_cmp (pair_of area.now variable).0 (pair_of area.now variable).1 (listed area.now runs.old.items)) }

@@ -3,8 +3,8 @@ ghost use Rattle.std.specs.Prelude.{◌≡◌, IfOk, All};
 ghost use Rattle.envvars_store.specs.Runs.{flat, IsFilled};
 
 use crate::runs::{FEW, Run};
-use crate::variable::Variable;
 use crate::store::Variables;
+use crate::variable::Variable;
 use std::alloc::{AllocError, Global};
 
 /// The most bytes that are copied at once.

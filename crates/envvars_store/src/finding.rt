@@ -7,7 +7,7 @@ ghost use Rattle.envvars_store.specs.Order.{IsFound, IsGap, AllBefore, StartsAft
 ghost use Rattle.envvars_store.specs.Runs.{pairs, listed, variables_at, front, rest, AreInOrder, IsRunFor, StandsAt, BelongsAt};
 
 use crate::comparing::order;
-use crate::runs::{Run, Position};
+use crate::runs::{Position, Run};
 use crate::variable::Variable;
 use std::cmp::Ordering;
 
@@ -26,7 +26,12 @@ pub(crate) fn locate(area: &[u8], runs: &[Run], name: &[u8]) -> Result<Position,
 }
 
 /// The same, from a position where it may be. Any position may be given; another than the right one only costs time.
-pub(crate) fn locate_near(area: &[u8], runs: &[Run], name: &[u8], hint: Position) -> Result<Position, Position>
+pub(crate) fn locate_near(
+    area: &[u8],
+    runs: &[Run],
+    name: &[u8],
+    hint: Position,
+) -> Result<Position, Position>
     requires { AreInOrder area.now runs.now }
     ensures { MatchResult result (StandsAt name.now area.now runs.now) (BelongsAt name.now area.now runs.now) }
 {

@@ -1,7 +1,8 @@
 // The variables one after another, in the order of their names.
 ghost use Rattle.std.specs.Prelude.{◌≡◌, [], ◌∷◌, map, All, MatchOption};
 ghost use Rattle.std.specs.Iterator.{YieldsFirstBy, item_count};
-ghost use Rattle.envvars_store.specs.Pairs.{joined, lent_pair, lent_line};
+ghost use Rattle.envvars_store.specs.Pairs.{lent_pair, lent_line};
+ghost use Rattle.envimg_core.specs.Environment.{joined};
 ghost use Rattle.envvars_store.specs.Runs.{flat, listed, IsFilled, AreInOrder};
 
 use crate::runs::Run;
@@ -112,7 +113,7 @@ impl<'a> Model for Lines<'a> {
     ghost use Rattle.std.specs.Prelude.{List, ℕ, map, All};
     ghost use Rattle.envvars_store.specs.Laying.{LiesIn};
     ghost use Rattle.envvars_store.specs.Runs.{pairs};
-    ghost use Rattle.envvars_store.specs.Pairs.{joined};
+    ghost use Rattle.envimg_core.specs.Environment.{joined};
 
     ghost Value = { List (List ℕ) };
 

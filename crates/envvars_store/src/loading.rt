@@ -7,13 +7,13 @@ ghost use Rattle.envvars_store.specs.Laying.{IsSpan};
 ghost use Rattle.envvars_store.specs.Runs.{listed, AreInOrder};
 ghost use Rattle.envimg_core.specs.Environment.{is_equals};
 
+use crate::changing::{forget, set};
 use crate::comparing::rising_end;
 use crate::copying::copied;
-use crate::changing::{forget, set};
 use crate::runs::{Run, add, end_of, run_of_one};
 use crate::scanning::{near, rises};
-use crate::variable::{Span, Variable};
 use crate::store::Variables;
+use crate::variable::{Span, Variable};
 use memchr::memchr;
 use std::alloc::{AllocError, Global};
 

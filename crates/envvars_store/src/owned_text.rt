@@ -1,7 +1,7 @@
 // One variable as a text with memory of its own.
 ghost use Rattle.std.specs.Prelude.{◌≡◌, ◌++◌, None, Some, IfOk, IfErr, IfSome, IsTrue, option_copied, option_map};
-ghost use Rattle.envimg_core.specs.Environment.{is_name, is_value};
-ghost use Rattle.envvars_store.specs.Pairs.{IsVariable, joined, marked, unmarked};
+ghost use Rattle.envimg_core.specs.Environment.{is_name, is_value, IsVariable, joined};
+ghost use Rattle.envvars_store.specs.Pairs.{marked, unmarked};
 
 use crate::naming::NO_NUMBER;
 use std::alloc::{AllocError, Global};

@@ -1,17 +1,16 @@
 // The variables in the order of their names.
 ghost use Rattle.std.specs.Prelude.{◌≡◌, ◌↔◌, map, All, IsTrue, IsOk, IsSome, OnOk, OnErr, IfErr, IfSome, option_map};
 ghost use Rattle.std.specs.FinMap as env;
-ghost use Rattle.envimg_core.specs.Environment.{bytes_cmp, is_name, is_value};
+ghost use Rattle.envimg_core.specs.Environment.{bytes_cmp, is_name, is_value, IsVariable, joined};
 ghost use Rattle.envvars_store.specs.Runs.{listed, AreInOrder};
-ghost use Rattle.envvars_store.specs.Pairs.{IsVariable, joined};
 
+use crate::changing::{forget, set};
 use crate::finding::locate;
 use crate::iterating::{Iter, Lines};
 use crate::naming::NO_NUMBER;
-use crate::changing::{forget, set};
-use crate::runs::{Run, Position, replace_at};
-use crate::variable::Variable;
 use crate::owned_text::Text;
+use crate::runs::{Position, Run, replace_at};
+use crate::variable::Variable;
 use std::alloc::{AllocError, Global};
 use std::marker::Model;
 
@@ -74,7 +73,13 @@ pub(crate) fn find_among<'a>(
         Ok(at) => {
             let variable = &runs[at.run][at.index];
             let number = variable.number();
-            (Some(variable.value(area)), Hint { position: at, number })
+            (
+                Some(variable.value(area)),
+                Hint {
+                    position: at,
+                    number,
+                },
+            )
         }
         Err(position) => (
             None,

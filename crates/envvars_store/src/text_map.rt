@@ -1,15 +1,15 @@
 // Variables in texts of their own, which can be taken out again.
 ghost use Rattle.std.specs.Prelude.{◌≡◌, ◌+◌, Some, All, true, false, OnOk, OnErr, IfSome, MatchOption, option_map};
 ghost use Rattle.std.specs.FinMap as env;
-ghost use Rattle.envvars_store.specs.Pairs.{IsVariable};
+ghost use Rattle.envimg_core.specs.Environment.{IsVariable};
 
+use crate::changing::{forget, set};
 use crate::iterating::Iter;
 use crate::naming::Names;
-use crate::changing::{forget, set};
-use crate::runs::{Run, take_last};
-use crate::variable::Variable;
-use crate::store::{Hint, find_among};
 use crate::owned_text::Text;
+use crate::runs::{Run, take_last};
+use crate::store::{Hint, find_among};
+use crate::variable::Variable;
 use std::alloc::{AllocError, Global};
 use std::marker::Model;
 
@@ -100,7 +100,13 @@ impl Texts {
         let alloc = *self.runs.allocator();
         self.names.reserve(text.name())?;
         let text = text.numbered(hint.number);
-        set(alloc, &[], &mut self.runs, Variable::Written(text), hint.position)?;
+        set(
+            alloc,
+            &[],
+            &mut self.runs,
+            Variable::Written(text),
+            hint.position,
+        )?;
         self.count = count;
         Ok(())
     }

@@ -1,7 +1,7 @@
 // One variable: a span of the loaded area, or a text of its own.
 ghost use Rattle.std.specs.Prelude.{◌≡◌, IfOk};
 ghost use Rattle.envvars_store.specs.Laying.{pair_of, LiesIn};
-ghost use Rattle.envvars_store.specs.Pairs.{joined};
+ghost use Rattle.envimg_core.specs.Environment.{joined};
 
 use crate::naming::NO_NUMBER;
 use crate::owned_text::Text;

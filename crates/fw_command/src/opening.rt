@@ -38,7 +38,8 @@ pub(crate) fn read_source<X: Files + AllocGlobal, E: Write>(
     path: &str,
     errors: &mut E,
 ) -> Option<Source>
-    ensures { MatchOption result (SaysSome (E.contents errors.old) (E.contents errors.new)) (λ source. (source.geometry.order ≡ order) × (E.contents errors.new ≡ E.contents errors.old)) }
+    ensures { MatchOption result (SaysSome (E.contents errors.old) (E.contents errors.new))
+        (λ source. (source.geometry.order ≡ order) × (E.contents errors.new ≡ E.contents errors.old)) }
 {
     let config = value_or_say(rt.alloc(), errors, path, read_config(rt, path))?;
     let geometry = Geometry::with_order(config.layout, config.size, order)?;
@@ -108,7 +109,9 @@ pub(crate) fn open<X: Files + AllocGlobal, E: Write>(
     default: Option<&str>,
     errors: &mut E,
 ) -> Option<Session>
-    ensures { MatchOption result (SaysSome (E.contents errors.old) (E.contents errors.new)) (λ session. IsOpening source.now.geometry.order session × AppendsFront (E.contents errors.old) (E.contents errors.new) (warning session.now.current)) }
+    ensures { MatchOption result (SaysSome (E.contents errors.old) (E.contents errors.new))
+        (λ session. IsOpening source.now.geometry.order session × AppendsFront (E.contents errors.old)
+        (E.contents errors.new) (warning session.now.current)) }
 {
     match session_over(rt, source, default) {
         Ok(session) => {

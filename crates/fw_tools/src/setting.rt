@@ -28,7 +28,10 @@ pub fn setenv<E: Write>(
     words: &[&[u8]],
     errors: &mut E,
 ) -> ToolEnd
-    ensures { Changes (record { session = session.old; errors = E.contents errors.old }) (record { session = session.new; errors = E.contents errors.new }) (set_effect session.old name.now (joined (map (λ w. w.now) words.now))) ((name.now, Some (joined (map (λ w. w.now) words.now))) ∷ []) result }
+    ensures { Changes (record { session = session.old; errors = E.contents errors.old })
+        (record { session = session.new; errors = E.contents errors.new })
+        (set_effect session.old name.now (joined (map (λ w. w.now) words.now)))
+        ((name.now, Some (joined (map (λ w. w.now) words.now))) ∷ []) result }
 {
     match join(alloc, words) {
         Err(_) => ToolEnd::stopped(StreamFault::Memory),
@@ -42,7 +45,9 @@ pub fn setenv<E: Write>(
 ///
 /// At the fault `Memory` nothing is printed, no copy has changed, and some first lines stand.
 pub fn set_script<E: Write>(session: &mut Session, entries: &[TextEntry], errors: &mut E) -> ToolEnd
-    ensures { Changes (record { session = session.old; errors = E.contents errors.old }) (record { session = session.new; errors = E.contents errors.new }) (script_effect session.old (map entry_in entries.now)) (map entry_in entries.now) result }
+    ensures { Changes (record { session = session.old; errors = E.contents errors.old })
+        (record { session = session.new; errors = E.contents errors.new })
+        (script_effect session.old (map entry_in entries.now)) (map entry_in entries.now) result }
 {
     for entry in entries {
         match write_entry(session, entry) {
@@ -59,7 +64,9 @@ pub fn set_script<E: Write>(session: &mut Session, entries: &[TextEntry], errors
 ///
 /// At the fault `Memory` nothing is printed, no copy has changed, and some first entries stand.
 pub fn import<E: Write>(session: &mut Session, entries: &[TextEntry], errors: &mut E) -> ToolEnd
-    ensures { Changes (record { session = session.old; errors = E.contents errors.old }) (record { session = session.new; errors = E.contents errors.new }) (import_effect session.old (map entry_in entries.now)) (map entry_in entries.now) result }
+    ensures { Changes (record { session = session.old; errors = E.contents errors.old })
+        (record { session = session.new; errors = E.contents errors.new })
+        (import_effect session.old (map entry_in entries.now)) (map entry_in entries.now) result }
 {
     let report = session.import(entries);
     match report.ending {
@@ -73,7 +80,9 @@ pub fn import<E: Write>(session: &mut Session, entries: &[TextEntry], errors: &m
 
 /// Writes a value and saves.
 fn set_value<E: Write>(session: &mut Session, name: &[u8], value: &[u8], errors: &mut E) -> ToolEnd
-    ensures { Changes (record { session = session.old; errors = E.contents errors.old }) (record { session = session.new; errors = E.contents errors.new }) (set_effect session.old name.now value.now) ((name.now, Some value.now) ∷ []) result }
+    ensures { Changes (record { session = session.old; errors = E.contents errors.old })
+        (record { session = session.new; errors = E.contents errors.new }) (set_effect session.old name.now value.now)
+        ((name.now, Some value.now) ∷ []) result }
 {
     match write(session, name, Some(value)) {
         Err(_) => ToolEnd::stopped(StreamFault::Memory),
@@ -109,7 +118,8 @@ fn write_entry(session: &mut Session, entry: &TextEntry) -> Result<Option<Refusa
 
 /// Saves, and prints nothing.
 fn save(session: &mut Session) -> ToolEnd
-    ensures { MatchOption result.fault ((session.new ≡ saved session.old) × (result.status ≡ 0)) (λ fault. (fault ≡ StreamFault.Memory) × (session.new ≡ session.old) × (result.status ≡ 1)) }
+    ensures { MatchOption result.fault ((session.new ≡ saved session.old) × (result.status ≡ 0))
+        (λ fault. (fault ≡ StreamFault.Memory) × (session.new ≡ session.old) × (result.status ≡ 1)) }
 {
     match session.save() {
         Err(_) => ToolEnd::stopped(StreamFault::Memory),

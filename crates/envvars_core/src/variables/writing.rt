@@ -7,7 +7,7 @@ ghost use Rattle.envimg_core.specs.Environment.{used, is_name, is_value};
 ghost use Rattle.envimg_core.specs.Pieces.{with_value};
 ghost use Rattle.envvars_core.specs.Attributes.{flags_name};
 ghost use Rattle.envvars_core.specs.Refusals.{given, after, access_refusal, refusal, full, answer_of, IsAccepted};
-ghost use Rattle.envvars_core.specs.Variables.{IsWas, IsFormed};
+ghost use Rattle.envvars_core.specs.Variables.{IsWas, IsFormedWas};
 
 use super::Vars;
 use crate::attributes::Access;
@@ -243,7 +243,7 @@ impl Vars {
         ensures written { OnOk result
             (self.new ≡ record self.old { env = after self.old.env name.now (option_copied new.entry) }) }
         ensures was { IfOk result (λ was. IsWas was name.now (env.get self.old.env name.now)) }
-        ensures formed { IfOk result IsFormed }
+        ensures formed { IfOk result IsFormedWas }
         ensures unchanged { OnErr result (self.new ≡ self.old) }
     {
         prove!(self.used <= self.room);

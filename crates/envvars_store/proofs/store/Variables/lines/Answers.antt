@@ -1,5 +1,5 @@
 use Rattle.std.proofs.Common.{map, ap, ◌∙◌}
-use Rattle.envvars_store.specs.Pairs.{joined}
+use Rattle.envimg_core.specs.Environment.{joined}
 use Rattle.envvars_store.proofs.MapLemmas.{given_entries}
 use Rattle.envvars_store.proofs.PositionLemmas.{formed_entries, listed_lent}
 use Rattle.envvars_store.proofs.store.Variables.lines.Goals as goal
