@@ -1,4 +1,5 @@
-// What no clause says: that the calls can succeed, and rows worked by hand.
+//! What no clause says: that the calls can succeed, and rows worked by hand.
+
 ghost use Rattle.std.specs.Prelude.{◌≤◌, IsTrue};
 ghost use Rattle.envimg_core.specs.Environment.{is_name, is_value};
 

@@ -6,7 +6,7 @@ ghost use Rattle.hush_syntax.specs.Scripts.{sub_at};
 mod boots;
 mod faults;
 mod hostile;
-mod trees;
+mod spelled;
 
 use hush_syntax::{Branch, Link, Node, NodeId, Operator, Part, Script, Text, Word};
 use std::alloc::{AllocError, Global};

@@ -4,44 +4,46 @@ use super::Words;
 use hush_calc::{Fields, SetexprFault, setexpr};
 use std::test::Fail;
 
+/// The words of a `setexpr`, and the value that it writes.
+const VALUES: [(&[u8], &[u8]); 33] = [
+    (b"v ff + 1", b"100"),
+    (b"v 5 - 6", b"ffffffffffffffff"),
+    (b"v 0x10 * 10", b"100"),
+    (b"v f0 | 0f", b"ff"),
+    (b"v ff % 10", b"f"),
+    (b"v 1234 | 560000", b"561234"),
+    (b"v 561200 & 1234", b"1200"),
+    (b"v 1234 ^ 561200", b"560034"),
+    (b"v 561200 + 123456", b"684656"),
+    (b"v 684656 - 123456", b"561200"),
+    (b"v 36 * 17", b"4da"),
+    (b"v 4db / 36", b"17"),
+    (b"v 4db % 36", b"1"),
+    (b"v ffffffffffffffff + 1", b"0"),
+    (b"v ffffffffffffffff * ffffffffffffffff", b"1"),
+    (b"v ffffffffffffffff / ffffffffffffffff", b"1"),
+    (b"v 8000000000000000 * 2", b"0"),
+    (b"v 0 - 1", b"ffffffffffffffff"),
+    (b"v 0 / 1", b"0"),
+    (b"v 1 % 1", b"0"),
+    (b"v FF ^ Ff", b"0"),
+    (b"v 0", b"0"),
+    (b"v 000", b"0"),
+    (b"v 0a0", b"a0"),
+    (b"v 0xAbC", b"abc"),
+    (b"v 0Xdef0", b"def0"),
+    (b"v 0x", b"0"),
+    (b"v 0xx", b"0"),
+    (b"v zz", b"0"),
+    (b"v ", b"0"),
+    (b"v -1", b"0"),
+    (b"v 123456789abcdef01", b"23456789abcdef01"),
+    (b"v 1 - sub", b"1"),
+];
+
 #[test]
 fn values_are_calculated(rt: HostRuntime) -> Result<(), Fail> {
-    let table: [(&[u8], &[u8]); 33] = [
-        (b"v ff + 1", b"100"),
-        (b"v 5 - 6", b"ffffffffffffffff"),
-        (b"v 0x10 * 10", b"100"),
-        (b"v f0 | 0f", b"ff"),
-        (b"v ff % 10", b"f"),
-        (b"v 1234 | 560000", b"561234"),
-        (b"v 561200 & 1234", b"1200"),
-        (b"v 1234 ^ 561200", b"560034"),
-        (b"v 561200 + 123456", b"684656"),
-        (b"v 684656 - 123456", b"561200"),
-        (b"v 36 * 17", b"4da"),
-        (b"v 4db / 36", b"17"),
-        (b"v 4db % 36", b"1"),
-        (b"v ffffffffffffffff + 1", b"0"),
-        (b"v ffffffffffffffff * ffffffffffffffff", b"1"),
-        (b"v ffffffffffffffff / ffffffffffffffff", b"1"),
-        (b"v 8000000000000000 * 2", b"0"),
-        (b"v 0 - 1", b"ffffffffffffffff"),
-        (b"v 0 / 1", b"0"),
-        (b"v 1 % 1", b"0"),
-        (b"v FF ^ Ff", b"0"),
-        (b"v 0", b"0"),
-        (b"v 000", b"0"),
-        (b"v 0a0", b"a0"),
-        (b"v 0xAbC", b"abc"),
-        (b"v 0Xdef0", b"def0"),
-        (b"v 0x", b"0"),
-        (b"v 0xx", b"0"),
-        (b"v zz", b"0"),
-        (b"v ", b"0"),
-        (b"v -1", b"0"),
-        (b"v 123456789abcdef01", b"23456789abcdef01"),
-        (b"v 1 - sub", b"1"),
-    ];
-    for (text, expected) in table {
+    for (text, expected) in VALUES {
         let words = Words::read(rt.alloc(), text)?;
         match setexpr(words.fields()) {
             Ok(calculated) => {
