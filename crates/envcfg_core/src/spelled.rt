@@ -86,6 +86,42 @@ fn read_value<'a>(alloc: Global, text: &'a [u8]) -> Result<ValueText<'a>, AllocE
     }
 }
 
+/// How many newlines a value's text holds, with the one that ends it, and what follows the text.
+fn skip_value(text: &[u8]) -> (usize, &[u8])
+    ensures newlines { result.0 ≡ (spelled false text.now).newlines }
+    ensures rest { result.1.now ≡ (spelled false text.now).rest }
+    ensures within { result.0 + length result.1.now ≤ length text.now }
+{
+    let mut newlines = 0;
+    let mut rest = text;
+    loop {
+        let (_, stop) = cut_plain(rest);
+        match stop {
+            Stop::End => return (newlines, &[]),
+            Stop::Newline(next) => return (newlines + 1, next),
+            Stop::Literal(literal, next) => {
+                newlines += usize::from(literal == b'\n');
+                rest = next;
+            }
+        }
+    }
+}
+
+/// What `read_behind_name` leaves: how many newlines it passes, and what follows them.
+pub(crate) fn skip_behind_name(text: &[u8]) -> (usize, &[u8])
+    ensures newlines { result.0 ≡ (behind_name text.now).newlines }
+    ensures rest { result.1.now ≡ (behind_name text.now).rest }
+    ensures within { result.0 + length result.1.now ≤ length text.now }
+{
+    let Some((first, rest)) = text.split_first() else {
+        return (0, &[]);
+    };
+    if *first == b'=' {
+        return skip_value(rest);
+    }
+    (1, rest)
+}
+
 /// Reads what stands behind a name: after `=` a value, else nothing up to the end of the line.
 pub(crate) fn read_behind_name<'a>(
     alloc: Global,
