@@ -149,9 +149,11 @@ pub entry_passed : (line n : ℕ) (text name behind : List ℕ) (newlines : ℕ)
     (e : Entry) × (entries_from line text ≡ with_first e (entries_from (line + newlines) rest))
 entry_passed line n text name behind newlines rest some h e f g named lines follows =
     let v = behind_name behind in
-    let entry : Entry = record { name = name; value = some_unless_empty v.bytes; line = line } in
-    (entry, entry_with_name line n text name behind v (some_unless_empty v.bytes) some h e f g named refl refl
-    ∙ sym (ap (λ k. with_first entry (entries_from (line + k) rest)) lines ∙ ap (λ r. with_first entry (entries_from (line + v.newlines) r)) follows))
+    let entry : Entry = record { name = name; value = some_unless_empty v.bytes; line = line } in (
+      entry,
+      entry_with_name line n text name behind v (some_unless_empty v.bytes) some h e f g named refl refl
+          ∙ sym (ap (λ k. with_first entry (entries_from (line + k) rest)) lines ∙ ap (λ r. with_first entry (entries_from (line + v.newlines) r)) follows),
+    )
 
 -- the entries passed over so far, and one more
 pub passed_more : (whole one more : Outcome) → ((es : List Entry) × (whole ≡ with_front es one)) → ((e : Entry) × (one ≡ with_first e more)) →
@@ -196,3 +198,46 @@ none_left line (b ∷ bs) h = absurd (omega (arith, eqb-true (length (b ∷ bs))
 -- what was passed as a whole is an outcome without a fault
 pub is_whole : (outcome : Outcome) → ((es : List Entry) × (outcome ≡ Ok es)) → outcome ≡ Ok (entries_in outcome)
 is_whole outcome all = all.1 ∙ ap (λ o. Ok (entries_in o)) (sym all.1)
+
+-- ---- a text has no more entries than bytes
+
+abbrev Small : ℕ → Outcome → Type 0
+Small n (Ok entries) = length entries ≤ n
+Small n (Err fault) = Unit {0}
+
+small_up : (n : ℕ) (o : Outcome) → Small n o → Small (suc n) o
+small_up n (Ok entries) h = omega (arith, h)
+small_up n (Err fault) h = tt
+
+small_cond : (n : ℕ) (b : Bool) (x y : Outcome) → Small n x → Small n y → Small n (cond b x y)
+small_cond n true x y h i = h
+small_cond n false x y h i = i
+
+small_first : (n : ℕ) (e : Entry) (o : Outcome) → Small n o → Small (suc n) (with_first e o)
+small_first n e (Ok entries) h = omega (arith, h)
+small_first n e (Err fault) h = tt
+
+small_step : (n : ℕ) (later : ℕ → List ℕ → Outcome) → ((l : ℕ) (t : List ℕ) → Small n (later l t)) → (line : ℕ) (text : List ℕ) →
+    Small (suc n) (skip_or_entry later line text)
+small_step n later each line [] = omega arith
+small_step n later each line (b ∷ bs) =
+    let text = b ∷ bs in
+    let value = behind_name (drop (position_or_len ends_name text) text) in
+    let e : Entry = record { name = before_first ends_name text; value = some_unless_empty value.bytes; line = line } in
+    small_cond (suc n) (is_blank b) _ _ (small_up n _ (each line bs))
+    (small_cond (suc n) (is_newline b) _ _ (small_up n _ (each (line + 1) bs))
+    (small_cond (suc n) (eqb b hash) _ _ (small_up n _ (each (line + 1) (after_first is_newline bs)))
+    (small_cond (suc n) (eqb (length (before_first ends_name text)) 0) (Err (EmptyName line)) _ tt (small_first n e _ (each (line + value.newlines) value.rest)))))
+
+small_within : (n line : ℕ) (text : List ℕ) → Small n (entries_within n line text)
+unfolding entries_within
+small_within zero line text = omega arith
+small_within (suc n) line text = small_step n (entries_within n) (λ l t. small_within n l t) line text
+
+small_in : (n : ℕ) (o : Outcome) → Small n o → length (entries_in o) ≤ n
+small_in n (Ok entries) h = h
+small_in n (Err fault) h = omega arith
+
+pub few_left : (line : ℕ) (text : List ℕ) → length (entries_left line text) ≤ length text
+unfolding entries_from
+few_left line text = small_in (length text) (entries_from line text) (small_within (length text) line text)

@@ -1,5 +1,5 @@
 //! A text for import whose entries are read one by one.
-ghost use Rattle.std.specs.Prelude.{◌≡◌, [], ◌∷◌, IfOk, IfErr, OnErr, MatchOption, Ok, Err};
+ghost use Rattle.std.specs.Prelude.{◌≡◌, ◌≤◌, [], ◌∷◌, length, IfOk, IfErr, OnErr, MatchOption, Ok, Err};
 ghost use Rattle.envcfg_core.specs.Entries.{entry_view};
 ghost use Rattle.envcfg_core.specs.Import.{import_of};
 ghost use Rattle.envcfg_core.specs.declared.entry.TextFault.TheVariants.{Memory};
@@ -35,6 +35,7 @@ impl<'a> ImportText<'a> {
     /// `Nul` where a 0 byte stands anywhere, else `EmptyName` with the line of the first entry that has no name.
     pub fn new(text: &'a [u8]) -> Result<ImportText<'a>, TextFault>
         ensures read { IfOk result (λ entries. import_of text.entry.now ≡ Ok entries) }
+        ensures few { IfOk result (λ entries. length entries ≤ length text.entry.now) }
         ensures refused { IfErr result (λ fault. import_of text.entry.now ≡ Err fault) }
     {
         if contains_byte(0, text) {

@@ -13,6 +13,7 @@ pub mod laws;
 mod lines;
 mod numerals;
 mod place;
+mod script_text;
 mod set_script;
 mod spelled;
 
@@ -22,4 +23,5 @@ pub use export::{ExportFault, export_entry};
 pub use import::parse_import;
 pub use import_text::ImportText;
 pub use place::Place;
+pub use script_text::ScriptText;
 pub use set_script::parse_set_script;

@@ -1,5 +1,6 @@
 //! A value as the text for import spells it.
-ghost use Rattle.std.specs.Prelude.{◌≡◌, ◌+◌, ◌≤◌, length, IfOk, false, true};
+ghost use Rattle.std.specs.Prelude.{◌≡◌, ◌+◌, ◌≤◌, length, if◌then◌else◌, IfOk, false, true};
+ghost use Rattle.envcfg_core.specs.Bytes.{is_newline};
 ghost use Rattle.envcfg_core.specs.Import.{spelled, behind_name, onto};
 ghost use Rattle.envcfg_core.specs.Views.{value_view, stop_view, StopIsWithin, begins_marked};
 
@@ -53,6 +54,14 @@ fn stop_at(marked: &[u8]) -> Stop<'_>
     }
 }
 
+/// How many newlines one byte is.
+fn newlines_in(byte: u8) -> usize
+    ensures count { result ≡ (if is_newline byte then 1 else 0) }
+    ensures few { result ≤ 1 }
+{
+    usize::from(byte == b'\n')
+}
+
 /// Reads a value's text, up to the newline that ends it.
 fn read_value<'a>(alloc: Global, text: &'a [u8]) -> Result<ValueText<'a>, AllocError>
     ensures value { IfOk result (λ value. value_view value ≡ spelled false text.entry.now) }
@@ -79,7 +88,7 @@ fn read_value<'a>(alloc: Global, text: &'a [u8]) -> Result<ValueText<'a>, AllocE
             }
             Stop::Literal(literal, next) => {
                 bytes.push(literal)?;
-                newlines += usize::from(literal == b'\n');
+                newlines += newlines_in(literal);
                 rest = next;
             }
         }
@@ -100,7 +109,7 @@ fn skip_value(text: &[u8]) -> (usize, &[u8])
             Stop::End => return (newlines, &[]),
             Stop::Newline(next) => return (newlines + 1, next),
             Stop::Literal(literal, next) => {
-                newlines += usize::from(literal == b'\n');
+                newlines += newlines_in(literal);
                 rest = next;
             }
         }
