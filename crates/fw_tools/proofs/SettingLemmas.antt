@@ -1,6 +1,9 @@
 -- How the tools that change a session end.
-use Rattle.std.proofs.Common.{◌≡◌, ℕ, zero, suc, ◌+◌, ◌<◌, ◌≤◌, List, [], ◌∷◌, Option, Some, None, false, length, take, drop, map, get_or, arith, refl, sym, ap, ◌∙◌, subst, cond}
+use Rattle.std.proofs.Common.{◌≡◌, ℕ, zero, suc, ◌+◌, ◌<◌, ◌≤◌, List, [], ◌∷◌, ◌++◌, Option, Some, None, false, length, take, drop, map, fold, get_or, arith, refl, sym, ap, ◌∙◌, subst, cond}
 use Rattle.std.specs.Prelude.{MatchOption, is_some}
+use Rattle.std.proofs.Math.Seq.{take-append_seam}
+use Rattle.std.proofs.lemmas.List.{append_assoc, append-nil}
+use Rattle.std.proofs.lemmas.List.Sums.{fold_push}
 use Rattle.std.proofs.KnownBytes.{Appends-nil, Keeps-refl}
 use Rattle.std.specs.Io.KnownBytes.{Appends}
 use Rattle.env_session.specs.Session.{Held, written, saved}
@@ -86,3 +89,33 @@ drop_none g [] zero h = refl
 drop_none g [] (suc i) h = refl
 drop_none g (x ∷ xs) zero h = absurd (omega arith)
 drop_none g (x ∷ xs) (suc i) h = drop_none g xs i (omega arith)
+
+-- ---- an import read entry by entry
+
+pub tally_none : (now new : Held) (n : ℕ) (e : Entry) → None ≡ refusal_in now e.0 e.1 false → new ≡ write_done now e.0 e.1 false → ◌≡◌ {A = Held × ℕ} (new, n) (tally (now, n) e)
+tally_none now new n e none is =
+    let z : n ≡ n + 0 = omega arith in
+    ap (λ (k : ℕ). (new, k)) z ∙ λ i. (is i, n + cond (is_some (none i)) 1 0)
+
+pub tally_some : (now new : Held) (n : ℕ) (e : Entry) (r : Refusal) → Some r ≡ refusal_in now e.0 e.1 false → new ≡ write_done now e.0 e.1 false → ◌≡◌ {A = Held × ℕ} (new, n + 1) (tally (now, n) e)
+tally_some now new n e r some is = λ i. (is i, n + cond (is_some (some i)) 1 0)
+
+-- the entries in front, and those that are left
+abbrev pub IsSoFar : List Entry → List Entry → Held → Held × ℕ → Type 0
+IsSoFar all rest h p = (front : List Entry) × (all ≡ front ++ rest) × (p ≡ imported h front)
+
+pub so_far_none : (all : List Entry) (h : Held) → IsSoFar all all h (h, 0)
+unfolding imported
+so_far_none all h = ([], refl, refl)
+
+pub so_far_more : (all rest : List Entry) (e : Entry) (h : Held) (p q : Held × ℕ) → IsSoFar all (e ∷ rest) h p → q ≡ tally p e → IsSoFar all rest h q
+unfolding imported
+so_far_more all rest e h p q s step =
+    (s.0 ++ e ∷ [], s.1 ∙ sym (append_assoc s.0 (e ∷ []) rest), step ∙ ap (λ r. tally r e) s.2 ∙ sym (fold_push tally (h, 0) s.0 e))
+
+pub so_far_all : (all : List Entry) (h : Held) (p : Held × ℕ) → IsSoFar all [] h p → p ≡ imported h all
+so_far_all all h p s = s.2 ∙ ap (imported h) (sym (append-nil s.0) ∙ sym s.1)
+
+pub so_far_some : (all rest : List Entry) (h : Held) (p : Held × ℕ) → IsSoFar all rest h p → (k : ℕ) × (p.0 ≡ (imported h (take k all)).0)
+so_far_some all rest h p s =
+    (length s.0, ap (λ r. r.0) s.2 ∙ ap (λ es. (imported h es).0) (sym (ap (take (length s.0)) s.1 ∙ take-append_seam s.0 rest)))
