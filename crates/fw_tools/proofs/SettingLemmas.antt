@@ -2,7 +2,7 @@
 use Rattle.std.proofs.Common.{◌≡◌, ℕ, zero, suc, ◌+◌, ◌<◌, ◌≤◌, List, [], ◌∷◌, ◌++◌, Option, Some, None, false, length, take, drop, map, fold, get_or, arith, refl, sym, ap, ◌∙◌, subst, cond}
 use Rattle.std.specs.Prelude.{MatchOption, is_some}
 use Rattle.std.proofs.Math.Seq.{take-append_seam}
-use Rattle.std.proofs.lemmas.List.{append_assoc, append-nil}
+use Rattle.std.proofs.lemmas.List.{append_assoc, append-nil, take_all}
 use Rattle.std.proofs.lemmas.List.Sums.{fold_push}
 use Rattle.std.proofs.KnownBytes.{Appends-nil, Keeps-refl}
 use Rattle.std.specs.Io.KnownBytes.{Appends}
@@ -10,6 +10,7 @@ use Rattle.env_session.specs.Session.{Held, written, saved}
 use Rattle.env_session.specs.Requests.{refusal_in, write_done, imported, tally}
 use Rattle.envimg_core.specs.Pieces.{Entry}
 use Rattle.envvars_core.specs.declared.refusals.Refusal.{Refusal}
+use Rattle.fw_tools.specs.Messages.{refusal_text}
 use Rattle.fw_tools.specs.Streams.{AppendsPart}
 use Rattle.fw_tools.specs.Tool.{PrintsText}
 use Rattle.fw_tools.specs.Setting.{Effect, Ends, Changes, silent, refused_by, unless_refused, set_effect, script_effect}
@@ -119,3 +120,33 @@ so_far_all all h p s = s.2 ∙ ap (imported h) (sym (append-nil s.0) ∙ sym s.1
 pub so_far_some : (all rest : List Entry) (h : Held) (p : Held × ℕ) → IsSoFar all rest h p → (k : ℕ) × (p.0 ≡ (imported h (take k all)).0)
 so_far_some all rest h p s =
     (length s.0, ap (λ r. r.0) s.2 ∙ ap (λ es. (imported h es).0) (sym (ap (take (length s.0)) s.1 ∙ take-append_seam s.0 rest)))
+
+-- what was read, where it is known which
+pub when_some : {X : Type 0} (found : Option X) (x : X) (P : Type 0) (Q : X → Type 0) → MatchOption found P Q → found ≡ Some x → Q x
+when_some found x P Q m is = subst (λ o. MatchOption o P Q) is m
+
+-- one line of a script more
+pub script_step : (all left rest : List Entry) (e : Entry) (old now new : Held) → None ≡ refusal_in now e.0 e.1 false → new ≡ write_done now e.0 e.1 false →
+    rest ≡ e ∷ left → IsSoFar all rest old (now, 0) → script_effect now rest ≡ script_effect old all →
+    IsSoFar all left old (new, 0) × (script_effect new left ≡ script_effect old all)
+script_step all left rest e old now new none is cut front same = (
+  so_far_more all left e old (now, 0) (new, 0) (subst (λ r. IsSoFar all r old (now, 0)) cut front) (tally_none now new 0 e none is),
+  sym (script_more now new e left none is) ∙ ap (script_effect now) (sym cut) ∙ same,
+)
+
+-- one entry of an import more
+pub import_step : (all left rest : List Entry) (e : Entry) (old now new : Held) (n m : ℕ) (r : Option Refusal) → r ≡ refusal_in now e.0 e.1 false → new ≡ write_done now e.0 e.1 false →
+    m ≡ n + cond (is_some r) 1 0 → rest ≡ e ∷ left → IsSoFar all rest old (now, n) → IsSoFar all left old (new, m)
+import_step all left rest e old now new n m r refused is count cut front =
+    so_far_more all left e old (now, n) (new, m) (subst (λ x. IsSoFar all x old (now, n)) cut front)
+    (let c : m ≡ n + cond (is_some (refusal_in now e.0 e.1 false)) 1 0 = count ∙ ap (λ o. n + cond (is_some o) 1 0) refused in λ i. (is i, c i))
+
+pub all_taken : (h : Held) (es : List Entry) → (imported h (take (length es) es)).0 ≡ (imported h es).0
+all_taken h es = ap (λ xs. (imported h xs).0) (take_all (length es) es (omega arith))
+
+-- a script ended at a name that was refused
+pub script_stopped : (end : ToolEnd) (a b : Option (List ℕ)) (old new : Held) (effect : Effect) (es : List Entry) (name : List ℕ) (r : Refusal) → effect ≡ refused_by r name new →
+    PrintsText a b (refusal_text r name) 1 end → Changes (record { session = old; errors = a }) (record { session = new; errors = b }) effect es end
+script_stopped end a b old new effect es name r is p =
+    subst (λ d. Changes (record { session = old; errors = a }) (record { session = new; errors = b }) d es end) (sym is)
+    (text_ends end a b old new (refused_by r name new) es refl p)

@@ -1,5 +1,5 @@
 //! The variables of a session, set and saved.
-ghost use Rattle.std.specs.Prelude.{◌≡◌, ◌<◌, ◌^◌, ℕ, [], ◌∷◌, length, map, take, option_copied, option_map, false, IfOk, OnErr, Some, MatchOption};
+ghost use Rattle.std.specs.Prelude.{◌≡◌, ◌<◌, ◌≤◌, ◌^◌, ℕ, if◌then◌else◌, [], ◌∷◌, length, map, take, option_copied, option_map, false, IfOk, OnErr, Some, MatchOption};
 ghost use Rattle.env_session.specs.Requests.{entry_in, imported, refusal_in, write_done};
 ghost use Rattle.env_session.specs.Session.{bytes_of, saved};
 ghost use Rattle.fw_tools.specs.Messages.{refusal_front, refusal_text};
@@ -167,10 +167,17 @@ fn import_entries(
         };
         match write_entry(session, &entry) {
             Err(Memory) => return Err(Memory),
-            Ok(Some(_)) => refused += 1,
-            Ok(None) => {}
+            Ok(refusal) => refused += counted(refusal.is_some()),
         }
     }
+}
+
+/// One where it is so, else none.
+fn counted(so: bool) -> usize
+    ensures count { result ≡ (if so then 1 else 0) }
+    ensures few { result ≤ 1 }
+{
+    usize::from(so)
 }
 
 /// Writes a value and saves.
