@@ -10,14 +10,14 @@ ghost use Rattle.fw_tools.specs.Tool.{Printed};
 
 use crate::calls::{Call, Job, Task};
 use crate::closing::write_back;
-use crate::files::{read_entries, read_script, value_or_say};
+use crate::files::{import_from, read_file, script_from, value_or_say};
 use crate::messages::OUT_OF_MEMORY;
 use crate::opening::{Source, open, read_source};
 use crate::running::report;
 use crate::talking::talk;
 use env_session::Session;
 use fw_tools::streams::say;
-use fw_tools::{ToolEnd, export, import, print_at_once, set_script, setenv};
+use fw_tools::{ToolEnd, export, import_text, print_at_once, script_text, setenv};
 use std::alloc::{AllocError, Global};
 use std::io::{Read, Write};
 use std::rt::Files;
@@ -171,8 +171,9 @@ fn set_from_file<X: Files + AllocGlobal, E: Write>(
         (record { session = session.new; errors = E.contents errors.new }) (script_effect session.old entries)
         entries end) }
 {
-    let entries = value_or_say(rt.alloc(), errors, path, read_script(rt, path))?;
-    Some(set_script(session, &entries, errors))
+    let text = value_or_say(rt.alloc(), errors, path, read_file(rt, path))?;
+    let script = value_or_say(rt.alloc(), errors, path, script_from(&text))?;
+    Some(script_text(rt.alloc(), session, script, errors))
 }
 
 /// `import FILE`
@@ -187,8 +188,9 @@ fn import_file<X: Files + AllocGlobal, E: Write>(
         (record { session = session.new; errors = E.contents errors.new }) (import_effect session.old entries)
         entries end) }
 {
-    let entries = value_or_say(rt.alloc(), errors, path, read_entries(rt, path))?;
-    Some(import(session, &entries, errors))
+    let text = value_or_say(rt.alloc(), errors, path, read_file(rt, path))?;
+    let entries = value_or_say(rt.alloc(), errors, path, import_from(&text))?;
+    Some(import_text(rt.alloc(), session, entries, errors))
 }
 
 /// Writes the copies back that the subcommand changed, and says what stopped it, if anything did.

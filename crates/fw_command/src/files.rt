@@ -11,7 +11,7 @@ ghost use Rattle.hush_commands.specs.Stubs.{stubs_of};
 use crate::messages::{
     CANNOT_READ_FILE, CANNOT_WRITE_FILE, COLON, FWENV, IN_LINE, NEWLINE, OUT_OF_MEMORY, TOO_SHORT,
 };
-use envcfg_core::{ConfigFault, TextEntry, TextFault, parse_import, parse_set_script};
+use envcfg_core::{ConfigFault, ImportText, ScriptText, TextEntry, TextFault, parse_import};
 use envvars_core::Refusal;
 use fw_tools::StreamFault;
 use fw_tools::streams::{read_up_to, say, write_decimal, write_text, write_three, write_two};
@@ -65,22 +65,13 @@ pub(crate) fn read_file<X: Files + AllocGlobal>(rt: &X, path: &str) -> Result<Ve
     }
 }
 
-/// Reads a text for import.
+/// Reads the entries of a text for import.
 pub(crate) fn read_entries<X: Files + AllocGlobal>(
     rt: &X,
     path: &str,
 ) -> Result<Vec<TextEntry>, FileFault> {
     let text = read_file(rt, path)?;
     entries_from(rt.alloc(), &text)
-}
-
-/// Reads a set script.
-pub(crate) fn read_script<X: Files + AllocGlobal>(
-    rt: &X,
-    path: &str,
-) -> Result<Vec<TextEntry>, FileFault> {
-    let text = read_file(rt, path)?;
-    script_from(rt.alloc(), &text)
 }
 
 /// The entries of a text for import.
@@ -93,11 +84,22 @@ fn entries_from(alloc: Global, text: &[u8]) -> Result<Vec<TextEntry>, FileFault>
     }
 }
 
-/// The entries of a set script.
-fn script_from(alloc: Global, text: &[u8]) -> Result<Vec<TextEntry>, FileFault>
-    ensures { IfOk result (λ entries. set_script_of text.now ≡ Ok (map entry_view entries.items)) }
+/// A text for import, whose entries are read as they are written.
+pub(crate) fn import_from(text: &[u8]) -> Result<ImportText<'_>, FileFault>
+    ensures read { IfOk result (λ entries. import_of text.entry.now ≡ Ok entries) }
+    ensures few { IfOk result (λ entries. length entries ≤ length text.entry.now) }
 {
-    match parse_set_script(alloc, text) {
+    match ImportText::new(text) {
+        Ok(entries) => Ok(entries),
+        Err(fault) => Err(text_fault(fault)),
+    }
+}
+
+/// A set script, whose entries are read as they are written.
+pub(crate) fn script_from(text: &[u8]) -> Result<ScriptText<'_>, FileFault>
+    ensures { IfOk result (λ entries. set_script_of text.entry.now ≡ Ok entries) }
+{
+    match ScriptText::new(text) {
         Ok(entries) => Ok(entries),
         Err(fault) => Err(text_fault(fault)),
     }

@@ -120,7 +120,7 @@ fn write_entries(
         match write_entry(session, &entry) {
             Err(Memory) => return Err(Memory),
             Ok(Some(refusal)) => return Ok(Some((entry, refusal))),
-            Ok(None) => {}
+            Ok(None) => continue 'entries,
         }
     }
 }

@@ -25,14 +25,6 @@ returns-in-Ok-Some-clause-some c =
     let refused : Some c.in-Ok-Some.refusal ≡ refusal_in c.entries.session e.0 e.1 false = sym c.in-Ok-Some.field-0-is ∙ c.in-Ok-Some.ensures.refusal in
     (some.0, c.in-Ok-Some.ensures.done ∙ done_refused c.entries.session e.0 e.1 c.in-Ok-Some.refusal refused ∙ some.1)
 
-pub entries-preserved-in-Ok-None : goal.entries-preserved-in-Ok-None
-entries-preserved-in-Ok-None c =
-    let e = entry_in c.in-Some.entry in
-    let none : None ≡ refusal_in c.entries.session e.0 e.1 false = sym c.in-Ok-None.field-0-is ∙ c.in-Ok-None.ensures.refusal in
-    let step = script_step _ _ _ e _ c.entries.session c.write_entry.new.session none c.in-Ok-None.ensures.done
-    (ap (map pair_in) (when_some _ _ _ _ c.in-Ok.ensures.read c.in-Some.is)) c.entries.invariant.front c.entries.invariant.rest in
-    record { front = step.0; rest = step.1 }
-
 pub entries-preserved : goal.entries-preserved
 entries-preserved c =
     let e = entry_in c.in-Some.entry in
