@@ -15,6 +15,7 @@ use failing_streams::{Narrow, Slow};
 use fw_session::{SessionEnd, SessionEnding, session};
 use hush_run::{Limits, Stubs};
 use std::alloc::{AllocError, Global};
+use std::io::{Read, Write};
 use std::process::Abort;
 use std::test::Fail;
 
