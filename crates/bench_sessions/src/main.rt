@@ -7,6 +7,7 @@
 
 mod keeping;
 mod sessions;
+mod undoing;
 
 use bench_parts::Order;
 use std::io::{Error, ErrorKind, Read};

@@ -1,5 +1,6 @@
 //! The start of a session, its saves and its undos.
 use crate::keeping::text;
+use crate::undoing::{MARKS, SAVED_MARKS, TWO_SAVES, saving, undoing};
 use crate::{Mode, Outcome, Task};
 use bench_parts::{Order, Step, data_area, load, name};
 use env_session::{Session, Side, Stored};
@@ -80,7 +81,7 @@ fn geometry_of(image: &[u8]) -> io::Result<Geometry> {
 }
 
 /// The image as each of the copies that its layout has.
-fn stored(alloc: Global, image: &[u8]) -> io::Result<Stored> {
+pub fn stored(alloc: Global, image: &[u8]) -> io::Result<Stored> {
     let geometry = geometry_of(image)?;
     let second = match geometry.layout() {
         Layout::Single => None,
@@ -93,14 +94,14 @@ fn stored(alloc: Global, image: &[u8]) -> io::Result<Stored> {
     })
 }
 
-fn start(alloc: Global, stored: Stored) -> io::Result<Session> {
+pub fn start(alloc: Global, stored: Stored) -> io::Result<Session> {
     match Session::start(alloc, stored, Vars::empty(alloc, 1)) {
         Ok(session) => Ok(session),
         Err(_) => Err(Error::from(ErrorKind::OutOfMemory)),
     }
 }
 
-fn outcome(kept: usize, refused: u32, taken: u128, is_right: bool) -> Outcome {
+pub fn outcome(kept: usize, refused: u32, taken: u128, is_right: bool) -> Outcome {
     Outcome {
         kept,
         refused,
@@ -173,7 +174,7 @@ fn pass(rt: &HostRuntime, mode: Mode, image: &[u8]) -> io::Result<Outcome> {
 
 /// What a session shows, where it is to be compared.
 #[derive(Drop)]
-struct Shown {
+pub struct Shown {
     lines: Vec<u8>,
     first: Vec<u8>,
     second: Vec<u8>,
@@ -188,7 +189,7 @@ fn copied(alloc: Global, session: &Session, side: Side, mode: Mode) -> Result<Ve
 }
 
 impl Shown {
-    fn of(alloc: Global, session: &Session, mode: Mode) -> Result<Shown, AllocError> {
+    pub fn of(alloc: Global, session: &Session, mode: Mode) -> Result<Shown, AllocError> {
         Ok(Shown {
             lines: text(alloc, session.vars(), mode)?,
             first: copied(alloc, session, Side::First, mode)?,
@@ -197,7 +198,7 @@ impl Shown {
         })
     }
 
-    fn is(&self, other: &Shown) -> bool {
+    pub fn is(&self, other: &Shown) -> bool {
         self.lines.as_slice() == other.lines.as_slice()
             && self.first.as_slice() == other.first.as_slice()
             && self.second.as_slice() == other.second.as_slice()
@@ -205,33 +206,8 @@ impl Shown {
     }
 }
 
-/// How the writes of a part are cut into pieces, each with a mark before it or a save behind it.
-struct Pieces {
-    count: usize,
-    has_marks: bool,
-    has_saves: bool,
-}
-
-const TWO_SAVES: Pieces = Pieces {
-    count: 2,
-    has_marks: false,
-    has_saves: true,
-};
-
-const MARKS: Pieces = Pieces {
-    count: 64,
-    has_marks: true,
-    has_saves: false,
-};
-
-const SAVED_MARKS: Pieces = Pieces {
-    count: 64,
-    has_marks: true,
-    has_saves: true,
-};
-
 /// Writes the value to each name; the names are spread over all that the session has. Counts the refusals.
-fn write_all(session: &mut Session, steps: &[Step], stride: u32, value: &[u8]) -> u32 {
+pub fn write_all(session: &mut Session, steps: &[Step], stride: u32, value: &[u8]) -> u32 {
     let mut refused = 0u32;
     for step in steps {
         let (number, value) = match *step {
@@ -243,82 +219,4 @@ fn write_all(session: &mut Session, steps: &[Step], stride: u32, value: &[u8]) -
         refused = refused.wrapping_add(u32::from(is_refused));
     }
     refused
-}
-
-/// Makes the writes piece by piece, with the marks and saves, and counts the refusals.
-fn change(session: &mut Session, steps: &[Step], pieces: &Pieces, value: &[u8]) -> u32 {
-    let stride = stride_of(session, steps);
-    let length = steps.len().div_ceil(pieces.count.max(1)).max(1);
-    let mut refused = 0u32;
-    for piece in steps.chunks(length) {
-        if pieces.has_marks {
-            refused = refused.wrapping_add(u32::from(session.mark().is_err()));
-        }
-        refused = refused.wrapping_add(write_all(session, piece, stride, value));
-        if pieces.has_saves {
-            refused = refused.wrapping_add(u32::from(session.save().is_err()));
-        }
-    }
-    refused
-}
-
-/// How many of the session's names there are for each of the steps.
-fn stride_of(session: &Session, steps: &[Step]) -> u32 {
-    let mut names = 0usize;
-    for _ in session.vars().lines() {
-        names = names.wrapping_add(1);
-    }
-    u32::try_from(names / steps.len().max(1))
-        .unwrap_or(1)
-        .max(1)
-}
-
-/// A save, over copies or over variables each of which was written before.
-fn saving(rt: &HostRuntime, task: &Task, image: &[u8], is_written: bool) -> io::Result<Outcome> {
-    let alloc = rt.alloc();
-    let mut session = start(alloc, stored(alloc, image)?)?;
-    let mut refused = 0;
-    if is_written {
-        let steps = task.order.steps(alloc, task.count)?;
-        refused = write_all(&mut session, &steps, 1, b"yyyyyyyyyyyyyyyyy");
-    }
-    let begun = Instant::now(rt)?;
-    let mut is_saved = true;
-    if task.mode != Mode::Ready {
-        is_saved = session.save().is_ok();
-    }
-    let taken = begun.elapsed(rt)?.as_nanos();
-    let touched = session.touched();
-    let is_right = task.mode != Mode::Check || reads_back(alloc, session)?;
-    Ok(outcome(touched, refused, taken, is_saved && is_right))
-}
-
-/// Whether a session over what this one leaves shows the same.
-fn reads_back(alloc: Global, session: Session) -> io::Result<bool> {
-    let wanted = Shown::of(alloc, &session, Mode::Check)?;
-    let again = start(alloc, session.close())?;
-    Ok(Shown::of(alloc, &again, Mode::Check)?.is(&wanted))
-}
-
-/// All that was changed comes back.
-fn undoing(
-    rt: &HostRuntime,
-    task: &Task,
-    image: &[u8],
-    pieces: &Pieces,
-    value: &[u8],
-) -> io::Result<Outcome> {
-    let alloc = rt.alloc();
-    let mut session = start(alloc, stored(alloc, image)?)?;
-    let wanted = Shown::of(alloc, &session, task.mode)?;
-    let steps = task.order.steps(alloc, task.count)?;
-    let refused = change(&mut session, &steps, pieces, value);
-    let begun = Instant::now(rt)?;
-    let mut is_undone = true;
-    if task.mode != Mode::Ready {
-        is_undone = session.undo().is_ok();
-    }
-    let taken = begun.elapsed(rt)?.as_nanos();
-    let is_right = task.mode != Mode::Check || Shown::of(alloc, &session, task.mode)?.is(&wanted);
-    Ok(outcome(session.touched(), refused, taken, is_undone && is_right))
 }

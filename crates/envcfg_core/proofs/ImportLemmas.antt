@@ -8,6 +8,7 @@ use Rattle.envcfg_core.specs.declared.entry.TextFault.{TextFault}
 use Rattle.envcfg_core.specs.declared.entry.TextFault.TheVariants.{EmptyName, Nul, Memory}
 use Rattle.envcfg_core.specs.Bytes.{is_newline, is_blank, hash, equals, some_unless_empty}
 use Rattle.envcfg_core.specs.Entries.{Entry, Outcome, with_first, with_front, IsFaultOf}
+use Rattle.envcfg_core.specs.ImportText.{entries_in, entries_left}
 use Rattle.envcfg_core.specs.Import.{Spelled, spelled, with_byte, ended_by_newline, behind_name, ends_name, entry_first, skip_or_entry, begins_skipped, is_skipped, entries_within, entries_from, import_of}
 
 same_cond : {X : Type 0} (b : Bool) (x y v w : X) → x ≡ v → y ≡ w → cond b x y ≡ cond b v w
@@ -140,3 +141,103 @@ pub import_read : (text rest : List ℕ) (line : ℕ) (entries : List Entry) →
 import_read text [] line entries no_zero read h =
     cond-false _ _ _ no_zero ∙ read ∙ ap (with_front entries) (entries_from-nil line) ∙ ap Ok (append-nil entries)
 import_read text (b ∷ bs) line entries no_zero read h = absurd (omega (arith, eqb-true (length (b ∷ bs)) 0 h))
+
+-- an entry passed over, without its value's bytes
+pub entry_passed : (line n : ℕ) (text name behind : List ℕ) (newlines : ℕ) (rest : List ℕ) → 0 < length text → begins_skipped text ≡ false →
+    n ≡ position_or_len ends_name text → name ≡ take n text → behind ≡ drop n text → eqb (length name) 0 ≡ false →
+    newlines ≡ (behind_name behind).newlines → rest ≡ (behind_name behind).rest →
+    (e : Entry) × (entries_from line text ≡ with_first e (entries_from (line + newlines) rest))
+entry_passed line n text name behind newlines rest some h e f g named lines follows =
+    let v = behind_name behind in
+    let entry : Entry = record { name = name; value = some_unless_empty v.bytes; line = line } in (
+      entry,
+      entry_with_name line n text name behind v (some_unless_empty v.bytes) some h e f g named refl refl
+          ∙ sym (ap (λ k. with_first entry (entries_from (line + k) rest)) lines ∙ ap (λ r. with_first entry (entries_from (line + v.newlines) r)) follows),
+    )
+
+-- the entries passed over so far, and one more
+pub passed_more : (whole one more : Outcome) → ((es : List Entry) × (whole ≡ with_front es one)) → ((e : Entry) × (one ≡ with_first e more)) →
+    (es : List Entry) × (whole ≡ with_front es more)
+passed_more whole one more before next =
+    (before.0 ++ next.0 ∷ [], before.1 ∙ ap (with_front before.0) next.1 ∙ sym (with_front-push before.0 next.0 more))
+
+-- where nothing is left the whole text was passed
+pub passed_all : (line : ℕ) (rest : List ℕ) (whole : Outcome) → ((es : List Entry) × (whole ≡ with_front es (entries_from line rest))) →
+    eqb (length rest) 0 ≡ true → (es : List Entry) × (whole ≡ Ok es)
+passed_all line [] whole before h = (before.0, before.1 ∙ ap (with_front before.0) (entries_from-nil line) ∙ ap Ok (append-nil before.0))
+passed_all line (b ∷ bs) whole before h = absurd (omega (arith, eqb-true (length (b ∷ bs)) 0 h))
+
+-- a fault where entries were passed over is the fault of the whole
+pub passed_fault : (one whole : Outcome) (fault : TextFault) → ((es : List Entry) × (whole ≡ with_front es one)) → one ≡ Err fault → whole ≡ Err fault
+passed_fault one whole fault before h = before.1 ∙ ap (with_front before.0) h
+
+no_fault : {A : Type 0} (entries : List Entry) (fault : TextFault) → ◌≡◌ {A = Outcome} (Ok entries) (Err fault) → A
+no_fault entries fault h = cc
+
+-- a text without a fault has none but want of memory
+pub only_memory : (entries : List Entry) (outcome : Outcome) (fault : TextFault) → outcome ≡ Ok entries → IsFaultOf outcome fault → fault ≡ Memory
+only_memory entries outcome (EmptyName line) e h = no_fault entries (EmptyName line) (sym e ∙ h)
+only_memory entries outcome Nul e h = no_fault entries Nul (sym e ∙ h)
+only_memory entries outcome Memory e h = refl
+
+-- of a text that has no fault, one entry was read
+pub one_left : (first later : Outcome) (e : Entry) → first ≡ Ok (entries_in first) → first ≡ with_first e later → entries_in first ≡ e ∷ entries_in later
+one_left first (Ok es) e whole h = ap entries_in h
+one_left first (Err fault) e whole h = no_fault (entries_in first) fault (sym whole ∙ h)
+
+-- what is left of it has none either
+pub later_whole : (first later : Outcome) (e : Entry) → first ≡ Ok (entries_in first) → first ≡ with_first e later → later ≡ Ok (entries_in later)
+later_whole first (Ok es) e whole h = refl
+later_whole first (Err fault) e whole h = no_fault (entries_in first) fault (sym whole ∙ h)
+
+-- at the end of a text nothing is left
+pub none_left : (line : ℕ) (text : List ℕ) → eqb (length text) 0 ≡ true → entries_left line text ≡ []
+none_left line [] h = ap entries_in (entries_from-nil line)
+none_left line (b ∷ bs) h = absurd (omega (arith, eqb-true (length (b ∷ bs)) 0 h))
+
+-- what was passed as a whole is an outcome without a fault
+pub is_whole : (outcome : Outcome) → ((es : List Entry) × (outcome ≡ Ok es)) → outcome ≡ Ok (entries_in outcome)
+is_whole outcome all = all.1 ∙ ap (λ o. Ok (entries_in o)) (sym all.1)
+
+-- ---- a text has no more entries than bytes
+
+abbrev Small : ℕ → Outcome → Type 0
+Small n (Ok entries) = length entries ≤ n
+Small n (Err fault) = Unit {0}
+
+small_up : (n : ℕ) (o : Outcome) → Small n o → Small (suc n) o
+small_up n (Ok entries) h = omega (arith, h)
+small_up n (Err fault) h = tt
+
+small_cond : (n : ℕ) (b : Bool) (x y : Outcome) → Small n x → Small n y → Small n (cond b x y)
+small_cond n true x y h i = h
+small_cond n false x y h i = i
+
+small_first : (n : ℕ) (e : Entry) (o : Outcome) → Small n o → Small (suc n) (with_first e o)
+small_first n e (Ok entries) h = omega (arith, h)
+small_first n e (Err fault) h = tt
+
+small_step : (n : ℕ) (later : ℕ → List ℕ → Outcome) → ((l : ℕ) (t : List ℕ) → Small n (later l t)) → (line : ℕ) (text : List ℕ) →
+    Small (suc n) (skip_or_entry later line text)
+small_step n later each line [] = omega arith
+small_step n later each line (b ∷ bs) =
+    let text = b ∷ bs in
+    let value = behind_name (drop (position_or_len ends_name text) text) in
+    let e : Entry = record { name = before_first ends_name text; value = some_unless_empty value.bytes; line = line } in
+    small_cond (suc n) (is_blank b) _ _ (small_up n _ (each line bs))
+    (small_cond (suc n) (is_newline b) _ _ (small_up n _ (each (line + 1) bs))
+    (small_cond (suc n) (eqb b hash) _ _ (small_up n _ (each (line + 1) (after_first is_newline bs)))
+    (small_cond (suc n) (eqb (length (before_first ends_name text)) 0) (Err (EmptyName line)) _ tt (small_first n e _ (each (line + value.newlines) value.rest)))))
+
+small_within : (n line : ℕ) (text : List ℕ) → Small n (entries_within n line text)
+unfolding entries_within
+small_within zero line text = omega arith
+small_within (suc n) line text = small_step n (entries_within n) (λ l t. small_within n l t) line text
+
+small_in : (n : ℕ) (o : Outcome) → Small n o → length (entries_in o) ≤ n
+small_in n (Ok entries) h = h
+small_in n (Err fault) h = omega arith
+
+pub few_left : (line : ℕ) (text : List ℕ) → length (entries_left line text) ≤ length text
+unfolding entries_from
+few_left line text = small_in (length text) (entries_from line text) (small_within (length text) line text)

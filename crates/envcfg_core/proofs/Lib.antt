@@ -1,4 +1,5 @@
 pub mod CutLemmas
+mod ScriptLemmas
 pub mod SpelledLemmas
 pub mod ImportLemmas
 pub mod ExportLemmas

@@ -4,6 +4,7 @@ pub mod Config
 pub mod Entries
 pub mod Export
 pub mod Import
+pub mod ImportText
 pub mod Lines
 pub mod Numerals
 pub mod Place

@@ -1,18 +1,18 @@
 //! The text for import.
-ghost use Rattle.std.specs.Prelude.{◌≡◌, ◌+◌, ◌^◌, ◌<◌, ◌≤◌, length, map, IfOk, IfErr, Ok, false};
-ghost use Rattle.envcfg_core.specs.Entries.{entry_view, with_first, IsFaultOf};
+ghost use Rattle.std.specs.Prelude.{◌≡◌, ◌+◌, ◌^◌, ◌<◌, ◌≤◌, length, map, IfOk, IfErr, Ok, Err, false};
+ghost use Rattle.envcfg_core.specs.Entries.{Entry, entry_view, with_first, IsFaultOf};
 ghost use Rattle.envcfg_core.specs.Import.{import_of, entries_from, begins_skipped};
 
 use crate::cuts::{after_line, contains_byte, name_len};
 use crate::entry::{TextEntry, TextFault, some_unless_empty};
-use crate::spelled::read_behind_name;
+use crate::spelled::{read_behind_name, skip_behind_name};
 use std::alloc::Global;
 
 /// What is left of a text, and the line in which it begins.
 #[derive(Clone, Copy)]
-struct Rest<'a> {
-    text: &'a [u8],
-    line: usize,
+pub(crate) struct Rest<'a> {
+    pub(crate) text: &'a [u8],
+    pub(crate) line: usize,
 }
 
 /// Reads a text for import: entries `name=value`, one in a line, in which `\` makes the next byte of a value
@@ -38,7 +38,7 @@ pub fn parse_import(alloc: Global, text: &[u8]) -> Result<Vec<TextEntry>, TextFa
 }
 
 /// Reads the entry at the front of the text, and answers what follows it too.
-fn read_entry(alloc: Global, rest: Rest<'_>) -> Result<(TextEntry, Rest<'_>), TextFault>
+pub(crate) fn read_entry(alloc: Global, rest: Rest<'_>) -> Result<(TextEntry, Rest<'_>), TextFault>
     requires place { begins_skipped rest.text.now ≡ false }
     requires some { 0 < length rest.text.now }
     requires fits { rest.line + length rest.text.now < 2 ^ 64 }
@@ -69,8 +69,30 @@ fn read_entry(alloc: Global, rest: Rest<'_>) -> Result<(TextEntry, Rest<'_>), Te
     ))
 }
 
+/// Passes over the entry at the front of the text, and answers what follows it.
+pub(crate) fn skip_entry(rest: Rest<'_>) -> Result<Rest<'_>, TextFault>
+    requires place { begins_skipped rest.text.now ≡ false }
+    requires some { 0 < length rest.text.now }
+    requires fits { rest.line + length rest.text.now < 2 ^ 64 }
+    ensures passed { IfOk result (λ next. (entry : Entry) × (entries_from rest.entry.line rest.entry.text.now
+        ≡ with_first entry (entries_from next.line next.text.now))) }
+    ensures within { IfOk result (λ next. next.line + length next.text.now ≤ rest.entry.line + length rest.entry.text.now) }
+    ensures shorter { IfOk result (λ next. length next.text.now < length rest.entry.text.now) }
+    ensures refused { IfErr result (λ fault. entries_from rest.entry.line rest.entry.text.now ≡ Err fault) }
+{
+    let (name, behind) = rest.text.split_at(name_len(rest.text));
+    if name.is_empty() {
+        return Err(TextFault::EmptyName(rest.line));
+    }
+    let (newlines, follows) = skip_behind_name(behind);
+    Ok(Rest {
+        text: follows,
+        line: rest.line + newlines,
+    })
+}
+
 /// Skips the blanks, newlines and comments at an entry's place.
-fn skip_to_entry(place: Rest<'_>) -> Rest<'_>
+pub(crate) fn skip_to_entry(place: Rest<'_>) -> Rest<'_>
     requires { place.line + length place.text.now < 2 ^ 64 }
     ensures same { entries_from place.entry.line place.entry.text.now ≡ entries_from result.line result.text.now }
     ensures reached { begins_skipped result.text.now ≡ false }

@@ -34,6 +34,18 @@ pub(crate) fn numbered_lines(text: &[u8]) -> Lines<'_>
     }
 }
 
+impl<'a> Lines<'a> {
+    /// The same lines once more.
+    pub(crate) fn again(&self) -> Lines<'a>
+        ensures { result ≡ self.now }
+    {
+        Lines {
+            rest: self.rest,
+            number: self.number,
+        }
+    }
+}
+
 impl<'a> Iterator for Lines<'a> {
     type Item = (usize, &'a [u8]);
 

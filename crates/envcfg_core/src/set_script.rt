@@ -1,8 +1,8 @@
 //! The set script.
-ghost use Rattle.std.specs.Prelude.{◌≡◌, map, option_map, IfOk, IfErr, Ok};
+ghost use Rattle.std.specs.Prelude.{◌≡◌, map, option_map, Option, IfOk, IfErr, Ok, Err};
 ghost use Rattle.std.specs.List.{before_first, after_first};
 ghost use Rattle.std.specs.Str.Lines.{strip_carriage_return};
-ghost use Rattle.envcfg_core.specs.Entries.{entry_view, IsFaultOf};
+ghost use Rattle.envcfg_core.specs.Entries.{Entry, entry_view, IsFaultOf};
 ghost use Rattle.envcfg_core.specs.SetScript.{set_script_of, line_outcome, is_skipped_line, ends_key};
 
 use crate::cuts::{contains_byte, without_blanks};
@@ -32,7 +32,11 @@ pub fn parse_set_script(alloc: Global, text: &[u8]) -> Result<Vec<TextEntry>, Te
 }
 
 /// Reads a line, or skips it.
-fn read_line(alloc: Global, number: usize, line: &[u8]) -> Result<Option<TextEntry>, TextFault>
+pub(crate) fn read_line(
+    alloc: Global,
+    number: usize,
+    line: &[u8],
+) -> Result<Option<TextEntry>, TextFault>
     ensures read { IfOk result (λ found. line_outcome number line.now ≡ Ok (option_map entry_view found)) }
     ensures refused { IfErr result (IsFaultOf (line_outcome number line.now)) }
 {
@@ -51,6 +55,21 @@ fn read_line(alloc: Global, number: usize, line: &[u8]) -> Result<Option<TextEnt
         value,
         line: number,
     }))
+}
+
+/// Looks at a line without reading what it holds.
+pub(crate) fn check_line(number: usize, line: &[u8]) -> Result<(), TextFault>
+    ensures whole { IfOk result (λ _. (found : Option Entry) × (line_outcome number line.now ≡ Ok found)) }
+    ensures refused { IfErr result (λ fault. line_outcome number line.now ≡ Err fault) }
+{
+    if is_skipped_line(line) {
+        return Ok(());
+    }
+    let (key, _) = cut_key(without_blanks(line));
+    if key.is_empty() {
+        return Err(TextFault::EmptyName(number));
+    }
+    Ok(())
 }
 
 /// Whether the line is empty, blanks alone or a comment.
@@ -75,7 +94,7 @@ fn cut_key(line: &[u8]) -> (&[u8], &[u8])
 }
 
 /// The line without the one carriage return at its end, if it has one.
-fn strip_carriage_return(line: &[u8]) -> &[u8]
+pub(crate) fn strip_carriage_return(line: &[u8]) -> &[u8]
     ensures { result.now ≡ strip_carriage_return line.now }
 {
     match line.split_last() {

@@ -1,5 +1,6 @@
 //! A value as the text for import spells it.
-ghost use Rattle.std.specs.Prelude.{◌≡◌, ◌+◌, ◌≤◌, length, IfOk, false, true};
+ghost use Rattle.std.specs.Prelude.{◌≡◌, ◌+◌, ◌≤◌, length, if◌then◌else◌, IfOk, false, true};
+ghost use Rattle.envcfg_core.specs.Bytes.{is_newline};
 ghost use Rattle.envcfg_core.specs.Import.{spelled, behind_name, onto};
 ghost use Rattle.envcfg_core.specs.Views.{value_view, stop_view, StopIsWithin, begins_marked};
 
@@ -53,6 +54,14 @@ fn stop_at(marked: &[u8]) -> Stop<'_>
     }
 }
 
+/// How many newlines one byte is.
+fn newlines_in(byte: u8) -> usize
+    ensures count { result ≡ (if is_newline byte then 1 else 0) }
+    ensures few { result ≤ 1 }
+{
+    usize::from(byte == b'\n')
+}
+
 /// Reads a value's text, up to the newline that ends it.
 fn read_value<'a>(alloc: Global, text: &'a [u8]) -> Result<ValueText<'a>, AllocError>
     ensures value { IfOk result (λ value. value_view value ≡ spelled false text.entry.now) }
@@ -79,11 +88,47 @@ fn read_value<'a>(alloc: Global, text: &'a [u8]) -> Result<ValueText<'a>, AllocE
             }
             Stop::Literal(literal, next) => {
                 bytes.push(literal)?;
-                newlines += usize::from(literal == b'\n');
+                newlines += newlines_in(literal);
                 rest = next;
             }
         }
     }
+}
+
+/// How many newlines a value's text holds, with the one that ends it, and what follows the text.
+fn skip_value(text: &[u8]) -> (usize, &[u8])
+    ensures newlines { result.0 ≡ (spelled false text.now).newlines }
+    ensures rest { result.1.now ≡ (spelled false text.now).rest }
+    ensures within { result.0 + length result.1.now ≤ length text.now }
+{
+    let mut newlines = 0;
+    let mut rest = text;
+    loop {
+        let (_, stop) = cut_plain(rest);
+        match stop {
+            Stop::End => return (newlines, &[]),
+            Stop::Newline(next) => return (newlines + 1, next),
+            Stop::Literal(literal, next) => {
+                newlines += newlines_in(literal);
+                rest = next;
+            }
+        }
+    }
+}
+
+/// What `read_behind_name` leaves: how many newlines it passes, and what follows them.
+pub(crate) fn skip_behind_name(text: &[u8]) -> (usize, &[u8])
+    ensures newlines { result.0 ≡ (behind_name text.now).newlines }
+    ensures rest { result.1.now ≡ (behind_name text.now).rest }
+    ensures within { result.0 + length result.1.now ≤ length text.now }
+{
+    let Some((first, rest)) = text.split_first() else {
+        return (0, &[]);
+    };
+    if *first == b'=' {
+        return skip_value(rest);
+    }
+    (1, rest)
 }
 
 /// Reads what stands behind a name: after `=` a value, else nothing up to the end of the line.

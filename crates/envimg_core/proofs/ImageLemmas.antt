@@ -4,7 +4,7 @@ use Rattle.std.proofs.Math.Nat.{pow-suc}
 use Rattle.std.proofs.Math.Seq.{take-append_seam, drop-append-add, get_or-append_seam}
 use Rattle.std.proofs.Math.ListN.{get_or-append}
 use Rattle.std.proofs.lemmas.List.{length-map, nil_from_length}
-use Rattle.std.proofs.lemmas.List.Elements.{All-from_get_or}
+use Rattle.std.proofs.lemmas.List.Elements.{All-from_get_or, All-head, All-tail}
 use Rattle.std.specs.Prelude.{◌==◌, ◌&&◌, ◌||◌}
 use Rattle.std.specs.List.{list_all, list_any, All, take_while, position_or_len, before_first, after_first}
 use Rattle.std.specs.declared.cmp.Ordering.{Ordering}
@@ -18,11 +18,11 @@ use Rattle.std.proofs.lemmas.List.Folds.{list_any-append}
 use Rattle.std.proofs.lemmas.List.Splits.{slice_split_at}
 use Rattle.std.proofs.lemmas.List.Sums.{sum_by-cons, take_while-cons, position_or_len_is}
 use Rattle.envimg_core.specs.Checksum.{add, number, polynomial, divide, bits, dividend, checksum}
-use Rattle.envimg_core.specs.Environment.{Environment, Pair, bytes_cmp, pair_size, used, is_name, is_value, is_zero, is_equals, is_empty}
+use Rattle.envimg_core.specs.Environment.{Environment, Pair, IsVariable, bytes_cmp, pair_size, used, is_name, is_value, is_zero, is_equals, is_empty}
 use Rattle.envimg_core.specs.Geometry.{Shape, IsSize, head, area_of}
 use Rattle.envimg_core.specs.Order.{stored_checksum}
 use Rattle.envimg_core.specs.Image.{stored_pair, stored_pairs, filled_area, framed}
-use Rattle.envimg_core.specs.Laws.{is_variable, IsFormed, shown_flag, ReadsBack}
+use Rattle.envimg_core.specs.Laws.{AreVariables, shown_flag, ReadsBack}
 use Rattle.envimg_core.specs.Pieces.{but_last, ended_pieces, is_terminated, Entry, entry_of, value_of, has_name, entries_of, after_entry, vars_of}
 use Rattle.envimg_core.specs.State.{state_of, flag_of}
 use Rattle.envimg_core.specs.declared.geometry.Layout.{Layout}
@@ -86,10 +86,6 @@ not_or false false h = (refl, refl)
 not_or false true h = cc
 not_or true b h = cc
 
-and_true : (a b : Bool) → (a && b) ≡ true → (a ≡ true) × (b ≡ true)
-and_true true b h = (refl, h)
-and_true false b h = cc
-
 none_at : (p : ℕ → Bool) (xs : List ℕ) (k : ℕ) → list_any p xs ≡ false → k < length xs → p (get_or xs k 0) ≡ false
 none_at p [] k h l = absurd (omega arith)
 none_at p (x ∷ xs) zero h l = (or_false (p x) (list_any p xs) h).0
@@ -115,10 +111,9 @@ formed_name n h =
 joined_free : (n v : List ℕ) → list_any is_zero n ≡ false → list_any is_zero v ≡ false → list_any is_zero (n ++ 61 ∷ v) ≡ false
 joined_free n v h k = list_any-append is_zero n (61 ∷ v) ∙ ap (λ b. b || list_any is_zero v) h ∙ k
 
-stored_first : (n v rest : List ℕ) → is_variable (n, v) ≡ true → ended_pieces (stored_pair (n, v) ++ rest) ≡ (n ++ 61 ∷ v) ∷ ended_pieces rest
+stored_first : (n v rest : List ℕ) → IsVariable (n, v) → ended_pieces (stored_pair (n, v) ++ rest) ≡ (n ++ 61 ∷ v) ∷ ended_pieces rest
 stored_first n v rest h =
-    let forms = and_true (is_name n) (is_value v) h in
-    let free : list_any is_zero (n ++ 61 ∷ v) ≡ false = joined_free n v ((formed_name n forms.0).1) ((not_or (is_empty v) (list_any is_zero v) forms.1).1) in
+    let free : list_any is_zero (n ++ 61 ∷ v) ≡ false = joined_free n v ((formed_name n h.0).1) ((not_or (is_empty v) (list_any is_zero v) h.1).1) in
     let parts = split_cons rest in
     ap ended_pieces (append_assoc (n ++ 61 ∷ v) (0 ∷ []) rest)
     ∙ ap but_last (slice_split_at is_zero (n ++ 61 ∷ v) 0 rest (no_byte is_zero (n ++ 61 ∷ v) free) refl ∙ ap (λ qs. (n ++ 61 ∷ v) ∷ qs) parts.2)
@@ -134,43 +129,41 @@ value_some : (v : List ℕ) → is_empty v ≡ false → value_of v ≡ Some v
 value_some [] h = cc
 value_some (b ∷ v) h = refl
 
-joined_entry : (n v : List ℕ) → is_variable (n, v) ≡ true → ◌≡◌ {A = Entry} (entry_of (n ++ 61 ∷ v)) (n, Some v)
+joined_entry : (n v : List ℕ) → IsVariable (n, v) → ◌≡◌ {A = Entry} (entry_of (n ++ 61 ∷ v)) (n, Some v)
 joined_entry n v h =
-    let forms = and_true (is_name n) (is_value v) h in
-    let place : position_or_len is_equals (n ++ 61 ∷ v) ≡ length n = name_place n v ((formed_name n forms.0).2) in
+    let place : position_or_len is_equals (n ++ 61 ∷ v) ≡ length n = name_place n v ((formed_name n h.0).2) in
     let name : before_first is_equals (n ++ 61 ∷ v) ≡ n = ap (λ (k : ℕ). take k (n ++ 61 ∷ v)) place ∙ take-append_seam n (61 ∷ v) in
     let value : value_of (after_first is_equals (n ++ 61 ∷ v)) ≡ Some v =
-    ap value_of (ap (λ (k : ℕ). drop (k + 1) (n ++ 61 ∷ v)) place ∙ drop-append-add n (61 ∷ v) 1) ∙ value_some v ((not_or (is_empty v) (list_any is_zero v) forms.1).0) in
+    ap value_of (ap (λ (k : ℕ). drop (k + 1) (n ++ 61 ∷ v)) place ∙ drop-append-add n (61 ∷ v) 1) ∙ value_some v ((not_or (is_empty v) (list_any is_zero v) h.1).0) in
     λ i. (name i, value i)
 
 joined_full : (n v : List ℕ) → is_empty (n ++ 61 ∷ v) ≡ false
 joined_full [] v = refl
 joined_full (b ∷ n) v = refl
 
-pub entries_stored : (ps : List Pair) (rest : List ℕ) → list_all is_variable ps ≡ true → entries_of (stored_pairs ps ++ 0 ∷ rest) ≡ map valued ps
+pub entries_stored : (ps : List Pair) (rest : List ℕ) → All IsVariable ps → entries_of (stored_pairs ps ++ 0 ∷ rest) ≡ map valued ps
 unfolding entries_of
 entries_stored [] rest h = ap (λ qs. filter has_name (map entry_of (take_while (λ q. not (is_empty q)) (but_last ([] ∷ qs))))) ((split_cons rest).2)
 entries_stored ((n, v) ∷ ps) rest h =
-    let forms = and_true (is_variable (n, v)) (list_all is_variable ps) h in
+    let first : IsVariable (n, v) = All-head IsVariable (n, v) ps h in
     let behind : List ℕ = stored_pairs ps ++ 0 ∷ rest in
-    let named : has_name (n, Some v) ≡ true = ap not ((formed_name n ((and_true (is_name n) (is_value v) forms.0).0)).0) in
+    let named : has_name (n, Some v) ≡ true = ap not ((formed_name n first.0).0) in
     ap entries_of (append_assoc (stored_pair (n, v)) (stored_pairs ps) (0 ∷ rest))
-    ∙ ap (λ qs. filter has_name (map entry_of (take_while (λ q. not (is_empty q)) qs))) (stored_first n v behind forms.0)
+    ∙ ap (λ qs. filter has_name (map entry_of (take_while (λ q. not (is_empty q)) qs))) (stored_first n v behind first)
     ∙ ap (λ qs. filter has_name (map entry_of qs)) (take_while-cons (λ q. not (is_empty q)) (n ++ 61 ∷ v) (ended_pieces behind)
     ∙ ap (λ b. cond (not b) ((n ++ 61 ∷ v) ∷ take_while (λ q. not (is_empty q)) (ended_pieces behind)) []) (joined_full n v))
-    ∙ ap (λ e. filter has_name (e ∷ map entry_of (take_while (λ q. not (is_empty q)) (ended_pieces behind)))) (joined_entry n v forms.0)
+    ∙ ap (λ e. filter has_name (e ∷ map entry_of (take_while (λ q. not (is_empty q)) (ended_pieces behind)))) (joined_entry n v first)
     ∙ ap (λ b. cond b ((n, Some v) ∷ entries_of behind) (entries_of behind)) named
-    ∙ ap (λ es. (n, Some v) ∷ es) (entries_stored ps rest forms.1)
+    ∙ ap (λ es. (n, Some v) ∷ es) (entries_stored ps rest (All-tail IsVariable (n, v) ps h))
 
-pub terminated_stored : (ps : List Pair) (rest : List ℕ) → list_all is_variable ps ≡ true → is_terminated (stored_pairs ps ++ 0 ∷ rest) ≡ true
+pub terminated_stored : (ps : List Pair) (rest : List ℕ) → All IsVariable ps → is_terminated (stored_pairs ps ++ 0 ∷ rest) ≡ true
 terminated_stored [] rest h = ap (λ qs. list_any is_empty (but_last ([] ∷ qs))) ((split_cons rest).2)
 terminated_stored ((n, v) ∷ ps) rest h =
-    let forms = and_true (is_variable (n, v)) (list_all is_variable ps) h in
     let behind : List ℕ = stored_pairs ps ++ 0 ∷ rest in
     ap is_terminated (append_assoc (stored_pair (n, v)) (stored_pairs ps) (0 ∷ rest))
-    ∙ ap (list_any is_empty) (stored_first n v behind forms.0)
+    ∙ ap (list_any is_empty) (stored_first n v behind (All-head IsVariable (n, v) ps h))
     ∙ ap (λ b. b || list_any is_empty (ended_pieces behind)) (joined_full n v)
-    ∙ terminated_stored ps rest forms.1
+    ∙ terminated_stored ps rest (All-tail IsVariable (n, v) ps h)
 
 -- ---- the checksum is a number of 32 bits
 
@@ -265,19 +258,15 @@ framed_good shape flag area e t =
     (ap is_terminated holds.behind ∙ t)
     ∙ ap Good holds.shown
 
-is_true : (b : Bool) → IsTrue b → b ≡ true
-is_true b h = h
-
-pub image_back : (shape : Shape) (flag : ℕ) (m : Environment) → IsSize shape.layout shape.size → IsFormed m → used m ≤ shape.size - head shape.layout → ReadsBack shape flag m
+pub image_back : (shape : Shape) (flag : ℕ) (m : Environment) → IsSize shape.layout shape.size → AreVariables m → used m ≤ shape.size - head shape.layout → ReadsBack shape flag m
 image_back shape flag m fits formed small =
     let ps : List Pair = env.entries m in
     let room : ℕ = shape.size - head shape.layout in
     let area : List ℕ = filled_area room (stored_pairs ps) in
     let rest : List ℕ = replicate (room - (length (stored_pairs ps) + 1)) 0 in
-    let all : list_all is_variable ps ≡ true = is_true (list_all is_variable ps) formed in
     let stored : length (stored_pairs ps) ≡ sum_by pair_size ps = length-stored ps in
     let whole : length area ≡ room = length-filled room (stored_pairs ps) (omega arith) in
     let size : head shape.layout + length area ≡ shape.size = omega (arith, fits.0) in (
-      framed_good shape flag area size (terminated_stored ps rest all),
-      ap (λ xs. vars_of (entries_of xs)) (frame_holds shape.layout shape.order flag area).behind ∙ ap vars_of (entries_stored ps rest all) ∙ entries_again m,
+      framed_good shape flag area size (terminated_stored ps rest formed),
+      ap (λ xs. vars_of (entries_of xs)) (frame_holds shape.layout shape.order flag area).behind ∙ ap vars_of (entries_stored ps rest formed) ∙ entries_again m,
     )

@@ -1,6 +1,6 @@
 -- What an environment is: a finite map from names to values.
 -- A name is one or more bytes without 0 and '=', a value one or more bytes without 0 (docs/images.md, "Names and values").
-use Rattle.std.specs.Prelude.{ℕ, ◌+◌, ◌==◌, ◌||◌, Bool, true, false, not, List, [], ◌∷◌, length, sum_by}
+use Rattle.std.specs.Prelude.{ℕ, ◌+◌, ◌==◌, ◌||◌, Bool, true, false, not, List, [], ◌∷◌, ◌++◌, length, sum_by, IsTrue}
 use Rattle.std.specs.List.{list_any}
 use Rattle.std.specs.Ordering.{nat_cmp}
 use Rattle.std.specs.declared.cmp.Ordering.{Ordering}
@@ -33,6 +33,14 @@ is_name n = not (is_empty n || list_any (λ b. is_zero b || is_equals b) n)
 
 abbrev pub is_value : List ℕ → Bool
 is_value v = not (is_empty v || list_any is_zero v)
+
+-- the name is a name, and the value a value
+abbrev pub IsVariable : Pair → Type 0
+IsVariable p = IsTrue (is_name p.0) × IsTrue (is_value p.1)
+
+-- name, '=' and value in one text
+abbrev pub joined : Pair → List ℕ
+joined p = p.0 ++ 61 ∷ p.1
 
 -- the bytes that a variable takes: name, '=', value and the 0 behind it
 abbrev pub pair_size : Pair → ℕ

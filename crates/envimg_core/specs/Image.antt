@@ -3,7 +3,7 @@ use Rattle.std.specs.Prelude.{ℕ, ◌+◌, ◌-◌, List, [], ◌∷◌, ◌++�
 use Rattle.std.specs.List.{flat_map}
 use Rattle.std.specs.FinMap.{entries}
 use Rattle.envimg_core.specs.Checksum.{checksum}
-use Rattle.envimg_core.specs.Environment.{Environment, Pair}
+use Rattle.envimg_core.specs.Environment.{Environment, Pair, joined}
 use Rattle.envimg_core.specs.Geometry.{Shape, room_of}
 use Rattle.envimg_core.specs.Order.{checksum_bytes}
 use Rattle.envimg_core.specs.declared.geometry.Layout.{Layout}
@@ -12,7 +12,7 @@ use Rattle.envimg_core.specs.declared.order.Order.{Order}
 
 -- an entry as it is stored: name, '=', value, and the 0 that ends it
 abbrev pub stored_pair : Pair → List ℕ
-stored_pair p = p.0 ++ 61 ∷ p.1 ++ 0 ∷ []
+stored_pair p = joined p ++ 0 ∷ []
 
 abbrev pub stored_pairs : List Pair → List ℕ
 stored_pairs ps = flat_map stored_pair ps

@@ -1,10 +1,9 @@
 -- What the laws of this crate say.
-use Rattle.std.specs.Prelude.{◌≡◌, ℕ, ◌≤◌, ◌&&◌, Bool, List, Option, length, reverse, find, IsTrue}
+use Rattle.std.specs.Prelude.{◌≡◌, ℕ, ◌≤◌, Bool, List, Option, length, reverse, find, All, IsTrue}
 use Rattle.std.specs.Option.{option_and_then}
-use Rattle.std.specs.List.{list_all}
 use Rattle.std.specs.Ordering.{eq_by_cmp}
 use Rattle.std.specs.FinMap.{entries, get}
-use Rattle.envimg_core.specs.Environment.{Environment, Pair, bytes_cmp, is_name, is_value, used}
+use Rattle.envimg_core.specs.Environment.{Environment, IsVariable, bytes_cmp, used}
 use Rattle.envimg_core.specs.Geometry.{Shape, IsSize, room_of, area_of}
 use Rattle.envimg_core.specs.Image.{image_of}
 use Rattle.envimg_core.specs.Pieces.{Entry, entries_of, vars_of, is_terminated}
@@ -21,12 +20,9 @@ last_named name es = find (λ e. eq_by_cmp bytes_cmp name e.0) (reverse es)
 abbrev pub LastDecides : List Entry → List ℕ → Type 0
 LastDecides es name = get (vars_of es) name ≡ option_and_then (λ e. e.1) (last_named name es)
 
-abbrev pub is_variable : Pair → Bool
-is_variable p = is_name p.0 && is_value p.1
-
 -- each name and each value has its form
-abbrev pub IsFormed : Environment → Type 0
-IsFormed env = IsTrue (list_all is_variable (entries env))
+abbrev pub AreVariables : Environment → Type 0
+AreVariables env = All IsVariable (entries env)
 
 -- the flag that a copy written with this flag shows
 abbrev pub shown_flag : Layout → ℕ → ℕ
@@ -41,7 +37,7 @@ ReadsBack shape flag env =
 
 -- every image that can be written
 abbrev pub ImageReadsBack : Type 0
-ImageReadsBack = (shape : Shape) (flag : ℕ) (env : Environment) → IsSize shape.layout shape.size → IsFormed env → used env ≤ room_of shape → ReadsBack shape flag env
+ImageReadsBack = (shape : Shape) (flag : ℕ) (env : Environment) → IsSize shape.layout shape.size → AreVariables env → used env ≤ room_of shape → ReadsBack shape flag env
 
 -- the variables of a terminated area fit into it
 abbrev pub LoadedFits : Type 0

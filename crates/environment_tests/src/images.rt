@@ -227,7 +227,10 @@ fn written_images(rt: HostRuntime) {
     assert!(rt; writer.put(b"a", b"b"));
     writer.finish(7);
     assert_eq!(rt; image.as_slice(), b"\xD2\x96\x62\x2B\x07a=b\0\0".as_slice());
+}
 
+#[test]
+fn written_big_endian_images(rt: HostRuntime) {
     let mut image = [0xAA; 9];
     let mut writer = ImageWriter::new(&big_endian(&rt, Layout::Single, 9), &mut image);
     assert!(rt; writer.put(b"a", b"b"));
@@ -239,7 +242,10 @@ fn written_images(rt: HostRuntime) {
     assert!(rt; writer.put(b"a", b"b"));
     writer.finish(8);
     assert_eq!(rt; image.as_slice(), b"\x2B\x62\x96\xD2\x08a=b\0\0".as_slice());
+}
 
+#[test]
+fn written_images_without_room_and_with_room_left(rt: HostRuntime) {
     let mut image = [0xAA; 8];
     let mut writer = ImageWriter::new(&geometry(&rt, Layout::Single, 8), &mut image);
     assert!(rt; !writer.put(b"a", b"b"), "no room for the final 0");

@@ -1,4 +1,5 @@
-// What no clause says: that the calls can succeed, and rows worked by hand.
+//! What no clause says: that the calls can succeed, and rows worked by hand.
+
 ghost use Rattle.std.specs.Prelude.{◌≤◌, IsTrue};
 ghost use Rattle.envimg_core.specs.Environment.{is_name, is_value};
 
@@ -23,14 +24,14 @@ fn put(variables: &mut Variables, name: &[u8], value: &[u8]) -> Result<(), Alloc
     requires name_form { IsTrue (is_name name.now) }
     requires value_form { IsTrue (is_value value.now) }
 {
-    let (_, near) = variables.find(name);
-    variables.insert(near, name, value)
+    let (_, hint) = variables.find(name);
+    variables.insert(hint, name, value)
 }
 
 // A removal of a name that has just been looked up.
 fn take_out(variables: &mut Variables, name: &[u8]) {
-    let (_, near) = variables.find(name);
-    variables.remove(near, name);
+    let (_, hint) = variables.find(name);
+    variables.remove(hint, name);
 }
 
 // An area of as many variables, each `vDDDD=DDDD`, in a mixed order.
@@ -123,9 +124,9 @@ fn texts_are_taken_out_from_the_last_name(rt: HostRuntime) -> Result<(), Fail> {
     let alloc = rt.alloc();
     let mut texts = Texts::new(alloc);
     for (name, value) in [(b"b", b"2"), (b"c", b"3"), (b"a", b"1")] {
-        let (found, near) = texts.find(name);
+        let (found, hint) = texts.find(name);
         if found.is_none() {
-            texts.add(near, Text::new(alloc, name, value)?)?;
+            texts.add(hint, Text::new(alloc, name, value)?)?;
         }
     }
     assert_eq!(rt; texts.len(), 3);
@@ -154,19 +155,19 @@ fn a_text_is_found_from_any_spot(rt: HostRuntime) -> Result<(), Fail> {
     let alloc = rt.alloc();
     let mut texts = Texts::new(alloc);
     for (name, value) in [(b"b", b"2"), (b"d", b"4")] {
-        let (found, near) = texts.find(name);
+        let (found, hint) = texts.find(name);
         if found.is_none() {
-            texts.add(near, Text::new(alloc, name, value)?)?;
+            texts.add(hint, Text::new(alloc, name, value)?)?;
         }
     }
     let variables = Variables::load(alloc, b"a=9\0b=9\0c=9\0d=9\0e=9\0\0")?;
     for other in [b"a", b"b", b"c", b"d", b"e"] {
-        let (_, near) = variables.find(other);
-        let (none, _) = texts.find_near(near, b"a");
+        let (_, hint) = variables.find(other);
+        let (none, _) = texts.find_near(hint, b"a");
         assert!(rt; !none);
-        let (two, _) = texts.find_near(near, b"b");
+        let (two, _) = texts.find_near(hint, b"b");
         assert!(rt; two);
-        let (four, _) = texts.find_near(near, b"d");
+        let (four, _) = texts.find_near(hint, b"d");
         assert!(rt; four);
     }
     Ok(())
@@ -178,33 +179,33 @@ fn a_number_is_no_more_than_a_hint(rt: HostRuntime) -> Result<(), Fail> {
     let alloc = rt.alloc();
     let mut texts = Texts::new(alloc);
     let (_, any) = texts.find(b"a");
-    let mut nears = Vec::new(alloc);
+    let mut hints = Vec::new(alloc);
     for name in [b"c", b"a", b"b"] {
-        let (is_there, near) = texts.find_near(any, name);
+        let (is_there, hint) = texts.find_near(any, name);
         assert!(rt; !is_there);
         if !is_there {
-            texts.add(near, Text::new(alloc, name, b"1")?)?;
+            texts.add(hint, Text::new(alloc, name, b"1")?)?;
         }
-        let (is_added, _) = texts.find_near(near, name);
+        let (is_added, _) = texts.find_near(hint, name);
         assert!(rt; is_added);
         if is_added {
             texts.number(name);
         }
-        nears.push(near)?;
+        hints.push(hint)?;
     }
-    for near in nears.iter() {
+    for hint in hints.iter() {
         for name in [b"a", b"b", b"c"] {
-            let (is_there, _) = texts.find_near(*near, name);
+            let (is_there, _) = texts.find_near(*hint, name);
             assert!(rt; is_there);
         }
-        let (is_there, _) = texts.find_near(*near, b"d");
+        let (is_there, _) = texts.find_near(*hint, b"d");
         assert!(rt; !is_there);
     }
     texts.remove(b"a");
-    for near in nears.iter() {
-        let (is_there, _) = texts.find_near(*near, b"a");
+    for hint in hints.iter() {
+        let (is_there, _) = texts.find_near(*hint, b"a");
         assert!(rt; !is_there);
-        let (is_left, _) = texts.find_near(*near, b"b");
+        let (is_left, _) = texts.find_near(*hint, b"b");
         assert!(rt; is_left);
     }
     Ok(())

@@ -30,5 +30,5 @@ abbrev pub IsWas : Was → List ℕ → Option (List ℕ) → Type 0
 IsWas was n before = (was.name.items ≡ n) × (option_map (λ v. v.items) was.before ≡ before)
 
 -- the name is a name, and the value, where there was one, a value
-abbrev pub IsFormed : Was → Type 0
-IsFormed was = IsTrue (is_name was.name.items) × IfSome (option_map (λ v. v.items) was.before) (λ v. IsTrue (is_value v))
+abbrev pub IsFormedWas : Was → Type 0
+IsFormedWas was = IsTrue (is_name was.name.items) × IfSome (option_map (λ v. v.items) was.before) (λ v. IsTrue (is_value v))

@@ -3,14 +3,14 @@
 ghost use Rattle.std.specs.Prelude.{◌≡◌, ℕ, List, fold, Some, false, not, if◌then◌else◌, IfOk, OnOk, OnErr, IfSome, IsTrue, MatchOption, option_copied, option_map};
 ghost use Rattle.std.specs.List.{list_all};
 ghost use Rattle.std.specs.FinMap as env;
-ghost use Rattle.envimg_core.specs.Environment.{is_name, is_value};
+ghost use Rattle.envimg_core.specs.Environment.{is_name, is_value, IsVariable};
 ghost use Rattle.envimg_core.specs.Pieces.{with_value, after_entry};
-ghost use Rattle.envvars_store.specs.Variable.{IsVariable, unmarked};
+ghost use Rattle.envvars_store.specs.Pairs.{unmarked};
 ghost use Rattle.envvars_core.specs.Olds.{kept, restored, has_place};
 ghost use Rattle.envvars_core.specs.Kept.{kept_entries};
 
 use crate::refusals::Memory;
-use envvars_store::{Near, Text, Texts, Variables, unmarked};
+use envvars_store::{Hint, Text, Texts, Variables, unmarked};
 use std::alloc::Global;
 use std::marker::Model;
 
@@ -64,10 +64,10 @@ impl Olds {
     }
 
     /// Whether a name is kept, and where it was found or would stand. What has the number that is given is looked at first.
-    fn find(&self, near: Near, name: &[u8]) -> (bool, Near)
+    fn find(&self, hint: Hint, name: &[u8]) -> (bool, Hint)
         ensures { result.0 ≡ env.contains_key self.now name.now }
     {
-        self.texts.find_near(near, name)
+        self.texts.find_near(hint, name)
     }
 
     /// Whether a name is kept.
@@ -79,30 +79,30 @@ impl Olds {
 
     /// Keeps the old value of a name, unless one is kept already, and answers whether it is kept only now.
     /// Where memory runs out, nothing has changed.
-    /// `near` is where a look-up of the name ended among the variables. It comes back with the number of the kept name.
+    /// `hint` is where a look-up of the name ended among the variables. It comes back with the number of the kept name.
     pub(crate) fn keep(
         &mut self,
-        near: Near,
+        hint: Hint,
         name: &[u8],
         old: Option<&[u8]>,
-    ) -> Result<(bool, Near), Memory>
+    ) -> Result<(bool, Hint), Memory>
         requires name_form { IsTrue (is_name name.now) }
         requires value_form { IfSome (option_copied old) (λ v. IsTrue (is_value v)) }
         ensures kept { OnOk result (self.new ≡ kept self.old name.now (option_copied old.entry)) }
         ensures added { IfOk result (λ kept. kept.0 ≡ not (env.contains_key self.old name.now)) }
         ensures unchanged { OnErr result (self.new ≡ self.old) }
     {
-        let (is_kept, at) = self.find(near, name);
-        let near = near.numbered_as(at);
+        let (is_kept, at) = self.find(hint, name);
+        let hint = hint.numbered_as(at);
         if is_kept {
-            return Ok((false, near));
+            return Ok((false, hint));
         }
         self.add(at, name, old)?;
-        Ok((true, near))
+        Ok((true, hint))
     }
 
     /// Keeps the old value of a name that isn't kept yet. Where memory runs out, nothing has changed.
-    fn add(&mut self, near: Near, name: &[u8], old: Option<&[u8]>) -> Result<(), Memory>
+    fn add(&mut self, hint: Hint, name: &[u8], old: Option<&[u8]>) -> Result<(), Memory>
         requires name_form { IsTrue (is_name name.now) }
         requires value_form { IfSome (option_copied old) (λ v. IsTrue (is_value v)) }
         requires new { env.contains_key self.old name.now ≡ false }
@@ -110,7 +110,7 @@ impl Olds {
         ensures err { OnErr result (self.new ≡ self.old) }
     {
         let text = Text::marked(self.alloc, name, old)?;
-        self.texts.add(near, text)?;
+        self.texts.add(hint, text)?;
         self.texts.number(name);
         Ok(())
     }
@@ -195,10 +195,10 @@ fn put_back_one(variables: &mut Variables, name: &[u8], value: &[u8]) -> Result<
     requires { IsVariable (name.now, value.now) }
     ensures { OnOk result (variables.new ≡ with_value variables.old name.now (unmarked value.now)) }
 {
-    let (_, near) = variables.find(name);
+    let (_, hint) = variables.find(name);
     match unmarked(value) {
-        Some(value) => variables.insert(near, name, value)?,
-        None => variables.remove(near, name),
+        Some(value) => variables.insert(hint, name, value)?,
+        None => variables.remove(hint, name),
     }
     Ok(())
 }

@@ -9,10 +9,9 @@ use Rattle.std.proofs.lemmas.List.Splits.{slice_split_first, slice_split_none, l
 use Rattle.std.proofs.lemmas.List.Folds.{list_any_none}
 use Rattle.std.proofs.lemmas.List.Elements.{filter-append, All-take, All-drop}
 use Rattle.memchr.specs.Find.{IsFirstByte, is_byte}
-use Rattle.envimg_core.specs.Environment.{Environment, is_empty, is_zero, is_equals, is_name, is_value}
+use Rattle.envimg_core.specs.Environment.{Environment, is_empty, is_zero, is_equals, is_name, is_value, IsVariable}
 use Rattle.envimg_core.specs.Pieces.{but_last, ended_pieces, Entry, value_of, entry_of, entries_of, has_name, after_entry, with_value}
 use Rattle.envvars_store.specs.Pieces.{IsPiece}
-use Rattle.envvars_store.specs.Variable.{IsVariable}
 
 pub is_false : (b : Bool) → (b ≢ true) → b ≡ false
 is_false true h = absurd (h refl)
@@ -165,7 +164,7 @@ ended xs k e f =
     let within : k < length xs = f.0.high in
     entries_end xs (first_at 0 xs k f ∙ e) (omega arith)
 
--- a name and a value as places of an area
+-- a name and a value as spans of an area
 pub name_part : (area : List ℕ) (s e k : ℕ) → k ≤ e - s → slice_range area s (s + k) ≡ take k (slice_range area s e)
 name_part area s e k h =
     let same : s + k - s ≡ k = omega arith in

@@ -6,18 +6,17 @@ use Rattle.std.proofs.lemmas.Cmp.{nat_list_cmp_total}
 use Rattle.std.proofs.lemmas.List.{map-append}
 use Rattle.std.proofs.lemmas.List.Elements.{All-push}
 use Rattle.memchr.specs.Find.{IsFirstByte, is_byte}
-use Rattle.envimg_core.specs.Environment.{is_equals, bytes_cmp, Environment}
+use Rattle.envimg_core.specs.Environment.{is_equals, bytes_cmp, Environment, IsVariable}
 use Rattle.envimg_core.specs.Pieces.{entries_of, entry_of, has_name, after_entry}
 use Rattle.envvars_store.specs.Order.{AllBefore}
-use Rattle.envvars_store.specs.Laying.{pair_of, IsPlaced}
-use Rattle.envvars_store.specs.Pieces.{IsPiece, IsNextPlace}
-use Rattle.envvars_store.specs.Runs.{Run, flat, pairs, listed, IsFilled, IsFormed, IsLaid}
-use Rattle.envvars_store.specs.declared.slots.Place.{Place}
-use Rattle.envvars_store.specs.declared.slots.Slot.{Slot}
-use Rattle.envvars_store.specs.declared.slots.Slot.TheVariants.{Placed}
+use Rattle.envvars_store.specs.Laying.{pair_of, LiesIn}
+use Rattle.envvars_store.specs.Pieces.{IsPiece, IsNextSpan}
+use Rattle.envvars_store.specs.Runs.{Run, flat, pairs, listed, IsFilled, HoldsVariable, AreInOrder}
+use Rattle.envvars_store.specs.declared.variable.Span.{Span}
+use Rattle.envvars_store.specs.declared.variable.Variable.{Variable}
+use Rattle.envvars_store.specs.declared.variable.Variable.TheVariants.{Loaded}
 use Rattle.envvars_store.proofs.OrderLemmas.{turned, put_between, all_before_push}
 use Rattle.envvars_store.proofs.MapLemmas.{env_of, env_put, sorted_put}
-use Rattle.envvars_store.specs.Variable.{IsVariable}
 use Rattle.envvars_store.proofs.CompareLemmas.{not_empty}
 use Rattle.envvars_store.proofs.EntryLemmas.{before_at, piece_read, piece_long, name_part, place_formed, place_gives}
 
@@ -29,44 +28,44 @@ after_both : (q n last : List ℕ) → bytes_cmp q n ≡ Greater → bytes_cmp n
 after_both q n last a b = turned last q Less (nat_list_cmp_total.trans last n q (turned n last Greater b) (turned q n Greater a))
 
 -- what a push in rising order leaves
-pub record IsRisen (area : List ℕ) (runs new : List Run) (p : Place) : Type 0 where
-  pub laid : IsLaid area new
-  pub is_put : listed area new ≡ put bytes_cmp (pair_of area (Placed p)).0 (pair_of area (Placed p)).1 (listed area runs)
-  pub rises : (q : List ℕ) → bytes_cmp q (pair_of area (Placed p)).0 ≡ Greater → AllBefore q (listed area new)
+pub record IsRisen (area : List ℕ) (runs new : List Run) (p : Span) : Type 0 where
+  pub in_order : AreInOrder area new
+  pub is_put : listed area new ≡ put bytes_cmp (pair_of area (Loaded p)).0 (pair_of area (Loaded p)).1 (listed area runs)
+  pub rises : (q : List ℕ) → bytes_cmp q (pair_of area (Loaded p)).0 ≡ Greater → AllBefore q (listed area new)
 
-pub risen : (area : List ℕ) (runs new : List Run) (at : ℕ) (last : List ℕ) (p : Place) → IsLaid area runs → RisesTo area runs last → IsNextPlace area at last p → All IsFilled new → flat new ≡ flat runs ++ Placed p ∷ [] → IsRisen area runs new p
+pub risen : (area : List ℕ) (runs new : List Run) (at : ℕ) (last : List ℕ) (p : Span) → AreInOrder area runs → RisesTo area runs last → IsNextSpan area at last p → All IsFilled new → flat new ≡ flat runs ++ Loaded p ∷ [] → IsRisen area runs new p
 risen area runs new at last p l rises next filled is =
-    let n = (pair_of area (Placed p)).0 in
-    let v = (pair_of area (Placed p)).1 in
+    let n = (pair_of area (Loaded p)).0 in
+    let v = (pair_of area (Loaded p)).1 in
     let es = listed area runs in
-    let more : listed area new ≡ es ++ (n, v) ∷ [] = ap (pairs area) is ∙ map-append (pair_of area) (flat runs) (Placed p ∷ []) in
+    let more : listed area new ≡ es ++ (n, v) ∷ [] = ap (pairs area) is ∙ map-append (pair_of area) (flat runs) (Loaded p ∷ []) in
     let before : AllBefore n es = rises n next.rising in
     let put_is : listed area new ≡ put bytes_cmp n v es = more ∙ sym (ap (put bytes_cmp n v) (sym (append-nil es)) ∙ put_between n v es [] before tt) in
     record {
-      laid = record {
+      in_order = record {
         filled = filled;
-        placed = subst (All (IsPlaced area)) (sym is) (All-push (IsPlaced area) (flat runs) (Placed p) l.placed next.place);
+        lies = subst (All (LiesIn area)) (sym is) (All-push (LiesIn area) (flat runs) (Loaded p) l.lies next.span);
         sorted = subst (λ xs. T (is_sorted bytes_cmp xs)) (sym put_is) (sorted_put n v es l.sorted);
-        formed = subst (All (IsFormed area)) (sym is) (All-push (IsFormed area) (flat runs) (Placed p) l.formed next.formed);
+        formed = subst (All (HoldsVariable area)) (sym is) (All-push (HoldsVariable area) (flat runs) (Loaded p) l.formed next.formed);
       };
       is_put = put_is;
       rises = λ q g. subst (AllBefore q) (sym more) (all_before_push q es (n, v) (rises q (after_both q n last g next.rising)) g);
     }
 
-pub risen_left : (area : List ℕ) (runs new : List Run) (at : ℕ) (last : List ℕ) (p : Place) (goal : Environment) → IsLaid area runs → IsNextPlace area at last p → IsRisen area runs new p → fold after_entry (env_of (listed area runs)) (entries_of (drop at area)) ≡ goal → fold after_entry (env_of (listed area new)) (entries_of (drop (p.end + 1) area)) ≡ goal
+pub risen_left : (area : List ℕ) (runs new : List Run) (at : ℕ) (last : List ℕ) (p : Span) (goal : Environment) → AreInOrder area runs → IsNextSpan area at last p → IsRisen area runs new p → fold after_entry (env_of (listed area runs)) (entries_of (drop at area)) ≡ goal → fold after_entry (env_of (listed area new)) (entries_of (drop (p.end + 1) area)) ≡ goal
 risen_left area runs new at last p goal l next r e =
     let from_start : fold after_entry (env_of (listed area runs)) (entries_of (drop p.start area)) ≡ goal = ap (λ n. fold after_entry (env_of (listed area runs)) (entries_of (drop n area))) next.start ∙ e in
     piece_read area p.start p.end (env_of (listed area runs)) (env_of (listed area new)) goal next.piece from_start
-    (ap env_of r.is_put ∙ env_put (pair_of area (Placed p)).0 (pair_of area (Placed p)).1 (listed area runs) l.sorted ∙ sym (next.entry (env_of (listed area runs))))
+    (ap env_of r.is_put ∙ env_put (pair_of area (Loaded p)).0 (pair_of area (Loaded p)).1 (listed area runs) l.sorted ∙ sym (next.entry (env_of (listed area runs))))
 
 -- the '=' that was found in a piece
-pub place_marked : (area : List ℕ) (s e k : ℕ) → IsPiece area s e → IsFirstByte (is_byte 61) (slice_range area s e) (Some k) → get_or area (s + k) 0 ≡ 61
-place_marked area s e k p f =
+pub span_marked : (area : List ℕ) (s e k : ℕ) → IsPiece area s e → IsFirstByte (is_byte 61) (slice_range area s e) (Some k) → get_or area (s + k) 0 ≡ 61
+span_marked area s e k p f =
     let within : k < length (slice_range area s e) = f.0.high in
     let short : k < e - s = omega (arith, length-take (e - s) (drop s area)) in
     sym (get_or-take (e - s) (drop s area) k 0 short ∙ get_or-drop s area k 0) ∙ eqb-true _ _ f.1
 
-pub next_place_is : (area : List ℕ) (s k e : ℕ) (last : List ℕ) (p : Place) → p.start ≡ s → p.middle ≡ s + k → p.end ≡ e → IsPiece area s e → IsFirstByte (is_byte 61) (slice_range area s e) (Some k) → (s + k + 1 ≢ e) → bytes_cmp (take k (slice_range area s e)) last ≡ Greater → IsNextPlace area s last p
+pub next_place_is : (area : List ℕ) (s k e : ℕ) (last : List ℕ) (p : Span) → p.start ≡ s → p.middle ≡ s + k → p.end ≡ e → IsPiece area s e → IsFirstByte (is_byte 61) (slice_range area s e) (Some k) → (s + k + 1 ≢ e) → bytes_cmp (take k (slice_range area s e)) last ≡ Greater → IsNextSpan area s last p
 next_place_is area s k e last p a b c piece f m g =
     let n : k ≢ 0 = not_empty (slice_range area s e) last k g in
     let within : k < length (slice_range area s e) = f.0.high in
@@ -77,7 +76,7 @@ next_place_is area s k e last p a b c piece f m g =
     record {
       start = a;
       piece = subst (λ x. IsPiece area x p.end) (sym a) (subst (IsPiece area s) (sym c) piece);
-      place = record { ordered = omega arith; inside = omega arith; within = omega arith; marked = ap (λ x. get_or area x 0) b ∙ place_marked area s e k piece f };
+      span = record { ordered = omega arith; inside = omega arith; within = omega arith; marked = ap (λ x. get_or area x 0) b ∙ span_marked area s e k piece f };
       formed = subst (λ x. IsVariable (slice_range area x p.middle, slice_range area (p.middle + 1) p.end)) (sym a)
           (subst (λ x. IsVariable (slice_range area s x, slice_range area (x + 1) p.end)) (sym b)
           (subst (λ x. IsVariable (slice_range area s (s + k), slice_range area (s + k + 1) x)) (sym c) (place_formed area s e k piece f n more)));
@@ -95,11 +94,11 @@ next_place_is area s k e last p a b c piece f m g =
 pub rises_none : (area : List ℕ) (runs : List Run) → runs ≡ [] → RisesTo area runs []
 rises_none area runs e = λ q g. subst (λ rs. AllBefore q (listed area rs)) (sym e) tt
 
--- the first run, with one slot
-pub first_run_filled : (runs : List Run) (run : Run) (p : Slot) → runs ≡ [] → run.items ≡ p ∷ [] → All IsFilled (runs ++ run ∷ [])
+-- the first run, with one variable
+pub first_run_filled : (runs : List Run) (run : Run) (p : Variable) → runs ≡ [] → run.items ≡ p ∷ [] → All IsFilled (runs ++ run ∷ [])
 first_run_filled runs run p none is =
     let some : 0 < length run.items = subst (λ xs. 0 < length xs) (sym is) (omega arith) in
     subst (λ rs. All IsFilled (rs ++ run ∷ [])) (sym none) (All-push IsFilled [] run (λ k d h. absurd (omega arith)) (omega (arith, run.ok.0, some)))
 
-pub first_run_flat : (runs : List Run) (run : Run) (p : Slot) → runs ≡ [] → run.items ≡ p ∷ [] → flat (runs ++ run ∷ []) ≡ flat runs ++ p ∷ []
+pub first_run_flat : (runs : List Run) (run : Run) (p : Variable) → runs ≡ [] → run.items ≡ p ∷ [] → flat (runs ++ run ∷ []) ≡ flat runs ++ p ∷ []
 first_run_flat runs run p none is = ap (λ rs. flat (rs ++ run ∷ [])) none ∙ append-nil run.items ∙ is ∙ sym (ap (λ rs. flat rs ++ p ∷ []) none)

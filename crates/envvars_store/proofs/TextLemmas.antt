@@ -7,38 +7,38 @@ use Rattle.std.specs.Cmp.{tied_itself}
 use Rattle.std.proofs.lemmas.Cmp.{nat_list_cmp_total}
 use Rattle.std.proofs.lemmas.List.{map-append}
 use Rattle.envimg_core.specs.Environment.{Pair, bytes_cmp, Environment}
-use Rattle.envvars_store.specs.Laying.{pair_of, IsPlaced}
-use Rattle.envvars_store.specs.Runs.{Run, flat, listed, IsFilled, IsFormed, IsLaid, AreTexts}
+use Rattle.envvars_store.specs.Laying.{pair_of, LiesIn}
+use Rattle.envvars_store.specs.Runs.{Run, flat, listed, IsFilled, HoldsVariable, AreInOrder, AreTexts}
 use Rattle.envvars_store.specs.Names.{IsNameOf, AreNamesOf}
 use Rattle.envvars_store.specs.declared.naming.Names.{Names}
-use Rattle.envvars_store.specs.declared.slots.Place.{Place}
-use Rattle.envvars_store.specs.declared.slots.Slot.{Slot}
-use Rattle.envvars_store.specs.declared.slots.Slot.TheVariants.{Placed}
+use Rattle.envvars_store.specs.declared.variable.Span.{Span}
+use Rattle.envvars_store.specs.declared.variable.Variable.{Variable}
+use Rattle.envvars_store.specs.declared.variable.Variable.TheVariants.{Loaded}
 use Rattle.envvars_store.proofs.OrderLemmas.{all_before_equal, find_at, without, without_at}
 use Rattle.envvars_store.proofs.MapLemmas.{env_of, env_empty, sorted_without, given_put, given_without, given_entries}
 use Rattle.envvars_store.proofs.FindLemmas.{All_front, All_back}
-use Rattle.envvars_store.proofs.PlaceLemmas.{laid_none}
+use Rattle.envvars_store.proofs.PositionLemmas.{laid_none}
 
 -- as many variables as the environment has
 pub texts_len : (es : List Pair) (m : Environment) → T (is_sorted bytes_cmp es) → env_of es ≡ m → length es ≡ env.len m
 texts_len es m h at = ap length (given_entries es m h at) ∙ sym (env.len-entries m)
 
 -- one more, whose name is new
-pub texts_added : (old new : List Run) (m : Environment) (p : Pair) (count : ℕ) → AreTexts old count → env_of (listed [] old) ≡ m → IsLaid [] new → listed [] new ≡ put bytes_cmp p.0 p.1 (listed [] old) → env.contains_key m p.0 ≡ false → AreTexts new (count + 1)
-texts_added old new m p count t at laid is new_name = record {
-  laid = laid;
+pub texts_added : (old new : List Run) (m : Environment) (p : Pair) (count : ℕ) → AreTexts old count → env_of (listed [] old) ≡ m → AreInOrder [] new → listed [] new ≡ put bytes_cmp p.0 p.1 (listed [] old) → env.contains_key m p.0 ≡ false → AreTexts new (count + 1)
+texts_added old new m p count t at in_order is new_name = record {
+  in_order = in_order;
   counted =
-      ap (λ n. n + 1) (t.counted ∙ texts_len (listed [] old) m t.laid.sorted at)
-      ∙ sym (texts_len (listed [] new) (env.insert m p.0 p.1) laid.sorted (given_put p p.0 p.1 (listed [] old) (listed [] new) m t.laid.sorted refl at is) ∙ env.len-insert nat_list_cmp_total m p.0 p.1 ∙ ap (λ b. cond b (env.len m) (env.len m + 1)) new_name);
+      ap (λ n. n + 1) (t.counted ∙ texts_len (listed [] old) m t.in_order.sorted at)
+      ∙ sym (texts_len (listed [] new) (env.insert m p.0 p.1) in_order.sorted (given_put p p.0 p.1 (listed [] old) (listed [] new) m t.in_order.sorted refl at is) ∙ env.len-insert nat_list_cmp_total m p.0 p.1 ∙ ap (λ b. cond b (env.len m) (env.len m + 1)) new_name);
 }
 
 -- the one of a name less, if there is one
-pub texts_removed : (old new : List Run) (m : Environment) (q : List ℕ) (count : ℕ) (is_there : Bool) → AreTexts old count → env_of (listed [] old) ≡ m → IsLaid [] new → listed [] new ≡ without q (listed [] old) → env.contains_key m q ≡ is_there → AreTexts new (cond is_there (count - 1) count)
-texts_removed old new m q count is_there t at laid is there =
-    let counted : env.len m ≡ count = sym (t.counted ∙ texts_len (listed [] old) m t.laid.sorted at) in
+pub texts_removed : (old new : List Run) (m : Environment) (q : List ℕ) (count : ℕ) (is_there : Bool) → AreTexts old count → env_of (listed [] old) ≡ m → AreInOrder [] new → listed [] new ≡ without q (listed [] old) → env.contains_key m q ≡ is_there → AreTexts new (cond is_there (count - 1) count)
+texts_removed old new m q count is_there t at in_order is there =
+    let counted : env.len m ≡ count = sym (t.counted ∙ texts_len (listed [] old) m t.in_order.sorted at) in
     record {
-      laid = laid;
-      counted = sym (texts_len (listed [] new) (env.remove m q) laid.sorted (given_without q (listed [] old) (listed [] new) m t.laid.sorted at is) ∙ env.len-remove nat_list_cmp_total m q ∙ (λ i. cond (there i) (counted i - 1) (counted i)));
+      in_order = in_order;
+      counted = sym (texts_len (listed [] new) (env.remove m q) in_order.sorted (given_without q (listed [] old) (listed [] new) m t.in_order.sorted at is) ∙ env.len-remove nat_list_cmp_total m q ∙ (λ i. cond (there i) (counted i - 1) (counted i)));
     }
 
 -- what taking the last one out leaves
@@ -47,37 +47,37 @@ pub record IsLastTaken (old new : List Run) (m : Environment) (p : Pair) (count 
   pub had : env.get m p.0 ≡ Some p.1
   pub left : env_of (listed [] new) ≡ env.remove m p.0
 
-pub last_taken : (old new : List Run) (m : Environment) (x : Slot) (p : Pair) (count : ℕ) → AreTexts old count → env_of (listed [] old) ≡ m → All IsFilled new → flat old ≡ flat new ++ x ∷ [] → pair_of [] x ≡ p → IsLastTaken old new m p count
+pub last_taken : (old new : List Run) (m : Environment) (x : Variable) (p : Pair) (count : ℕ) → AreTexts old count → env_of (listed [] old) ≡ m → All IsFilled new → flat old ≡ flat new ++ x ∷ [] → pair_of [] x ≡ p → IsLastTaken old new m p count
 last_taken old new m x p count t at filled is called =
     let all : listed [] old ≡ listed [] new ++ p ∷ [] = ap (map (pair_of [])) is ∙ map-append (pair_of []) (flat new) (x ∷ []) ∙ ap (λ e. listed [] new ++ e ∷ []) called in
-    let sorted = subst (λ xs. T (is_sorted bytes_cmp xs)) all t.laid.sorted in
+    let sorted = subst (λ xs. T (is_sorted bytes_cmp xs)) all t.in_order.sorted in
     let tie = tied_itself nat_list_cmp_total p.0 in
     let before = all_before_equal p.0 (listed [] new) p [] sorted tie in
     let gone : listed [] new ≡ without p.0 (listed [] old) = sym (append-nil (listed [] new)) ∙ sym (without_at p.0 (listed [] new) p [] sorted before tie) ∙ sym (ap (without p.0) all) in
-    let had : env.get m p.0 ≡ Some p.1 = ap (λ o. env.get o p.0) (sym at) ∙ env.get-from_sorted bytes_cmp (listed [] old) p.0 t.laid.sorted ∙ ap (find bytes_cmp p.0) all ∙ find_at p.0 (listed [] new) p [] before tie in
-    let laid : IsLaid [] new = record {
+    let had : env.get m p.0 ≡ Some p.1 = ap (λ o. env.get o p.0) (sym at) ∙ env.get-from_sorted bytes_cmp (listed [] old) p.0 t.in_order.sorted ∙ ap (find bytes_cmp p.0) all ∙ find_at p.0 (listed [] new) p [] before tie in
+    let in_order : AreInOrder [] new = record {
       filled = filled;
-      placed = All_front (IsPlaced []) (flat new) (x ∷ []) (subst (All (IsPlaced [])) is t.laid.placed);
-      sorted = subst (λ xs. T (is_sorted bytes_cmp xs)) (sym gone) (sorted_without p.0 (listed [] old) t.laid.sorted);
-      formed = All_front (IsFormed []) (flat new) (x ∷ []) (subst (All (IsFormed [])) is t.laid.formed);
+      lies = All_front (LiesIn []) (flat new) (x ∷ []) (subst (All (LiesIn [])) is t.in_order.lies);
+      sorted = subst (λ xs. T (is_sorted bytes_cmp xs)) (sym gone) (sorted_without p.0 (listed [] old) t.in_order.sorted);
+      formed = All_front (HoldsVariable []) (flat new) (x ∷ []) (subst (All (HoldsVariable [])) is t.in_order.formed);
     } in
     record {
-      texts = texts_removed old new m p.0 count true t at laid gone (ap is_some had);
+      texts = texts_removed old new m p.0 count true t at in_order gone (ap is_some had);
       had = had;
-      left = given_without p.0 (listed [] old) (listed [] new) m t.laid.sorted at gone;
+      left = given_without p.0 (listed [] old) (listed [] new) m t.in_order.sorted at gone;
     }
 
--- over no area there is no place
-pub no_place : (old new : List Run) (x : Slot) (p : Place) (count : ℕ) → AreTexts old count → flat old ≡ flat new ++ x ∷ [] → x ≡ Placed p → ⊥
-no_place old new x p count t is placed =
-    let there = subst (IsPlaced []) placed (All_back (IsPlaced []) (flat new) (x ∷ []) (subst (All (IsPlaced [])) is t.laid.placed) 0 x (omega arith)) in
+-- over no area there is no span
+pub no_place : (old new : List Run) (x : Variable) (p : Span) (count : ℕ) → AreTexts old count → flat old ≡ flat new ++ x ∷ [] → x ≡ Loaded p → ⊥
+no_place old new x p count t is lies =
+    let there = subst (LiesIn []) lies (All_back (LiesIn []) (flat new) (x ∷ []) (subst (All (LiesIn [])) is t.in_order.lies) 0 x (omega arith)) in
     let inside = there.inside in
     let within = there.within in
     omega (arith, inside, within)
 
 -- no runs
 pub texts_none : (runs : List Run) → runs ≡ [] → AreTexts runs 0
-texts_none runs e = subst (λ rs. AreTexts rs 0) (sym e) (record { laid = laid_none []; counted = refl })
+texts_none runs e = subst (λ rs. AreTexts rs 0) (sym e) (record { in_order = laid_none []; counted = refl })
 
 pub none_empty : (runs : List Run) → runs ≡ [] → env_of (listed [] runs) ≡ env.empty
 none_empty runs e = ap (λ rs. env_of (listed [] rs)) e ∙ env_empty

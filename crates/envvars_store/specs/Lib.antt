@@ -3,4 +3,4 @@ pub mod Names
 pub mod Order
 pub mod Pieces
 pub mod Runs
-pub mod Variable
+pub mod Pairs

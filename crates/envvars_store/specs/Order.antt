@@ -15,13 +15,13 @@ abbrev pub StartsAfter : List ℕ → List Pair → Type 0
 StartsAfter name [] = Unit {0}
 StartsAfter name (e ∷ es) = bytes_cmp name e.0 ≡ Less
 
--- the variable at the place has the name, and those before it come before the name
+-- the variable at the index has the name, and those before it come before the name
 pub record IsFound (name : List ℕ) (es : List Pair) (i : ℕ) : Type 0 where
   pub within : i < length es
   pub before : AllBefore name (take i es)
   pub equal : bytes_cmp name (slice_index_or es i ([], [])).0 ≡ Equal
 
--- no variable has the name, and the place is where one would stand
+-- no variable has the name, and the index is where one would stand
 pub record IsGap (name : List ℕ) (es : List Pair) (i : ℕ) : Type 0 where
   pub within : i ≤ length es
   pub before : AllBefore name (take i es)

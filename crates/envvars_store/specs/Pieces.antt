@@ -1,25 +1,24 @@
 -- One piece of a data area.
 use Rattle.std.specs.Prelude.{◌≡◌, ℕ, ◌+◌, ◌<◌, false, List, [], ◌∷◌, ◌++◌, length, drop, filter, fold, All, slice_range}
 use Rattle.std.specs.declared.cmp.Ordering.TheVariants.{Greater}
-use Rattle.envimg_core.specs.Environment.{is_zero, is_equals, bytes_cmp, Environment}
+use Rattle.envimg_core.specs.Environment.{is_zero, is_equals, bytes_cmp, Environment, IsVariable}
 use Rattle.envimg_core.specs.Pieces.{entries_of, entry_of, has_name, after_entry}
 use Rattle.std.specs.FinMap.{insert}
-use Rattle.envvars_store.specs.Laying.{IsPlace}
-use Rattle.envvars_store.specs.Variable.{IsVariable}
-use Rattle.envvars_store.specs.declared.slots.Place.{Place}
+use Rattle.envvars_store.specs.Laying.{IsSpan}
+use Rattle.envvars_store.specs.declared.variable.Span.{Span}
 
--- a piece stands from one place to another, it is not empty, and the entries from its place on are its own and those behind it
+-- a piece stands from one index to another, it is not empty, and the entries from its start on are its own and those behind it
 pub record IsPiece (area : List ℕ) (start end : ℕ) : Type 0 where
   pub some : start < end
   pub within : end < length area
   pub whole : All (λ b. is_zero b ≡ false) (slice_range area start end)
   pub next : entries_of (drop start area) ≡ filter has_name (entry_of (slice_range area start end) ∷ []) ++ entries_of (drop (end + 1) area)
 
--- the place is that of the entry that begins at `at`: it has a name, without '=', which comes after the last one, and a value
-pub record IsNextPlace (area : List ℕ) (at : ℕ) (last : List ℕ) (p : Place) : Type 0 where
+-- the span is that of the entry that begins at `at`: it has a name, without '=', which comes after the last one, and a value
+pub record IsNextSpan (area : List ℕ) (at : ℕ) (last : List ℕ) (p : Span) : Type 0 where
   pub start : p.start ≡ at
   pub piece : IsPiece area p.start p.end
-  pub place : IsPlace area p
+  pub span : IsSpan area p
   pub formed : IsVariable (slice_range area p.start p.middle, slice_range area (p.middle + 1) p.end)
   pub plain : All (λ b. is_equals b ≡ false) (slice_range area p.start p.middle)
   pub entry : (m : Environment) → fold after_entry m (filter has_name (entry_of (slice_range area p.start p.end) ∷ [])) ≡ insert m (slice_range area p.start p.middle) (slice_range area (p.middle + 1) p.end)

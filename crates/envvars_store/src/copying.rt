@@ -3,8 +3,8 @@ ghost use Rattle.std.specs.Prelude.{◌≡◌, IfOk, All};
 ghost use Rattle.envvars_store.specs.Runs.{flat, IsFilled};
 
 use crate::runs::{FEW, Run};
-use crate::slots::Slot;
-use crate::storing::Variables;
+use crate::store::Variables;
+use crate::variable::Variable;
 use std::alloc::{AllocError, Global};
 
 /// The most bytes that are copied at once.
@@ -36,10 +36,10 @@ pub(crate) fn copied(alloc: Global, bytes: &[u8]) -> Result<Vec<u8>, AllocError>
     Ok(copy)
 }
 
-// The runs, each slot in memory of its own.
+// The runs, each variable in memory of its own.
 fn copied_runs(alloc: Global, runs: &[Run]) -> Result<Vec<Run>, AllocError>
     requires { All IsFilled runs.now }
-    ensures slots { IfOk result (λ v. flat v.items ≡ flat runs.now) }
+    ensures variables { IfOk result (λ v. flat v.items ≡ flat runs.now) }
     ensures filled { IfOk result (λ v. All IsFilled v.items) }
 {
     let mut copy = Vec::with_capacity(alloc, runs.len())?;
@@ -50,12 +50,12 @@ fn copied_runs(alloc: Global, runs: &[Run]) -> Result<Vec<Run>, AllocError>
 }
 
 // One run. A short one gets room to take in its neighbour, as each run has it.
-fn copied_run(alloc: Global, run: &[Slot]) -> Result<Run, AllocError>
+fn copied_run(alloc: Global, run: &[Variable]) -> Result<Run, AllocError>
     ensures { IfOk result (λ v. v.items ≡ run.now) }
 {
     let mut copy = Vec::with_capacity(alloc, run.len().max(FEW))?;
-    'slots: for slot in run {
-        copy.push(slot.try_clone(alloc)?)?;
+    'variables: for variable in run {
+        copy.push(variable.try_clone(alloc)?)?;
     }
     Ok(copy)
 }

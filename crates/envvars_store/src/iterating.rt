@@ -1,55 +1,56 @@
 // The variables one after another, in the order of their names.
 ghost use Rattle.std.specs.Prelude.{◌≡◌, [], ◌∷◌, map, All, MatchOption};
 ghost use Rattle.std.specs.Iterator.{YieldsFirstBy, item_count};
-ghost use Rattle.envvars_store.specs.Variable.{joined, lent_pair, lent_line};
-ghost use Rattle.envvars_store.specs.Runs.{flat, listed, IsFilled, IsLaid};
+ghost use Rattle.envvars_store.specs.Pairs.{lent_pair, lent_line};
+ghost use Rattle.envimg_core.specs.Environment.{joined};
+ghost use Rattle.envvars_store.specs.Runs.{flat, listed, IsFilled, AreInOrder};
 
 use crate::runs::Run;
-use crate::slots::Slot;
+use crate::variable::Variable;
 use std::marker::Model;
 
-// The slots that are left: those of one run, and those of the runs behind it.
+// The variables that are left: those of one run, and those of the runs behind it.
 #[derive(Drop)]
-struct Slots<'a> {
-    run: &'a [Slot],
+struct InOrder<'a> {
+    run: &'a [Variable],
     runs: &'a [Run],
 }
 
-impl<'a> Model for Slots<'a> {
+impl<'a> Model for InOrder<'a> {
     ghost use Rattle.std.specs.Prelude.{List, ◌++◌, All};
     ghost use Rattle.envvars_store.specs.Runs.{flat, IsFilled};
-    ghost use Rattle.envvars_store.specs.declared.slots.Slot.{Slot};
+    ghost use Rattle.envvars_store.specs.declared.variable.Variable.{Variable};
 
-    ghost Value = { List Slot };
+    ghost Value = { List Variable };
 
     ghost view = { λ s. s.run.now ++ flat s.runs.now };
 
     ghost invariant = { λ s. All IsFilled s.runs.now };
 }
 
-impl<'a> Slots<'a> {
-    fn new(runs: &'a [Run]) -> Slots<'a>
+impl<'a> InOrder<'a> {
+    fn new(runs: &'a [Run]) -> InOrder<'a>
         requires { All IsFilled runs.now }
         ensures { result ≡ flat runs.now }
     {
-        Slots { run: &[], runs }
+        InOrder { run: &[], runs }
     }
 
-    // The next slot.
-    fn next(&mut self) -> Option<&'a Slot>
-        ensures { MatchOption result ((self.old ≡ []) × (self.new ≡ [])) (λ slot. self.old ≡ slot.now ∷ self.new) }
+    // The next variable.
+    fn next(&mut self) -> Option<&'a Variable>
+        ensures { MatchOption result ((self.old ≡ []) × (self.new ≡ [])) (λ variable. self.old ≡ variable.now ∷ self.new) }
     {
         match self.run.split_first() {
-            Some((slot, run)) => {
+            Some((variable, run)) => {
                 self.run = run;
-                Some(slot)
+                Some(variable)
             }
             None => {
                 let (run, runs) = self.runs.split_first()?;
-                let (slot, run) = run.split_first()?;
+                let (variable, run) = run.split_first()?;
                 self.run = run;
                 self.runs = runs;
-                Some(slot)
+                Some(variable)
             }
         }
     }
@@ -59,30 +60,30 @@ impl<'a> Slots<'a> {
 #[derive(Drop)]
 pub struct Iter<'a> {
     area: &'a [u8],
-    slots: Slots<'a>,
+    variables: InOrder<'a>,
 }
 
 impl<'a> Model for Iter<'a> {
     ghost use Rattle.std.specs.Prelude.{List, All};
     ghost use Rattle.envimg_core.specs.Environment.{Pair};
-    ghost use Rattle.envvars_store.specs.Laying.{IsPlaced};
+    ghost use Rattle.envvars_store.specs.Laying.{LiesIn};
     ghost use Rattle.envvars_store.specs.Runs.{pairs};
 
     ghost Value = { List Pair };
 
-    ghost view = { λ s. pairs s.area.now s.slots };
+    ghost view = { λ s. pairs s.area.now s.variables };
 
-    ghost invariant = { λ s. All (IsPlaced s.area.now) s.slots };
+    ghost invariant = { λ s. All (LiesIn s.area.now) s.variables };
 }
 
 impl<'a> Iter<'a> {
     pub(crate) fn new(area: &'a [u8], runs: &'a [Run]) -> Iter<'a>
-        requires { IsLaid area.now runs.now }
+        requires { AreInOrder area.now runs.now }
         ensures { result ≡ listed area.now runs.now }
     {
         Iter {
             area,
-            slots: Slots::new(runs),
+            variables: InOrder::new(runs),
         }
     }
 }
@@ -95,9 +96,9 @@ impl<'a> Iterator for Iter<'a> {
     ghost remaining = { item_count (λ s. s) };
 
     fn next(&mut self) -> Option<(&'a [u8], &'a [u8])> {
-        let slot = self.slots.next()?;
+        let variable = self.variables.next()?;
         let area = self.area;
-        Some((slot.name(area), slot.value(area)))
+        Some((variable.name(area), variable.value(area)))
     }
 }
 
@@ -105,30 +106,30 @@ impl<'a> Iterator for Iter<'a> {
 #[derive(Drop)]
 pub struct Lines<'a> {
     area: &'a [u8],
-    slots: Slots<'a>,
+    variables: InOrder<'a>,
 }
 
 impl<'a> Model for Lines<'a> {
     ghost use Rattle.std.specs.Prelude.{List, ℕ, map, All};
-    ghost use Rattle.envvars_store.specs.Laying.{IsPlaced};
+    ghost use Rattle.envvars_store.specs.Laying.{LiesIn};
     ghost use Rattle.envvars_store.specs.Runs.{pairs};
-    ghost use Rattle.envvars_store.specs.Variable.{joined};
+    ghost use Rattle.envimg_core.specs.Environment.{joined};
 
     ghost Value = { List (List ℕ) };
 
-    ghost view = { λ s. map joined (pairs s.area.now s.slots) };
+    ghost view = { λ s. map joined (pairs s.area.now s.variables) };
 
-    ghost invariant = { λ s. All (IsPlaced s.area.now) s.slots };
+    ghost invariant = { λ s. All (LiesIn s.area.now) s.variables };
 }
 
 impl<'a> Lines<'a> {
     pub(crate) fn new(area: &'a [u8], runs: &'a [Run]) -> Lines<'a>
-        requires { IsLaid area.now runs.now }
+        requires { AreInOrder area.now runs.now }
         ensures { result ≡ map joined (listed area.now runs.now) }
     {
         Lines {
             area,
-            slots: Slots::new(runs),
+            variables: InOrder::new(runs),
         }
     }
 }
@@ -141,7 +142,7 @@ impl<'a> Iterator for Lines<'a> {
     ghost remaining = { item_count (λ s. s) };
 
     fn next(&mut self) -> Option<&'a [u8]> {
-        let slot = self.slots.next()?;
-        Some(slot.line(self.area))
+        let variable = self.variables.next()?;
+        Some(variable.line(self.area))
     }
 }

@@ -2,18 +2,18 @@
 ghost use Rattle.std.specs.Prelude.{◌≡◌, ◌+◌, ◌<◌, ◌≤◌, ◌^◌, length, fold, filter, IfOk, IfSome, OnOk, MatchOption, take, drop, false, [], ◌∷◌, All, slice_range};
 ghost use Rattle.envimg_core.specs.Pieces.{entries_of, vars_of, entry_of, has_name, after_entry};
 ghost use Rattle.std.specs.FinMap as env;
-ghost use Rattle.envvars_store.specs.Pieces.{IsPiece, IsNextPlace};
-ghost use Rattle.envvars_store.specs.Laying.{IsPlace};
-ghost use Rattle.envvars_store.specs.Runs.{listed, IsLaid};
+ghost use Rattle.envvars_store.specs.Pieces.{IsPiece, IsNextSpan};
+ghost use Rattle.envvars_store.specs.Laying.{IsSpan};
+ghost use Rattle.envvars_store.specs.Runs.{listed, AreInOrder};
 ghost use Rattle.envimg_core.specs.Environment.{is_equals};
 
+use crate::changing::{forget, set};
 use crate::comparing::rising_end;
 use crate::copying::copied;
-use crate::placing::{forget, set};
 use crate::runs::{Run, add, end_of, run_of_one};
-use crate::seeking::{near, rises};
-use crate::slots::{Place, Slot};
-use crate::storing::Variables;
+use crate::scanning::{near, rises};
+use crate::store::Variables;
+use crate::variable::{Span, Variable};
 use memchr::memchr;
 use std::alloc::{AllocError, Global};
 
@@ -30,10 +30,10 @@ impl Variables {
     }
 }
 
-// The variables of an area as places of it: as far as its names rise without a search, and from there on entry by entry.
+// The variables of an area as spans of it: as far as its names rise without a search, and from there on entry by entry.
 fn loaded(alloc: Global, area: &[u8]) -> Result<Vec<Run>, AllocError>
     requires { length area.now ≤ 1048576 }
-    ensures laid { IfOk result (λ runs. IsLaid area.now runs.items) }
+    ensures in_order { IfOk result (λ runs. AreInOrder area.now runs.items) }
     ensures variables { IfOk result (λ runs.
         env.from_sorted (listed area.now runs.items) ≡ vars_of (entries_of area.now)) }
 {
@@ -55,40 +55,40 @@ fn rising(alloc: Global, area: &[u8], runs: &mut Vec<Run>) -> Result<usize, Allo
     requires empty { runs.old.items ≡ [] }
     requires size { length area.now ≤ 1048576 }
     ensures within { IfOk result (λ at. at ≤ length area.now) }
-    ensures laid { OnOk result (IsLaid area.now runs.new.items) }
+    ensures in_order { OnOk result (AreInOrder area.now runs.new.items) }
     ensures left { IfOk result (λ at. fold after_entry (env.from_sorted (listed area.now runs.new.items))
         (entries_of (drop at area.now)) ≡ vars_of (entries_of area.now)) }
 {
-    let Some(first) = next_place(area, 0, 0, &[]) else {
+    let Some(first) = next_span(area, 0, 0, &[]) else {
         return Ok(0);
     };
-    let mut run = run_of_one(alloc, Slot::Placed(first))?;
+    let mut run = run_of_one(alloc, Variable::Loaded(first))?;
     let mut last = first;
     'walk: loop {
-        match place_behind(area, last) {
+        match span_behind(area, last) {
             None => {
                 runs.push(run)?;
                 return Ok(last.end as usize + 1);
             }
-            Some(place) => {
-                add(alloc, runs, &mut run, Slot::Placed(place))?;
-                last = place;
+            Some(span) => {
+                add(alloc, runs, &mut run, Variable::Loaded(span))?;
+                last = span;
             }
         }
     }
 }
 
-// The place of the entry behind another, if it has a value and its name comes after the other's.
+// The span of the entry behind another, if it has a value and its name comes after the other's.
 #[inline(always)]
-fn place_behind(area: &[u8], last: Place) -> Option<Place>
-    requires place { IsPlace area.now last }
+fn span_behind(area: &[u8], last: Span) -> Option<Span>
+    requires span { IsSpan area.now last }
     requires ends { last.end < length area.now }
     requires size { length area.now ≤ 1048576 }
     requires plain { All (λ b. is_equals b ≡ false) (slice_range area.now last.start last.middle) }
-    ensures { IfSome result (IsNextPlace area.now (last.end + 1) (slice_range area.now last.start last.middle)) }
+    ensures { IfSome result (IsNextSpan area.now (last.end + 1) (slice_range area.now last.start last.middle)) }
 {
     let from = last.start as usize;
-    next_place(
+    next_span(
         area,
         last.end as usize + 1,
         from,
@@ -96,30 +96,30 @@ fn place_behind(area: &[u8], last: Place) -> Option<Place>
     )
 }
 
-// The place of the entry that begins at a place, if it has a value and its name comes after another, which stands before it.
+// The span of the entry that begins at an index, if it has a value and its name comes after another, which stands before it.
 #[inline(always)]
-fn next_place(area: &[u8], at: usize, from: usize, last: &[u8]) -> Option<Place>
+fn next_span(area: &[u8], at: usize, from: usize, last: &[u8]) -> Option<Span>
     requires within { at ≤ length area.now }
     requires size { length area.now ≤ 1048576 }
     requires last { All (λ b. is_equals b ≡ false) last.now }
     requires earlier { from ≤ at }
     requires front { last.now ≡ take (length last.now) (drop from area.now) }
-    ensures { IfSome result (IsNextPlace area.now at last.now) }
+    ensures { IfSome result (IsNextSpan area.now at last.now) }
 {
-    match near_place(area, at, from, last) {
-        Some(place) => Some(place),
-        None => far_place(area, at, last),
+    match near_span(area, at, from, last) {
+        Some(span) => Some(span),
+        None => far_span(area, at, last),
     }
 }
 
 // The same, where the entry ends among the next 32 bytes.
 #[inline(always)]
-fn near_place(area: &[u8], at: usize, from: usize, last: &[u8]) -> Option<Place>
+fn near_span(area: &[u8], at: usize, from: usize, last: &[u8]) -> Option<Span>
     requires within { at ≤ length area.now }
     requires size { length area.now ≤ 1048576 }
     requires earlier { from ≤ at }
     requires front { last.now ≡ take (length last.now) (drop from area.now) }
-    ensures { IfSome result (IsNextPlace area.now at last.now) }
+    ensures { IfSome result (IsNextSpan area.now at last.now) }
 {
     if area.len() - at < 32 {
         return None;
@@ -130,7 +130,7 @@ fn near_place(area: &[u8], at: usize, from: usize, last: &[u8]) -> Option<Place>
     if end <= middle + 1 || !rises(text, middle, &area[from..], last.len()) {
         return None;
     }
-    Some(Place {
+    Some(Span {
         start: at as u32,
         middle: (at + middle) as u32,
         end: (at + end) as u32,
@@ -139,25 +139,25 @@ fn near_place(area: &[u8], at: usize, from: usize, last: &[u8]) -> Option<Place>
 
 // The same, wherever the entry ends.
 #[inline(never)]
-fn far_place(area: &[u8], at: usize, last: &[u8]) -> Option<Place>
+fn far_span(area: &[u8], at: usize, last: &[u8]) -> Option<Span>
     requires within { at ≤ length area.now }
     requires size { length area.now ≤ 1048576 }
     requires last { All (λ b. is_equals b ≡ false) last.now }
-    ensures { IfSome result (IsNextPlace area.now at last.now) }
+    ensures { IfSome result (IsNextSpan area.now at last.now) }
 {
     let end = piece_end(area, at)?;
     let middle = at + rising_end(&area[at..end], last)?;
     if middle + 1 == end {
         return None;
     }
-    Some(Place {
+    Some(Span {
         start: at as u32,
         middle: middle as u32,
         end: end as u32,
     })
 }
 
-// Where the piece that begins at a place ends; none where no entry is left.
+// Where the piece that begins at an index ends; none where no entry is left.
 fn piece_end(area: &[u8], at: usize) -> Option<usize>
     requires { at ≤ length area.now }
     ensures { MatchOption result (entries_of (drop at area.now) ≡ []) (IsPiece area.now at) }
@@ -177,10 +177,10 @@ fn read_entry(
     start: usize,
     end: usize,
 ) -> Result<(), AllocError>
-    requires laid { IsLaid area.now runs.old.items }
+    requires in_order { AreInOrder area.now runs.old.items }
     requires piece { IsPiece area.now start end }
     requires size { length area.now ≤ 1048576 }
-    ensures laid { IsLaid area.now runs.new.items }
+    ensures in_order { AreInOrder area.now runs.new.items }
     ensures ok { OnOk result (env.from_sorted (listed area.now runs.new.items)
         ≡ fold after_entry (env.from_sorted (listed area.now runs.old.items))
         (filter has_name (entry_of (slice_range area.now start end) ∷ []))) }
@@ -193,12 +193,12 @@ fn read_entry(
             forget(area, runs, &piece[..length], end_of(runs))
         }
         Some(length) => {
-            let place = Place {
+            let span = Span {
                 start: start as u32,
                 middle: (start + length) as u32,
                 end: end as u32,
             };
-            set(alloc, area, runs, Slot::Placed(place), end_of(runs))?;
+            set(alloc, area, runs, Variable::Loaded(span), end_of(runs))?;
         }
     }
     Ok(())

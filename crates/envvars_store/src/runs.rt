@@ -1,123 +1,123 @@
-// Slots in runs of a bounded length, so that a write moves one run at most.
+// InOrder in runs of a bounded length, so that a write moves one run at most.
 ghost use Rattle.std.specs.Prelude.{◌≡◌, ◌+◌, ◌<◌, ◌≤◌, suc, [], ◌∷◌, ◌++◌, length, All, IfOk, OnOk, OnErr, MatchOption};
-ghost use Rattle.envvars_store.specs.Runs.{flat, front, rest, later, slots_at, IsFilled};
+ghost use Rattle.envvars_store.specs.Runs.{flat, front, rest, later, variables_at, IsFilled};
 
-use crate::slots::Slot;
+use crate::variable::Variable;
 use std::alloc::{AllocError, Global};
 use std::mem::replace;
 
-/// A run of slots, at most `MOST` of them.
-pub(crate) type Run = Vec<Slot>;
+/// A run of variables, at most `MOST` of them.
+pub(crate) type Run = Vec<Variable>;
 
-/// The most slots that a run has. A write moves at most so many.
+/// The most variables that a run has. A write moves at most so many.
 const MOST: usize = 128;
 
-/// Two runs side by side that have no more slots together become one. Each run has room for so many.
+/// Two runs side by side that have no more variables together become one. Each run has room for so many.
 pub(crate) const FEW: usize = 64;
 
-/// Where a slot stands: the number of its run, and its place in the run.
+/// Where a variable stands: the index of its run, and its index in the run.
 #[derive(Clone, Copy)]
-pub(crate) struct Spot {
+pub(crate) struct Position {
     pub(crate) run: usize,
-    pub(crate) place: usize,
+    pub(crate) index: usize,
 }
 
-/// The spot behind all slots.
-pub(crate) fn end_of(runs: &[Run]) -> Spot {
+/// The position behind all variables.
+pub(crate) fn end_of(runs: &[Run]) -> Position {
     match runs.last() {
-        Some(run) => Spot {
+        Some(run) => Position {
             run: runs.len() - 1,
-            place: run.len(),
+            index: run.len(),
         },
-        None => Spot { run: 0, place: 0 },
+        None => Position { run: 0, index: 0 },
     }
 }
 
-/// Puts a slot behind those of a run that stands behind all others and not yet among them; a full one goes there first.
+/// Puts a variable behind those of a run that stands behind all others and not yet among them; a full one goes there first.
 #[inline(always)]
 pub(crate) fn add(
     alloc: Global,
     runs: &mut Vec<Run>,
     run: &mut Run,
-    slot: Slot,
+    variable: Variable,
 ) -> Result<(), AllocError>
     requires { All IsFilled (runs.old.items ++ run.old ∷ []) }
-    ensures ok { OnOk result (flat (runs.new.items ++ run.new ∷ []) ≡ flat (runs.old.items ++ run.old ∷ []) ++ slot ∷ []) }
+    ensures ok { OnOk result (flat (runs.new.items ++ run.new ∷ []) ≡ flat (runs.old.items ++ run.old ∷ []) ++ variable ∷ []) }
     ensures filled { OnOk result (All IsFilled (runs.new.items ++ run.new ∷ [])) }
 {
     if run.len() < MOST {
-        run.push(slot)?;
+        run.push(variable)?;
         return Ok(());
     }
-    let full = replace(run, run_of_one(alloc, slot)?);
+    let full = replace(run, run_of_one(alloc, variable)?);
     runs.push(full)?;
     Ok(())
 }
 
-/// Puts a slot in front of the one at a spot.
+/// Puts a variable in front of the one at a position.
 pub(crate) fn insert_at(
     alloc: Global,
     runs: &mut Vec<Run>,
-    at: Spot,
-    slot: Slot,
+    at: Position,
+    variable: Variable,
 ) -> Result<(), AllocError>
-    requires place { at.place ≤ length (slots_at runs.old.items at.run) }
+    requires index { at.index ≤ length (variables_at runs.old.items at.run) }
     requires filled { All IsFilled runs.old.items }
-    ensures ok { OnOk result (flat runs.new.items ≡ front runs.old.items at ++ slot ∷ rest runs.old.items at) }
+    ensures ok { OnOk result (flat runs.new.items ≡ front runs.old.items at ++ variable ∷ rest runs.old.items at) }
     ensures err { OnErr result (flat runs.new.items ≡ flat runs.old.items) }
     ensures filled { All IsFilled runs.new.items }
 {
     if at.run >= runs.len() {
-        let run = run_of_one(alloc, slot)?;
+        let run = run_of_one(alloc, variable)?;
         runs.push(run)?;
         return Ok(());
     }
     let length = runs[at.run].len();
     if length < MOST {
-        return insert_in(runs, at, slot);
+        return insert_in(runs, at, variable);
     }
-    if at.place == length && at.run + 1 == runs.len() {
-        let run = run_of_one(alloc, slot)?;
+    if at.index == length && at.run + 1 == runs.len() {
+        let run = run_of_one(alloc, variable)?;
         runs.insert(at.run + 1, run)?;
         return Ok(());
     }
     let at = divide(runs, at)?;
-    insert_in(runs, at, slot)
+    insert_in(runs, at, variable)
 }
 
-// Puts a slot into a run that is there.
-fn insert_in(runs: &mut Vec<Run>, at: Spot, slot: Slot) -> Result<(), AllocError>
+// Puts a variable into a run that is there.
+fn insert_in(runs: &mut Vec<Run>, at: Position, variable: Variable) -> Result<(), AllocError>
     requires run { at.run < length runs.old.items }
-    requires place { at.place ≤ length (slots_at runs.old.items at.run) }
+    requires index { at.index ≤ length (variables_at runs.old.items at.run) }
     requires filled { All IsFilled runs.old.items }
-    ensures ok { OnOk result (flat runs.new.items ≡ front runs.old.items at ++ slot ∷ rest runs.old.items at) }
+    ensures ok { OnOk result (flat runs.new.items ≡ front runs.old.items at ++ variable ∷ rest runs.old.items at) }
     ensures err { OnErr result (flat runs.new.items ≡ flat runs.old.items) }
     ensures filled { All IsFilled runs.new.items }
 {
-    runs[at.run].insert(at.place, slot)?;
+    runs[at.run].insert(at.index, variable)?;
     Ok(())
 }
 
 /// A new run, with room for all that it may get.
-pub(crate) fn run_of_one(alloc: Global, slot: Slot) -> Result<Run, AllocError>
-    ensures { IfOk result (λ r. r.items ≡ slot ∷ []) }
+pub(crate) fn run_of_one(alloc: Global, variable: Variable) -> Result<Run, AllocError>
+    ensures { IfOk result (λ r. r.items ≡ variable ∷ []) }
 {
     let mut run = Vec::with_capacity(alloc, MOST)?;
-    run.push(slot)?;
+    run.push(variable)?;
     Ok(run)
 }
 
-// Cuts a run in two halves, and answers where the spot is now.
-fn divide(runs: &mut Vec<Run>, at: Spot) -> Result<Spot, AllocError>
+// Cuts a run in two halves, and answers where the position is now.
+fn divide(runs: &mut Vec<Run>, at: Position) -> Result<Position, AllocError>
     requires run { at.run < length runs.old.items }
-    requires place { at.place ≤ length (slots_at runs.old.items at.run) }
-    requires long { 1 < length (slots_at runs.old.items at.run) }
+    requires index { at.index ≤ length (variables_at runs.old.items at.run) }
+    requires long { 1 < length (variables_at runs.old.items at.run) }
     requires filled { All IsFilled runs.old.items }
     ensures front { IfOk result (λ s. front runs.new.items s ≡ front runs.old.items at) }
     ensures rest { IfOk result (λ s. rest runs.new.items s ≡ rest runs.old.items at) }
     ensures run { IfOk result (λ s. s.run < length runs.new.items) }
-    ensures place { IfOk result (λ s. s.place ≤ length (slots_at runs.new.items s.run)) }
-    ensures slots { flat runs.new.items ≡ flat runs.old.items }
+    ensures index { IfOk result (λ s. s.index ≤ length (variables_at runs.new.items s.run)) }
+    ensures variables { flat runs.new.items ≡ flat runs.old.items }
     ensures filled { All IsFilled runs.new.items }
 {
     runs.reserve(1)?;
@@ -126,34 +126,34 @@ fn divide(runs: &mut Vec<Run>, at: Spot) -> Result<Spot, AllocError>
     let Ok(()) = runs.insert(at.run + 1, upper) else {
         unreachable!()
     };
-    if at.place <= half {
+    if at.index <= half {
         Ok(at)
     } else {
-        Ok(Spot {
+        Ok(Position {
             run: at.run + 1,
-            place: at.place - half,
+            index: at.index - half,
         })
     }
 }
 
-/// Puts a slot in the place of another.
-pub(crate) fn replace_at(runs: &mut Vec<Run>, at: Spot, slot: Slot)
+/// Puts a variable in the place of another.
+pub(crate) fn replace_at(runs: &mut Vec<Run>, at: Position, variable: Variable)
     requires run { at.run < length runs.old.items }
-    requires place { at.place < length (slots_at runs.old.items at.run) }
+    requires index { at.index < length (variables_at runs.old.items at.run) }
     requires filled { All IsFilled runs.old.items }
-    ensures slots { flat runs.new.items ≡ front runs.old.items at ++ slot ∷ later runs.old.items at }
+    ensures variables { flat runs.new.items ≡ front runs.old.items at ++ variable ∷ later runs.old.items at }
     ensures filled { All IsFilled runs.new.items }
 {
     let run = &mut runs[at.run];
-    run[at.place] = slot;
+    run[at.index] = variable;
 }
 
-/// Takes a slot out. It takes no memory.
-pub(crate) fn remove_at(runs: &mut Vec<Run>, at: Spot)
+/// Takes a variable out. It takes no memory.
+pub(crate) fn remove_at(runs: &mut Vec<Run>, at: Position)
     requires run { at.run < length runs.old.items }
-    requires place { at.place < length (slots_at runs.old.items at.run) }
+    requires index { at.index < length (variables_at runs.old.items at.run) }
     requires filled { All IsFilled runs.old.items }
-    ensures slots { flat runs.new.items ≡ front runs.old.items at ++ later runs.old.items at }
+    ensures variables { flat runs.new.items ≡ front runs.old.items at ++ later runs.old.items at }
     ensures filled { All IsFilled runs.new.items }
 {
     take_at(runs, at);
@@ -163,42 +163,42 @@ pub(crate) fn remove_at(runs: &mut Vec<Run>, at: Spot)
     }
 }
 
-// Takes a slot out of its run, and the run away where that was its last.
-fn take_at(runs: &mut Vec<Run>, at: Spot)
+// Takes a variable out of its run, and the run away where that was its last.
+fn take_at(runs: &mut Vec<Run>, at: Position)
     requires run { at.run < length runs.old.items }
-    requires place { at.place < length (slots_at runs.old.items at.run) }
+    requires index { at.index < length (variables_at runs.old.items at.run) }
     requires filled { All IsFilled runs.old.items }
-    ensures slots { flat runs.new.items ≡ front runs.old.items at ++ later runs.old.items at }
+    ensures variables { flat runs.new.items ≡ front runs.old.items at ++ later runs.old.items at }
     ensures filled { All IsFilled runs.new.items }
 {
-    let _slot = runs[at.run].remove(at.place);
+    let _variable = runs[at.run].remove(at.index);
     if runs[at.run].is_empty() {
         let _run = runs.remove(at.run);
     }
 }
 
-/// Takes out the last slot, and its run where that was its last. It takes no memory.
-pub(crate) fn take_last(runs: &mut Vec<Run>) -> Option<Slot>
+/// Takes out the last variable, and its run where that was its last. It takes no memory.
+pub(crate) fn take_last(runs: &mut Vec<Run>) -> Option<Variable>
     requires { All IsFilled runs.old.items }
     ensures taken { MatchOption result ((runs.old.items ≡ []) × (runs.new.items ≡ []))
-        (λ slot. flat runs.old.items ≡ flat runs.new.items ++ slot ∷ []) }
+        (λ variable. flat runs.old.items ≡ flat runs.new.items ++ variable ∷ []) }
     ensures filled { All IsFilled runs.new.items }
 {
     if runs.is_empty() {
         return None;
     }
     let last = runs.len() - 1;
-    let slot = runs[last].pop()?;
+    let variable = runs[last].pop()?;
     if runs[last].is_empty() {
         let _run = runs.remove(last);
     }
-    Some(slot)
+    Some(variable)
 }
 
 // Makes a run and the one behind it one run, where they are short and it has the room.
 fn join(runs: &mut Vec<Run>, first: usize)
     requires { All IsFilled runs.old.items }
-    ensures slots { flat runs.new.items ≡ flat runs.old.items }
+    ensures variables { flat runs.new.items ≡ flat runs.old.items }
     ensures filled { All IsFilled runs.new.items }
 {
     if runs.len() < 2 || first >= runs.len() - 1 {

@@ -10,14 +10,14 @@ ghost use Rattle.fw_tools.specs.Tool.{Printed};
 
 use crate::calls::{Call, Job, Task};
 use crate::closing::write_back;
-use crate::files::{read_entries, read_script, value_or_say};
+use crate::files::{import_from, read_file, script_from, value_or_say};
 use crate::messages::OUT_OF_MEMORY;
 use crate::opening::{Source, open, read_source};
 use crate::running::report;
 use crate::talking::talk;
 use env_session::Session;
 use fw_tools::streams::say;
-use fw_tools::{ToolEnd, export, import, print_at_once, set_script, setenv};
+use fw_tools::{ToolEnd, export, import_text, print_at_once, script_text, setenv};
 use std::alloc::{AllocError, Global};
 use std::io::{Read, Write};
 use std::rt::Files;
@@ -31,7 +31,10 @@ pub(crate) fn run_call<X: Files + AllocGlobal, R: Read, W: Write, E: Write>(
     errors: &mut E,
 ) -> u8
     ensures status { result ≤ 1 }
-    ensures uses { Uses (call_view call.now) (record { input = R.remaining input.old; output = W.contents output.old; errors = E.contents errors.old }) (record { input = R.remaining input.new; output = W.contents output.new; errors = E.contents errors.new }) result }
+    ensures uses { Uses (call_view call.now)
+        (record { input = R.remaining input.old; output = W.contents output.old; errors = E.contents errors.old })
+        (record { input = R.remaining input.new; output = W.contents output.new; errors = E.contents errors.new })
+        result }
 {
     use_files(rt, call, input, output, errors).unwrap_or(1)
 }
@@ -44,7 +47,10 @@ fn use_files<X: Files + AllocGlobal, R: Read, W: Write, E: Write>(
     output: &mut W,
     errors: &mut E,
 ) -> Option<u8>
-    ensures { Uses (call_view call.now) (record { input = R.remaining input.old; output = W.contents output.old; errors = E.contents errors.old }) (record { input = R.remaining input.new; output = W.contents output.new; errors = E.contents errors.new }) (unwrap_or result 1) }
+    ensures { Uses (call_view call.now)
+        (record { input = R.remaining input.old; output = W.contents output.old; errors = E.contents errors.old })
+        (record { input = R.remaining input.new; output = W.contents output.new; errors = E.contents errors.new })
+        (unwrap_or result 1) }
 {
     let source = read_source(rt, call.order, call.config, errors)?;
     let session = open(rt, &source, call.default, errors)?;
@@ -61,7 +67,10 @@ fn work<X: Files + AllocGlobal, R: Read, W: Write, E: Write>(
     output: &mut W,
     errors: &mut E,
 ) -> Option<u8>
-    ensures { DoesJob (job_view job.now) opened (record { input = R.remaining input.old; output = W.contents output.old; errors = E.contents errors.old }) (record { input = R.remaining input.new; output = W.contents output.new; errors = E.contents errors.new }) (unwrap_or result 1) }
+    ensures { DoesJob (job_view job.now) opened
+        (record { input = R.remaining input.old; output = W.contents output.old; errors = E.contents errors.old })
+        (record { input = R.remaining input.new; output = W.contents output.new; errors = E.contents errors.new })
+        (unwrap_or result 1) }
 {
     match job {
         Job::Tool(task) => use_tool(rt, source, opened, *task, output, errors),
@@ -78,7 +87,9 @@ fn use_tool<X: Files + AllocGlobal, W: Write, E: Write>(
     output: &mut W,
     errors: &mut E,
 ) -> Option<u8>
-    ensures { UsesTool (task_view task.entry) opened (record { output = W.contents output.old; errors = E.contents errors.old }) (record { output = W.contents output.new; errors = E.contents errors.new }) (unwrap_or result 1) }
+    ensures { UsesTool (task_view task.entry) opened
+        (record { output = W.contents output.old; errors = E.contents errors.old })
+        (record { output = W.contents output.new; errors = E.contents errors.new }) (unwrap_or result 1) }
 {
     let mut session = opened;
     let end = act(rt, task, &mut session, output, errors)?;
@@ -93,7 +104,12 @@ fn act<X: Files + AllocGlobal, W: Write, E: Write>(
     output: &mut W,
     errors: &mut E,
 ) -> Option<ToolEnd>
-    ensures { MatchOption result (SaysOnly (record { output = W.contents output.old; errors = E.contents errors.old }) (record { output = W.contents output.new; errors = E.contents errors.new })) (λ end. Acts (task_view task.entry) (record { session = session.old; writers = record { output = W.contents output.old; errors = E.contents errors.old } }) (record { session = session.new; writers = record { output = W.contents output.new; errors = E.contents errors.new } }) end) }
+    ensures { MatchOption result (SaysOnly (record { output = W.contents output.old; errors = E.contents errors.old })
+        (record { output = W.contents output.new; errors = E.contents errors.new }))
+        (λ end. Acts (task_view task.entry)
+        (record { session = session.old; writers = record { output = W.contents output.old; errors = E.contents errors.old } })
+        (record { session = session.new; writers = record { output = W.contents output.new; errors = E.contents errors.new } })
+        end) }
 {
     match task {
         Task::Print { names, value_only } => {
@@ -115,7 +131,11 @@ fn print<W: Write, E: Write>(
     output: &mut W,
     errors: &mut E,
 ) -> Option<ToolEnd>
-    ensures { MatchOption result (SaysOnly (record { output = W.contents output.old; errors = E.contents errors.old }) (record { output = W.contents output.new; errors = E.contents errors.new })) (λ end. Printed end.fault (record { output = W.contents output.old; errors = E.contents errors.old }) (record { output = W.contents output.new; errors = E.contents errors.new }) (printed session.now.now.env (texts names.entry) value_only) end.status) }
+    ensures { MatchOption result (SaysOnly (record { output = W.contents output.old; errors = E.contents errors.old })
+        (record { output = W.contents output.new; errors = E.contents errors.new }))
+        (λ end. Printed end.fault (record { output = W.contents output.old; errors = E.contents errors.old })
+        (record { output = W.contents output.new; errors = E.contents errors.new })
+        (printed session.now.now.env (texts names.entry) value_only) end.status) }
 {
     let names = bytes_or_say(alloc, names, errors)?;
     Some(print_at_once(alloc, session, &names, value_only, output, errors))
@@ -129,7 +149,11 @@ fn set<E: Write>(
     words: Option<&[&str]>,
     errors: &mut E,
 ) -> Option<ToolEnd>
-    ensures { MatchOption result (SaysSome (E.contents errors.old) (E.contents errors.new)) (λ end. Changes (record { session = session.old; errors = E.contents errors.old }) (record { session = session.new; errors = E.contents errors.new }) (set_effect session.old name.now (joined (texts words.entry))) ((name.now, Some (joined (texts words.entry))) ∷ []) end) }
+    ensures { MatchOption result (SaysSome (E.contents errors.old) (E.contents errors.new))
+        (λ end. Changes (record { session = session.old; errors = E.contents errors.old })
+        (record { session = session.new; errors = E.contents errors.new })
+        (set_effect session.old name.now (joined (texts words.entry)))
+        ((name.now, Some (joined (texts words.entry))) ∷ []) end) }
 {
     let words = bytes_or_say(alloc, words, errors)?;
     Some(setenv(alloc, session, name.as_bytes(), &words, errors))
@@ -142,10 +166,14 @@ fn set_from_file<X: Files + AllocGlobal, E: Write>(
     session: &mut Session,
     errors: &mut E,
 ) -> Option<ToolEnd>
-    ensures { MatchOption result (SaysSome (E.contents errors.old) (E.contents errors.new)) (λ end. (entries : List Entry) × Changes (record { session = session.old; errors = E.contents errors.old }) (record { session = session.new; errors = E.contents errors.new }) (script_effect session.old entries) entries end) }
+    ensures { MatchOption result (SaysSome (E.contents errors.old) (E.contents errors.new))
+        (λ end. (entries : List Entry) × Changes (record { session = session.old; errors = E.contents errors.old })
+        (record { session = session.new; errors = E.contents errors.new }) (script_effect session.old entries)
+        entries end) }
 {
-    let entries = value_or_say(rt.alloc(), errors, path, read_script(rt, path))?;
-    Some(set_script(session, &entries, errors))
+    let text = value_or_say(rt.alloc(), errors, path, read_file(rt, path))?;
+    let script = value_or_say(rt.alloc(), errors, path, script_from(&text))?;
+    Some(script_text(rt.alloc(), session, script, errors))
 }
 
 /// `import FILE`
@@ -155,10 +183,14 @@ fn import_file<X: Files + AllocGlobal, E: Write>(
     session: &mut Session,
     errors: &mut E,
 ) -> Option<ToolEnd>
-    ensures { MatchOption result (SaysSome (E.contents errors.old) (E.contents errors.new)) (λ end. (entries : List Entry) × Changes (record { session = session.old; errors = E.contents errors.old }) (record { session = session.new; errors = E.contents errors.new }) (import_effect session.old entries) entries end) }
+    ensures { MatchOption result (SaysSome (E.contents errors.old) (E.contents errors.new))
+        (λ end. (entries : List Entry) × Changes (record { session = session.old; errors = E.contents errors.old })
+        (record { session = session.new; errors = E.contents errors.new }) (import_effect session.old entries)
+        entries end) }
 {
-    let entries = value_or_say(rt.alloc(), errors, path, read_entries(rt, path))?;
-    Some(import(session, &entries, errors))
+    let text = value_or_say(rt.alloc(), errors, path, read_file(rt, path))?;
+    let entries = value_or_say(rt.alloc(), errors, path, import_from(&text))?;
+    Some(import_text(rt.alloc(), session, entries, errors))
 }
 
 /// Writes the copies back that the subcommand changed, and says what stopped it, if anything did.
@@ -182,7 +214,8 @@ fn bytes_or_say<'a, E: Write>(
     words: Option<&[&'a str]>,
     errors: &mut E,
 ) -> Option<Vec<&'a [u8]>>
-    ensures { MatchOption result (SaysSome (E.contents errors.old) (E.contents errors.new)) (λ bytes. (map (λ b. b.now) bytes.items ≡ texts words.entry) × (E.contents errors.new ≡ E.contents errors.old)) }
+    ensures { MatchOption result (SaysSome (E.contents errors.old) (E.contents errors.new))
+        (λ bytes. (map (λ b. b.now) bytes.items ≡ texts words.entry) × (E.contents errors.new ≡ E.contents errors.old)) }
 {
     match bytes_of(alloc, words) {
         Ok(bytes) => Some(bytes),

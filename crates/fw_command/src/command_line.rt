@@ -5,6 +5,7 @@ ghost use Rattle.fw_command.specs.Values.{given_by, is_given};
 ghost use Rattle.fw_command.specs.Words.{IsTool, called_by, faults, fwenv, order_in, order_of};
 ghost use Rattle.fw_command.specs.Words as words;
 
+use crate::session_words::session;
 use clap::parser::ValueSource;
 use clap::{Arg, ArgAction, ArgMatches, Command, Error};
 use envimg_core::Order;
@@ -30,15 +31,6 @@ const BIG_ENDIAN_HELP: &str =
 
 /// The configuration where the words name none.
 pub(crate) const CONFIG: &str = "/etc/fw_env.config";
-
-/// The limits of a dry run where the words give none.
-pub(crate) const STEPS: &str = "100000";
-
-pub(crate) const DEPTH: &str = "8";
-
-pub(crate) const WORD: &str = "4096";
-
-pub(crate) const OUTPUT: &str = "1048576";
 
 /// Reads the words of the command line, the program's own name first. At an error its text is the help or the version, or
 /// says what is wrong with the words.
@@ -104,7 +96,7 @@ fn top<'a>(alloc: Global) -> Result<Command<'a>, AllocError>
 }
 
 /// The flag for images of big-endian boards.
-fn big_endian<'a>(alloc: Global) -> Arg<'a>
+pub(crate) fn big_endian<'a>(alloc: Global) -> Arg<'a>
     ensures rule { rule_of result ≡ words.big_endian }
     ensures local { result.global ≡ false }
 {
@@ -114,7 +106,7 @@ fn big_endian<'a>(alloc: Global) -> Arg<'a>
 }
 
 /// An argument that takes no value: it is there or not.
-fn flag<'a>(alloc: Global, id: &'a str) -> Arg<'a>
+pub(crate) fn flag<'a>(alloc: Global, id: &'a str) -> Arg<'a>
     ensures rule { rule_of result ≡ words.flag id.entry.now }
     ensures local { result.global ≡ false }
 {
@@ -130,7 +122,7 @@ fn any_number<'a>(alloc: Global, id: &'a str, name: &'a str) -> Arg<'a>
 }
 
 /// `-c FILE`, which all subcommands have.
-fn config<'a>(alloc: Global) -> Arg<'a>
+pub(crate) fn config<'a>(alloc: Global) -> Arg<'a>
     ensures rule { rule_of result ≡ words.config }
     ensures local { result.global ≡ false }
 {
@@ -142,7 +134,7 @@ fn config<'a>(alloc: Global) -> Arg<'a>
 }
 
 /// `--default FILE`, which all subcommands have.
-fn default<'a>(alloc: Global) -> Arg<'a>
+pub(crate) fn default<'a>(alloc: Global) -> Arg<'a>
     ensures rule { rule_of result ≡ words.default }
     ensures local { result.global ≡ false }
 {
@@ -249,62 +241,4 @@ fn export<'a>(alloc: Global) -> Result<Command<'a>, AllocError>
         .arg(config(alloc))?
         .arg(default(alloc))?
         .arg(big_endian(alloc))
-}
-
-/// `--stubs FILE`
-fn stubs<'a>(alloc: Global) -> Arg<'a>
-    ensures rule { rule_of result ≡ words.stubs }
-    ensures local { result.global ≡ false }
-{
-    Arg::new(alloc, "stubs")
-        .long("stubs")
-        .value_name("FILE")
-        .help("The stand-ins, a line NAME [STATUS] for each command that only hardware has")
-}
-
-/// `--write`
-fn write<'a>(alloc: Global) -> Arg<'a>
-    ensures rule { rule_of result ≡ words.write }
-    ensures local { result.global ≡ false }
-{
-    flag(alloc, "write").long("write").help(
-        "Writes the copies back that the session changed, where its input came to its end",
-    )
-}
-
-/// An option that takes a number.
-fn number<'a>(alloc: Global, id: &'a str, usual: &'a str, help: &'a str) -> Arg<'a>
-    ensures rule { rule_of result ≡ words.number id.entry.now usual.entry.now }
-    ensures local { result.global ≡ false }
-{
-    Arg::new(alloc, id)
-        .long(id)
-        .value_name("N")
-        .default_value(usual)
-        .help(help)
-}
-
-/// `session`
-fn session<'a>(alloc: Global) -> Result<Command<'a>, AllocError>
-    ensures { IfOk result (IsTool words.session) }
-{
-    let steps = "How many steps a block may take, at most 1000000";
-    let depth = "How many starts by run may stand inside one another, at most 16";
-    let word = "How many bytes a word may have, at most 65536";
-    let output = "How many bytes a block may print, at most 16777216";
-    let command = Command::new(alloc, "session")
-        .about(
-            "Tries boot scripts: runs the blocks and dot lines of standard input, and writes nothing without --write",
-        )
-        .after_help("Example:\n  echo 'run bootcmd' | fwenv session --stubs stand-ins.txt")
-        .arg(config(alloc))?
-        .arg(default(alloc))?
-        .arg(big_endian(alloc))?
-        .arg(write(alloc))?
-        .arg(stubs(alloc))?
-        .arg(number(alloc, "steps", STEPS, steps))?
-        .arg(number(alloc, "depth", DEPTH, depth))?
-        .arg(number(alloc, "word", WORD, word))?
-        .arg(number(alloc, "output", OUTPUT, output))?;
-    Ok(command)
 }

@@ -50,7 +50,7 @@ pub(crate) fn read_copy<X: Files + AllocGlobal>(
     }
 }
 
-/// Whether the path names a pipe, which has no place to seek to; to open one may take until somebody writes into it.
+/// Whether the path names a pipe, which has no place to seek to; to open one may take until somebody opens its other end.
 fn is_pipe<X: Files>(rt: &X, path: &str) -> bool {
     match fs::metadata(rt, path) {
         Ok(metadata) => metadata.file_type().is_fifo(),
@@ -74,10 +74,11 @@ pub(crate) fn write_copy<X: Files>(
     start: u64,
     bytes: &[u8],
 ) -> Result<(), FileFault> {
-    let Ok(mut device) = OpenOptions::new()
-        .write(true)
-        .open(rt, place.device.as_str())
-    else {
+    let path = place.device.as_str();
+    if is_pipe(rt, path) {
+        return Err(FileFault::CannotWrite);
+    }
+    let Ok(mut device) = OpenOptions::new().write(true).open(rt, path) else {
         return Err(FileFault::CannotWrite);
     };
     match device.seek(SeekFrom::End(0)) {

@@ -5,9 +5,10 @@ ghost use Rattle.fw_command.specs.DryRuns.{dry_run_of, dry_run_view, limits_of, 
 ghost use Rattle.fw_command.specs.WordFaults.{word_seen};
 
 use crate::calls::{first, first_or};
-use crate::command_line::{DEPTH, OUTPUT, STEPS, WORD, is_given};
+use crate::command_line::is_given;
 use crate::messages::{BAD_DEPTH, BAD_OUTPUT, BAD_STEPS, BAD_WORD, INVALID_VALUE};
 use crate::numbers::read_number;
+use crate::session_words::{DEPTH, OUTPUT, STEPS, WORD};
 use crate::word_faults::WordFault;
 use clap::ArgMatches;
 use hush_run::Limits;

@@ -1,8 +1,7 @@
 //! Files that are read whole, and why a file can not be used.
-ghost use Rattle.std.specs.Prelude.{◌≡◌, ◌≤◌, Ok, Some, IfOk, MatchOption, length, map, option_map};
+ghost use Rattle.std.specs.Prelude.{◌≡◌, ◌≤◌, Ok, Some, IfOk, MatchOption, length, option_map};
 ghost use Rattle.std.specs.Result.{result_ok};
 ghost use Rattle.fw_command.specs.Saying.{SaysSome};
-ghost use Rattle.envcfg_core.specs.Entries.{entry_view};
 ghost use Rattle.envcfg_core.specs.Import.{import_of};
 ghost use Rattle.envcfg_core.specs.SetScript.{set_script_of};
 ghost use Rattle.fw_command.specs.Talking.{StandsIn};
@@ -11,7 +10,7 @@ ghost use Rattle.hush_commands.specs.Stubs.{stubs_of};
 use crate::messages::{
     CANNOT_READ_FILE, CANNOT_WRITE_FILE, COLON, FWENV, IN_LINE, NEWLINE, OUT_OF_MEMORY, TOO_SHORT,
 };
-use envcfg_core::{ConfigFault, TextEntry, TextFault, parse_import, parse_set_script};
+use envcfg_core::{ConfigFault, ImportText, ScriptText, TextFault};
 use envvars_core::Refusal;
 use fw_tools::StreamFault;
 use fw_tools::streams::{read_up_to, say, write_decimal, write_text, write_three, write_two};
@@ -65,39 +64,22 @@ pub(crate) fn read_file<X: Files + AllocGlobal>(rt: &X, path: &str) -> Result<Ve
     }
 }
 
-/// Reads a text for import.
-pub(crate) fn read_entries<X: Files + AllocGlobal>(
-    rt: &X,
-    path: &str,
-) -> Result<Vec<TextEntry>, FileFault> {
-    let text = read_file(rt, path)?;
-    entries_from(rt.alloc(), &text)
-}
-
-/// Reads a set script.
-pub(crate) fn read_script<X: Files + AllocGlobal>(
-    rt: &X,
-    path: &str,
-) -> Result<Vec<TextEntry>, FileFault> {
-    let text = read_file(rt, path)?;
-    script_from(rt.alloc(), &text)
-}
-
-/// The entries of a text for import.
-fn entries_from(alloc: Global, text: &[u8]) -> Result<Vec<TextEntry>, FileFault>
-    ensures { IfOk result (λ entries. import_of text.now ≡ Ok (map entry_view entries.items)) }
+/// A text for import, whose entries are read as they are written.
+pub(crate) fn import_from(text: &[u8]) -> Result<ImportText<'_>, FileFault>
+    ensures read { IfOk result (λ entries. import_of text.entry.now ≡ Ok entries) }
+    ensures few { IfOk result (λ entries. length entries ≤ length text.entry.now) }
 {
-    match parse_import(alloc, text) {
+    match ImportText::new(text) {
         Ok(entries) => Ok(entries),
         Err(fault) => Err(text_fault(fault)),
     }
 }
 
-/// The entries of a set script.
-fn script_from(alloc: Global, text: &[u8]) -> Result<Vec<TextEntry>, FileFault>
-    ensures { IfOk result (λ entries. set_script_of text.now ≡ Ok (map entry_view entries.items)) }
+/// A set script, whose entries are read as they are written.
+pub(crate) fn script_from(text: &[u8]) -> Result<ScriptText<'_>, FileFault>
+    ensures { IfOk result (λ entries. set_script_of text.entry.now ≡ Ok entries) }
 {
-    match parse_set_script(alloc, text) {
+    match ScriptText::new(text) {
         Ok(entries) => Ok(entries),
         Err(fault) => Err(text_fault(fault)),
     }

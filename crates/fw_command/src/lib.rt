@@ -12,6 +12,7 @@ mod messages;
 mod numbers;
 mod opening;
 mod running;
+mod session_words;
 mod talking;
 mod word_faults;
 

@@ -1,22 +1,24 @@
 //! A session over the copies that a configuration names.
-ghost use Rattle.std.specs.Prelude.{◌≡◌, ◌≤◌, Ok, IfOk, MatchOption};
+ghost use Rattle.std.specs.Prelude.{◌≡◌, ◌≤◌, List, Ok, IfOk, MatchOption};
 ghost use Rattle.fw_command.specs.Acting.{IsOpening};
 ghost use Rattle.fw_command.specs.Saying.{SaysSome};
 ghost use Rattle.std.specs.FinMap as env;
 ghost use Rattle.env_session.specs.Session.{bytes_of, opened, opening_choice};
 ghost use Rattle.envcfg_core.specs.Config.{config_of, config_view};
+ghost use Rattle.envcfg_core.specs.Entries.{Entry};
+ghost use Rattle.envcfg_core.specs.Import.{import_of};
 ghost use Rattle.fw_tools.specs.Defaults.{written};
 ghost use Rattle.fw_command.specs.Opening.{second_bytes, warning};
 ghost use Rattle.fw_tools.specs.Streams.{AppendsFront};
 
 use crate::copies::{ReadCopy, read_copy, share_a_byte};
-use crate::files::{FileFault, read_entries, read_file, say_fault, value_or_say};
+use crate::files::{FileFault, import_from, read_file, say_fault, value_or_say};
 use crate::messages::{BAD_CRC_DEFAULT, COPIES_OVERLAP};
 use env_session::{Session, Stored};
-use envcfg_core::{Config, ConfigFault, Place, TextEntry, parse_config};
+use envcfg_core::{Config, ConfigFault, Place, parse_config};
 use envimg_core::{Choice, CopyState, Geometry, Order, check_copy, choose};
 use envvars_core::{Refusal, Vars};
-use fw_tools::defaults;
+use fw_tools::default_text;
 use fw_tools::streams::say;
 use std::alloc::{AllocError, Global};
 use std::io::Write;
@@ -38,7 +40,8 @@ pub(crate) fn read_source<X: Files + AllocGlobal, E: Write>(
     path: &str,
     errors: &mut E,
 ) -> Option<Source>
-    ensures { MatchOption result (SaysSome (E.contents errors.old) (E.contents errors.new)) (λ source. (source.geometry.order ≡ order) × (E.contents errors.new ≡ E.contents errors.old)) }
+    ensures { MatchOption result (SaysSome (E.contents errors.old) (E.contents errors.new))
+        (λ source. (source.geometry.order ≡ order) × (E.contents errors.new ≡ E.contents errors.old)) }
 {
     let config = value_or_say(rt.alloc(), errors, path, read_config(rt, path))?;
     let geometry = Geometry::with_order(config.layout, config.size, order)?;
@@ -108,7 +111,9 @@ pub(crate) fn open<X: Files + AllocGlobal, E: Write>(
     default: Option<&str>,
     errors: &mut E,
 ) -> Option<Session>
-    ensures { MatchOption result (SaysSome (E.contents errors.old) (E.contents errors.new)) (λ session. IsOpening source.now.geometry.order session × AppendsFront (E.contents errors.old) (E.contents errors.new) (warning session.now.current)) }
+    ensures { MatchOption result (SaysSome (E.contents errors.old) (E.contents errors.new))
+        (λ session. IsOpening source.now.geometry.order session × AppendsFront (E.contents errors.old)
+        (E.contents errors.new) (warning session.now.current)) }
 {
     match session_over(rt, source, default) {
         Ok(session) => {
@@ -194,16 +199,21 @@ fn warn<E: Write>(current: Choice, errors: &mut E)
 fn read_default<X: Files + AllocGlobal>(rt: &X, room: u32, path: &str) -> Result<Vars, FileFault>
     requires { 1 ≤ room }
 {
-    let entries = read_entries(rt, path)?;
-    default_from(rt.alloc(), room, &entries)
+    let text = read_file(rt, path)?;
+    default_from(rt.alloc(), room, &text)
 }
 
-/// The default environment of the entries of a text.
-fn default_from(alloc: Global, room: u32, entries: &[TextEntry]) -> Result<Vars, FileFault>
+/// The default environment of a text for import.
+fn default_from(alloc: Global, room: u32, text: &[u8]) -> Result<Vars, FileFault>
     requires { 1 ≤ room }
-    ensures { IfOk result (λ vars. (written room env.empty entries.now ≡ Ok vars.env) × (vars.room ≡ room)) }
+    ensures { IfOk result (λ vars. (entries : List Entry) × (import_of text.now ≡ Ok entries)
+        × (written room env.empty entries ≡ Ok vars.env) × (vars.room ≡ room)) }
 {
-    match defaults(alloc, room, entries) {
+    let entries = match import_from(text) {
+        Ok(entries) => entries,
+        Err(fault) => return Err(fault),
+    };
+    match default_text(alloc, room, entries) {
         Ok(vars) => Ok(vars),
         Err((_line, Refusal::Memory)) => Err(FileFault::Memory),
         Err((line, refusal)) => Err(FileFault::Default(line, refusal)),

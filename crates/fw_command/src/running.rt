@@ -42,7 +42,10 @@ pub fn program<X: Files + AllocGlobal, S: AsStr, R: Read, W: Write, E: Write>(
     errors: &mut E,
 ) -> u8
     ensures status { result ≤ 1 }
-    ensures runs { Runs (map S.text words.entry.now) (record { input = R.remaining input.old; output = W.contents output.old; errors = E.contents errors.old }) (record { input = R.remaining input.new; output = W.contents output.new; errors = E.contents errors.new }) result }
+    ensures runs { Runs (map S.text words.entry.now)
+        (record { input = R.remaining input.old; output = W.contents output.old; errors = E.contents errors.old })
+        (record { input = R.remaining input.new; output = W.contents output.new; errors = E.contents errors.new })
+        result }
 {
     let alloc = rt.alloc();
     if words.len() <= 1 {
@@ -64,7 +67,10 @@ fn act_on<X: Files + AllocGlobal, R: Read, W: Write, E: Write>(
     errors: &mut E,
 ) -> u8
     ensures status { result ≤ 1 }
-    ensures does { Does (order_in matches.now) (subcommand_rows_of matches.now) (record { input = R.remaining input.old; output = W.contents output.old; errors = E.contents errors.old }) (record { input = R.remaining input.new; output = W.contents output.new; errors = E.contents errors.new }) result }
+    ensures does { Does (order_in matches.now) (subcommand_rows_of matches.now)
+        (record { input = R.remaining input.old; output = W.contents output.old; errors = E.contents errors.old })
+        (record { input = R.remaining input.new; output = W.contents output.new; errors = E.contents errors.new })
+        result }
 {
     let alloc = rt.alloc();
     let order = chosen_order(matches);
@@ -89,7 +95,10 @@ fn show_input<R: Read, W: Write, E: Write>(
     errors: &mut E,
 ) -> u8
     ensures status { result ≤ 1 }
-    ensures shows { ShowsAndSays order (record { input = R.remaining input.old; output = W.contents output.old; errors = E.contents errors.old }) (record { input = R.remaining input.new; output = W.contents output.new; errors = E.contents errors.new }) result }
+    ensures shows { ShowsAndSays order
+        (record { input = R.remaining input.old; output = W.contents output.old; errors = E.contents errors.old })
+        (record { input = R.remaining input.new; output = W.contents output.new; errors = E.contents errors.new })
+        result }
 {
     let end = show(alloc, order, input, output, errors);
     report(end, errors)
@@ -117,7 +126,10 @@ fn print_error<W: Write, E: Write>(
     errors: &mut E,
 ) -> u8
     ensures status { result ≤ 1 }
-    ensures answers { LacksMemory (record { output = W.contents output.old; errors = E.contents errors.old }) (record { output = W.contents output.new; errors = E.contents errors.new }) result ⊎ Answers (kind_of error.now) (record { output = W.contents output.old; errors = E.contents errors.old }) (record { output = W.contents output.new; errors = E.contents errors.new }) result }
+    ensures answers { LacksMemory (record { output = W.contents output.old; errors = E.contents errors.old })
+        (record { output = W.contents output.new; errors = E.contents errors.new }) result ⊎ Answers (kind_of error.now)
+        (record { output = W.contents output.old; errors = E.contents errors.old })
+        (record { output = W.contents output.new; errors = E.contents errors.new }) result }
 {
     let Ok(text) = error.to_string(alloc) else {
         return report(ToolEnd::stopped(StreamFault::Memory), errors);

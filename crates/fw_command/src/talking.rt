@@ -24,7 +24,10 @@ pub(crate) fn talk<X: Files + AllocGlobal, R: Read, W: Write, E: Write>(
     output: &mut W,
     errors: &mut E,
 ) -> Option<u8>
-    ensures { TriesOver (dry_run_view run.now) opened (record { input = R.remaining input.old; output = W.contents output.old; errors = E.contents errors.old }) (record { input = R.remaining input.new; output = W.contents output.new; errors = E.contents errors.new }) (unwrap_or result 1) }
+    ensures { TriesOver (dry_run_view run.now) opened
+        (record { input = R.remaining input.old; output = W.contents output.old; errors = E.contents errors.old })
+        (record { input = R.remaining input.new; output = W.contents output.new; errors = E.contents errors.new })
+        (unwrap_or result 1) }
 {
     let stubs = value_or_say(
         rt.alloc(),

@@ -21,7 +21,8 @@ pub(crate) fn obey<W: Write>(
     output: &mut W,
     written: &mut u64,
 ) -> bool
-    ensures { Obeyed (table_in session.old (names_of names.old.items)) (asked_by order) (W.contents output.old) (W.contents output.new) written.old written.new (table_in session.new (names_of names.new.items)) result }
+    ensures { Obeyed (table_in session.old (names_of names.old.items)) (asked_by order) (W.contents output.old)
+        (W.contents output.new) written.old written.new (table_in session.new (names_of names.new.items)) result }
 {
     match order {
         Order::Undo => {
@@ -59,7 +60,8 @@ fn undo<W: Write>(
     written: &mut u64,
 ) -> bool
     requires { found < length session.old.marks }
-    ensures { Undid (table_in session.old (names_of names.now.items)) (Some found) (W.contents output.old) (W.contents output.new) written.old written.new (table_in session.new (names_of names.now.items)) result }
+    ensures { Undid (table_in session.old (names_of names.now.items)) (Some found) (W.contents output.old)
+        (W.contents output.new) written.old written.new (table_in session.new (names_of names.now.items)) result }
 {
     // Does nothing: it tells the prover that there are at most 65 marks.
     let _marks = session.marks();

@@ -26,7 +26,9 @@ pub(crate) fn run_block<W: Write>(
     output: &mut W,
     written: &mut u64,
 ) -> bool
-    ensures { (names : List (Option (List ℕ))) → Answered (rules stubs.now limits.now) (table_in session.old names) (Block block.items) (W.contents output.old) (W.contents output.new) written.old written.new (table_in session.new names) result }
+    ensures { (names : List (Option (List ℕ))) → Answered (rules stubs.now limits.now) (table_in session.old names)
+        (Block block.items) (W.contents output.old) (W.contents output.new) written.old written.new
+        (table_in session.new names) result }
 {
     match Script::parse(alloc, block) {
         Ok(script) => {
@@ -42,7 +44,8 @@ pub(crate) fn run_block<W: Write>(
 
 /// Writes the text of a run, and how it ended.
 fn write_outcome<W: Write>(outcome: &Outcome, output: &mut W, written: &mut u64) -> bool
-    ensures { Writes (W.contents output.old) (W.contents output.new) written.old written.new (outcome.now.text.items ++ ending_line outcome.now.ending outcome.now.status outcome.now.steps) result }
+    ensures { Writes (W.contents output.old) (W.contents output.new) written.old written.new
+        (outcome.now.text.items ++ ending_line outcome.now.ending outcome.now.status outcome.now.steps) result }
 {
     let line = ending_line(outcome);
     write_text(output, &outcome.text, written) && write_text(output, &line, written)

@@ -49,7 +49,9 @@ pub fn session<R: Read, W: Write>(
     input: &mut R,
     output: &mut W,
 ) -> SessionEnd
-    ensures { (names : List (Option (List ℕ))) × Ends result.ending (rules stubs.now limits.now) (unnamed session) (R.remaining input.old) (R.remaining input.new) (W.contents output.old) (W.contents output.new) result.read result.written (table_in result.session names) }
+    ensures { (names : List (Option (List ℕ))) × Ends result.ending (rules stubs.now limits.now) (unnamed session)
+        (R.remaining input.old) (R.remaining input.new) (W.contents output.old) (W.contents output.new) result.read
+        result.written (table_in result.session names) }
 {
     let names = unnamed(&session);
     let mut talk = Talk {
@@ -108,7 +110,9 @@ fn finished<W: Write>(
 ) -> SessionEnd
     requires { IsPending talk.bytes.items talk.start }
     ensures read { result.read ≡ read }
-    ensures ends { (names : List (Option (List ℕ))) × Finishes (rules stubs.now limits.now) (table_of talk) talk.bytes.items (W.contents output.old) (W.contents output.new) talk.written result.written (table_in result.session names) result.ending }
+    ensures ends { (names : List (Option (List ℕ))) × Finishes (rules stubs.now limits.now) (table_of talk)
+        talk.bytes.items (W.contents output.old) (W.contents output.new) talk.written result.written
+        (table_in result.session names) result.ending }
 {
     let mut talk = talk;
     if answer_rest(&mut talk, stubs, limits, output) {
@@ -121,7 +125,8 @@ fn finished<W: Write>(
 /// Answers what waits at the end of the input.
 fn answer_rest<W: Write>(talk: &mut Talk, stubs: &Stubs, limits: &Limits, output: &mut W) -> bool
     requires { IsPending talk.old.bytes.items talk.old.start }
-    ensures { Says (rules stubs.now limits.now) (table_of talk.old) (items_of talk.old.bytes.items) (W.contents output.old) (W.contents output.new) talk.old.written talk.new.written (table_of talk.new) result }
+    ensures { Says (rules stubs.now limits.now) (table_of talk.old) (items_of talk.old.bytes.items)
+        (W.contents output.old) (W.contents output.new) talk.old.written talk.new.written (table_of talk.new) result }
 {
     if talk.start < talk.bytes.len() && talk.bytes[talk.start] == b'.' {
         answer_dot(talk, stubs, limits, output)
@@ -135,7 +140,9 @@ fn answer_dot<W: Write>(talk: &mut Talk, stubs: &Stubs, limits: &Limits, output:
     requires { talk.old.start ≤ length talk.old.bytes.items }
     ensures empty { talk.new.bytes.items ≡ [] }
     ensures start { talk.new.start ≡ 0 }
-    ensures says { Says (rules stubs.now limits.now) (table_of talk.old) (block_items (take talk.old.start talk.old.bytes.items) ++ Dot (drop talk.old.start talk.old.bytes.items) ∷ []) (W.contents output.old) (W.contents output.new) talk.old.written talk.new.written (table_of talk.new) result }
+    ensures says { Says (rules stubs.now limits.now) (table_of talk.old)
+        (block_items (take talk.old.start talk.old.bytes.items) ++ Dot (drop talk.old.start talk.old.bytes.items) ∷ [])
+        (W.contents output.old) (W.contents output.new) talk.old.written talk.new.written (table_of talk.new) result }
 {
     let order = order_of(&talk.bytes[talk.start..]);
     talk.bytes.truncate(talk.start);
@@ -154,7 +161,8 @@ fn answer_dot<W: Write>(talk: &mut Talk, stubs: &Stubs, limits: &Limits, output:
 fn answer_block<W: Write>(talk: &mut Talk, stubs: &Stubs, limits: &Limits, output: &mut W) -> bool
     ensures empty { talk.new.bytes.items ≡ [] }
     ensures start { talk.new.start ≡ talk.old.start }
-    ensures says { Says (rules stubs.now limits.now) (table_of talk.old) (block_items talk.old.bytes.items) (W.contents output.old) (W.contents output.new) talk.old.written talk.new.written (table_of talk.new) result }
+    ensures says { Says (rules stubs.now limits.now) (table_of talk.old) (block_items talk.old.bytes.items)
+        (W.contents output.old) (W.contents output.new) talk.old.written talk.new.written (table_of talk.new) result }
 {
     if talk.bytes.is_empty() {
         return true;

@@ -5,6 +5,7 @@ use Rattle.std.specs.Io.KnownBytes.{Appends, Keeps}
 use Rattle.env_session.specs.Session.{Held, written, saved}
 use Rattle.env_session.specs.Requests.{refusal_in, imported}
 use Rattle.envimg_core.specs.Pieces.{Entry}
+use Rattle.envcfg_core.specs.Entries as Entries
 use Rattle.envvars_core.specs.declared.refusals.Refusal.{Refusal}
 use Rattle.fw_tools.specs.Messages.{refusal_text}
 use Rattle.fw_tools.specs.Streams.{AppendsPart}
@@ -36,6 +37,10 @@ abbrev pub unless_refused : Option Refusal → List ℕ → Held → Effect → 
 unless_refused None name h rest = rest
 unless_refused (Some r) name h rest = refused_by r name h
 
+-- an entry of a text as a write
+abbrev pub pair_in : Entries.Entry → Entry
+pair_in e = (e.name, e.value)
+
 -- the words joined by one space
 abbrev pub spaced : List (List ℕ) → List ℕ
 spaced [] = []
@@ -53,6 +58,11 @@ set_effect h name value = unless_refused (refusal_in h name (Some value) false) 
 abbrev pub script_effect : Held → List Entry → Effect
 script_effect h [] = silent (saved h)
 script_effect h (e ∷ es) = unless_refused (refusal_in h e.0 e.1 false) e.0 h (script_effect (written h e.0 e.1) es)
+
+-- where a script ended: behind its last line, or at a name that was refused, with what refuses it
+abbrev pub stopped_by : Option (List ℕ × Refusal) → Held → Effect
+stopped_by None h = silent (saved h)
+stopped_by (Some (name, r)) h = refused_by r name h
 
 -- how many entries were refused
 abbrev pub count_text : ℕ → List ℕ

@@ -2,7 +2,7 @@
 use Rattle.std.specs.Prelude.{ℕ, ◌&&◌, nat_le, if◌then◌else◌, List, [], ◌∷◌, ◌++◌, length, drop, codes}
 use Rattle.std.specs.List.{flat_map}
 use Rattle.std.specs.FinMap.{entries}
-use Rattle.envimg_core.specs.Environment.{Environment, Pair}
+use Rattle.envimg_core.specs.Environment.{Environment, Pair, joined}
 use Rattle.envimg_core.specs.Pieces.{entries_of, vars_of}
 use Rattle.envimg_core.specs.State.{state_of}
 use Rattle.envimg_core.specs.declared.geometry.Layout.TheVariants.{Single}
@@ -15,7 +15,7 @@ use Rattle.fw_tools.specs.declared.ending.ToolEnd.{ToolEnd}
 
 -- name=value and a newline
 abbrev pub line_of : Pair → List ℕ
-line_of p = p.0 ++ 61 ∷ p.1 ++ 10 ∷ []
+line_of p = joined p ++ 10 ∷ []
 
 -- a line for each variable, in ascending order of the names' bytes
 abbrev pub listing : Environment → List ℕ

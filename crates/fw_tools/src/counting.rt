@@ -28,7 +28,8 @@ pub(crate) fn print_count<E: Write>(errors: &mut E, refused: usize) -> ToolEnd
 /// Writes how many entries were refused.
 fn write_count<E: Write>(errors: &mut E, refused: usize) -> bool
     requires { 0 < refused }
-    ensures { MatchBool result (Appends (E.contents errors.old) (E.contents errors.new) (count_text refused)) (AppendsPart (E.contents errors.old) (E.contents errors.new) (count_text refused)) }
+    ensures { MatchBool result (Appends (E.contents errors.old) (E.contents errors.new) (count_text refused))
+        (AppendsPart (E.contents errors.old) (E.contents errors.new) (count_text refused)) }
 {
     if !write_text(errors, ERROR) {
         return false;

@@ -1,9 +1,10 @@
 //! The default environment, from the entries of a text.
-ghost use Rattle.std.specs.Prelude.{◌≡◌, ◌≤◌, IfNone, IfSome, IsOkUnless, OnOk, option_copied};
+ghost use Rattle.std.specs.Prelude.{◌≡◌, ◌≤◌, IfNone, IfSome, IsOkUnless, OnOk, map, option_copied};
+ghost use Rattle.envcfg_core.specs.Entries.{entry_view};
 ghost use Rattle.envvars_core.specs.Refusals.{after};
-ghost use Rattle.fw_tools.specs.Defaults.{Answers, entry_refusal, value_of_entry};
+ghost use Rattle.fw_tools.specs.Defaults.{Answers, AnswersRead, entry_refusal};
 
-use envcfg_core::TextEntry;
+use envcfg_core::{ImportText, TextEntry};
 use envvars_core::{Refusal, Vars};
 use std::alloc::Global;
 
@@ -15,7 +16,7 @@ use std::alloc::Global;
 /// The line and the refusal of the first entry that is refused; `Memory` only where a growth was refused.
 pub fn defaults(alloc: Global, room: u32, entries: &[TextEntry]) -> Result<Vars, (usize, Refusal)>
     requires { 1 ≤ room }
-    ensures { Answers room entries.now result }
+    ensures { Answers room (map entry_view entries.now) result }
 {
     let none = Vars::empty(alloc, room);
     let mut vars = Vars::empty(alloc, room);
@@ -28,11 +29,43 @@ pub fn defaults(alloc: Global, room: u32, entries: &[TextEntry]) -> Result<Vars,
     Ok(vars)
 }
 
+/// As `defaults`, of a text whose entries are read one by one, so that it takes no memory for all of them. The room is in
+/// bytes, at least one.
+///
+/// # Errors
+///
+/// The line and the refusal of the first entry that is refused; `Memory` only where a growth was refused, in line 0 where
+/// that was while an entry was read, before its line was known.
+pub fn default_text(
+    alloc: Global,
+    room: u32,
+    text: ImportText<'_>,
+) -> Result<Vars, (usize, Refusal)>
+    requires { 1 ≤ room }
+    ensures { AnswersRead room text.entry result }
+{
+    let none = Vars::empty(alloc, room);
+    let mut vars = Vars::empty(alloc, room);
+    let mut rest = text;
+    'entries: loop {
+        let Ok(found) = rest.read_next(alloc) else {
+            return Err((0, Refusal::Memory));
+        };
+        let Some(entry) = found else {
+            return Ok(vars);
+        };
+        match write_entry(&mut vars, &entry, &none) {
+            Ok(()) => continue 'entries,
+            Err(refused) => return Err((entry.line, refused)),
+        }
+    }
+}
+
 /// Writes one entry, forced.
 fn write_entry(vars: &mut Vars, entry: &TextEntry, none: &Vars) -> Result<(), Refusal>
-    ensures refused { IfSome (entry_refusal vars.old.room vars.old.env entry.now) (λ r. result ≡ Err r) }
-    ensures accepted { IfNone (entry_refusal vars.old.room vars.old.env entry.now) (IsOkUnless result Refusal.Memory) }
-    ensures written { OnOk result (vars.new ≡ record vars.old { env = after vars.old.env entry.now.name.items (value_of_entry entry.now) }) }
+    ensures refused { IfSome (entry_refusal vars.old.room vars.old.env (entry_view entry.now)) (λ r. result ≡ Err r) }
+    ensures accepted { IfNone (entry_refusal vars.old.room vars.old.env (entry_view entry.now)) (IsOkUnless result Refusal.Memory) }
+    ensures written { OnOk result (vars.new ≡ record vars.old { env = after vars.old.env (entry_view entry.now).name (entry_view entry.now).value }) }
 {
     match vars.write(&entry.name, value_of(entry), true, none) {
         Ok(_was) => Ok(()),
@@ -42,7 +75,7 @@ fn write_entry(vars: &mut Vars, entry: &TextEntry, none: &Vars) -> Result<(), Re
 
 /// The entry's value, if it has one.
 fn value_of(entry: &TextEntry) -> Option<&[u8]>
-    ensures { option_copied result ≡ value_of_entry entry.now }
+    ensures { option_copied result ≡ (entry_view entry.now).value }
 {
     match &entry.value {
         Some(value) => Some(value),

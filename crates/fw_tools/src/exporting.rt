@@ -24,7 +24,9 @@ pub fn export<W: Write, E: Write>(
     output: &mut W,
     errors: &mut E,
 ) -> ToolEnd
-    ensures { Printed result.fault (record { output = W.contents output.old; errors = E.contents errors.old }) (record { output = W.contents output.new; errors = E.contents errors.new }) (export_texts session.now.now.env) result.status }
+    ensures { Printed result.fault (record { output = W.contents output.old; errors = E.contents errors.old })
+        (record { output = W.contents output.new; errors = E.contents errors.new }) (export_texts session.now.now.env)
+        result.status }
 {
     match export_all(alloc, session.vars()) {
         Err(_) => ToolEnd::stopped(StreamFault::Memory),
@@ -39,7 +41,9 @@ pub(crate) fn print_both<W: Write, E: Write>(
     output: &mut W,
     errors: &mut E,
 ) -> ToolEnd
-    ensures { Prints (record { output = W.contents output.old; errors = E.contents errors.old }) (record { output = W.contents output.new; errors = E.contents errors.new }) (record { output = text.now; errors = messages.now; status = status_for messages.now }) result }
+    ensures { Prints (record { output = W.contents output.old; errors = E.contents errors.old })
+        (record { output = W.contents output.new; errors = E.contents errors.new })
+        (record { output = text.now; errors = messages.now; status = status_for messages.now }) result }
 {
     if !write_text(output, text) {
         return ToolEnd::stopped(StreamFault::Write);

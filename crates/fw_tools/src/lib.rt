@@ -12,9 +12,9 @@ mod setting;
 mod showing;
 pub mod streams;
 
-pub use defaulting::defaults;
+pub use defaulting::{default_text, defaults};
 pub use ending::{StreamFault, ToolEnd};
 pub use exporting::export;
 pub use printing::{print_at_once, printenv};
-pub use setting::{import, set_script, setenv};
+pub use setting::{import, import_text, script_text, set_script, setenv};
 pub use showing::show;

@@ -27,7 +27,9 @@ pub fn printenv<W: Write, E: Write>(
     output: &mut W,
     errors: &mut E,
 ) -> ToolEnd
-    ensures { Prints (record { output = W.contents output.old; errors = E.contents errors.old }) (record { output = W.contents output.new; errors = E.contents errors.new }) (printed session.now.now.env (map (λ n. n.now) names.now) value_only) result }
+    ensures { Prints (record { output = W.contents output.old; errors = E.contents errors.old })
+        (record { output = W.contents output.new; errors = E.contents errors.new })
+        (printed session.now.now.env (map (λ n. n.now) names.now) value_only) result }
 {
     let vars = session.vars();
     if value_only {
@@ -51,7 +53,9 @@ pub fn print_at_once<W: Write, E: Write>(
     output: &mut W,
     errors: &mut E,
 ) -> ToolEnd
-    ensures { Printed result.fault (record { output = W.contents output.old; errors = E.contents errors.old }) (record { output = W.contents output.new; errors = E.contents errors.new }) (printed session.now.now.env (map (λ n. n.now) names.now) value_only) result.status }
+    ensures { Printed result.fault (record { output = W.contents output.old; errors = E.contents errors.old })
+        (record { output = W.contents output.new; errors = E.contents errors.new })
+        (printed session.now.now.env (map (λ n. n.now) names.now) value_only) result.status }
 {
     let mut text = Vec::new(alloc);
     let mut messages = Vec::new(alloc);
@@ -81,7 +85,9 @@ fn print_named<W: Write, E: Write>(
     output: &mut W,
     errors: &mut E,
 ) -> ToolEnd
-    ensures { Prints (record { output = W.contents output.old; errors = E.contents errors.old }) (record { output = W.contents output.new; errors = E.contents errors.new }) (named value_only vars.now.env (map (λ n. n.now) names.now)) result }
+    ensures { Prints (record { output = W.contents output.old; errors = E.contents errors.old })
+        (record { output = W.contents output.new; errors = E.contents errors.new })
+        (named value_only vars.now.env (map (λ n. n.now) names.now)) result }
 {
     let mut absent = false;
     for name in names {
@@ -101,7 +107,9 @@ fn print_name<W: Write, E: Write>(
     output: &mut W,
     errors: &mut E,
 ) -> Option<bool>
-    ensures { PrintsName (record { output = W.contents output.old; errors = E.contents errors.old }) (record { output = W.contents output.new; errors = E.contents errors.new }) value_only vars.now.env name.now result }
+    ensures { PrintsName (record { output = W.contents output.old; errors = E.contents errors.old })
+        (record { output = W.contents output.new; errors = E.contents errors.new }) value_only vars.now.env name.now
+        result }
 {
     match vars.get(name) {
         Some(value) => {

@@ -27,7 +27,9 @@ pub(crate) fn write_line<W: Write>(
     name: &[u8],
     value: &[u8],
 ) -> bool
-    ensures { MatchBool result (Appends (W.contents writer.old) (W.contents writer.new) (line_or_value value_only name.now value.now)) (AppendsPart (W.contents writer.old) (W.contents writer.new) (line_or_value value_only name.now value.now)) }
+    ensures { MatchBool result
+        (Appends (W.contents writer.old) (W.contents writer.new) (line_or_value value_only name.now value.now))
+        (AppendsPart (W.contents writer.old) (W.contents writer.new) (line_or_value value_only name.now value.now)) }
 {
     if value_only {
         return write_two(writer, value, b"\n");

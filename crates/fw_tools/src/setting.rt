@@ -1,9 +1,9 @@
 //! The variables of a session, set and saved.
-ghost use Rattle.std.specs.Prelude.{◌≡◌, [], ◌∷◌, map, option_copied, false, IfOk, OnErr, Some, MatchOption};
-ghost use Rattle.env_session.specs.Requests.{entry_in, refusal_in, write_done};
+ghost use Rattle.std.specs.Prelude.{◌≡◌, ◌<◌, ◌≤◌, ◌^◌, ℕ, if◌then◌else◌, [], ◌∷◌, length, map, take, option_copied, option_map, false, IfOk, OnErr, Some, MatchOption};
+ghost use Rattle.env_session.specs.Requests.{entry_in, imported, refusal_in, write_done};
 ghost use Rattle.env_session.specs.Session.{bytes_of, saved};
 ghost use Rattle.fw_tools.specs.Messages.{refusal_front, refusal_text};
-ghost use Rattle.fw_tools.specs.Setting.{Changes, import_effect, joined, script_effect, set_effect};
+ghost use Rattle.fw_tools.specs.Setting.{Changes, import_effect, joined, pair_in, stopped_by, script_effect, set_effect};
 ghost use Rattle.fw_tools.specs.Tool.{PrintsText};
 
 use crate::counting::print_count;
@@ -11,7 +11,7 @@ use crate::ending::{StreamFault, ToolEnd};
 use crate::messages::{BAD_FORM, BAD_TYPE, FULL, NO_CREATE, NO_DELETE, NO_OVERWRITE, QUOTE};
 use crate::streams::write_three;
 use env_session::{ImportEnding, Session};
-use envcfg_core::TextEntry;
+use envcfg_core::{ImportText, ScriptText, TextEntry};
 use envvars_core::{Memory, Refusal};
 use std::alloc::Global;
 use std::io::Write;
@@ -28,7 +28,10 @@ pub fn setenv<E: Write>(
     words: &[&[u8]],
     errors: &mut E,
 ) -> ToolEnd
-    ensures { Changes (record { session = session.old; errors = E.contents errors.old }) (record { session = session.new; errors = E.contents errors.new }) (set_effect session.old name.now (joined (map (λ w. w.now) words.now))) ((name.now, Some (joined (map (λ w. w.now) words.now))) ∷ []) result }
+    ensures { Changes (record { session = session.old; errors = E.contents errors.old })
+        (record { session = session.new; errors = E.contents errors.new })
+        (set_effect session.old name.now (joined (map (λ w. w.now) words.now)))
+        ((name.now, Some (joined (map (λ w. w.now) words.now))) ∷ []) result }
 {
     match join(alloc, words) {
         Err(_) => ToolEnd::stopped(StreamFault::Memory),
@@ -42,7 +45,9 @@ pub fn setenv<E: Write>(
 ///
 /// At the fault `Memory` nothing is printed, no copy has changed, and some first lines stand.
 pub fn set_script<E: Write>(session: &mut Session, entries: &[TextEntry], errors: &mut E) -> ToolEnd
-    ensures { Changes (record { session = session.old; errors = E.contents errors.old }) (record { session = session.new; errors = E.contents errors.new }) (script_effect session.old (map entry_in entries.now)) (map entry_in entries.now) result }
+    ensures { Changes (record { session = session.old; errors = E.contents errors.old })
+        (record { session = session.new; errors = E.contents errors.new })
+        (script_effect session.old (map entry_in entries.now)) (map entry_in entries.now) result }
 {
     for entry in entries {
         match write_entry(session, entry) {
@@ -59,7 +64,9 @@ pub fn set_script<E: Write>(session: &mut Session, entries: &[TextEntry], errors
 ///
 /// At the fault `Memory` nothing is printed, no copy has changed, and some first entries stand.
 pub fn import<E: Write>(session: &mut Session, entries: &[TextEntry], errors: &mut E) -> ToolEnd
-    ensures { Changes (record { session = session.old; errors = E.contents errors.old }) (record { session = session.new; errors = E.contents errors.new }) (import_effect session.old (map entry_in entries.now)) (map entry_in entries.now) result }
+    ensures { Changes (record { session = session.old; errors = E.contents errors.old })
+        (record { session = session.new; errors = E.contents errors.new })
+        (import_effect session.old (map entry_in entries.now)) (map entry_in entries.now) result }
 {
     let report = session.import(entries);
     match report.ending {
@@ -71,9 +78,113 @@ pub fn import<E: Write>(session: &mut Session, entries: &[TextEntry], errors: &m
     }
 }
 
+/// As `set_script`, of a script whose lines are read one by one, so that it takes no memory for all of them.
+pub fn script_text<E: Write>(
+    alloc: Global,
+    session: &mut Session,
+    script: ScriptText<'_>,
+    errors: &mut E,
+) -> ToolEnd
+    ensures { Changes (record { session = session.old; errors = E.contents errors.old })
+        (record { session = session.new; errors = E.contents errors.new })
+        (script_effect session.old (map pair_in script.entry)) (map pair_in script.entry) result }
+{
+    let Ok(stopped) = write_entries(alloc, session, script) else {
+        return ToolEnd::stopped(StreamFault::Memory);
+    };
+    match stopped {
+        None => save(session),
+        Some((entry, refusal)) => print_refusal(errors, refusal, &entry.name),
+    }
+}
+
+/// Takes each entry of a script as an unforced write, up to the first that is refused, and answers that one with what
+/// refuses it.
+fn write_entries(
+    alloc: Global,
+    session: &mut Session,
+    script: ScriptText<'_>,
+) -> Result<Option<(TextEntry, Refusal)>, Memory>
+    ensures written { IfOk result (λ stopped. script_effect session.old (map pair_in script.entry)
+        ≡ stopped_by (option_map (λ s. (s.0.name.items, s.1)) stopped) session.new) }
+    ensures some { (k : ℕ) × (session.new ≡ (imported session.old (take k (map pair_in script.entry))).0) }
+{
+    let mut rest = script;
+    'entries: loop {
+        let Ok(found) = rest.read_next(alloc) else {
+            return Err(Memory);
+        };
+        let Some(entry) = found else {
+            return Ok(None);
+        };
+        match write_entry(session, &entry) {
+            Err(Memory) => return Err(Memory),
+            Ok(Some(refusal)) => return Ok(Some((entry, refusal))),
+            Ok(None) => continue 'entries,
+        }
+    }
+}
+
+/// As `import`, of a text whose entries are read one by one, so that it takes no memory for all of them.
+pub fn import_text<E: Write>(
+    alloc: Global,
+    session: &mut Session,
+    text: ImportText<'_>,
+    errors: &mut E,
+) -> ToolEnd
+    requires few { length text < 2 ^ 64 }
+    ensures { Changes (record { session = session.old; errors = E.contents errors.old })
+        (record { session = session.new; errors = E.contents errors.new })
+        (import_effect session.old (map pair_in text.entry)) (map pair_in text.entry) result }
+{
+    match import_entries(alloc, session, text) {
+        Err(Memory) => ToolEnd::stopped(StreamFault::Memory),
+        Ok(refused) => match session.save() {
+            Err(_) => ToolEnd::stopped(StreamFault::Memory),
+            Ok(_side) => print_count(errors, refused),
+        },
+    }
+}
+
+/// Takes each entry of a text as an unforced write, and answers how many were refused.
+fn import_entries(
+    alloc: Global,
+    session: &mut Session,
+    text: ImportText<'_>,
+) -> Result<usize, Memory>
+    requires few { length text < 2 ^ 64 }
+    ensures all { IfOk result (λ refused. (session.new, refused) ≡ imported session.old (map pair_in text.entry)) }
+    ensures some { OnErr result ((k : ℕ) × (session.new ≡ (imported session.old (take k (map pair_in text.entry))).0)) }
+{
+    let mut rest = text;
+    let mut refused = 0;
+    'entries: loop {
+        let Ok(found) = rest.read_next(alloc) else {
+            return Err(Memory);
+        };
+        let Some(entry) = found else {
+            return Ok(refused);
+        };
+        match write_entry(session, &entry) {
+            Err(Memory) => return Err(Memory),
+            Ok(refusal) => refused += counted(refusal.is_some()),
+        }
+    }
+}
+
+/// One where it is so, else none.
+fn counted(so: bool) -> usize
+    ensures count { result ≡ (if so then 1 else 0) }
+    ensures few { result ≤ 1 }
+{
+    usize::from(so)
+}
+
 /// Writes a value and saves.
 fn set_value<E: Write>(session: &mut Session, name: &[u8], value: &[u8], errors: &mut E) -> ToolEnd
-    ensures { Changes (record { session = session.old; errors = E.contents errors.old }) (record { session = session.new; errors = E.contents errors.new }) (set_effect session.old name.now value.now) ((name.now, Some value.now) ∷ []) result }
+    ensures { Changes (record { session = session.old; errors = E.contents errors.old })
+        (record { session = session.new; errors = E.contents errors.new }) (set_effect session.old name.now value.now)
+        ((name.now, Some value.now) ∷ []) result }
 {
     match write(session, name, Some(value)) {
         Err(_) => ToolEnd::stopped(StreamFault::Memory),
@@ -109,7 +220,8 @@ fn write_entry(session: &mut Session, entry: &TextEntry) -> Result<Option<Refusa
 
 /// Saves, and prints nothing.
 fn save(session: &mut Session) -> ToolEnd
-    ensures { MatchOption result.fault ((session.new ≡ saved session.old) × (result.status ≡ 0)) (λ fault. (fault ≡ StreamFault.Memory) × (session.new ≡ session.old) × (result.status ≡ 1)) }
+    ensures { MatchOption result.fault ((session.new ≡ saved session.old) × (result.status ≡ 0))
+        (λ fault. (fault ≡ StreamFault.Memory) × (session.new ≡ session.old) × (result.status ≡ 1)) }
 {
     match session.save() {
         Err(_) => ToolEnd::stopped(StreamFault::Memory),

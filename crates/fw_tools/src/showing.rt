@@ -30,7 +30,10 @@ pub fn show<R: Read, W: Write, E: Write>(
     output: &mut W,
     errors: &mut E,
 ) -> ToolEnd
-    ensures { Shows order (record { input = R.remaining input.old; output = W.contents output.old; errors = E.contents errors.old }) (record { input = R.remaining input.new; output = W.contents output.new; errors = E.contents errors.new }) result }
+    ensures { Shows order
+        (record { input = R.remaining input.old; output = W.contents output.old; errors = E.contents errors.old })
+        (record { input = R.remaining input.new; output = W.contents output.new; errors = E.contents errors.new })
+        result }
 {
     match read_up_to(alloc, input, READ_LIMIT) {
         Err(fault) => ToolEnd::stopped(fault),
@@ -46,7 +49,9 @@ fn show_bytes<W: Write, E: Write>(
     output: &mut W,
     errors: &mut E,
 ) -> ToolEnd
-    ensures printed { Printed result.fault (record { output = W.contents output.old; errors = E.contents errors.old }) (record { output = W.contents output.new; errors = E.contents errors.new }) (shown order bytes.now) result.status }
+    ensures printed { Printed result.fault (record { output = W.contents output.old; errors = E.contents errors.old })
+        (record { output = W.contents output.new; errors = E.contents errors.new }) (shown order bytes.now)
+        result.status }
     ensures late { result.fault ≢ Some StreamFault.Read }
 {
     match image_state(order, bytes) {

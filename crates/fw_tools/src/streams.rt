@@ -18,7 +18,9 @@ pub fn read_up_to<R: Read>(
     reader: &mut R,
     limit: usize,
 ) -> Result<Vec<u8>, StreamFault>
-    ensures { MatchResult result (λ bytes. GaveAll (R.remaining reader.old) (R.remaining reader.new) limit bytes.items) (λ fault. IsEarly fault × ((bytes : List ℕ) × Gave (R.remaining reader.old) (R.remaining reader.new) limit bytes)) }
+    ensures { MatchResult result (λ bytes. GaveAll (R.remaining reader.old) (R.remaining reader.new) limit bytes.items)
+        (λ fault. IsEarly fault
+        × ((bytes : List ℕ) × Gave (R.remaining reader.old) (R.remaining reader.new) limit bytes)) }
 {
     let mut block = [0u8; BLOCK];
     let mut bytes = Vec::new(alloc);
@@ -40,7 +42,8 @@ pub fn read_up_to<R: Read>(
 /// Writes a text, as often as the writer takes a part of it; false where it fails or takes nothing, with a front of the
 /// text written and something of it left.
 pub fn write_text<W: Write>(writer: &mut W, text: &[u8]) -> bool
-    ensures { MatchBool result (Appends (W.contents writer.old) (W.contents writer.new) text.now) (AppendsPart (W.contents writer.old) (W.contents writer.new) text.now) }
+    ensures { MatchBool result (Appends (W.contents writer.old) (W.contents writer.new) text.now)
+        (AppendsPart (W.contents writer.old) (W.contents writer.new) text.now) }
 {
     let mut rest = text;
     while !rest.is_empty() {
@@ -54,7 +57,8 @@ pub fn write_text<W: Write>(writer: &mut W, text: &[u8]) -> bool
 
 /// Writes a text in two parts.
 pub fn write_two<W: Write>(writer: &mut W, first: &[u8], second: &[u8]) -> bool
-    ensures { MatchBool result (Appends (W.contents writer.old) (W.contents writer.new) (first.now ++ second.now)) (AppendsPart (W.contents writer.old) (W.contents writer.new) (first.now ++ second.now)) }
+    ensures { MatchBool result (Appends (W.contents writer.old) (W.contents writer.new) (first.now ++ second.now))
+        (AppendsPart (W.contents writer.old) (W.contents writer.new) (first.now ++ second.now)) }
 {
     if !write_text(writer, first) {
         return false;
@@ -64,7 +68,9 @@ pub fn write_two<W: Write>(writer: &mut W, first: &[u8], second: &[u8]) -> bool
 
 /// Writes a text in three parts.
 pub fn write_three<W: Write>(writer: &mut W, first: &[u8], second: &[u8], third: &[u8]) -> bool
-    ensures { MatchBool result (Appends (W.contents writer.old) (W.contents writer.new) (first.now ++ second.now ++ third.now)) (AppendsPart (W.contents writer.old) (W.contents writer.new) (first.now ++ second.now ++ third.now)) }
+    ensures { MatchBool result
+        (Appends (W.contents writer.old) (W.contents writer.new) (first.now ++ second.now ++ third.now))
+        (AppendsPart (W.contents writer.old) (W.contents writer.new) (first.now ++ second.now ++ third.now)) }
 {
     if !write_two(writer, first, second) {
         return false;
@@ -74,7 +80,8 @@ pub fn write_three<W: Write>(writer: &mut W, first: &[u8], second: &[u8], third:
 
 /// Writes a number in decimal digits. It takes no memory: the digits before the last are written first.
 pub fn write_decimal<W: Write>(writer: &mut W, number: usize) -> bool
-    ensures { MatchBool result (Appends (W.contents writer.old) (W.contents writer.new) (decimal number)) (AppendsPart (W.contents writer.old) (W.contents writer.new) (decimal number)) }
+    ensures { MatchBool result (Appends (W.contents writer.old) (W.contents writer.new) (decimal number))
+        (AppendsPart (W.contents writer.old) (W.contents writer.new) (decimal number)) }
 {
     let digit = b'0' + (number % 10) as u8;
     if number < 10 {

@@ -9,7 +9,7 @@ use Rattle.hush_commands.specs.declared.follow.Follow.TheVariants as follow
 use Rattle.hush_commands.specs.Following.{follow_of}
 use Rattle.hush_commands.specs.declared.messages.Message.TheVariants.{NotDefined}
 use Rattle.hush_syntax.specs.Reading.{read}
-use Rattle.hush_run.specs.Meaning.{Rules, Begin, State, Out, Goes, Ends, ◌>>=◌, ◌then◌, Effect, Does, Leaves, Stops, done, step, with_status, goes_on, turns, if_ok, in_turn, deletions, follows, simple, bindings, for, joins, is_variable, fields_of, effect, fails, command, otherwise, chain, linked, chains, script, start, looked_up, entered}
+use Rattle.hush_run.specs.Meaning.{Rules, Begin, State, Out, Goes, Ends, ◌>>=◌, ◌then◌, Effect, Does, Leaves, Stops, done, step, with_status, goes_on, turns, if_ok, in_turn, deletions, follows, simple, bindings, for, joins, has_variable, fields_of, effect, fails, command, otherwise, chain, linked, chains, script, start, looked_up, entered}
 use Rattle.hush_run.specs.Resume.{looks}
 
 pub within_bind : (low next high : ℕ) (o : Out) (f : State → Out) → Within low high o → ((t : State) → low ≤ t.steps → t.steps ≤ high → Within next high (f t)) → Within next high (o >>= f)
@@ -107,7 +107,7 @@ module _ (rules : Rules) (begin : Begin) (counts : (name : List ℕ) → Counts 
   bindings-keep : (name : List ℕ) (body : State → Out) → Keeps rules body → (fields : List (List ℕ)) → Keeps rules (bindings rules name body fields)
   bindings-keep name body k [] s le = (omega arith, le)
   bindings-keep name body k (f ∷ fs) s le =
-      by_bool (is_variable s name) (Within s.steps rules.limits.steps) _ _
+      by_bool (has_variable s name) (Within s.steps rules.limits.steps) _ _
       (keeps rules _ (step-counts rules _) s le)
       (within_bind s.steps _ rules.limits.steps _ (bindings rules name body fs) (within_bind s.steps _ rules.limits.steps _ body (keeps rules _ (step-counts rules _) s le) (λ t lo hi. within_less _ _ _ (body t) lo (k t hi))) (λ t lo hi. within_less _ _ _ (bindings rules name body fs t) lo (bindings-keep name body k fs t hi)))
 

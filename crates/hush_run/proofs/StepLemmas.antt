@@ -25,7 +25,7 @@ use Rattle.hush_run.specs.declared.ending.Reason.TheVariants.{Finished, Exited, 
 use Rattle.hush_run.specs.declared.ending.Stop.{Stop}
 use Rattle.hush_run.specs.declared.ending.Stop.TheVariants.{Ended, Memory}
 use Rattle.hush_run.specs.Stops.{print_stop}
-use Rattle.hush_run.specs.Meaning.{Rules, Begin, State, Out, Goes, Ends, ◌>>=◌, ◌then◌, Effect, Does, Leaves, Stops, done, step, with_status, carries, fails, leaving, effect, simple, follows, fields_of, for, bindings, assigned, assigned_to, is_variable, known_in, deletions, start, script, entered, within}
+use Rattle.hush_run.specs.Meaning.{Rules, Begin, State, Out, Goes, Ends, ◌>>=◌, ◌then◌, Effect, Does, Leaves, Stops, done, step, with_status, carries, fails, leaving, effect, simple, follows, fields_of, for, bindings, assigned, assigned_to, has_variable, known_in, deletions, start, script, entered, within}
 use Rattle.hush_run.specs.Steps.{Meant, Did, Counted, MayStep, FieldsAre, Started, value_of}
 
 -- a state with another count
@@ -213,12 +213,12 @@ pub value_made : (o : Option (List ℕ)) (m : Made) → option_map whole (option
 value_made None m e = absurd (let f : false ≡ true = ap (λ (p : Option Made). is_some p) e in cc)
 value_made (Some v) m e = (v, refl, sym (ap (λ (p : Option Made). unwrap_or (option_map (λ x. x.done) p) (v ∷ [])) e))
 
-pub assign_refused : (rules : Rules) (name : List ℕ) (word : List Atom) (s : State) (v : List ℕ) → expanded_value (known_in s) rules.limits.word word ≡ Some v → is_variable s name ≡ true → assigned rules name word s ≡ fails IsVariable name s
+pub assign_refused : (rules : Rules) (name : List ℕ) (word : List Atom) (s : State) (v : List ℕ) → expanded_value (known_in s) rules.limits.word word ≡ Some v → has_variable s name ≡ true → assigned rules name word s ≡ fails IsVariable name s
 assign_refused rules name word s v e is =
     ap (λ (o : Option (List ℕ)). assigned_to name o s) e
     ∙ ap (λ (b : Bool). if b then fails IsVariable name s else Does (record s { locals = map.insert s.locals name v; status = 0 })) is
 
-pub assign_done : (rules : Rules) (name : List ℕ) (word : List Atom) (s : State) (v : List ℕ) → expanded_value (known_in s) rules.limits.word word ≡ Some v → is_variable s name ≡ false → assigned rules name word s ≡ Does (record s { locals = map.insert s.locals name v; status = 0 })
+pub assign_done : (rules : Rules) (name : List ℕ) (word : List Atom) (s : State) (v : List ℕ) → expanded_value (known_in s) rules.limits.word word ≡ Some v → has_variable s name ≡ false → assigned rules name word s ≡ Does (record s { locals = map.insert s.locals name v; status = 0 })
 assign_done rules name word s v e is =
     ap (λ (o : Option (List ℕ)). assigned_to name o s) e
     ∙ ap (λ (b : Bool). if b then fails IsVariable name s else Does (record s { locals = map.insert s.locals name v; status = 0 })) is
@@ -246,21 +246,21 @@ module _ (rules : Rules) (name : List ℕ) (rest : List (List ℕ)) (force faile
 -- a binding
 module _ (rules : Rules) (name field : List ℕ) (rest : List (List ℕ)) (body : Meant) (s : State) where
   pub bind_halts : (begin : Begin) → rules.limits.steps ≤ s.steps → bindings rules name (body rules begin) (field ∷ rest) s ≡ Ends Steps s
-  bind_halts begin le = either (is_variable s name)
+  bind_halts begin le = either (has_variable s name)
     where
       either : (b : Bool) → (if b then step rules (fails IsVariable name) s else (step rules (λ t. Does (record t { locals = map.insert t.locals name field })) s >>= body rules begin >>= bindings rules name (body rules begin) rest)) ≡ Ends Steps s
       either true = step_halts rules _ s le
       either false = ap (λ (o : Out). o >>= body rules begin >>= bindings rules name (body rules begin) rest) (step_halts rules (λ t. Does (record t { locals = map.insert t.locals name field })) s le)
 
   -- where the name is a variable's, it is as the step that fails
-  pub bind_refused : (t : State) → is_variable s name ≡ true → Did rules (λ r begin. step r (fails IsVariable name)) (λ (u : Unit {0}) r begin. Goes) s t (Ok tt) → Did rules (λ r begin. bindings r name (body r begin) (field ∷ rest)) (λ bound r begin. if bound then (body r begin then bindings r name (body r begin) rest) else Goes) s t (Ok false)
+  pub bind_refused : (t : State) → has_variable s name ≡ true → Did rules (λ r begin. step r (fails IsVariable name)) (λ (u : Unit {0}) r begin. Goes) s t (Ok tt) → Did rules (λ r begin. bindings r name (body r begin) (field ∷ rest)) (λ bound r begin. if bound then (body r begin then bindings r name (body r begin) rest) else Goes) s t (Ok false)
   bind_refused t taken did = (did.0, λ n begin le. ap (λ (b : Bool). if b then step (within n rules) (fails IsVariable name) s else (step (within n rules) (λ t. Does (record t { locals = map.insert t.locals name field })) s >>= body (within n rules) begin >>= bindings (within n rules) name (body (within n rules) begin) rest)) taken ∙ did.1 n begin le)
 
-  pub bind_stopped : (t : State) (stop : Stop) → is_variable s name ≡ true → Did rules (λ r begin. step r (fails IsVariable name)) (λ (u : Unit {0}) r begin. Goes) s t (Err stop) → Did rules (λ r begin. bindings r name (body r begin) (field ∷ rest)) (λ bound r begin. if bound then (body r begin then bindings r name (body r begin) rest) else Goes) s t (Err stop)
+  pub bind_stopped : (t : State) (stop : Stop) → has_variable s name ≡ true → Did rules (λ r begin. step r (fails IsVariable name)) (λ (u : Unit {0}) r begin. Goes) s t (Err stop) → Did rules (λ r begin. bindings r name (body r begin) (field ∷ rest)) (λ bound r begin. if bound then (body r begin then bindings r name (body r begin) rest) else Goes) s t (Err stop)
   bind_stopped t (Ended e) taken did = λ begin. ap (λ (b : Bool). if b then step rules (fails IsVariable name) s else (step rules (λ t. Does (record t { locals = map.insert t.locals name field })) s >>= body rules begin >>= bindings rules name (body rules begin) rest)) taken ∙ did begin
   bind_stopped t Memory taken did = did
 
-  pub bind_done : (k : ℕ) → s.steps < rules.limits.steps → is_variable s name ≡ false → k ≡ suc s.steps → Did rules (λ r begin. bindings r name (body r begin) (field ∷ rest)) (λ bound r begin. if bound then (body r begin then bindings r name (body r begin) rest) else Goes) s (record s { locals = map.insert s.locals name field; steps = k }) (Ok true)
+  pub bind_done : (k : ℕ) → s.steps < rules.limits.steps → has_variable s name ≡ false → k ≡ suc s.steps → Did rules (λ r begin. bindings r name (body r begin) (field ∷ rest)) (λ bound r begin. if bound then (body r begin then bindings r name (body r begin) rest) else Goes) s (record s { locals = map.insert s.locals name field; steps = k }) (Ok true)
   bind_done k lt free is =
       let did = step_done rules (λ t. Does (record t { locals = map.insert t.locals name field })) s (record s { locals = map.insert s.locals name field }) k lt refl is in (
         did.0,

@@ -90,8 +90,8 @@ abbrev pub fields_of : Rules → List (List Atom) → State → Option (List (Li
 fields_of rules words s = expanded (known_in s) rules.limits.word words
 
 -- whether the environment has a variable of this name
-abbrev pub is_variable : State → List ℕ → Bool
-is_variable s name = is_some (map.get s.held.now.env name)
+abbrev pub has_variable : State → List ℕ → Bool
+has_variable s name = is_some (map.get s.held.now.env name)
 
 -- an `exit` with its words ends the run
 abbrev pub leaving : Follow → Effect → Effect
@@ -109,7 +109,7 @@ effect stubs fields s = leaving (follow_of fields s.status) (carries (done_of st
 -- the step of an assignment
 abbrev pub assigned_to : List ℕ → Option (List ℕ) → State → Effect
 assigned_to name None s = Stops Word
-assigned_to name (Some value) s = if is_variable s name then fails IsVariable name s else Does (record s { locals = map.insert s.locals name value; status = 0 })
+assigned_to name (Some value) s = if has_variable s name then fails IsVariable name s else Does (record s { locals = map.insert s.locals name value; status = 0 })
 
 abbrev pub assigned : Rules → List ℕ → List Atom → State → Effect
 assigned rules name value s = assigned_to name (expanded_value (known_in s) rules.limits.word value) s
@@ -164,7 +164,7 @@ simple rules start (Some fields) s = step rules (effect rules.stubs fields) s >>
 abbrev pub bindings : Rules → List ℕ → (State → Out) → List (List ℕ) → State → Out
 bindings rules name body [] s = Goes s
 bindings rules name body (f ∷ fs) s =
-    if is_variable s name
+    if has_variable s name
     then step rules (fails IsVariable name) s
     else (step rules (λ t. Does (record t { locals = map.insert t.locals name f })) s >>= body >>= bindings rules name body fs)
 

@@ -30,7 +30,8 @@ pub(crate) fn advance(
     requires depth { given.now.limits.depth ≤ 16 }
     requires ready { IsReady (rules_of given.now) calls.old frames.old.frames frames.old.depth due }
     requires steps { progress.old.steps ≤ given.now.limits.steps }
-    ensures { Advances (rules_of given.now) calls.old frames.old.frames due (state_of session.old progress.old) calls.new frames.new.frames frames.new.depth (state_of session.new progress.new) result }
+    ensures { Advances (rules_of given.now) calls.old frames.old.frames due (state_of session.old progress.old)
+        calls.new frames.new.frames frames.new.depth (state_of session.new progress.new) result }
 {
     match due {
         Due::Over => {
@@ -54,7 +55,8 @@ fn step_due(
     requires ready { IsReady (rules_of given.now) calls.old frames.old.frames frames.old.depth due }
     requires end { IsEnd due frames.old.frames }
     requires steps { progress.old.steps ≤ given.now.limits.steps }
-    ensures { Advances (rules_of given.now) calls.old frames.old.frames due (state_of session.old progress.old) calls.new frames.new.frames frames.new.depth (state_of session.new progress.new) result }
+    ensures { Advances (rules_of given.now) calls.old frames.old.frames due (state_of session.old progress.old)
+        calls.new frames.new.frames frames.new.depth (state_of session.new progress.new) result }
 {
     match due {
         Due::Over => Err(Stop::Ended(Reason::Finished)),
@@ -84,7 +86,9 @@ fn node_due(
 ) -> Result<Due, Stop>
     requires ready { IsReady (rules_of given.now) calls.now frames.old.frames frames.old.depth (due.Node node) }
     requires steps { progress.old.steps ≤ given.now.limits.steps }
-    ensures { Advances (rules_of given.now) calls.now frames.old.frames (due.Node node) (state_of session.old progress.old) calls.now frames.new.frames frames.new.depth (state_of session.new progress.new) result }
+    ensures { Advances (rules_of given.now) calls.now frames.old.frames (due.Node node)
+        (state_of session.old progress.old) calls.now frames.new.frames frames.new.depth
+        (state_of session.new progress.new) result }
 {
     let script = calls.top();
     let step = descend(script, frames, node);
@@ -103,7 +107,9 @@ fn binding_due(
 ) -> Result<Due, Stop>
     requires ready { IsReady (rules_of given.now) calls.now frames.old.frames frames.old.depth (due.Binding node fields) }
     requires steps { progress.old.steps ≤ given.now.limits.steps }
-    ensures { Advances (rules_of given.now) calls.now frames.old.frames (due.Binding node fields) (state_of session.now progress.old) calls.now frames.new.frames frames.new.depth (state_of session.now progress.new) result }
+    ensures { Advances (rules_of given.now) calls.now frames.old.frames (due.Binding node fields)
+        (state_of session.now progress.old) calls.now frames.new.frames frames.new.depth
+        (state_of session.now progress.new) result }
 {
     let script = calls.top();
     let Node::For { name, body, .. } = script.node(node) else {
@@ -138,7 +144,9 @@ fn start_due(
     requires depth { given.now.limits.depth ≤ 16 }
     requires ready { IsReady (rules_of given.now) calls.old frames.old.frames frames.old.depth (due.Start names) }
     requires steps { progress.old.steps ≤ given.now.limits.steps }
-    ensures { Advances (rules_of given.now) calls.old frames.old.frames (due.Start names) (state_of session.now progress.old) calls.new frames.new.frames frames.new.depth (state_of session.now progress.new) result }
+    ensures { Advances (rules_of given.now) calls.old frames.old.frames (due.Start names)
+        (state_of session.now progress.old) calls.new frames.new.frames frames.new.depth
+        (state_of session.now progress.new) result }
 {
     let mut left = names;
     let Some(name) = left.fields().next() else {
@@ -182,7 +190,9 @@ fn delete_due(
 ) -> Result<Due, Stop>
     requires ready { IsReady (rules_of given.now) calls.now frames.now.frames frames.now.depth (due.Delete force failed names) }
     requires steps { progress.old.steps ≤ given.now.limits.steps }
-    ensures { Advances (rules_of given.now) calls.now frames.now.frames (due.Delete force failed names) (state_of session.old progress.old) calls.now frames.now.frames frames.now.depth (state_of session.new progress.new) result }
+    ensures { Advances (rules_of given.now) calls.now frames.now.frames (due.Delete force failed names)
+        (state_of session.old progress.old) calls.now frames.now.frames frames.now.depth
+        (state_of session.new progress.new) result }
 {
     let mut left = names;
     let Some(name) = left.fields().next() else {

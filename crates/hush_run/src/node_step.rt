@@ -26,7 +26,9 @@ pub(crate) fn node_step(
     node: NodeId,
 ) -> Result<Due, Stop>
     requires { IsStep (sub_at script.now node) }
-    ensures step { Did (rules_of given.now) (λ rules begin. sub_does rules begin (sub_at script.now node)) (λ due rules begin. due_does rules begin (sub_at script.now) due) (state_of session.old progress.old) (state_of session.new progress.new) result }
+    ensures step { Did (rules_of given.now) (λ rules begin. sub_does rules begin (sub_at script.now node))
+        (λ due rules begin. due_does rules begin (sub_at script.now) due) (state_of session.old progress.old)
+        (state_of session.new progress.new) result }
     ensures due { IfOk result (λ due. IsDue (sub_at script.now) due × (due_room (sub_at script.now) due ≤ room (sub_at script.now node))) }
 {
     match script.node(node) {
@@ -86,8 +88,11 @@ fn due_behind(follow: Follow) -> Due
 
 /// What is due behind the head of a `for` with these fields.
 fn due_binding(node: NodeId, fields: FieldQueue) -> Due
-    ensures due { (at : At) (name : List ℕ) (words : List (List Atom)) (d : Chains) → at node ≡ Some (OfCommand (For name words d)) → IsDue at result × (due_room at result ≤ room (at node)) }
-    ensures same { (rules : Rules) (begin : Begin) (at : At) (name : List ℕ) (words : List (List Atom)) (d : Chains) (s : State) → at node ≡ Some (OfCommand (For name words d)) → bindings rules name (chains rules begin d) fields s ≡ due_does rules begin at result s }
+    ensures due { (at : At) (name : List ℕ) (words : List (List Atom)) (d : Chains) → at node ≡ Some
+        (OfCommand (For name words d)) → IsDue at result × (due_room at result ≤ room (at node)) }
+    ensures same { (rules : Rules) (begin : Begin) (at : At) (name : List ℕ) (words : List (List Atom)) (d : Chains)
+        (s : State) → at node ≡ Some (OfCommand (For name words d)) → bindings rules name (chains rules begin d) fields
+        s ≡ due_does rules begin at result s }
 {
     if fields.is_empty() {
         Due::Over

@@ -58,7 +58,9 @@ impl Progress {
         words: &[Word],
     ) -> Result<(), Stop>
         ensures same { (held : Held) → state_of held self.new ≡ state_of held self.old }
-        ensures fields { FieldsAre (rules_of given.now) (fields_of (rules_of given.now) (map (word_atoms text.now) words.now) (state_of session.now self.old)) (state_of session.now self.old) self.new.fields result }
+        ensures fields { FieldsAre (rules_of given.now)
+            (fields_of (rules_of given.now) (map (word_atoms text.now) words.now) (state_of session.now self.old))
+            (state_of session.now self.old) self.new.fields result }
         ensures counts { IfOk result (λ u. self.new.steps < 1000000) }
     {
         self.may_step(given)?;
@@ -81,7 +83,9 @@ impl Progress {
         word: Word,
     ) -> Result<(), Stop>
         ensures same { (held : Held) → state_of held self.new ≡ state_of held self.old }
-        ensures fields { FieldsAre (rules_of given.now) (value_of (rules_of given.now) (word_atoms text.now word) (state_of session.now self.old)) (state_of session.now self.old) self.new.fields result }
+        ensures fields { FieldsAre (rules_of given.now)
+            (value_of (rules_of given.now) (word_atoms text.now word) (state_of session.now self.old))
+            (state_of session.now self.old) self.new.fields result }
         ensures counts { IfOk result (λ u. self.new.steps < 1000000) }
     {
         self.may_step(given)?;
@@ -99,7 +103,9 @@ impl Progress {
     pub(crate) fn fail(&mut self, message: Message, name: &[u8]) -> Result<(), Stop>
         requires { self.old.steps < u32.MAX }
         ensures status { IfOk result (λ u. self.new.status ≡ 1) }
-        ensures told { (rules : Rules) (held : Held) → self.old.steps < rules.limits.steps → Did rules (λ r begin. step r (fails message name.now)) (λ u r begin. Goes) (state_of held self.old) (state_of held self.new) result }
+        ensures told { (rules : Rules) (held : Held) → self.old.steps < rules.limits.steps → Did rules
+            (λ r begin. step r (fails message name.now)) (λ u r begin. Goes) (state_of held self.old)
+            (state_of held self.new) result }
     {
         message.tell(name, &mut self.output)?;
         self.status = 1;
@@ -110,7 +116,9 @@ impl Progress {
     /// A step that fails since the name that it assigns to is that of a variable.
     pub(crate) fn refuse_name(&mut self) -> Result<(), Stop>
         requires { self.old.steps < u32.MAX }
-        ensures { (rules : Rules) (held : Held) → self.old.steps < rules.limits.steps → Did rules (λ r begin. step r (fails Message.IsVariable self.old.name.items)) (λ u r begin. Goes) (state_of held self.old) (state_of held self.new) result }
+        ensures { (rules : Rules) (held : Held) → self.old.steps < rules.limits.steps → Did rules
+            (λ r begin. step r (fails Message.IsVariable self.old.name.items)) (λ u r begin. Goes)
+            (state_of held self.old) (state_of held self.new) result }
     {
         Message::IsVariable.tell(&self.name, &mut self.output)?;
         self.status = 1;

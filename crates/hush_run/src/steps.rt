@@ -20,7 +20,10 @@ pub(crate) fn simple_step(
     text: &Text,
     words: &[Word],
 ) -> Result<Follow, Stop>
-    ensures { Did (rules_of given.now) (λ rules begin s. simple rules begin (fields_of rules (map (word_atoms text.now) words.now) s) s) (λ follow rules begin. follows rules begin follow) (state_of session.old progress.old) (state_of session.new progress.new) result }
+    ensures { Did (rules_of given.now)
+        (λ rules begin s. simple rules begin (fields_of rules (map (word_atoms text.now) words.now) s) s)
+        (λ follow rules begin. follows rules begin follow) (state_of session.old progress.old)
+        (state_of session.new progress.new) result }
 {
     progress.expand(given, session, text, words)?;
     let status = progress.status;
@@ -48,7 +51,9 @@ pub(crate) fn assign_step(
     name: Word,
     value: Word,
 ) -> Result<(), Stop>
-    ensures { Did (rules_of given.now) (λ rules begin. step rules (assigned rules (name_in text.now name) (word_atoms text.now value))) (λ u rules begin. Goes) (state_of session.now progress.old) (state_of session.now progress.new) result }
+    ensures { Did (rules_of given.now)
+        (λ rules begin. step rules (assigned rules (name_in text.now name) (word_atoms text.now value)))
+        (λ u rules begin. Goes) (state_of session.now progress.old) (state_of session.now progress.new) result }
 {
     progress.expand_value(given, session, text, value)?;
     read_name(text, name, &mut progress.name)?;
@@ -72,7 +77,10 @@ pub(crate) fn head_step(
     text: &Text,
     words: &[Word],
 ) -> Result<FieldQueue, Stop>
-    ensures { (name : List ℕ) (body : Meant) → Did (rules_of given.now) (λ rules begin s. for rules name (fields_of rules (map (word_atoms text.now) words.now) s) (body rules begin) s) (λ fields rules begin. bindings rules name (body rules begin) fields) (state_of session.now progress.old) (state_of session.now progress.new) result }
+    ensures { (name : List ℕ) (body : Meant) → Did (rules_of given.now)
+        (λ rules begin s. for rules name (fields_of rules (map (word_atoms text.now) words.now) s) (body rules begin) s)
+        (λ fields rules begin. bindings rules name (body rules begin) fields) (state_of session.now progress.old)
+        (state_of session.now progress.new) result }
 {
     progress.expand(given, session, text, words)?;
     let fields = progress.fields.take(given.alloc);
@@ -93,7 +101,11 @@ pub(crate) fn bind_step(
     name: Word,
     field: &[u8],
 ) -> Result<bool, Stop>
-    ensures { (rest : List (List ℕ)) (body : Meant) → Did (rules_of given.now) (λ rules begin. bindings rules (name_in text.now name) (body rules begin) (field.now ∷ rest)) (λ bound rules begin. if bound then (body rules begin then bindings rules (name_in text.now name) (body rules begin) rest) else Goes) (state_of session.now progress.old) (state_of session.now progress.new) result }
+    ensures { (rest : List (List ℕ)) (body : Meant) → Did (rules_of given.now)
+        (λ rules begin. bindings rules (name_in text.now name) (body rules begin) (field.now ∷ rest))
+        (λ bound rules begin. if bound
+        then (body rules begin then bindings rules (name_in text.now name) (body rules begin) rest) else Goes)
+        (state_of session.now progress.old) (state_of session.now progress.new) result }
 {
     progress.may_step(given)?;
     read_name(text, name, &mut progress.name)?;
@@ -115,7 +127,10 @@ pub(crate) fn delete_step(
     force: bool,
     failed: bool,
 ) -> Result<bool, Stop>
-    ensures { (rest : List (List ℕ)) → Did (rules_of given.now) (λ rules begin. deletions rules force failed (name.now ∷ rest)) (λ failed rules begin. deletions rules force failed rest) (state_of session.old progress.old) (state_of session.new progress.new) result }
+    ensures { (rest : List (List ℕ)) → Did (rules_of given.now)
+        (λ rules begin. deletions rules force failed (name.now ∷ rest))
+        (λ failed rules begin. deletions rules force failed rest) (state_of session.old progress.old)
+        (state_of session.new progress.new) result }
 {
     progress.may_step(given)?;
     progress.status = delete(session, name, force, failed, &mut progress.output)?;

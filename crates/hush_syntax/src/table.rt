@@ -106,7 +106,8 @@ impl Builder {
 
     /// Takes the words that come next into the table.
     pub(crate) fn take_words(&mut self, tokens: &mut Tokens<'_>) -> Result<Block, SyntaxFault>
-        ensures words { IfOk result (λ block. (text : Written) (more : Members) → words_in text (block_of block (self.new.table.words.items ++ more.words)) ≡ words_at (left_in text tokens.old)) }
+        ensures words { IfOk result (λ block. (text : Written) (more : Members) → words_in text
+            (block_of block (self.new.table.words.items ++ more.words)) ≡ words_at (left_in text tokens.old)) }
         ensures grows { OnOk result (Grows self.old.table self.new.table) }
         ensures waits { OnOk result (waiting self.new ≡ waiting self.old) }
         ensures left { OnOk result ((text : Written) → left_in text tokens.new ≡ skip is_word (left_in text tokens.old)) }

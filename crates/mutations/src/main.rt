@@ -41,17 +41,21 @@ const SEED: u64 = 1;
 
 fn main(rt: HostRuntime) -> io::Result<ExitCode> {
     let words: Vec<String> = env::args(&rt)?.collect(rt.alloc())?;
-    let (count, seed) = match words.as_slice() {
-        [_, count, seed] => (number(count), number(seed)),
-        _ => (COUNT, SEED),
+    let Some((count, seed)) = numbers(&words) else {
+        eprintln!(rt; "usage: mutations [COUNT SEED]")?;
+        return Ok(ExitCode::FAILURE);
     };
     let is_right = turn(&rt)? && cut(&rt)? && change(&rt, count, seed)? && be_hostile(&rt)?;
     Ok(ExitCode::from(u8::from(!is_right)))
 }
 
-/// The number that a word says, or 0.
-fn number(word: &str) -> u64 {
-    word.parse::<u64>().unwrap_or(0)
+/// How many inputs are changed at random, and from which seed: as the words say, two numbers, or as usual without words.
+fn numbers(words: &[String]) -> Option<(u64, u64)> {
+    match words {
+        [_] => Some((COUNT, SEED)),
+        [_, count, seed] => Some((count.parse().ok()?, seed.parse().ok()?)),
+        _ => None,
+    }
 }
 
 /// Prints what was answered, or what is wrong. Answers whether nothing is.

@@ -61,7 +61,30 @@ fn refused(text: &[u8], fault: SyntaxFault) -> Result<Answer, Fault> {
 fn ran(alloc: Global, script: &Script) -> Result<Answer, Fault> {
     let mut session = session(alloc)?;
     let opening = seen(alloc, &session)?;
-    let outcome = run_once(alloc, &mut session, script)?;
+    let first = ran_within_limits(alloc, &mut session, script)?;
+    undo(alloc, &mut session, &opening)?;
+    let second = ran_within_limits(alloc, &mut session, script)?;
+    holds("a second run ends as the first", second.name == first.name)?;
+    holds(
+        "a second run leaves what the first left",
+        second.text.as_slice() == first.text.as_slice(),
+    )?;
+    undo(alloc, &mut session, &opening)?;
+    Ok(Answer {
+        name: first.name,
+        number: u64::from(crc32(&first.text)),
+    })
+}
+
+/// The ending of a run, and all that it left as a text.
+#[derive(Drop)]
+struct Left {
+    name: &'static str,
+    text: Vec<u8>,
+}
+
+fn ran_within_limits(alloc: Global, session: &mut Session, script: &Script) -> Result<Left, Fault> {
+    let outcome = run_once(alloc, session, script)?;
     let name = name_of(outcome.ending)?;
     holds(
         "no run has more steps than its limit",
@@ -71,23 +94,8 @@ fn ran(alloc: Global, script: &Script) -> Result<Answer, Fault> {
         "no run prints more than its limit",
         outcome.text.len() <= OUTPUT as usize,
     )?;
-    let first = left_by(alloc, &session, &outcome)?;
-    undo(alloc, &mut session, &opening)?;
-    let again = run_once(alloc, &mut session, script)?;
-    holds(
-        "a second run ends as the first",
-        again.ending == outcome.ending,
-    )?;
-    let second = left_by(alloc, &session, &again)?;
-    holds(
-        "a second run leaves what the first left",
-        first.as_slice() == second.as_slice(),
-    )?;
-    undo(alloc, &mut session, &opening)?;
-    Ok(Answer {
-        name,
-        number: u64::from(crc32(&first)),
-    })
+    let text = left_by(alloc, session, &outcome)?;
+    Ok(Left { name, text })
 }
 
 fn run_once(alloc: Global, session: &mut Session, script: &Script) -> Result<Outcome, Fault> {

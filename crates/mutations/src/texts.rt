@@ -69,10 +69,7 @@ fn accepted(alloc: Global, text: &[u8], entries: &[TextEntry]) -> Result<Answer,
     are_formed(text, entries)?;
     let mut session = session(alloc)?;
     let opening = seen(alloc, &session)?;
-    let refused = written(alloc, &mut session, entries)?;
-    imported_at_once(alloc, &session, entries, refused)?;
-    let mut left = listed(alloc, entries)?;
-    left.extend_from_slice(&lines(alloc, &session)?)?;
+    let left = taken(alloc, &mut session, entries)?;
     exported_again(alloc, &session)?;
     holds("a save is done", session.save().is_ok())?;
     undo(alloc, &mut session, &opening)?;
@@ -80,6 +77,15 @@ fn accepted(alloc: Global, text: &[u8], entries: &[TextEntry]) -> Result<Answer,
         name: "accepted",
         number: u64::from(crc32(&left)),
     })
+}
+
+/// The entries and what they leave as a text, written one by one, which is what an import of them does.
+fn taken(alloc: Global, session: &mut Session, entries: &[TextEntry]) -> Result<Vec<u8>, Fault> {
+    let refused = written(alloc, session, entries)?;
+    imported_at_once(alloc, session, entries, refused)?;
+    let mut left = listed(alloc, entries)?;
+    left.extend_from_slice(&lines(alloc, session)?)?;
+    Ok(left)
 }
 
 /// That names and values have their forms, and that the entries stand in lines of the text, one below the other.

@@ -1,7 +1,7 @@
 //! `test` and `setexpr` by their rules (docs/commands.md). The values are worked out by hand.
 
-mod calculations;
 mod hostile;
+mod setexpr_values;
 mod tests_of_boards;
 
 use hush_calc::Fields;

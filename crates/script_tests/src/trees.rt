@@ -6,7 +6,7 @@ ghost use Rattle.hush_syntax.specs.Scripts.{sub_at};
 mod boots;
 mod faults;
 mod hostile;
-mod trees;
+mod spelled;
 
 use hush_syntax::{Branch, Link, Node, NodeId, Operator, Part, Script, Text, Word};
 use std::alloc::{AllocError, Global};
@@ -48,10 +48,7 @@ fn show(script: &Script, id: NodeId, room: u32, out: &mut Vec<u8>) -> Result<(),
             out.extend_from_slice(b" fi")
         }
         Node::For { name, words, body } => {
-            out.extend_from_slice(b"for ")?;
-            show_word(name, text, out)?;
-            out.extend_from_slice(b" in ")?;
-            show_words(words, text, out)?;
+            show_binding(name, words, text, out)?;
             show_body(script, body, room, out)
         }
         Node::While { condition, body } => {
@@ -64,12 +61,7 @@ fn show(script: &Script, id: NodeId, room: u32, out: &mut Vec<u8>) -> Result<(),
             show(script, condition, room, out)?;
             show_body(script, body, room, out)
         }
-        Node::Assign { name, value } => {
-            show_word(name, text, out)?;
-            out.extend_from_slice(b":=(")?;
-            show_word(value, text, out)?;
-            out.extend_from_slice(b")")
-        }
+        Node::Assign { name, value } => show_assignment(name, value, text, out),
         Node::Simple { words } => show_words(words, text, out),
     }
 }
@@ -143,6 +135,31 @@ fn show_body(script: &Script, body: NodeId, room: u32, out: &mut Vec<u8>) -> Res
     out.extend_from_slice(b" do ")?;
     show(script, body, room, out)?;
     out.extend_from_slice(b" done")
+}
+
+/// The head of a `for`.
+fn show_binding(
+    name: Word,
+    words: &[Word],
+    text: &Text,
+    out: &mut Vec<u8>,
+) -> Result<(), AllocError> {
+    out.extend_from_slice(b"for ")?;
+    show_word(name, text, out)?;
+    out.extend_from_slice(b" in ")?;
+    show_words(words, text, out)
+}
+
+fn show_assignment(
+    name: Word,
+    value: Word,
+    text: &Text,
+    out: &mut Vec<u8>,
+) -> Result<(), AllocError> {
+    show_word(name, text, out)?;
+    out.extend_from_slice(b":=(")?;
+    show_word(value, text, out)?;
+    out.extend_from_slice(b")")
 }
 
 fn show_words(words: &[Word], text: &Text, out: &mut Vec<u8>) -> Result<(), AllocError> {

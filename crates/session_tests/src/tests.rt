@@ -11,10 +11,11 @@ mod turns;
 use env_session::{Session, Side, Stored};
 use envimg_core::{Geometry, Layout};
 use envvars_core::Vars;
+use failing_streams::{Narrow, Slow};
 use fw_session::{SessionEnd, SessionEnding, session};
 use hush_run::{Limits, Stubs};
 use std::alloc::{AllocError, Global};
-use std::io::{self, Read, Write};
+use std::io::{Read, Write};
 use std::process::Abort;
 use std::test::Fail;
 
@@ -65,73 +66,6 @@ const fn marked(input: &'static [u8], output: &'static [u8], marks: u32) -> Row 
         output,
         marks,
         saved: None,
-    }
-}
-
-/// Gives its bytes, at most `step` a call; then it ends, or fails.
-#[derive(Drop)]
-struct Slow<'a> {
-    rest: &'a [u8],
-    step: usize,
-    fails: bool,
-}
-
-impl<'a> Slow<'a> {
-    fn new(rest: &'a [u8], step: usize, fails: bool) -> Slow<'a> {
-        Slow { rest, step, fails }
-    }
-}
-
-impl Read for Slow<'_> {
-    fn read(&mut self, buf: &mut [u8]) -> io::Result<usize> {
-        if self.rest.is_empty() && self.fails {
-            return Err(io::Error::from(io::ErrorKind::Other));
-        }
-        let count = self.rest.len().min(buf.len()).min(self.step);
-        let mut front = &self.rest[..count];
-        self.rest = &self.rest[count..];
-        front.read(buf)
-    }
-}
-
-/// Takes at most `step` bytes a call and `room` in all; then it fails, or takes nothing.
-#[derive(Drop)]
-struct Narrow {
-    taken: Vec<u8>,
-    step: usize,
-    room: usize,
-    fails: bool,
-}
-
-impl Narrow {
-    /// One that takes all.
-    fn new(alloc: Global, step: usize) -> Narrow {
-        Narrow::of_room(alloc, step, usize::MAX, true)
-    }
-
-    fn of_room(alloc: Global, step: usize, room: usize, fails: bool) -> Narrow {
-        Narrow {
-            taken: Vec::new(alloc),
-            step,
-            room,
-            fails,
-        }
-    }
-}
-
-impl Write for Narrow {
-    fn write(&mut self, buf: &[u8]) -> io::Result<usize> {
-        let count = buf.len().min(self.step).min(self.room);
-        if count == 0 && self.fails {
-            return Err(io::Error::from(io::ErrorKind::Other));
-        }
-        self.taken.extend_from_slice(&buf[..count])?;
-        self.room -= count;
-        Ok(count)
-    }
-
-    fn flush(&mut self) -> io::Result<()> {
-        Ok(())
     }
 }
 

@@ -1,9 +1,9 @@
-//! `defaults` of a text with `.flags`.
+//! `defaults` and `default_text` of a text with `.flags`.
 
 use crate::lines::{refused, row, wrong};
-use envcfg_core::{TextEntry, TextFault, parse_import};
+use envcfg_core::{ImportText, TextEntry, TextFault, parse_import};
 use envvars_core::{Refusal, Vars};
-use fw_tools::defaults;
+use fw_tools::{default_text, defaults};
 use std::alloc::Global;
 use std::io::{self, Write};
 
@@ -34,10 +34,41 @@ pub fn sweep<W: Write>(alloc: Global, out: &mut W) -> io::Result<()> {
     let Ok(entries) = entries else {
         return wrong(out, "parse_import for defaults");
     };
-    match defaults_twice(alloc, out, &entries)? {
-        Ok(vars) if vars.used() == 21 && vars.get(b"p") == Some(b"1".as_slice()) => {
-            row(out, "defaults", b"3 variables")
+    let made = defaults_twice(alloc, out, &entries)?;
+    made_row(out, "defaults", made)?;
+    let made = text_twice(alloc, out)?;
+    made_row(out, "default_text", made)
+}
+
+/// The default environment of the text, made anew where memory ran out at a line of it or while an entry was read.
+fn text_twice<W: Write>(alloc: Global, out: &mut W) -> io::Result<Result<Vars, (usize, Refusal)>> {
+    match text_once(alloc) {
+        Err((line, Refusal::Memory)) if line < 4 => {
+            refused(out, "default_text")?;
+            Ok(text_once(alloc))
         }
-        _ => wrong(out, "defaults"),
+        made => Ok(made),
+    }
+}
+
+/// The default environment of the text.
+fn text_once(alloc: Global) -> Result<Vars, (usize, Refusal)> {
+    match ImportText::new(TEXT) {
+        Ok(text) => default_text(alloc, 60, text),
+        Err(_) => Err((0, Refusal::BadForm)),
+    }
+}
+
+/// Whether a default environment has what the text says.
+fn made_row<W: Write>(
+    out: &mut W,
+    name: &str,
+    made: Result<Vars, (usize, Refusal)>,
+) -> io::Result<()> {
+    match made {
+        Ok(vars) if vars.used() == 21 && vars.get(b"p") == Some(b"1".as_slice()) => {
+            row(out, name, b"3 variables")
+        }
+        _ => wrong(out, name),
     }
 }

@@ -161,15 +161,15 @@ fn import<W: Write>(out: &mut W, session: &mut Session, entries: &[TextEntry]) -
         return Ok(());
     }
     let (Some(lines), Some(left)) = (IMPORTED.get(report.done), entries.get(report.done..)) else {
-        return wrong(out, "import");
+        return wrong(out, "import into a session");
     };
     if !shows(session, lines) {
-        return wrong(out, "import");
+        return wrong(out, "import into a session");
     }
-    refused(out, "import")?;
+    refused(out, "import into a session")?;
     match session.import(left).ending {
         ImportEnding::Done => Ok(()),
-        ImportEnding::Memory => wrong(out, "import, made again"),
+        ImportEnding::Memory => wrong(out, "import into a session, made again"),
     }
 }
 
@@ -222,6 +222,6 @@ pub fn sweep<W: Write>(alloc: Global, out: &mut W) -> io::Result<()> {
     delete_all(out, &mut session)?;
     undo(out, &mut session, &LEFT_AT)?;
     import(out, &mut session, &entries)?;
-    session_row(out, "import", &session, IMPORTED[3])?;
+    session_row(out, "import into a session", &session, IMPORTED[3])?;
     undo(out, &mut session, &[IMPORTED[3]])
 }

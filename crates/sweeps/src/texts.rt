@@ -20,7 +20,7 @@ pub fn sweep<W: Write>(alloc: Global, out: &mut W) -> io::Result<()> {
         refused(out, "parse_import")?;
         import = parse_import(alloc, IMPORT);
     }
-    entries_row(out, "import", import)?;
+    entries_row(out, "text for import", import)?;
     let mut script = parse_set_script(alloc, SET_SCRIPT);
     if matches!(&script, Err(TextFault::Memory)) {
         refused(out, "parse_set_script")?;

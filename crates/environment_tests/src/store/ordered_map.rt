@@ -3,7 +3,7 @@ ghost use Rattle.std.specs.Prelude.{◌≡◌, ◌≤◌, ◌||◌, IsTrue, leng
 ghost use Rattle.std.specs.List.{list_any};
 ghost use Rattle.envimg_core.specs.Environment.{is_equals, is_name, is_value, is_zero};
 
-use envvars_store::{Near, Variables};
+use envvars_store::{Hint, Variables};
 use std::alloc::{AllocError, Global};
 use std::collections::BTreeMap;
 use std::process::Abort;
@@ -82,7 +82,7 @@ impl Numbers {
 struct Both {
     store: Variables,
     plain: BTreeMap<Vec<u8>, Vec<u8>>,
-    stale: Near,
+    stale: Hint,
     alloc: Global,
 }
 
@@ -99,26 +99,26 @@ impl Both {
     }
 
     /// Where a write of the name is to begin: where its look-up ended, or where another one did before other writes.
-    fn near(&mut self, name: &[u8], is_late: bool) -> Near {
+    fn hint(&mut self, name: &[u8], is_late: bool) -> Hint {
         if is_late {
             return self.stale;
         }
-        let (_, near) = self.store.find(name);
-        self.stale = near;
-        near
+        let (_, hint) = self.store.find(name);
+        self.stale = hint;
+        hint
     }
 
-    fn write(&mut self, near: Near, name: Vec<u8>, value: Vec<u8>) -> Result<(), AllocError>
+    fn write(&mut self, hint: Hint, name: Vec<u8>, value: Vec<u8>) -> Result<(), AllocError>
         requires name_form { IsTrue (is_name name.items) }
         requires value_form { IsTrue (is_value value.items) }
     {
-        self.store.insert(near, &name, &value)?;
+        self.store.insert(hint, &name, &value)?;
         self.plain.insert(name, value)?;
         Ok(())
     }
 
-    fn remove(&mut self, near: Near, name: &[u8]) {
-        self.store.remove(near, name);
+    fn remove(&mut self, hint: Hint, name: &[u8]) {
+        self.store.remove(hint, name);
         let _gone = self.plain.remove(name);
     }
 
@@ -133,11 +133,11 @@ impl Both {
         let value = numbers.value(self.alloc)?;
         assert!(rt; is_name(&name) && is_value(&value));
         self.has_value(rt, &name);
-        let near = self.near(&name, numbers.next() % 4 == 0);
+        let hint = self.hint(&name, numbers.next() % 4 == 0);
         if (numbers.next() % 4 == 0) != is_growing {
-            self.write(near, name, value)?;
+            self.write(hint, name, value)?;
         } else {
-            self.remove(near, &name);
+            self.remove(hint, &name);
         }
         Ok(())
     }
@@ -159,8 +159,8 @@ impl Both {
     fn go_on_with_a_copy(&mut self, rt: &impl Abort) -> Result<(), AllocError> {
         let copy = self.store.try_clone(self.alloc)?;
         for (name, _) in &self.plain {
-            let (_, near) = self.store.find(name);
-            self.store.remove(near, name);
+            let (_, hint) = self.store.find(name);
+            self.store.remove(hint, name);
         }
         assert!(rt; self.store.iter().next().is_none());
         is_listed(rt, &copy, &self.plain);

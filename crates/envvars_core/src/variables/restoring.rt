@@ -4,7 +4,7 @@ ghost use Rattle.std.specs.Prelude.{◌≡◌, ◌≤◌, ◌%◌, ◌^◌, ◌�
 ghost use Rattle.std.specs.FinMap as env;
 ghost use Rattle.envimg_core.specs.Environment.{used, is_name, is_value};
 ghost use Rattle.envimg_core.specs.Pieces.{with_value};
-ghost use Rattle.envvars_store.specs.Variable.{unmarked};
+ghost use Rattle.envvars_store.specs.Pairs.{unmarked};
 ghost use Rattle.envvars_core.specs.Refusals.{given, after, refusal};
 ghost use Rattle.envvars_core.specs.Variables.{size_of};
 ghost use Rattle.envvars_core.specs.Olds.{same_value, kept, kept_by, restored, goes_in_place, HavePlaces, RestoredFits};
@@ -14,7 +14,7 @@ use crate::checks::{given, same_value};
 use crate::flags::{FLAGS_NAME, Flags};
 use crate::olds::Olds;
 use crate::refusals::{Memory, Refusal};
-use envvars_store::{Near, Text, Variables, unmarked};
+use envvars_store::{Hint, Text, Variables, unmarked};
 
 impl Vars {
     /// Writes a new value, or deletes the variable where there is none or an empty one, and keeps the old value
@@ -49,14 +49,14 @@ impl Vars {
         ensures room { self.new.room ≡ self.old.room }
     {
         prove!(self.used <= self.room);
-        let (old, near) = self.find(name);
+        let (old, hint) = self.find(name);
         let size = self.size_left(name, new, force, defaults, old)?;
         let value = given(new);
         if same_value(old, value) {
             return Ok(());
         }
-        let (added, near) = olds.keep(near, name, old)?;
-        match self.set(near, name, value, size) {
+        let (added, hint) = olds.keep(hint, name, old)?;
+        match self.set(hint, name, value, size) {
             Ok(()) => Ok(()),
             Err(Memory) => {
                 olds.forget(name, added);
@@ -148,15 +148,15 @@ fn swap_one(variables: &mut Variables, text: Text, size: usize) -> usize
     ensures swapped { variables.new ≡ with_value variables.old text.0 (unmarked text.1) }
     ensures sized { result ≡ used (with_value variables.old text.0 (unmarked text.1)) % 2 ^ 64 }
 {
-    let (present, near) = variables.find(text.name());
+    let (present, hint) = variables.find(text.name());
     let present = size_of(text.name(), present);
     let kept = size_of(text.name(), unmarked(text.value()));
-    swap_text(variables, near, text);
+    swap_text(variables, hint, text);
     size.wrapping_sub(present).wrapping_add(kept)
 }
 
 /// Swaps one kept value in, which is marked.
-fn swap_text(variables: &mut Variables, near: Near, text: Text)
+fn swap_text(variables: &mut Variables, hint: Hint, text: Text)
     requires { IfSome (unmarked text.1) (λ v. IsSome (env.get variables.old text.0)) }
     ensures { variables.new ≡ with_value variables.old text.0 (unmarked text.1) }
 {
@@ -164,7 +164,7 @@ fn swap_text(variables: &mut Variables, near: Near, text: Text)
         Ok(text) => {
             let _swapped = variables.replace(text);
         }
-        Err(text) => variables.remove(near, text.name()),
+        Err(text) => variables.remove(hint, text.name()),
     }
 }
 

@@ -7,14 +7,14 @@ ghost use Rattle.envimg_core.specs.Environment.{used, is_name, is_value};
 ghost use Rattle.envimg_core.specs.Pieces.{with_value};
 ghost use Rattle.envvars_core.specs.Attributes.{flags_name};
 ghost use Rattle.envvars_core.specs.Refusals.{given, after, access_refusal, refusal, full, answer_of, IsAccepted};
-ghost use Rattle.envvars_core.specs.Variables.{IsWas, IsFormed};
+ghost use Rattle.envvars_core.specs.Variables.{IsWas, IsFormedWas};
 
 use super::Vars;
 use crate::attributes::Access;
 use crate::checks::{attr_refusal, given, has_form, is_nothing};
 use crate::flags::{FLAGS_NAME, Flags};
 use crate::refusals::{Memory, Refusal};
-use envvars_store::{Near, Variables};
+use envvars_store::{Hint, Variables};
 use std::alloc::{AllocError, Global};
 
 /// A name and the value that it had before a write.
@@ -56,7 +56,7 @@ fn make_was(alloc: Global, name: &[u8], before: Option<&[u8]>) -> Result<Was, Me
 /// The change itself: gives a name a value, or takes its variable away.
 fn change(
     variables: &mut Variables,
-    near: Near,
+    hint: Hint,
     name: &[u8],
     value: Option<&[u8]>,
 ) -> Result<(), AllocError>
@@ -66,9 +66,9 @@ fn change(
     ensures err { OnErr result (variables.new ≡ variables.old) }
 {
     match value {
-        Some(value) => variables.insert(near, name, value),
+        Some(value) => variables.insert(hint, name, value),
         None => {
-            variables.remove(near, name);
+            variables.remove(hint, name);
             Ok(())
         }
     }
@@ -164,7 +164,7 @@ impl Vars {
     /// Gives a name a value or takes its variable away, where the name is not `.flags`.
     fn set_other(
         &mut self,
-        near: Near,
+        hint: Hint,
         name: &[u8],
         value: Option<&[u8]>,
         size: u32,
@@ -178,13 +178,13 @@ impl Vars {
             ≡ record self.old { env = with_value self.old.env name.now (option_copied value.entry) }) }
         ensures err { OnErr result (self.new ≡ self.old) }
     {
-        change(&mut self.variables, near, name, value)?;
+        change(&mut self.variables, hint, name, value)?;
         self.used = size;
         Ok(())
     }
 
     /// Gives `.flags` a value or takes it away.
-    fn set_flags(&mut self, near: Near, value: Option<&[u8]>, size: u32) -> Result<(), Memory>
+    fn set_flags(&mut self, hint: Hint, value: Option<&[u8]>, size: u32) -> Result<(), Memory>
         requires value_form { IfSome (option_copied value) (λ v. IsTrue (is_value v)) }
         requires sized { size ≡ used (with_value self.old.env flags_name (option_copied value)) }
         requires fits { size ≤ self.old.room }
@@ -193,7 +193,7 @@ impl Vars {
         ensures err { OnErr result (self.new ≡ self.old) }
     {
         let flags = Flags::parse(self.alloc, text_of(value))?;
-        change(&mut self.variables, near, FLAGS_NAME, value)?;
+        change(&mut self.variables, hint, FLAGS_NAME, value)?;
         self.flags = flags;
         self.used = size;
         Ok(())
@@ -202,7 +202,7 @@ impl Vars {
     /// Gives a name a value or takes its variable away, which leaves this size.
     pub(super) fn set(
         &mut self,
-        near: Near,
+        hint: Hint,
         name: &[u8],
         value: Option<&[u8]>,
         size: u32,
@@ -216,9 +216,9 @@ impl Vars {
         ensures err { OnErr result (self.new ≡ self.old) }
     {
         if name == FLAGS_NAME {
-            self.set_flags(near, value, size)
+            self.set_flags(hint, value, size)
         } else {
-            self.set_other(near, name, value, size)
+            self.set_other(hint, name, value, size)
         }
     }
 
@@ -243,14 +243,14 @@ impl Vars {
         ensures written { OnOk result
             (self.new ≡ record self.old { env = after self.old.env name.now (option_copied new.entry) }) }
         ensures was { IfOk result (λ was. IsWas was name.now (env.get self.old.env name.now)) }
-        ensures formed { IfOk result IsFormed }
+        ensures formed { IfOk result IsFormedWas }
         ensures unchanged { OnErr result (self.new ≡ self.old) }
     {
         prove!(self.used <= self.room);
-        let (old, near) = self.find(name);
+        let (old, hint) = self.find(name);
         let size = self.size_left(name, new, force, defaults, old)?;
         let was = make_was(self.alloc, name, old)?;
-        self.set(near, name, given(new), size)?;
+        self.set(hint, name, given(new), size)?;
         Ok(was)
     }
 }

@@ -57,7 +57,8 @@ impl<'s> Parser<'s> {
         builder: &mut Builder,
         room: u32,
     ) -> Result<(NodeId, NodeId), SyntaxFault>
-        ensures { (form : Chains → Chains → Command) → Parses (LoopAt form) self.entry.text.now (loop_parts (command room) form) builder.old builder.new tokens.old tokens.new result }
+        ensures { (form : Chains → Chains → Command) → Parses (LoopAt form) self.entry.text.now
+            (loop_parts (command room) form) builder.old builder.new tokens.old tokens.new result }
     {
         let condition = self.list(tokens, builder, room)?;
         tokens.expect(self.text, Keyword::Do.text())?;

@@ -60,7 +60,8 @@ impl<'s> Parser<'s> {
         builder: &mut Builder,
         assignment: Assignment,
     ) -> Result<NodeId, SyntaxFault>
-        ensures { Parses CommandAt self.entry.text.now (assignment_before (assigned_of self.entry.text.now assignment)) builder.old builder.new tokens.old tokens.new result }
+        ensures { Parses CommandAt self.entry.text.now (assignment_before (assigned_of self.entry.text.now assignment))
+            builder.old builder.new tokens.old tokens.new result }
     {
         no_word(tokens)?;
         let Assignment { name, value } = assignment;

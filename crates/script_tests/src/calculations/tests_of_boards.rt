@@ -31,45 +31,47 @@ fn words_are_compared(rt: HostRuntime) -> Result<(), Fail> {
     Ok(())
 }
 
+/// The words of a `test` of two numbers, and whether it is true.
+const COMPARED: [(&[u8], bool); 34] = [
+    (b"123 -eq 123", true),
+    (b"123 -eq 456", false),
+    (b"123 -ne 456", true),
+    (b"123 -ne 123", false),
+    (b"123 -lt 456", true),
+    (b"123 -lt 123", false),
+    (b"456 -lt 123", false),
+    (b"123 -le 456", true),
+    (b"123 -le 123", true),
+    (b"456 -le 123", false),
+    (b"456 -gt 123", true),
+    (b"123 -gt 123", false),
+    (b"123 -gt 456", false),
+    (b"456 -ge 123", true),
+    (b"123 -ge 123", true),
+    (b"123 -ge 456", false),
+    (b"010 -eq 010", true),
+    (b"010 -eq 011", false),
+    (b"010 -ne 011", true),
+    (b"010 -ne 010", false),
+    (b"0x2000000 -gt 0x2000001", false),
+    (b"0x2000000 -gt 0x2000000", false),
+    (b"0x2000000 -gt 0x1ffffff", true),
+    (b"010 -eq 10", false),
+    (b"010 -ne 10", true),
+    (b"0xa -eq 10", true),
+    (b"0xa -eq 012", true),
+    (b"2000000 -gt 0x1ffffff", false),
+    (b"0x2000000 -gt 1ffffff", true),
+    (b"0x2000000 -lt 1ffffff", false),
+    (b"0x2000000 -eq 2000000", false),
+    (b"0x2000000 -ne 2000000", true),
+    (b"-2 -lt -1", true),
+    (b"-1 -ge 0", false),
+];
+
 #[test]
 fn numbers_are_compared(rt: HostRuntime) -> Result<(), Fail> {
-    let table: [(&[u8], bool); 34] = [
-        (b"123 -eq 123", true),
-        (b"123 -eq 456", false),
-        (b"123 -ne 456", true),
-        (b"123 -ne 123", false),
-        (b"123 -lt 456", true),
-        (b"123 -lt 123", false),
-        (b"456 -lt 123", false),
-        (b"123 -le 456", true),
-        (b"123 -le 123", true),
-        (b"456 -le 123", false),
-        (b"456 -gt 123", true),
-        (b"123 -gt 123", false),
-        (b"123 -gt 456", false),
-        (b"456 -ge 123", true),
-        (b"123 -ge 123", true),
-        (b"123 -ge 456", false),
-        (b"010 -eq 010", true),
-        (b"010 -eq 011", false),
-        (b"010 -ne 011", true),
-        (b"010 -ne 010", false),
-        (b"0x2000000 -gt 0x2000001", false),
-        (b"0x2000000 -gt 0x2000000", false),
-        (b"0x2000000 -gt 0x1ffffff", true),
-        (b"010 -eq 10", false),
-        (b"010 -ne 10", true),
-        (b"0xa -eq 10", true),
-        (b"0xa -eq 012", true),
-        (b"2000000 -gt 0x1ffffff", false),
-        (b"0x2000000 -gt 1ffffff", true),
-        (b"0x2000000 -lt 1ffffff", false),
-        (b"0x2000000 -eq 2000000", false),
-        (b"0x2000000 -ne 2000000", true),
-        (b"-2 -lt -1", true),
-        (b"-1 -ge 0", false),
-    ];
-    for (text, expected) in table {
+    for (text, expected) in COMPARED {
         let words = Words::read(rt.alloc(), text)?;
         assert_eq!(rt; test(words.fields()), expected, "of {text:?}");
     }

@@ -1,6 +1,7 @@
 //! Readers and writers that fail, after each count of bytes.
 
-use crate::tests::{LARGE, Narrow, Slow, Wanted, comes_to, start};
+use crate::tests::{LARGE, Wanted, comes_to, start};
+use failing_streams::{Narrow, Slow};
 use fw_session::SessionEnding;
 use std::alloc::{AllocError, Global};
 use std::process::Abort;

@@ -1,6 +1,7 @@
 //! Inputs that are long, or never end.
 
-use crate::tests::{LARGE, Narrow, Wanted, comes_to, start};
+use crate::tests::{LARGE, Wanted, comes_to, start};
+use failing_streams::Narrow;
 use fw_session::SessionEnding;
 use std::alloc::Global;
 use std::io::{self, Read};

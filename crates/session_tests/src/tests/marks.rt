@@ -1,6 +1,7 @@
 //! Marks and their names.
 
-use crate::tests::{LARGE, Narrow, SMALL, USUAL, Wanted, come, comes_to, marked, says, start};
+use crate::tests::{LARGE, SMALL, USUAL, Wanted, come, comes_to, marked, says, start};
+use failing_streams::Narrow;
 use fw_session::SessionEnding;
 use std::test::Fail;
 

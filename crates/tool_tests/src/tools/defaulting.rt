@@ -1,8 +1,8 @@
 //! Default environments, or the entry that is refused.
 
-use envcfg_core::parse_import;
-use envvars_core::Refusal;
-use fw_tools::defaults;
+use envcfg_core::{ImportText, parse_import};
+use envvars_core::{Refusal, Vars};
+use fw_tools::{default_text, defaults};
 use std::test::Fail;
 
 #[test]
@@ -20,17 +20,25 @@ fn default_environments(rt: HostRuntime) -> Result<(), Fail> {
     ];
     for (text, room, expected) in texts {
         let entries = parse_import(rt.alloc(), text)?;
-        let got = match defaults(rt.alloc(), room, &entries) {
-            Ok(vars) => {
-                let mut count = 0usize;
-                for _pair in vars.iter() {
-                    count = count.wrapping_add(1);
-                }
-                Ok((count, vars.used()))
-            }
-            Err(refused) => Err(refused),
-        };
+        let got = counted(defaults(rt.alloc(), room, &entries));
+        assert!(rt; got == expected);
+        let unread = ImportText::new(text)?;
+        let got = counted(default_text(rt.alloc(), room, unread));
         assert!(rt; got == expected);
     }
     Ok(())
+}
+
+/// How many variables there are, and how many bytes they take.
+fn counted(made: Result<Vars, (usize, Refusal)>) -> Result<(usize, u32), (usize, Refusal)> {
+    match made {
+        Ok(vars) => {
+            let mut count = 0usize;
+            for _pair in vars.iter() {
+                count = count.wrapping_add(1);
+            }
+            Ok((count, vars.used()))
+        }
+        Err(refused) => Err(refused),
+    }
 }

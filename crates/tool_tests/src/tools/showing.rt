@@ -1,7 +1,8 @@
 //! What `show` reads, prints and answers.
 
-use super::{Failing, Narrow, ONE_VARIABLE, ONE_VARIABLE_BIG_ENDIAN};
+use super::{ONE_VARIABLE, ONE_VARIABLE_BIG_ENDIAN};
 use envimg_core::Order;
+use failing_streams::{Narrow, Slow};
 use fw_tools::{StreamFault, ToolEnd, show};
 use std::test::Fail;
 
@@ -126,11 +127,7 @@ fn one_byte_more_than_the_greatest_image(rt: HostRuntime) -> Result<(), Fail> {
 fn a_reader_that_fails_after_each_count_of_bytes(rt: HostRuntime) -> Result<(), Fail> {
     for count in 0..10usize {
         for step in [1usize, 4, 100] {
-            let mut input = Failing {
-                rest: ONE_VARIABLE.get(..count).ok_or("shorter")?,
-                step,
-                calls: 0,
-            };
+            let mut input = Slow::new(ONE_VARIABLE.get(..count).ok_or("shorter")?, step, true);
             let mut output = Vec::new(rt.alloc());
             let mut errors = Vec::new(rt.alloc());
             let end = show(
@@ -168,7 +165,7 @@ fn a_writer_that_takes_a_part_and_fails(rt: HostRuntime) -> Result<(), Fail> {
     for room in 0..5usize {
         for (step, fails) in [(1usize, true), (1, false), (100, true), (100, false)] {
             let mut input = ONE_VARIABLE.as_slice();
-            let mut output = Narrow::new(Vec::new(rt.alloc()), step, room, fails);
+            let mut output = Narrow::of_room(rt.alloc(), step, room, fails);
             let mut errors = Vec::new(rt.alloc());
             let end = show(
                 rt.alloc(),
@@ -200,7 +197,7 @@ fn a_writer_that_takes_a_part_and_fails(rt: HostRuntime) -> Result<(), Fail> {
 fn a_complaint_that_can_not_be_written(rt: HostRuntime) {
     let mut input: &[u8] = b"";
     let mut output = Vec::new(rt.alloc());
-    let mut errors = Narrow::new(Vec::new(rt.alloc()), 7, 20, false);
+    let mut errors = Narrow::of_room(rt.alloc(), 7, 20, false);
     let end = show(
         rt.alloc(),
         Order::Little,
@@ -234,7 +231,7 @@ fn a_large_text_goes_out_in_few_writes(rt: HostRuntime) -> Result<(), Fail> {
     image.extend_from_slice(&envimg_core::crc32(&area).to_le_bytes())?;
     image.extend_from_slice(&area)?;
     let mut input = image.as_slice();
-    let mut output = Narrow::new(Vec::new(rt.alloc()), 16_384, usize::MAX, true);
+    let mut output = Narrow::new(rt.alloc(), 16_384);
     let mut errors = Vec::new(rt.alloc());
     let end = show(
         rt.alloc(),

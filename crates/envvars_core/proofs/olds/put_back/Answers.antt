@@ -1,6 +1,6 @@
 use Rattle.std.proofs.Common.{fold, sym, ap, ◌∙◌}
 use Rattle.envimg_core.specs.Pieces.{after_entry}
-use Rattle.envvars_store.specs.Variable.{IsVariable}
+use Rattle.envimg_core.specs.Environment.{IsVariable}
 use Rattle.envvars_store.proofs.FindLemmas.{All_rest}
 use Rattle.envvars_core.specs.Kept.{kept_entries}
 use Rattle.envvars_core.proofs.olds.put_back.Goals as goal

@@ -1,5 +1,5 @@
 use Rattle.std.proofs.Common.{◌≡◌, take}
 use Rattle.envvars_store.proofs.copying.copied_run.Given as goal
 
-abbrev pub invariant-slots : goal.invariant-slots
-invariant-slots l = l.copy.items ≡ take l.slot-index l.run
+abbrev pub invariant-variables : goal.invariant-variables
+invariant-variables l = l.copy.items ≡ take l.variable-index l.run

@@ -1,7 +1,7 @@
 use Rattle.std.proofs.Common.{◌≡◌, ◌≤◌, ◌-◌, length, fold, drop}
 use Rattle.std.specs.FinMap as env
 use Rattle.envimg_core.specs.Pieces.{entries_of, vars_of, after_entry}
-use Rattle.envvars_store.specs.Runs.{listed, IsLaid}
+use Rattle.envvars_store.specs.Runs.{listed, AreInOrder}
 use Rattle.envvars_store.proofs.loading.loaded.Given as goal
 
 -- the entries that are left make of these variables those of the area
@@ -9,7 +9,7 @@ abbrev pub invariant-walk : goal.invariant-walk
 invariant-walk l =
     record {
       within : l.at ≤ length l.area;
-      laid : IsLaid l.area l.runs.items;
+      in_order : AreInOrder l.area l.runs.items;
       left : fold after_entry (env.from_sorted (listed l.area l.runs.items)) (entries_of (drop l.at l.area)) ≡ vars_of (entries_of l.area);
     }
 

@@ -1,15 +1,15 @@
 use Rattle.std.proofs.Common.{arith}
-use Rattle.envvars_store.proofs.RunLemmas.{slots_long, slot_inserted, slot_kept}
+use Rattle.envvars_store.proofs.RunLemmas.{variables_long, variable_inserted, variable_kept}
 use Rattle.envvars_store.proofs.MapLemmas.{on_err}
 use Rattle.envvars_store.proofs.runs.insert_in.Goals as goal
 
 pub insert-requires : goal.insert-requires
-insert-requires c = omega (arith, slots_long c.args.runs.now.items c.args.at.run c.index_mut.result.now c.requires.run c.index_mut.ensures.value)
+insert-requires c = omega (arith, variables_long c.args.runs.now.items c.args.at.run c.index_mut.result.now c.requires.run c.index_mut.ensures.value)
 
 pub returns-in_err-insert-clause-err : goal.returns-in_err-insert-clause-err
 returns-in_err-insert-clause-err c =
-    on_err _ _ (slot_kept c.args.runs.now.items c.args.at.run c.index_mut.result.now c.insert.new.self c.requires.run c.index_mut.ensures.value c.in_err-insert.ensures.items)
+    on_err _ _ (variable_kept c.args.runs.now.items c.args.at.run c.index_mut.result.now c.insert.new.self c.requires.run c.index_mut.ensures.value c.in_err-insert.ensures.items)
 
 pub returns-clause-ok : goal.returns-clause-ok
 returns-clause-ok c =
-    slot_inserted c.args.runs.now.items c.args.at c.index_mut.result.now c.insert.new.self c.args.slot c.requires.run c.index_mut.ensures.value c.in_ok-insert.ensures.items
+    variable_inserted c.args.runs.now.items c.args.at c.index_mut.result.now c.insert.new.self c.args.variable c.requires.run c.index_mut.ensures.value c.in_ok-insert.ensures.items

@@ -2,7 +2,7 @@ use Rattle.std.proofs.Common.{rules as allowed, ◌≡◌, ◌+◌, ◌∷◌, L
 use Rattle.std.specs.FinMap as locals
 use Rattle.envimg_core.specs.Environment.{Environment}
 use Rattle.hush_syntax.specs.Trees.{name_in}
-use Rattle.hush_run.specs.Meaning.{Rules, Goes, ◌then◌, bindings, is_variable}
+use Rattle.hush_run.specs.Meaning.{Rules, Goes, ◌then◌, bindings, has_variable}
 use Rattle.hush_run.specs.Steps.{Did, state_of, rules_of}
 use Rattle.hush_run.proofs.StepLemmas.{no_step, bind_halts, bind_refused, bind_stopped, bind_done}
 use Rattle.hush_run.proofs.steps.bind_step.Goals as goal
@@ -21,7 +21,7 @@ returns-in_err-refuse_name c =
     let r = rules_of c.args.given.now in
     let name = name_in c.args.text.now c.args.name in
     let s = state_of c.args.session.now c.args.progress.now in
-    let taken : is_variable s c.read_name.new.name.items ≡ true = search allowed in
+    let taken : has_variable s c.read_name.new.name.items ≡ true = search allowed in
     let same : c.from_residual-in_err-refuse_name.result ≡ Err c.in_err-refuse_name.field-0.0 = search allowed in
     rw same (λ rest body. subst (λ (m : List ℕ). Did r (λ (q : Rules) begin. bindings q m (body q begin) (c.args.field.now ∷ rest)) (λ bound q begin. if bound then (body q begin then bindings q m (body q begin) rest) else Goes) s (state_of c.args.session.now c.refuse_name.new.self) (Err c.in_err-refuse_name.field-0.0)) c.in_ok-read_name.ensures
     (bind_stopped r c.read_name.new.name.items c.args.field.now rest body s (state_of c.args.session.now c.refuse_name.new.self) c.in_err-refuse_name.field-0.0 taken (c.in_err-refuse_name.ensures r c.args.session.now c.in_ok-may_step.ensures.may)))
@@ -31,7 +31,7 @@ returns-then-is_some c =
     let r = rules_of c.args.given.now in
     let name = name_in c.args.text.now c.args.name in
     let s = state_of c.args.session.now c.args.progress.now in
-    let taken : is_variable s c.read_name.new.name.items ≡ true = search allowed in
+    let taken : has_variable s c.read_name.new.name.items ≡ true = search allowed in
     λ rest body. subst (λ (m : List ℕ). Did r (λ (q : Rules) begin. bindings q m (body q begin) (c.args.field.now ∷ rest)) (λ bound q begin. if bound then (body q begin then bindings q m (body q begin) rest) else Goes) s (state_of c.args.session.now c.refuse_name.new.self) (Ok false)) c.in_ok-read_name.ensures
     (bind_refused r c.read_name.new.name.items c.args.field.now rest body s (state_of c.args.session.now c.refuse_name.new.self) taken (c.in_ok-refuse_name.ensures r c.args.session.now c.in_ok-may_step.ensures.may))
 
@@ -39,7 +39,7 @@ pub returns : goal.returns
 returns c =
     let r = rules_of c.args.given.now in
     let s = state_of c.args.session.now c.args.progress.now in
-    let free : is_variable s c.read_name.new.name.items ≡ false = search allowed in
+    let free : has_variable s c.read_name.new.name.items ≡ false = search allowed in
     let put : c.set.new.self ≡ locals.insert s.locals c.read_name.new.name.items c.args.field.now = search allowed in
     λ rest body. subst (λ (m : List ℕ). Did r (λ (q : Rules) begin. bindings q m (body q begin) (c.args.field.now ∷ rest)) (λ bound q begin. if bound then (body q begin then bindings q m (body q begin) rest) else Goes) s (record s { locals = c.set.new.self; steps = c.args.progress.now.steps + 1 }) (Ok true)) c.in_ok-read_name.ensures
     (subst (λ (l : Environment). Did r (λ (q : Rules) begin. bindings q c.read_name.new.name.items (body q begin) (c.args.field.now ∷ rest)) (λ bound q begin. if bound then (body q begin then bindings q c.read_name.new.name.items (body q begin) rest) else Goes) s (record s { locals = l; steps = c.args.progress.now.steps + 1 }) (Ok true)) (sym put)

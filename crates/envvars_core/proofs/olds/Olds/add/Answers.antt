@@ -1,7 +1,7 @@
 use Rattle.std.proofs.Common.{ap, option_copied, ◌∙◌}
 use Rattle.std.specs.FinMap as env
 use Rattle.envimg_core.specs.Environment.{Pair}
-use Rattle.envvars_store.specs.Variable.{marked}
+use Rattle.envvars_store.specs.Pairs.{marked}
 use Rattle.envvars_core.specs.Kept.{kept_in}
 use Rattle.envvars_core.proofs.OldLemmas.{kept-contains, kept-insert, inserted_there}
 use Rattle.envvars_core.proofs.olds.Olds.add.Goals as goal

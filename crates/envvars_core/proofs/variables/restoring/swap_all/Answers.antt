@@ -2,7 +2,7 @@ use Rattle.std.proofs.Common.{◌≡◌, ◌%◌, ◌^◌, ◌<◌, subst, sym, 
 use Rattle.std.specs.FinMap as env
 use Rattle.envimg_core.specs.Environment.{Environment, used}
 use Rattle.envimg_core.specs.Pieces.{with_value}
-use Rattle.envvars_store.specs.Variable.{unmarked}
+use Rattle.envvars_store.specs.Pairs.{unmarked}
 use Rattle.envvars_core.specs.Olds.{OldValues, restored, HavePlaces}
 use Rattle.envvars_core.proofs.RestoreLemmas.{restored-empty, restored-taken, place-taken, places-taken, taken-fewer}
 use Rattle.envvars_core.proofs.variables.restoring.swap_all.Goals as goal

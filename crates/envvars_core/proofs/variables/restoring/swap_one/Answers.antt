@@ -1,6 +1,6 @@
 use Rattle.std.proofs.Common.{◌%◌, ◌^◌, ap, ◌∙◌, arith}
 use Rattle.std.specs.FinMap as env
-use Rattle.envvars_store.specs.Variable.{unmarked}
+use Rattle.envvars_store.specs.Pairs.{unmarked}
 use Rattle.envvars_core.specs.Variables.{size_of}
 use Rattle.envvars_core.proofs.RestoreLemmas.{size_swapped}
 use Rattle.envvars_core.proofs.variables.restoring.swap_one.Goals as goal

@@ -1,0 +1,84 @@
+//! A set script whose entries are read one by one.
+ghost use Rattle.std.specs.Prelude.{◌≡◌, [], ◌∷◌, IfOk, IfErr, OnErr, MatchOption, Ok, Err};
+ghost use Rattle.envcfg_core.specs.Entries.{entry_view, with_first, IsFaultOf};
+ghost use Rattle.envcfg_core.specs.SetScript.{set_script_of, entries_of_lines};
+ghost use Rattle.envcfg_core.specs.declared.entry.TextFault.TheVariants.{Memory};
+
+use crate::cuts::contains_byte;
+use crate::entry::{TextEntry, TextFault};
+use crate::lines::{Lines, numbered_lines};
+use crate::set_script::{check_line, read_line, strip_carriage_return};
+use std::alloc::Global;
+use std::marker::Model;
+
+/// A set script that has no fault (docs/texts.md, "Set scripts"). Its entries are read one by one, so that a script of many
+/// lines takes no memory for all of them.
+#[derive(Drop)]
+pub struct ScriptText<'a> {
+    lines: Lines<'a>,
+}
+
+impl<'a> Model for ScriptText<'a> {
+    ghost use Rattle.std.specs.Prelude.{◌≡◌, List, Ok};
+    ghost use Rattle.envcfg_core.specs.Entries.{Entry};
+    ghost use Rattle.envcfg_core.specs.ImportText.{entries_in};
+    ghost use Rattle.envcfg_core.specs.SetScript.{entries_of_lines};
+
+    ghost Value = { List Entry };
+
+    ghost view = { λ t. entries_in (entries_of_lines t.lines) };
+
+    ghost invariant = { λ t. entries_of_lines t.lines ≡ Ok (entries_in (entries_of_lines t.lines)) };
+}
+
+impl<'a> ScriptText<'a> {
+    /// The entries of a script. It takes no memory.
+    ///
+    /// `Nul` where a 0 byte stands anywhere, else `EmptyName` with the first line that has no key.
+    pub fn new(text: &'a [u8]) -> Result<ScriptText<'a>, TextFault>
+        ensures read { IfOk result (λ entries. set_script_of text.entry.now ≡ Ok entries) }
+        ensures refused { IfErr result (λ fault. set_script_of text.entry.now ≡ Err fault) }
+    {
+        if contains_byte(0, text) {
+            return Err(TextFault::Nul);
+        }
+        for (number, line) in numbered_lines(text) {
+            check_line(number, strip_carriage_return(line))?;
+        }
+        Ok(ScriptText {
+            lines: numbered_lines(text),
+        })
+    }
+
+    /// The next entry, if one is left. Refused for memory, it can be asked for again.
+    pub fn read_next(&mut self, alloc: Global) -> Result<Option<TextEntry>, TextFault>
+        ensures read { IfOk result (λ found. MatchOption found ((self.old ≡ []) × (self.new ≡ []))
+            (λ entry. self.old ≡ entry_view entry ∷ self.new)) }
+        ensures refused { IfErr result (λ fault. fault ≡ Memory) }
+        ensures unchanged { OnErr result (self.new ≡ self.old) }
+    {
+        let (found, rest) = next_entry(alloc, self.lines.again())?;
+        self.lines = rest;
+        Ok(found)
+    }
+}
+
+/// The first entry that some lines hold, if one does, and the lines behind it.
+fn next_entry<'a>(
+    alloc: Global,
+    lines: Lines<'a>,
+) -> Result<(Option<TextEntry>, Lines<'a>), TextFault>
+    ensures read { IfOk result (λ found. MatchOption found.0
+        ((entries_of_lines lines.entry ≡ Ok []) × (entries_of_lines found.1 ≡ Ok []))
+        (λ entry. entries_of_lines lines.entry ≡ with_first (entry_view entry) (entries_of_lines found.1))) }
+    ensures refused { IfErr result (IsFaultOf (entries_of_lines lines.entry)) }
+{
+    let mut rest = lines;
+    while let Some((number, line)) = rest.next() {
+        let found = read_line(alloc, number, strip_carriage_return(line))?;
+        if found.is_some() {
+            return Ok((found, rest));
+        }
+    }
+    Ok((None, rest))
+}

@@ -1,0 +1,48 @@
+// Writes among variables in the order of their names.
+ghost use Rattle.std.specs.Prelude.{◌≡◌, OnOk, OnErr};
+ghost use Rattle.std.specs.FinMap.Entries.{put, where_key};
+ghost use Rattle.envimg_core.specs.Environment.{bytes_cmp};
+ghost use Rattle.envvars_store.specs.Laying.{pair_of, LiesIn};
+ghost use Rattle.envvars_store.specs.Order.{is_other};
+ghost use Rattle.envvars_store.specs.Runs.{listed, HoldsVariable, AreInOrder};
+
+use crate::finding::locate_near;
+use crate::runs::{Position, Run, insert_at, remove_at, replace_at};
+use crate::variable::Variable;
+use std::alloc::{AllocError, Global};
+
+/// Puts a variable where its name belongs, over the one that has the name. It is looked for from a position.
+pub(crate) fn set(
+    alloc: Global,
+    area: &[u8],
+    runs: &mut Vec<Run>,
+    variable: Variable,
+    hint: Position,
+) -> Result<(), AllocError>
+    requires in_order { AreInOrder area.now runs.old.items }
+    requires lies { LiesIn area.now variable }
+    requires formed { HoldsVariable area.now variable }
+    ensures in_order { AreInOrder area.now runs.new.items }
+    ensures ok { OnOk result (listed area.now runs.new.items
+        ≡ put bytes_cmp (pair_of area.now variable).0 (pair_of area.now variable).1 (listed area.now runs.old.items)) }
+    ensures err { OnErr result (listed area.now runs.new.items ≡ listed area.now runs.old.items) }
+{
+    match locate_near(area, runs, variable.name(area), hint) {
+        Ok(at) => replace_at(runs, at, variable),
+        Err(at) => insert_at(alloc, runs, at, variable)?,
+    }
+    Ok(())
+}
+
+/// Takes the variable of a name away, if there is one. It is looked for from a position.
+pub(crate) fn forget(area: &[u8], runs: &mut Vec<Run>, name: &[u8], hint: Position)
+    requires { AreInOrder area.now runs.old.items }
+    ensures in_order { AreInOrder area.now runs.new.items }
+    ensures gone { listed area.now runs.new.items
+        ≡ where_key bytes_cmp (is_other name.now) (listed area.now runs.old.items) }
+{
+    match locate_near(area, runs, name, hint) {
+        Ok(at) => remove_at(runs, at),
+        Err(_) => {}
+    }
+}

@@ -1,0 +1,182 @@
+// The variables in the order of their names.
+ghost use Rattle.std.specs.Prelude.{◌≡◌, ◌↔◌, map, All, IsTrue, IsOk, IsSome, OnOk, OnErr, IfErr, IfSome, option_map};
+ghost use Rattle.std.specs.FinMap as env;
+ghost use Rattle.envimg_core.specs.Environment.{bytes_cmp, is_name, is_value, IsVariable, joined};
+ghost use Rattle.envvars_store.specs.Runs.{listed, AreInOrder};
+
+use crate::changing::{forget, set};
+use crate::finding::locate;
+use crate::iterating::{Iter, Lines};
+use crate::naming::NO_NUMBER;
+use crate::owned_text::Text;
+use crate::runs::{Position, Run, replace_at};
+use crate::variable::Variable;
+use std::alloc::{AllocError, Global};
+use std::marker::Model;
+
+/// The variables of an environment: a finite map from names to values.
+///
+/// One copy of the loaded area, which never changes, and the variables in the order of their names:
+/// each is a span of the area, or, once it was written, a text of its own.
+#[derive(Drop)]
+pub struct Variables {
+    pub(crate) area: Vec<u8>,
+    pub(crate) runs: Vec<Run>,
+}
+
+impl Model for Variables {
+    ghost use Rattle.std.specs.FinMap as env;
+    ghost use Rattle.std.specs.Coded.{coded_list, coded_ℕ};
+    ghost use Rattle.envimg_core.specs.Environment.{Environment};
+    ghost use Rattle.envvars_store.specs.Runs.{listed, AreInOrder};
+
+    ghost Value = { Environment };
+
+    ghost coded = { env.code (coded_list coded_ℕ) (coded_list coded_ℕ) };
+
+    ghost view = { λ v. env.from_sorted (listed v.area.items v.runs.items) };
+
+    ghost invariant = { λ v. AreInOrder v.area.items v.runs.items };
+}
+
+/// Where a look-up ended: a hint. A write of the same name that is given it needs no search of its own;
+/// given any other it does the same, more slowly.
+#[derive(Clone, Copy)]
+pub struct Hint {
+    pub(crate) position: Position,
+    // The number that the name has, or gets, among texts.
+    pub(crate) number: u32,
+}
+
+impl Hint {
+    /// The same position, with the number that a look-up of the name found among texts. A write keeps it with the variable.
+    pub fn numbered_as(self, other: Hint) -> Hint {
+        Hint {
+            position: self.position,
+            number: other.number,
+        }
+    }
+}
+
+/// The value of a name among variables, if it has one, and where it was found or would stand.
+#[inline(always)]
+pub(crate) fn find_among<'a>(
+    area: &'a [u8],
+    runs: &'a [Run],
+    name: &[u8],
+) -> (Option<&'a [u8]>, Hint)
+    requires { AreInOrder area.now runs.now }
+    ensures value { option_map (λ v. v.now) result.0 ≡ env.get (env.from_sorted {R = bytes_cmp} (listed area.now runs.now)) name.now }
+    ensures formed { IfSome result.0 (λ v. IsVariable (name.now, v.now)) }
+{
+    match locate(area, runs, name) {
+        Ok(at) => {
+            let variable = &runs[at.run][at.index];
+            let number = variable.number();
+            (
+                Some(variable.value(area)),
+                Hint {
+                    position: at,
+                    number,
+                },
+            )
+        }
+        Err(position) => (
+            None,
+            Hint {
+                position,
+                number: NO_NUMBER,
+            },
+        ),
+    }
+}
+
+impl Variables {
+    /// No variables. It takes no memory.
+    pub fn new(alloc: Global) -> Variables
+        ensures { result ≡ env.empty }
+    {
+        Variables {
+            area: Vec::new(alloc),
+            runs: Vec::new(alloc),
+        }
+    }
+
+    /// The value of a name, if it has one.
+    pub fn get(&self, name: &[u8]) -> Option<&[u8]>
+        ensures value { option_map (λ v. v.now) result ≡ env.get self.now name.now }
+        ensures formed { IfSome result (λ v. IsVariable (name.now, v.now)) }
+    {
+        let (value, _) = self.find(name);
+        value
+    }
+
+    /// The value of a name, if it has one, and where it was found or would stand.
+    pub fn find(&self, name: &[u8]) -> (Option<&[u8]>, Hint)
+        ensures value { option_map (λ v. v.now) result.0 ≡ env.get self.now name.now }
+        ensures formed { IfSome result.0 (λ v. IsVariable (name.now, v.now)) }
+    {
+        find_among(&self.area, &self.runs, name)
+    }
+
+    /// Gives a name a value. The name is a name and the value a value (docs/images.md).
+    /// It is refused only for memory, and then nothing has changed.
+    /// `hint` is where a look-up of the name ended.
+    pub fn insert(&mut self, hint: Hint, name: &[u8], value: &[u8]) -> Result<(), AllocError>
+        requires name_form { IsTrue (is_name name.now) }
+        requires value_form { IsTrue (is_value value.now) }
+        ensures ok { OnOk result (self.new ≡ env.insert self.old name.now value.now) }
+        ensures err { OnErr result (self.new ≡ self.old) }
+    {
+        let alloc = *self.area.allocator();
+        let text = Text::new(alloc, name, value)?.numbered(hint.number);
+        set(
+            alloc,
+            &self.area,
+            &mut self.runs,
+            Variable::Written(text),
+            hint.position,
+        )
+    }
+
+    /// Takes the variable of a name away, if there is one. It takes no memory.
+    /// `hint` is where a look-up of the name ended.
+    pub fn remove(&mut self, hint: Hint, name: &[u8])
+        ensures { self.new ≡ env.remove self.old name.now }
+    {
+        forget(&self.area, &mut self.runs, name, hint.position);
+    }
+
+    /// Puts a variable in the place of the one that has its name, which takes no memory.
+    /// Where none has it, the text comes back and nothing has changed.
+    pub fn replace(&mut self, text: Text) -> Result<(), Text>
+        ensures present { IsOk result ↔ IsSome (env.get self.old text.0) }
+        ensures ok { OnOk result (self.new ≡ env.insert self.old text.0 text.1) }
+        ensures err { OnErr result (self.new ≡ self.old) }
+        ensures back { IfErr result (λ t. t ≡ text) }
+    {
+        match locate(&self.area, &self.runs, text.name()) {
+            Ok(at) => {
+                replace_at(&mut self.runs, at, Variable::Written(text));
+                Ok(())
+            }
+            Err(_) => Err(text),
+        }
+    }
+
+    /// The names with their values, in ascending order of the names' bytes.
+    pub fn iter(&self) -> Iter<'_>
+        ensures entries { result ≡ env.entries self.now }
+        ensures formed { All IsVariable (env.entries self.now) }
+    {
+        Iter::new(&self.area, &self.runs)
+    }
+
+    /// Each variable as one text `name=value`, in ascending order of the names' bytes.
+    pub fn lines(&self) -> Lines<'_>
+        ensures entries { result ≡ map joined (env.entries self.now) }
+        ensures formed { All IsVariable (env.entries self.now) }
+    {
+        Lines::new(&self.area, &self.runs)
+    }
+}

@@ -1,0 +1,158 @@
+//! What is touched, and what comes back.
+
+use crate::steps::{Copies, Step, go, single};
+use env_session::{MarkFault, Side, UndoFault};
+use envimg_core::Choice;
+use envvars_core::{Access, Attr, Kind, Refusal};
+use std::test::Fail;
+
+#[test]
+fn a_name_is_touched_once(rt: HostRuntime) -> Result<(), Fail> {
+    let bytes = [255; 64];
+    let blank = Copies::single(Choice::Neither, &bytes);
+    let rows = [
+        (Step::Write("a", Some("1")), "a=1;", 1, 0, blank),
+        (Step::Write("a", Some("2")), "a=2;", 1, 0, blank),
+        (Step::Write("a", Some("2")), "a=2;", 1, 0, blank),
+        (Step::Write("a", None), "", 1, 0, blank),
+        (Step::Write("b", None), "", 1, 0, blank),
+        (Step::Write("b", Some("1")), "b=1;", 2, 0, blank),
+        (Step::Undo, "", 0, 0, blank),
+    ];
+    let mut session = single(&rt, rt.alloc(), &bytes, "")?;
+    go(&rt, rt.alloc(), &mut session, &rows)
+}
+
+/// With `a` as it was and `b` not yet, the variables would take 17 bytes of 13.
+#[test]
+fn the_room_is_passed_on_the_way_back(rt: HostRuntime) -> Result<(), Fail> {
+    let bytes = [255; 17];
+    let blank = Copies::single(Choice::Neither, &bytes);
+    let rows = [
+        (Step::Write("a", Some("1")), "a=1;b=1;", 1, 0, blank),
+        (Step::Write("b", Some("xxxxx")), "a=1;b=xxxxx;", 2, 0, blank),
+        (
+            Step::Refused("c", Some("1"), Refusal::Full),
+            "a=1;b=xxxxx;",
+            2,
+            0,
+            blank,
+        ),
+        (Step::Undo, "a=xxxxx;b=1;", 0, 0, blank),
+    ];
+    let mut session = single(&rt, rt.alloc(), &bytes, "a=xxxxx;b=1")?;
+    go(&rt, rt.alloc(), &mut session, &rows)?;
+    assert_eq!(rt; session.vars().used(), 13);
+    Ok(())
+}
+
+#[test]
+fn a_deleted_default_and_two_saves_come_back(rt: HostRuntime) -> Result<(), Fail> {
+    let bytes = [255; 16];
+    let blank = Copies::single(Choice::Neither, &bytes);
+    let empty = Copies::single(Choice::First, b"\x6F\xC6\xD5\x7B\0\0\0\0\0\0\0\0\0\0\0\0");
+    let saved = Copies::single(Choice::First, b"\xE6\x60\x44\x30b=2\0\0\0\0\0\0\0\0\0");
+    let rows = [
+        (Step::Write("a", None), "", 1, 0, blank),
+        (Step::Save(Side::First), "", 1, 0, empty),
+        (Step::Write("b", Some("2")), "b=2;", 2, 0, empty),
+        (Step::Save(Side::First), "b=2;", 2, 0, saved),
+        (Step::Undo, "a=1;", 0, 0, blank),
+    ];
+    let mut session = single(&rt, rt.alloc(), &bytes, "a=1")?;
+    go(&rt, rt.alloc(), &mut session, &rows)
+}
+
+#[test]
+fn flags_do_not_stand_in_the_way_of_an_undo(rt: HostRuntime) -> Result<(), Fail> {
+    let bytes = [255; 64];
+    let blank = Copies::single(Choice::Neither, &bytes);
+    let kept = ".flags=k:so;k=1;";
+    let rows = [
+        (
+            Step::Write(".flags", Some("k:so")),
+            ".flags=k:so;",
+            1,
+            0,
+            blank,
+        ),
+        (Step::Write("k", Some("1")), kept, 2, 0, blank),
+        (
+            Step::Refused("k", Some("2"), Refusal::NoOverwrite),
+            kept,
+            2,
+            0,
+            blank,
+        ),
+        (Step::Force("k", "3"), ".flags=k:so;k=3;", 2, 0, blank),
+        (
+            Step::Refused("k", None, Refusal::NoDelete),
+            ".flags=k:so;k=3;",
+            2,
+            0,
+            blank,
+        ),
+        (Step::Undo, "", 0, 0, blank),
+    ];
+    let mut session = single(&rt, rt.alloc(), &bytes, "")?;
+    go(&rt, rt.alloc(), &mut session, &rows)?;
+    let plain = Attr {
+        kind: Kind::String,
+        access: Access::Any,
+    };
+    assert_eq!(rt; session.vars().attributes(b"k"), plain);
+    Ok(())
+}
+
+#[test]
+fn sixty_four_marks_stand(rt: HostRuntime) -> Result<(), Fail> {
+    let bytes = [255; 64];
+    let blank = Copies::single(Choice::Neither, &bytes);
+    let mut session = single(&rt, rt.alloc(), &bytes, "")?;
+    for number in 1..=64u32 {
+        assert_eq!(rt; session.mark(), Ok(number));
+    }
+    let rows = [
+        (Step::Mark(Err(MarkFault::Full)), "", 0, 64, blank),
+        (Step::UndoTo(65, Err(UndoFault::Gone)), "", 0, 64, blank),
+        (Step::UndoTo(3, Ok(())), "", 0, 3, blank),
+        (Step::Mark(Ok(4)), "", 0, 4, blank),
+    ];
+    go(&rt, rt.alloc(), &mut session, &rows)
+}
+
+#[test]
+fn the_state_at_a_mark_comes_back(rt: HostRuntime) -> Result<(), Fail> {
+    let bytes = [255; 64];
+    let blank = Copies::single(Choice::Neither, &bytes);
+    let rows = [
+        (Step::Write("a", Some("1")), "a=1;", 1, 0, blank),
+        (Step::Mark(Ok(1)), "a=1;", 0, 1, blank),
+        (Step::Write("a", Some("2")), "a=2;", 1, 1, blank),
+        (Step::Write("b", Some("1")), "a=2;b=1;", 2, 1, blank),
+        (Step::UndoTo(1, Ok(())), "a=1;", 0, 1, blank),
+        (Step::UndoTo(0, Ok(())), "", 0, 0, blank),
+        (Step::UndoTo(1, Err(UndoFault::Gone)), "", 0, 0, blank),
+    ];
+    let mut session = single(&rt, rt.alloc(), &bytes, "")?;
+    go(&rt, rt.alloc(), &mut session, &rows)
+}
+
+#[test]
+fn a_copy_is_kept_in_each_span_that_writes_it(rt: HostRuntime) -> Result<(), Fail> {
+    let bytes = [255; 16];
+    let blank = Copies::single(Choice::Neither, &bytes);
+    let one = Copies::single(Choice::First, b"\x15\x09\xED\xACa=1\0\0\0\0\0\0\0\0\0");
+    let two = Copies::single(Choice::First, b"\x16\xB2\xDA\x47a=2\0\0\0\0\0\0\0\0\0");
+    let rows = [
+        (Step::Write("a", Some("1")), "a=1;", 1, 0, blank),
+        (Step::Save(Side::First), "a=1;", 1, 0, one),
+        (Step::Mark(Ok(1)), "a=1;", 0, 1, one),
+        (Step::Write("a", Some("2")), "a=2;", 1, 1, one),
+        (Step::Save(Side::First), "a=2;", 1, 1, two),
+        (Step::UndoTo(1, Ok(())), "a=1;", 0, 1, one),
+        (Step::UndoTo(0, Ok(())), "", 0, 0, blank),
+    ];
+    let mut session = single(&rt, rt.alloc(), &bytes, "")?;
+    go(&rt, rt.alloc(), &mut session, &rows)
+}
