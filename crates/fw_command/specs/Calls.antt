@@ -28,7 +28,8 @@ pub data Job : Type 0 where
   Tool : Task → Job
   Tries : DryRun → Job
 
--- a subcommand with its files: the configuration, and the default environment, if there is one
+-- a subcommand with its files, the configuration and the default environment, if there is one, its byte order, and what it
+-- does
 pub record Call : Type 0 where
   pub config : Text
   pub default : Option Text

@@ -24,6 +24,6 @@ SaysSome old new = (text : List ℕ) × Appends old new text
 abbrev pub SaysOnly : Writers → Writers → Type 0
 SaysOnly old new = (new.output ≡ old.output) × SaysSome old.errors new.errors
 
--- a file can't be used, or memory runs out: some text says so, status 1
+-- a file can't be used, or memory runs out: some text may say so, status 1
 abbrev pub Stops : Writers → Writers → ℕ → Type 0
 Stops old new status = SaysOnly old new × (status ≡ 1)

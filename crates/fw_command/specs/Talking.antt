@@ -6,8 +6,8 @@ use Rattle.env_session.specs.Session.{Held}
 use Rattle.hush_commands.specs.Stubs.{Statuses, stubs_of}
 use Rattle.hush_run.specs.Runs.{rules}
 use Rattle.fw_session.specs.Ends.{Ends}
-use Rattle.fw_session.specs.Replies.{Table}
-use Rattle.fw_session.specs.Tables.{unnamed}
+use Rattle.fw_session.specs.Replies.{NamedSession}
+use Rattle.fw_session.specs.NamedSessions.{unnamed}
 use Rattle.fw_session.specs.declared.ending.SessionEnding.{SessionEnding}
 use Rattle.fw_session.specs.declared.ending.SessionEnding.TheVariants as ending
 use Rattle.fw_command.specs.DryRuns.{DryRun}
@@ -46,7 +46,7 @@ Leaves false end old new status = Reports (text_for end) old new status
 -- standard input is answered over a session, with these stand-ins
 abbrev pub TriesWith : DryRun → Statuses → Held → Streams → Streams → ℕ → Type 0
 TriesWith run stubs session old new status =
-    (end : SessionEnding) × (read : ℕ) × (written : ℕ) × (after : Table)
+    (end : SessionEnding) × (read : ℕ) × (written : ℕ) × (after : NamedSession)
     × Ends end (rules stubs run.limits) (unnamed session) old.input new.input old.output new.output read written after
     × Leaves (is_kept run.write end) end old.errors new.errors status
 

@@ -5,7 +5,7 @@ ghost use Rattle.fw_command.specs.Copies.{share_a_byte, to_write};
 use crate::files::FileFault;
 use envcfg_core::Place;
 use fw_tools::streams::write_text;
-use std::fs::{self, OpenFile, OpenOptions};
+use std::fs::{self, FileType, OpenFile, OpenOptions};
 use std::io::{ErrorKind, Read, Seek, SeekFrom};
 use std::os::unix::fs::FileTypeExt;
 use std::rt::Files;
@@ -52,9 +52,20 @@ pub(crate) fn read_copy<X: Files + AllocGlobal>(
 
 /// Whether the path names a pipe, which has no place to seek to; to open one may take until somebody opens its other end.
 fn is_pipe<X: Files>(rt: &X, path: &str) -> bool {
+    matches!(kind_of(rt, path), Some(kind) if kind.is_fifo())
+}
+
+/// Whether the path names a character device, as raw flash is. That has to be erased before it is written, which nothing
+/// here does: bytes written over others would come out as both at once.
+fn is_raw<X: Files>(rt: &X, path: &str) -> bool {
+    matches!(kind_of(rt, path), Some(kind) if kind.is_char_device())
+}
+
+/// What kind of file a path names, if that can be told.
+fn kind_of<X: Files>(rt: &X, path: &str) -> Option<FileType> {
     match fs::metadata(rt, path) {
-        Ok(metadata) => metadata.file_type().is_fifo(),
-        Err(_) => false,
+        Ok(metadata) => Some(metadata.file_type()),
+        Err(_) => None,
     }
 }
 
@@ -67,7 +78,7 @@ fn short_or_unreadable(kind: ErrorKind) -> FileFault {
 }
 
 /// Writes a copy over its place, and flushes it to storage. The device keeps its length: one that is too short by now is
-/// not written.
+/// not written, and neither is a pipe or a character device.
 pub(crate) fn write_copy<X: Files>(
     rt: &X,
     place: &Place,
@@ -75,7 +86,7 @@ pub(crate) fn write_copy<X: Files>(
     bytes: &[u8],
 ) -> Result<(), FileFault> {
     let path = place.device.as_str();
-    if is_pipe(rt, path) {
+    if is_pipe(rt, path) || is_raw(rt, path) {
         return Err(FileFault::CannotWrite);
     }
     let Ok(mut device) = OpenOptions::new().write(true).open(rt, path) else {

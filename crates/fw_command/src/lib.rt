@@ -1,4 +1,8 @@
-//! The program: its words, the files that they name, and the tools and dry runs over them.
+//! The program: its words, the files that they name, and the tools and dry runs over them. docs/tools.md and
+//! docs/dry-runs.md state the rules.
+//!
+//! To read in this order: running; command_line, session_words, calls, dry_runs, numbers, word_faults; acting, opening,
+//! copies, files, closing; talking; messages.
 #![tactic(auto)]
 
 mod acting;

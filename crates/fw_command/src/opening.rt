@@ -44,6 +44,7 @@ pub(crate) fn read_source<X: Files + AllocGlobal, E: Write>(
         (λ source. (source.geometry.order ≡ order) × (E.contents errors.new ≡ E.contents errors.old)) }
 {
     let config = value_or_say(rt.alloc(), errors, path, read_config(rt, path))?;
+    // there is one: a configuration has no size that its layout refuses
     let geometry = Geometry::with_order(config.layout, config.size, order)?;
     let first = read_or_say(rt, &config.first, config.size, errors)?;
     let second = match &config.second {
@@ -152,6 +153,7 @@ fn start(alloc: Global, source: &Source, given: Vars) -> Result<Session, FileFau
         Err(_) => Err(FileFault::Memory),
         Ok(stored) => match Session::start(alloc, stored, given) {
             Ok(session) => Ok(session),
+            // no other refusal comes: each copy was read in the configuration's size, and the defaults have its room
             Err(_) => Err(FileFault::Memory),
         },
     }

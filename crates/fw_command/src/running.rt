@@ -24,14 +24,14 @@ use std::rt::Files;
 /// Runs the program and answers its exit status, 0 or 1. `words` begin with the program's own name.
 ///
 /// Without a subcommand the variables of the image on `input` are printed ([`show`]), and with `--big-endian` those of an
-/// image of a big-endian board. A subcommand works on the copies that a configuration names ([`printenv`], [`setenv`],
-/// [`set_script`], [`import`], [`export`], [`session`]), and writes back those that it changed. Help goes to `output`,
+/// image of a big-endian board. A subcommand works on the copies that a configuration names ([`print_at_once`], [`setenv`],
+/// [`script_text`], [`import_text`], [`export`], [`session`]), and writes back those that it changed. Help goes to `output`,
 /// status 0; a fault of the command line to `errors`, status 1. docs/tools.md has each text.
 ///
-/// [`printenv`]: fw_tools::printenv
+/// [`print_at_once`]: fw_tools::print_at_once
 /// [`setenv`]: fw_tools::setenv
-/// [`set_script`]: fw_tools::set_script
-/// [`import`]: fw_tools::import
+/// [`script_text`]: fw_tools::script_text
+/// [`import_text`]: fw_tools::import_text
 /// [`export`]: fw_tools::export
 /// [`session`]: fw_session::session
 pub fn program<X: Files + AllocGlobal, S: AsStr, R: Read, W: Write, E: Write>(

@@ -6,8 +6,8 @@ use Rattle.env_session.specs.Session.{Held}
 use Rattle.std.specs.Io.KnownBytes.{Consumes, Keeps, IsAtEnd}
 use Rattle.std.proofs.KnownBytes.{Consumes-nil, Consumes-trans, Consumes-kept}
 use Rattle.hush_run.specs.Meaning.{Rules}
-use Rattle.fw_session.specs.Replies.{Table}
-use Rattle.fw_session.specs.Tables.{names_of, table_in, table_of}
+use Rattle.fw_session.specs.Replies.{NamedSession}
+use Rattle.fw_session.specs.NamedSessions.{names_of, named_session, session_of}
 use Rattle.fw_session.specs.Ends.{Ends}
 use Rattle.fw_session.specs.Hearing.{Heard, HeardBroke, IsPending}
 use Rattle.std.proofs.lemmas.List.{take-append-le, length-take-le}
@@ -19,27 +19,27 @@ use Rattle.fw_session.specs.declared.ending.SessionEnding.{SessionEnding}
 use Rattle.fw_session.specs.declared.ending.SessionEnding.TheVariants.{Done, ReadFault, TooLong, WriteFault, Memory}
 use Rattle.fw_session.proofs.HearLemmas.{heard_none, heard_then, heard_broke, said_whole, broke_whole, said_all, broke_all}
 
-ends_as : (e e' : SessionEnding) (rules : Rules) (h h' h'' : Table) (i i' o o' : Option (List ℕ)) (r r' w w' : ℕ) → h'' ≡ h' → e' ≡ e → r' ≡ r → w' ≡ w → Ends e rules h i i' o o' r w h' → Ends e' rules h i i' o o' r' w' h''
+ends_as : (e e' : SessionEnding) (rules : Rules) (h h' h'' : NamedSession) (i i' o o' : Option (List ℕ)) (r r' w w' : ℕ) → h'' ≡ h' → e' ≡ e → r' ≡ r → w' ≡ w → Ends e rules h i i' o o' r w h' → Ends e' rules h i i' o o' r' w' h''
 ends_as e e' rules h h' h'' i i' o o' r r' w w' a b c d x =
     subst (λ v. Ends v rules h i i' o o' r' w' h'') (sym b)
     (subst (λ v. Ends e rules h i i' o o' v w' h'') (sym c) (subst (λ v. Ends e rules h i i' o o' r v h'') (sym d) (subst (λ v. Ends e rules h i i' o o' r w v) (sym a) x)))
 
 -- what is handed out of a talk
-pub ended_as : (e e' : SessionEnding) (rules : Rules) (h : Table) (talk : Talk) (now : Held) (i i' o o' : Option (List ℕ)) (r r' w' : ℕ) → now ≡ talk.session → e' ≡ e → r' ≡ r → w' ≡ talk.written →
-    Ends e rules h i i' o o' r talk.written (table_of talk) → (names : List (Option (List ℕ))) × Ends e' rules h i i' o o' r' w' (table_in now names)
+pub ended_as : (e e' : SessionEnding) (rules : Rules) (h : NamedSession) (talk : Talk) (now : Held) (i i' o o' : Option (List ℕ)) (r r' w' : ℕ) → now ≡ talk.session → e' ≡ e → r' ≡ r → w' ≡ talk.written →
+    Ends e rules h i i' o o' r talk.written (session_of talk) → (names : List (Option (List ℕ))) × Ends e' rules h i i' o o' r' w' (named_session now names)
 ended_as e e' rules h talk now i i' o o' r r' w' a b c d x =
-    let names = names_of talk.names.items in (names, ends_as e e' rules h (table_of talk) (table_in now names) i i' o o' r r' talk.written w' (ap (λ v. table_in v names) a) b c d x)
+    let names = names_of talk.names.items in (names, ends_as e e' rules h (session_of talk) (named_session now names) i i' o o' r r' talk.written w' (ap (λ v. named_session v names) a) b c d x)
 
-pub finishes_as : (e e' : SessionEnding) (rules : Rules) (h : Table) (bytes : List ℕ) (talk : Talk) (now : Held) (o o' : Option (List ℕ)) (n w' : ℕ) → now ≡ talk.session → e' ≡ e → w' ≡ talk.written →
-    Finishes rules h bytes o o' n talk.written (table_of talk) e → (names : List (Option (List ℕ))) × Finishes rules h bytes o o' n w' (table_in now names) e'
+pub finishes_as : (e e' : SessionEnding) (rules : Rules) (h : NamedSession) (bytes : List ℕ) (talk : Talk) (now : Held) (o o' : Option (List ℕ)) (n w' : ℕ) → now ≡ talk.session → e' ≡ e → w' ≡ talk.written →
+    Finishes rules h bytes o o' n talk.written (session_of talk) e → (names : List (Option (List ℕ))) × Finishes rules h bytes o o' n w' (named_session now names) e'
 finishes_as e e' rules h bytes talk now o o' n w' a b d x =
     let names = names_of talk.names.items in (
       names,
-      subst (λ v. Finishes rules h bytes o o' n w' (table_in now names) v) (sym b)
-          (subst (λ v. Finishes rules h bytes o o' n v (table_in now names) e) (sym d) (subst (λ v. Finishes rules h bytes o o' n talk.written (table_in v names) e) (sym a) x)),
+      subst (λ v. Finishes rules h bytes o o' n w' (named_session now names) v) (sym b)
+          (subst (λ v. Finishes rules h bytes o o' n v (named_session now names) e) (sym d) (subst (λ v. Finishes rules h bytes o o' n talk.written (named_session v names) e) (sym a) x)),
     )
 
-pub reading_more : (rules : Rules) (h : Table) (i i' i'' o o' o'' : Option (List ℕ)) (read count : ℕ) (piece : List ℕ) (old new : Talk) → Reading rules h i i' o o' read old → Consumes i' i'' piece → length piece ≡ count → read + count ≤ 16777216 →
+pub reading_more : (rules : Rules) (h : NamedSession) (i i' i'' o o' o'' : Option (List ℕ)) (read count : ℕ) (piece : List ℕ) (old new : Talk) → Reading rules h i i' o o' read old → Consumes i' i'' piece → length piece ≡ count → read + count ≤ 16777216 →
     HearsAll rules piece old new o' o'' → Reading rules h i i'' o o'' (read + count) new
 reading_more rules h i i' i'' o o' o'' read count piece old new r gave is room s = record {
   bytes = r.bytes ++ piece;
@@ -47,45 +47,45 @@ reading_more rules h i i' i'' o o' o'' read count piece old new r gave is room s
   bounded = omega (arith, r.read_is, length-append r.bytes piece);
   consumed = Consumes-trans i i' i'' r.bytes piece r.consumed gave;
   pending = s.0;
-  heard = heard_then rules [] old.bytes.items new.bytes.items r.bytes piece h (table_of old) (table_of new) o o' o'' 0 old.written new.written r.heard s.1;
+  heard = heard_then rules [] old.bytes.items new.bytes.items r.bytes piece h (session_of old) (session_of new) o o' o'' 0 old.written new.written r.heard s.1;
 }
 
-pub read_failed : (rules : Rules) (h : Table) (i i' i'' o o' : Option (List ℕ)) (read : ℕ) (talk : Talk) → Reading rules h i i' o o' read talk → Keeps i' i'' → Ends ReadFault rules h i i'' o o' read talk.written (table_of talk)
+pub read_failed : (rules : Rules) (h : NamedSession) (i i' i'' o o' : Option (List ℕ)) (read : ℕ) (talk : Talk) → Reading rules h i i' o o' read talk → Keeps i' i'' → Ends ReadFault rules h i i'' o o' read talk.written (session_of talk)
 read_failed rules h i i' i'' o o' read talk r k = (
   r.bytes,
   (Consumes-kept i i' i'' r.bytes r.consumed k, r.read_is, r.bounded),
-  said_whole rules r.bytes talk.bytes.items talk.start h (table_of talk) o o' 0 talk.written r.pending r.heard,
+  said_whole rules r.bytes talk.bytes.items talk.start h (session_of talk) o o' 0 talk.written r.pending r.heard,
 )
 
-pub too_long : (rules : Rules) (h : Table) (i i' i'' o o' : Option (List ℕ)) (read more : ℕ) (talk : Talk) → Reading rules h i i' o o' read talk → 16777216 ≤ read → Consumes i' i'' (more ∷ []) → Ends TooLong rules h i i'' o o' read talk.written (table_of talk)
+pub too_long : (rules : Rules) (h : NamedSession) (i i' i'' o o' : Option (List ℕ)) (read more : ℕ) (talk : Talk) → Reading rules h i i' o o' read talk → 16777216 ≤ read → Consumes i' i'' (more ∷ []) → Ends TooLong rules h i i'' o o' read talk.written (session_of talk)
 too_long rules h i i' i'' o o' read more talk r full gave = (
   r.bytes,
   more,
   Consumes-trans i i' i'' r.bytes (more ∷ []) r.consumed gave,
   r.read_is,
   omega (arith, r.read_is, r.bounded, full),
-  said_whole rules r.bytes talk.bytes.items talk.start h (table_of talk) o o' 0 talk.written r.pending r.heard,
+  said_whole rules r.bytes talk.bytes.items talk.start h (session_of talk) o o' 0 talk.written r.pending r.heard,
 )
 
-pub at_end : (rules : Rules) (h h' : Table) (i i' i'' o o' o'' : Option (List ℕ)) (read read' w' : ℕ) (e : SessionEnding) (talk : Talk) → Reading rules h i i' o o' read talk → Consumes i' i'' [] → IsAtEnd i'' → read' ≡ read →
-    Finishes rules (table_of talk) talk.bytes.items o' o'' talk.written w' h' e → Ends e rules h i i'' o o'' read' w' h'
+pub at_end : (rules : Rules) (h h' : NamedSession) (i i' i'' o o' o'' : Option (List ℕ)) (read read' w' : ℕ) (e : SessionEnding) (talk : Talk) → Reading rules h i i' o o' read talk → Consumes i' i'' [] → IsAtEnd i'' → read' ≡ read →
+    Finishes rules (session_of talk) talk.bytes.items o' o'' talk.written w' h' e → Ends e rules h i i'' o o'' read' w' h'
 at_end rules h h' i i' i'' o o' o'' read read' w' Done talk r gave end is f = (
   r.bytes,
   (subst (λ b. Consumes i i'' b) (append-nil r.bytes) (Consumes-trans i i' i'' r.bytes [] r.consumed gave), is ∙ r.read_is, r.bounded),
   end,
-  said_all rules r.bytes talk.bytes.items h (table_of talk) h' o o' o'' 0 talk.written w' r.heard f,
+  said_all rules r.bytes talk.bytes.items h (session_of talk) h' o o' o'' 0 talk.written w' r.heard f,
 )
 at_end rules h h' i i' i'' o o' o'' read read' w' WriteFault talk r gave end is f = (
   r.bytes,
   (subst (λ b. Consumes i i'' b) (append-nil r.bytes) (Consumes-trans i i' i'' r.bytes [] r.consumed gave), is ∙ r.read_is, r.bounded),
-  inr (end, broke_all rules r.bytes talk.bytes.items h (table_of talk) h' o o' o'' 0 talk.written w' r.heard f),
+  inr (end, broke_all rules r.bytes talk.bytes.items h (session_of talk) h' o o' o'' 0 talk.written w' r.heard f),
 )
 at_end rules h h' i i' i'' o o' o'' read read' w' ReadFault talk r gave end is f = absurd f
 at_end rules h h' i i' i'' o o' o'' read read' w' TooLong talk r gave end is f = absurd f
 at_end rules h h' i i' i'' o o' o'' read read' w' Memory talk r gave end is f = absurd f
 
-pub write_failed : (rules : Rules) (h : Table) (i i' i'' o o' o'' : Option (List ℕ)) (read count : ℕ) (piece : List ℕ) (old new : Talk) → Reading rules h i i' o o' read old → Consumes i' i'' piece → length piece ≡ count → read + count ≤ 16777216 →
-    (front : List ℕ) × (rest : List ℕ) × (piece ≡ front ++ rest) × HeardBroke rules old.bytes.items front (table_of old) (table_of new) o' o'' old.written new.written → Ends WriteFault rules h i i'' o o'' (read + count) new.written (table_of new)
+pub write_failed : (rules : Rules) (h : NamedSession) (i i' i'' o o' o'' : Option (List ℕ)) (read count : ℕ) (piece : List ℕ) (old new : Talk) → Reading rules h i i' o o' read old → Consumes i' i'' piece → length piece ≡ count → read + count ≤ 16777216 →
+    (front : List ℕ) × (rest : List ℕ) × (piece ≡ front ++ rest) × HeardBroke rules old.bytes.items front (session_of old) (session_of new) o' o'' old.written new.written → Ends WriteFault rules h i i'' o o'' (read + count) new.written (session_of new)
 write_failed rules h i i' i'' o o' o'' read count piece old new r gave is room s = (
   r.bytes ++ piece,
   (Consumes-trans i i' i'' r.bytes piece r.consumed gave, omega (arith, r.read_is, length-append r.bytes piece), omega (arith, r.read_is, length-append r.bytes piece)),
@@ -93,13 +93,13 @@ write_failed rules h i i' i'' o o' o'' read count piece old new r gave is room s
     r.bytes ++ s.0,
     s.1,
     ap (λ v. r.bytes ++ v) s.2 ∙ sym (append_assoc r.bytes s.0 s.1),
-    broke_whole rules (r.bytes ++ s.0) h (table_of new) o o'' 0 new.written
-        (heard_broke rules [] old.bytes.items r.bytes s.0 h (table_of old) (table_of new) o o' o'' 0 old.written new.written r.heard s.3),
+    broke_whole rules (r.bytes ++ s.0) h (session_of new) o o'' 0 new.written
+        (heard_broke rules [] old.bytes.items r.bytes s.0 h (session_of old) (session_of new) o o' o'' 0 old.written new.written r.heard s.3),
   ),
 )
 
-pub no_room : (rules : Rules) (h : Table) (i i' i'' o o' o'' : Option (List ℕ)) (read count : ℕ) (piece : List ℕ) (old new : Talk) → Reading rules h i i' o o' read old → Consumes i' i'' piece → length piece ≡ count → read + count ≤ 16777216 →
-    (front : List ℕ) × (rest : List ℕ) × (piece ≡ front ++ rest) × HearsSome rules front old new o' o'' → Ends Memory rules h i i'' o o'' (read + count) new.written (table_of new)
+pub no_room : (rules : Rules) (h : NamedSession) (i i' i'' o o' o'' : Option (List ℕ)) (read count : ℕ) (piece : List ℕ) (old new : Talk) → Reading rules h i i' o o' read old → Consumes i' i'' piece → length piece ≡ count → read + count ≤ 16777216 →
+    (front : List ℕ) × (rest : List ℕ) × (piece ≡ front ++ rest) × HearsSome rules front old new o' o'' → Ends Memory rules h i i'' o o'' (read + count) new.written (session_of new)
 no_room rules h i i' i'' o o' o'' read count piece old new r gave is room s = (
   r.bytes ++ piece,
   (Consumes-trans i i' i'' r.bytes piece r.consumed gave, omega (arith, r.read_is, length-append r.bytes piece), omega (arith, r.read_is, length-append r.bytes piece)),
@@ -107,12 +107,12 @@ no_room rules h i i' i'' o o' o'' read count piece old new r gave is room s = (
     r.bytes ++ s.0,
     s.1,
     ap (λ v. r.bytes ++ v) s.2 ∙ sym (append_assoc r.bytes s.0 s.1),
-    said_whole rules (r.bytes ++ s.0) s.3.0 s.3.1 h (table_of new) o o'' 0 new.written s.3.2
-        (heard_then rules [] old.bytes.items s.3.0 r.bytes s.0 h (table_of old) (table_of new) o o' o'' 0 old.written new.written r.heard s.3.3),
+    said_whole rules (r.bytes ++ s.0) s.3.0 s.3.1 h (session_of new) o o'' 0 new.written s.3.2
+        (heard_then rules [] old.bytes.items s.3.0 r.bytes s.0 h (session_of old) (session_of new) o o' o'' 0 old.written new.written r.heard s.3.3),
   ),
 )
 
-pub reading_none : (rules : Rules) (h : Table) (i o : Option (List ℕ)) (talk : Talk) → talk.bytes.items ≡ [] → talk.start ≡ 0 → (table_of talk) ≡ h → talk.written ≡ 0 → Reading rules h i i o o 0 talk
+pub reading_none : (rules : Rules) (h : NamedSession) (i o : Option (List ℕ)) (talk : Talk) → talk.bytes.items ≡ [] → talk.start ≡ 0 → (session_of talk) ≡ h → talk.written ≡ 0 → Reading rules h i i o o 0 talk
 reading_none rules h i o talk e z s w = record {
   bytes = [];
   read_is = refl;
@@ -120,7 +120,7 @@ reading_none rules h i o talk e z s w = record {
   consumed = Consumes-nil i;
   pending = subst (λ b. IsPending b talk.start) (sym e) (subst (λ k. IsPending [] k) (sym z) pending_none);
   heard =
-      subst (λ b. Heard rules [] [] b h (table_of talk) o o 0 talk.written) (sym e)
+      subst (λ b. Heard rules [] [] b h (session_of talk) o o 0 talk.written) (sym e)
       (subst (λ v. Heard rules [] [] [] h v o o 0 talk.written) (sym s) (subst (λ v. Heard rules [] [] [] h h o o 0 v) (sym w) (heard_none rules [] h o 0)));
 }
 
@@ -128,9 +128,9 @@ nothing_read : (i i' : Option (List ℕ)) (n : ℕ) (buf : List ℕ) → n ≡ 0
 nothing_read i i' zero buf e c = c
 nothing_read i i' (suc n) buf e c = absurd (omega arith)
 
-pub at_its_end : (rules : Rules) (h h' : Table) (i i' i'' o o' o'' : Option (List ℕ)) (read read' w' n : ℕ) (buf : List ℕ) (e : SessionEnding) (talk : Talk) → Reading rules h i i' o o' read talk → n ≡ 0 →
+pub at_its_end : (rules : Rules) (h h' : NamedSession) (i i' i'' o o' o'' : Option (List ℕ)) (read read' w' n : ℕ) (buf : List ℕ) (e : SessionEnding) (talk : Talk) → Reading rules h i i' o o' read talk → n ≡ 0 →
     Consumes i' i'' (take n buf) × (n ≡ 0 → 0 < length buf → IsAtEnd i'') → 0 < length buf → read' ≡ read →
-    Finishes rules (table_of talk) talk.bytes.items o' o'' talk.written w' h' e → Ends e rules h i i'' o o'' read' w' h'
+    Finishes rules (session_of talk) talk.bytes.items o' o'' talk.written w' h' e → Ends e rules h i i'' o o'' read' w' h'
 at_its_end rules h h' i i' i'' o o' o'' read read' w' n buf e talk r z gave room is f =
     at_end rules h h' i i' i'' o o' o'' read read' w' e talk r (nothing_read i' i'' n buf z gave.0) (gave.1 z room) is f
 
@@ -140,8 +140,8 @@ one_read i i' (suc n) [] not le one c = absurd (omega arith)
 one_read i i' (suc zero) (b ∷ bs) not le one c = (b, c)
 one_read i i' (suc (suc n)) (b ∷ bs) not le one c = absurd (omega arith)
 
-pub one_too_many : (rules : Rules) (h : Table) (i i' i'' o o' : Option (List ℕ)) (read n : ℕ) (buf : List ℕ) (talk : Talk) → Reading rules h i i' o o' read talk → 16777216 ≤ read → (n ≡ 0 → ⊥) → n ≤ length buf → length buf ≡ 1 →
-    Consumes i' i'' (take n buf) → Ends TooLong rules h i i'' o o' read talk.written (table_of talk)
+pub one_too_many : (rules : Rules) (h : NamedSession) (i i' i'' o o' : Option (List ℕ)) (read n : ℕ) (buf : List ℕ) (talk : Talk) → Reading rules h i i' o o' read talk → 16777216 ≤ read → (n ≡ 0 → ⊥) → n ≤ length buf → length buf ≡ 1 →
+    Consumes i' i'' (take n buf) → Ends TooLong rules h i i'' o o' read talk.written (session_of talk)
 one_too_many rules h i i' i'' o o' read n buf talk r full not le one c = let m = one_read i' i'' n buf not le one c in too_long rules h i i' i'' o o' read m.0 talk r full m.1
 
 -- the bytes that a read gave, at the front of the array
@@ -152,7 +152,7 @@ pub piece_long : (count : ℕ) (buf rest : List ℕ) → count ≤ length buf �
 piece_long count buf rest le = ap length (take-append-le count buf rest le) ∙ length-take-le count buf le
 
 pub stopped_by_write : (rules : Rules) (piece : List ℕ) (old new : Talk) (o o' : Option (List ℕ)) (stop : Stop) → stop ≡ Stop.Write → Hears rules piece old new o o' (Err stop) →
-    (front : List ℕ) × (rest : List ℕ) × (piece ≡ front ++ rest) × HeardBroke rules old.bytes.items front (table_of old) (table_of new) o o' old.written new.written
+    (front : List ℕ) × (rest : List ℕ) × (piece ≡ front ++ rest) × HeardBroke rules old.bytes.items front (session_of old) (session_of new) o o' old.written new.written
 stopped_by_write rules piece old new o o' stop e s = subst (λ v. Hears rules piece old new o o' (Err v)) e s
 
 pub stopped_by_memory : (rules : Rules) (piece : List ℕ) (old new : Talk) (o o' : Option (List ℕ)) (stop : Stop) → stop ≡ Stop.Memory → Hears rules piece old new o o' (Err stop) →

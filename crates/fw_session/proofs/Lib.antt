@@ -4,7 +4,7 @@ mod EndLemmas
 mod HearLemmas
 mod MarkLemmas
 mod NameLemmas
-mod OrderLemmas
+mod RequestLemmas
 mod SaysLemmas
 mod SessionRows
 mod StreamLemmas

@@ -9,7 +9,7 @@ use Rattle.env_session.specs.Session.{Held, marked}
 use Rattle.env_session.specs.declared.faults.MarkFault.{MarkFault}
 use Rattle.env_session.specs.declared.faults.MarkFault.TheVariants.{Full}
 use Rattle.fw_session.specs.Replies.{standing}
-use Rattle.fw_session.specs.Tables.{names_of, table_in, MarksNamed}
+use Rattle.fw_session.specs.NamedSessions.{names_of, named_session, MarksNamed}
 
 -- a list of names with one more
 names_more : (names : List (Option (ArrayVec ℕ))) (name : Option (ArrayVec ℕ)) → names_of (names ++ name ∷ []) ≡ names_of names ++ option_map (λ v. v.items) name ∷ []
@@ -19,7 +19,7 @@ pub one_unnamed : (names names' : List (Option (ArrayVec ℕ))) (n : ℕ) → na
 one_unnamed names names' n was is = ap names_of is ∙ names_more names None ∙ ap (λ v. v ++ None ∷ []) was ∙ sym (replicate_next n None)
 
 -- the first names are those of the marks that stand
-pub names_taken : (names shown : List (Option (ArrayVec ℕ))) (h : Held) (k : ℕ) → shown ≡ take k names → take k names ≡ take (length h.marks) names → names_of shown ≡ standing (table_in h (names_of names))
+pub names_taken : (names shown : List (Option (ArrayVec ℕ))) (h : Held) (k : ℕ) → shown ≡ take k names → take k names ≡ take (length h.marks) names → names_of shown ≡ standing (named_session h (names_of names))
 names_taken names shown h k is same = ap names_of (is ∙ same) ∙ sym (take-map (λ n. option_map (λ v. v.items) n) (length h.marks) names)
 
 pub first_taken : {A : Type 0} (xs ys : List A) (k n m : ℕ) → ys ≡ xs → k ≡ min (length ys) n → n ≡ m → take k xs ≡ take m xs
@@ -32,15 +32,15 @@ first_taken xs ys k n m same is e =
 
 -- a mark is made
 pub mark_named : (h h' : Held) (names cut names' : List (Option (ArrayVec ℕ))) (name : ArrayVec ℕ) → length h.marks < 65 → h' ≡ marked h → cut ≡ take (length h.marks) names → names' ≡ cut ++ Some name ∷ [] →
-    MarksNamed (table_in h (names_of names)) name.items (table_in h' (names_of names')) true
+    MarksNamed (named_session h (names_of names)) name.items (named_session h' (names_of names')) true
 mark_named h h' names cut names' name few e c is =
-    let n : names_of names' ≡ standing (table_in h (names_of names)) ++ Some name.items ∷ [] =
+    let n : names_of names' ≡ standing (named_session h (names_of names)) ++ Some name.items ∷ [] =
     ap names_of is ∙ names_more cut (Some name) ∙ ap (λ v. v ++ Some name.items ∷ []) (names_taken names cut h (length h.marks) c refl) in
-    (le-ltb 64 (length h.marks) (omega (arith, few)), ap (λ v. table_in v (names_of names')) e ∙ ap (table_in (marked h)) n)
+    (le-ltb 64 (length h.marks) (omega (arith, few)), ap (λ v. named_session v (names_of names')) e ∙ ap (named_session (marked h)) n)
 
 -- no mark is made where 64 stand
-pub mark_not_made : (h h' : Held) (names : List (Option (List ℕ))) (name : List ℕ) → 65 ≤ length h.marks → h' ≡ h → MarksNamed (table_in h names) name (table_in h' names) false
-mark_not_made h h' names name full e = (lt-ltb 64 (length h.marks) (omega (arith, full)), ap (λ v. table_in v names) e)
+pub mark_not_made : (h h' : Held) (names : List (Option (List ℕ))) (name : List ℕ) → 65 ≤ length h.marks → h' ≡ h → MarksNamed (named_session h names) name (named_session h' names) false
+mark_not_made h h' names name full e = (lt-ltb 64 (length h.marks) (omega (arith, full)), ap (λ v. named_session v names) e)
 
 below : (k : ℕ) → (65 ≤ k → ⊥) → k < 65
 below k never =

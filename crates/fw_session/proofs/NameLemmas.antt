@@ -2,7 +2,7 @@
 use Rattle.std.proofs.Common.{◌≡◌, ℕ, suc, ◌<◌, ◌++◌, List, [], ◌∷◌, length, Bool, true, false, Option, Some, None, refl, sym, ap, ◌∙◌, arith}
 use Rattle.std.specs.Prelude.{map}
 use Rattle.std.proofs.lemmas.List.{length-take}
-use Rattle.fw_session.specs.Replies.{Table, has_name, last_named, later, standing}
+use Rattle.fw_session.specs.Replies.{NamedSession, has_name, last_named, later, standing}
 
 abbrev or_here : ℕ → Option ℕ → Bool → Option ℕ
 or_here k found true = Some k
@@ -40,5 +40,5 @@ named_within name (x ∷ xs) k e = later_within (last_named name xs) (has_name n
     later_within None false n k below e = absurd (cc)
 
 -- a mark that is found stands
-pub found_within : (t : Table) (name : List ℕ) (k : ℕ) (marks : List (Option (List ℕ))) → marks ≡ standing t → Some k ≡ last_named name marks → k < length t.held.marks
+pub found_within : (t : NamedSession) (name : List ℕ) (k : ℕ) (marks : List (Option (List ℕ))) → marks ≡ standing t → Some k ≡ last_named name marks → k < length t.held.marks
 found_within t name k marks s e = let lt = named_within name (standing t) k (e ∙ ap (last_named name) s) in omega (arith, lt, length-take (length t.held.marks) t.names)

@@ -7,72 +7,72 @@ use Rattle.std.specs.declared.alloc.Global.{Global}
 use Rattle.fw_session.specs.Input.{Item, Block, Dot}
 use Rattle.fw_session.specs.Streams.{Counts}
 use Rattle.hush_run.specs.Meaning.{Rules}
-use Rattle.fw_session.specs.Replies.{Table, Note, reply, replies, MayStand, AllStand, Asked, asked}
+use Rattle.fw_session.specs.Replies.{NamedSession, Note, reply, replies, MayStand, AllStand, Request, request_of}
 use Rattle.fw_session.specs.Ends.{Said, Broke, Says}
 use Rattle.fw_session.specs.Hearing.{Answered, Obeyed, block_items}
 use Rattle.std.proofs.lemmas.Bool.{eqb-true, eqb-false}
 use Rattle.std.proofs.lemmas.List.{take_all}
 use Rattle.fw_session.proofs.StreamLemmas.{counts_none, counts_then}
 
-pub after_text : (rules : Rules) (h : Table) (xs ys : List Item) (ns ms : List Note) → AllStand rules h xs ns →
-    (replies rules h (xs ++ ys) (ns ++ ms)).text ≡ (replies rules h xs ns).text ++ (replies rules (replies rules h xs ns).table ys ms).text
+pub after_text : (rules : Rules) (h : NamedSession) (xs ys : List Item) (ns ms : List Note) → AllStand rules h xs ns →
+    (replies rules h (xs ++ ys) (ns ++ ms)).text ≡ (replies rules h xs ns).text ++ (replies rules (replies rules h xs ns).session ys ms).text
 unfolding replies AllStand
 after_text rules h [] ys [] ms s = refl
 after_text rules h [] ys (n ∷ ns) ms s = absurd s
 after_text rules h (x ∷ xs) ys [] ms s = absurd s
 after_text rules h (x ∷ xs) ys (n ∷ ns) ms s =
-    let r = reply rules h x n in ap (λ t. r.text ++ t) (after_text rules r.table xs ys ns ms s.1) ∙ sym (append_assoc r.text (replies rules r.table xs ns).text (replies rules (replies rules r.table xs ns).table ys ms).text)
+    let r = reply rules h x n in ap (λ t. r.text ++ t) (after_text rules r.session xs ys ns ms s.1) ∙ sym (append_assoc r.text (replies rules r.session xs ns).text (replies rules (replies rules r.session xs ns).session ys ms).text)
 
-pub after_held : (rules : Rules) (h : Table) (xs ys : List Item) (ns ms : List Note) → AllStand rules h xs ns →
-    (replies rules h (xs ++ ys) (ns ++ ms)).table ≡ (replies rules (replies rules h xs ns).table ys ms).table
+pub after_held : (rules : Rules) (h : NamedSession) (xs ys : List Item) (ns ms : List Note) → AllStand rules h xs ns →
+    (replies rules h (xs ++ ys) (ns ++ ms)).session ≡ (replies rules (replies rules h xs ns).session ys ms).session
 unfolding replies AllStand
 after_held rules h [] ys [] ms s = refl
 after_held rules h [] ys (n ∷ ns) ms s = absurd s
 after_held rules h (x ∷ xs) ys [] ms s = absurd s
-after_held rules h (x ∷ xs) ys (n ∷ ns) ms s = after_held rules (reply rules h x n).table xs ys ns ms s.1
+after_held rules h (x ∷ xs) ys (n ∷ ns) ms s = after_held rules (reply rules h x n).session xs ys ns ms s.1
 
-pub after_stand : (rules : Rules) (h : Table) (xs ys : List Item) (ns ms : List Note) → AllStand rules h xs ns → AllStand rules (replies rules h xs ns).table ys ms → AllStand rules h (xs ++ ys) (ns ++ ms)
+pub after_stand : (rules : Rules) (h : NamedSession) (xs ys : List Item) (ns ms : List Note) → AllStand rules h xs ns → AllStand rules (replies rules h xs ns).session ys ms → AllStand rules h (xs ++ ys) (ns ++ ms)
 unfolding replies AllStand
 after_stand rules h [] ys [] ms s t = t
 after_stand rules h [] ys (n ∷ ns) ms s t = absurd s
 after_stand rules h (x ∷ xs) ys [] ms s t = absurd s
-after_stand rules h (x ∷ xs) ys (n ∷ ns) ms s t = (s.0, after_stand rules (reply rules h x n).table xs ys ns ms s.1 t)
+after_stand rules h (x ∷ xs) ys (n ∷ ns) ms s t = (s.0, after_stand rules (reply rules h x n).session xs ys ns ms s.1 t)
 
-pub said_none : (rules : Rules) (h : Table) (out : Option (List ℕ)) (n : ℕ) → Said rules h [] out out n n h
+pub said_none : (rules : Rules) (h : NamedSession) (out : Option (List ℕ)) (n : ℕ) → Said rules h [] out out n n h
 unfolding replies AllStand
-said_none rules h out n = record { notes = []; stand = tt; text = Appends-nil out; count = counts_none n; table = refl }
+said_none rules h out n = record { notes = []; stand = tt; text = Appends-nil out; count = counts_none n; session = refl }
 
-pub said_then : (rules : Rules) (h h' h'' : Table) (xs ys : List Item) (out out' out'' : Option (List ℕ)) (n n' n'' : ℕ) →
+pub said_then : (rules : Rules) (h h' h'' : NamedSession) (xs ys : List Item) (out out' out'' : Option (List ℕ)) (n n' n'' : ℕ) →
     Said rules h xs out out' n n' h' → Said rules h' ys out' out'' n' n'' h'' → Said rules h (xs ++ ys) out out'' n n'' h''
 said_then rules h h' h'' xs ys out out' out'' n n' n'' p q =
-    let mid = (replies rules h xs p.notes).table in
-    let stand : AllStand rules mid ys q.notes = subst (λ s. AllStand rules s ys q.notes) p.table q.stand in
-    let text : Appends out' out'' (replies rules mid ys q.notes).text = subst (λ s. Appends out' out'' (replies rules s ys q.notes).text) p.table q.text in
-    let count : Counts n' n'' (replies rules mid ys q.notes).text = subst (λ s. Counts n' n'' (replies rules s ys q.notes).text) p.table q.count in
-    let table : h'' ≡ (replies rules mid ys q.notes).table = subst (λ s. h'' ≡ (replies rules s ys q.notes).table) p.table q.table in
+    let mid = (replies rules h xs p.notes).session in
+    let stand : AllStand rules mid ys q.notes = subst (λ s. AllStand rules s ys q.notes) p.session q.stand in
+    let text : Appends out' out'' (replies rules mid ys q.notes).text = subst (λ s. Appends out' out'' (replies rules s ys q.notes).text) p.session q.text in
+    let count : Counts n' n'' (replies rules mid ys q.notes).text = subst (λ s. Counts n' n'' (replies rules s ys q.notes).text) p.session q.count in
+    let table : h'' ≡ (replies rules mid ys q.notes).session = subst (λ s. h'' ≡ (replies rules s ys q.notes).session) p.session q.session in
     let e = after_text rules h xs ys p.notes q.notes p.stand in
     record {
       notes = p.notes ++ q.notes;
       stand = after_stand rules h xs ys p.notes q.notes p.stand stand;
       text = subst (λ t. Appends out out'' t) (sym e) (Appends-trans out out' out'' (replies rules h xs p.notes).text (replies rules mid ys q.notes).text p.text text);
       count = subst (λ t. Counts n n'' t) (sym e) (counts_then n n' n'' (replies rules h xs p.notes).text (replies rules mid ys q.notes).text p.count count);
-      table = table ∙ sym (after_held rules h xs ys p.notes q.notes p.stand);
+      session = table ∙ sym (after_held rules h xs ys p.notes q.notes p.stand);
     }
 
-pub said_broke : (rules : Rules) (h h' h'' : Table) (xs ys : List Item) (out out' out'' : Option (List ℕ)) (n n' n'' : ℕ) →
+pub said_broke : (rules : Rules) (h h' h'' : NamedSession) (xs ys : List Item) (out out' out'' : Option (List ℕ)) (n n' n'' : ℕ) →
     Said rules h xs out out' n n' h' → Broke rules h' ys out' out'' n' n'' h'' → Broke rules h (xs ++ ys) out out'' n n'' h''
 said_broke rules h h' h'' xs ys out out' out'' n n' n'' p q =
-    let mid = (replies rules h xs p.notes).table in
-    let stand : AllStand rules mid q.before q.notes = subst (λ s. AllStand rules s q.before q.notes) p.table q.stand in
-    let may : MayStand rules (replies rules mid q.before q.notes).table q.item q.note = subst (λ s. MayStand rules (replies rules s q.before q.notes).table q.item q.note) p.table q.may in
-    let text : (reply rules (replies rules mid q.before q.notes).table q.item q.note).text ≡ q.front ++ q.rest = subst (λ s. (reply rules (replies rules s q.before q.notes).table q.item q.note).text ≡ q.front ++ q.rest) p.table q.text in
-    let wrote : Appends out' out'' ((replies rules mid q.before q.notes).text ++ q.front) = subst (λ s. Appends out' out'' ((replies rules s q.before q.notes).text ++ q.front)) p.table q.wrote in
-    let count : Counts n' n'' ((replies rules mid q.before q.notes).text ++ q.front) = subst (λ s. Counts n' n'' ((replies rules s q.before q.notes).text ++ q.front)) p.table q.count in
-    let table : h'' ≡ (reply rules (replies rules mid q.before q.notes).table q.item q.note).table = subst (λ s. h'' ≡ (reply rules (replies rules s q.before q.notes).table q.item q.note).table) p.table q.table in
+    let mid = (replies rules h xs p.notes).session in
+    let stand : AllStand rules mid q.before q.notes = subst (λ s. AllStand rules s q.before q.notes) p.session q.stand in
+    let may : MayStand rules (replies rules mid q.before q.notes).session q.item q.note = subst (λ s. MayStand rules (replies rules s q.before q.notes).session q.item q.note) p.session q.may in
+    let text : (reply rules (replies rules mid q.before q.notes).session q.item q.note).text ≡ q.front ++ q.rest = subst (λ s. (reply rules (replies rules s q.before q.notes).session q.item q.note).text ≡ q.front ++ q.rest) p.session q.text in
+    let wrote : Appends out' out'' ((replies rules mid q.before q.notes).text ++ q.front) = subst (λ s. Appends out' out'' ((replies rules s q.before q.notes).text ++ q.front)) p.session q.wrote in
+    let count : Counts n' n'' ((replies rules mid q.before q.notes).text ++ q.front) = subst (λ s. Counts n' n'' ((replies rules s q.before q.notes).text ++ q.front)) p.session q.count in
+    let table : h'' ≡ (reply rules (replies rules mid q.before q.notes).session q.item q.note).session = subst (λ s. h'' ≡ (reply rules (replies rules s q.before q.notes).session q.item q.note).session) p.session q.session in
     let a = (replies rules h xs p.notes).text in
     let b = (replies rules mid q.before q.notes).text in
     let e : (replies rules h (xs ++ q.before) (p.notes ++ q.notes)).text ++ q.front ≡ a ++ (b ++ q.front) = ap (λ t. t ++ q.front) (after_text rules h xs q.before p.notes q.notes p.stand) ∙ append_assoc a b q.front in
-    let k : (replies rules h (xs ++ q.before) (p.notes ++ q.notes)).table ≡ (replies rules mid q.before q.notes).table = after_held rules h xs q.before p.notes q.notes p.stand in
+    let k : (replies rules h (xs ++ q.before) (p.notes ++ q.notes)).session ≡ (replies rules mid q.before q.notes).session = after_held rules h xs q.before p.notes q.notes p.stand in
     record {
       before = xs ++ q.before;
       item = q.item;
@@ -88,10 +88,10 @@ said_broke rules h h' h'' xs ys out out' out'' n n' n'' p q =
       left = q.left;
       wrote = subst (λ t. Appends out out'' t) (sym e) (Appends-trans out out' out'' a (b ++ q.front) p.text wrote);
       count = subst (λ t. Counts n n'' t) (sym e) (counts_then n n' n'' a (b ++ q.front) p.count count);
-      table = subst (λ s. h'' ≡ (reply rules s q.item q.note).table) (sym k) table;
+      session = subst (λ s. h'' ≡ (reply rules s q.item q.note).session) (sym k) table;
     }
 
-pub broke_more : (rules : Rules) (h h' : Table) (xs ys : List Item) (out out' : Option (List ℕ)) (n n' : ℕ) → Broke rules h xs out out' n n' h' → Broke rules h (xs ++ ys) out out' n n' h'
+pub broke_more : (rules : Rules) (h h' : NamedSession) (xs ys : List Item) (out out' : Option (List ℕ)) (n n' : ℕ) → Broke rules h xs out out' n n' h' → Broke rules h (xs ++ ys) out out' n n' h'
 broke_more rules h h' xs ys out out' n n' p = record {
   before = p.before;
   item = p.item;
@@ -107,16 +107,16 @@ broke_more rules h h' xs ys out out' n n' p = record {
   left = p.left;
   wrote = p.wrote;
   count = p.count;
-  table = p.table;
+  session = p.session;
 }
 
-pub says_then : (rules : Rules) (h h' h'' : Table) (xs ys : List Item) (out out' out'' : Option (List ℕ)) (n n' n'' : ℕ) (ok : Bool) →
+pub says_then : (rules : Rules) (h h' h'' : NamedSession) (xs ys : List Item) (out out' out'' : Option (List ℕ)) (n n' n'' : ℕ) (ok : Bool) →
     Said rules h xs out out' n n' h' → Says rules h' ys out' out'' n' n'' h'' ok → Says rules h (xs ++ ys) out out'' n n'' h'' ok
 says_then rules h h' h'' xs ys out out' out'' n n' n'' true p q = said_then rules h h' h'' xs ys out out' out'' n n' n'' p q
 says_then rules h h' h'' xs ys out out' out'' n n' n'' false p q = said_broke rules h h' h'' xs ys out out' out'' n n' n'' p q
 
 -- one item alone
-pub says_one : (rules : Rules) (h h' : Table) (item : Item) (out out' : Option (List ℕ)) (n n' : ℕ) (ok : Bool) → Answered rules h item out out' n n' h' ok → Says rules h (item ∷ []) out out' n n' h' ok
+pub says_one : (rules : Rules) (h h' : NamedSession) (item : Item) (out out' : Option (List ℕ)) (n n' : ℕ) (ok : Bool) → Answered rules h item out out' n n' h' ok → Says rules h (item ∷ []) out out' n n' h' ok
 unfolding replies AllStand
 says_one rules h h' item out out' n n' true p =
     let e : (reply rules h item p.note).text ++ [] ≡ (reply rules h item p.note).text = append-nil (reply rules h item p.note).text in
@@ -125,7 +125,7 @@ says_one rules h h' item out out' n n' true p =
       stand = (p.may, tt);
       text = subst (λ t. Appends out out' t) (sym e) p.wrote.0;
       count = subst (λ t. Counts n n' t) (sym e) p.wrote.1;
-      table = p.table;
+      session = p.session;
     }
 says_one rules h h' item out out' n n' false p = record {
   before = [];
@@ -142,45 +142,45 @@ says_one rules h h' item out out' n n' false p = record {
   left = p.wrote.3;
   wrote = p.wrote.4;
   count = p.wrote.5;
-  table = p.table;
+  session = p.session;
 }
 
-pub says_order : (rules : Rules) (h h' : Table) (line : List ℕ) (a : Asked) (out out' : Option (List ℕ)) (n n' : ℕ) (ok : Bool) → a ≡ asked line → Obeyed h a out out' n n' h' ok → Says rules h (Dot line ∷ []) out out' n n' h' ok
+pub says_request : (rules : Rules) (h h' : NamedSession) (line : List ℕ) (a : Request) (out out' : Option (List ℕ)) (n n' : ℕ) (ok : Bool) → a ≡ request_of line → Obeyed h a out out' n n' h' ok → Says rules h (Dot line ∷ []) out out' n n' h' ok
 unfolding reply MayStand
-says_order rules h h' line a out out' n n' ok e p =
-    let q : Obeyed h (asked line) out out' n n' h' ok = subst (λ o. Obeyed h o out out' n n' h' ok) e p in
-    says_one rules h h' (Dot line) out out' n n' ok (record { note = q.note; may = q.may; wrote = q.wrote; table = q.table })
+says_request rules h h' line a out out' n n' ok e p =
+    let q : Obeyed h (request_of line) out out' n n' h' ok = subst (λ o. Obeyed h o out out' n n' h' ok) e p in
+    says_one rules h h' (Dot line) out out' n n' ok (record { note = q.note; may = q.may; wrote = q.wrote; session = q.session })
 
-pub says_no_block : (rules : Rules) (h : Table) (bytes : List ℕ) (k : ℕ) (out : Option (List ℕ)) (n : ℕ) → length bytes ≡ k → (k == 0) ≡ true → Said rules h (block_items bytes) out out n n h
+pub says_no_block : (rules : Rules) (h : NamedSession) (bytes : List ℕ) (k : ℕ) (out : Option (List ℕ)) (n : ℕ) → length bytes ≡ k → (k == 0) ≡ true → Said rules h (block_items bytes) out out n n h
 says_no_block rules h [] k out n l e = said_none rules h out n
 says_no_block rules h (b ∷ bs) k out n l e = absurd (let bad : k ≡ 0 = eqb-true _ _ e in omega arith)
 
-pub says_block : (rules : Rules) (h h' : Table) (bytes block : List ℕ) (k : ℕ) (out out' : Option (List ℕ)) (n n' : ℕ) (ok : Bool) → length bytes ≡ k → (k == 0) ≡ false → block ≡ bytes → Answered rules h (Block block) out out' n n' h' ok →
+pub says_block : (rules : Rules) (h h' : NamedSession) (bytes block : List ℕ) (k : ℕ) (out out' : Option (List ℕ)) (n n' : ℕ) (ok : Bool) → length bytes ≡ k → (k == 0) ≡ false → block ≡ bytes → Answered rules h (Block block) out out' n n' h' ok →
     Says rules h (block_items bytes) out out' n n' h' ok
 says_block rules h h' [] block k out out' n n' ok l e is p = absurd (eqb-false _ _ e (sym l))
 says_block rules h h' (b ∷ bs) block k out out' n n' ok l e is p = says_one rules h h' (Block (b ∷ bs)) out out' n n' ok (subst (λ v. Answered rules h (Block v) out out' n n' h' ok) is p)
 
 -- a block and then a dot line
-pub says_both : (rules : Rules) (h h' h'' : Table) (block block' line line' : List ℕ) (a : Asked) (out out' out'' : Option (List ℕ)) (n n' n'' : ℕ) (ok : Bool) → block' ≡ block → a ≡ asked line' → line' ≡ line →
+pub says_both : (rules : Rules) (h h' h'' : NamedSession) (block block' line line' : List ℕ) (a : Request) (out out' out'' : Option (List ℕ)) (n n' n'' : ℕ) (ok : Bool) → block' ≡ block → a ≡ request_of line' → line' ≡ line →
     Said rules h (block_items block') out out' n n' h' → Obeyed h' a out' out'' n' n'' h'' ok → Says rules h (block_items block ++ Dot line ∷ []) out out'' n n'' h'' ok
 says_both rules h h' h'' block block' line line' a out out' out'' n n' n'' ok eb eo el p q =
     says_then rules h h' h'' (block_items block) (Dot line ∷ []) out out' out'' n n' n'' ok (subst (λ b. Said rules h (block_items b) out out' n n' h') eb p)
-    (says_order rules h' h'' line a out' out'' n' n'' ok (eo ∙ ap asked el) q)
+    (says_request rules h' h'' line a out' out'' n' n'' ok (eo ∙ ap request_of el) q)
 
-pub says_first : (rules : Rules) (h h' : Table) (block block' line : List ℕ) (out out' : Option (List ℕ)) (n n' : ℕ) (ok : Bool) → ok ≡ false → block' ≡ block → Says rules h (block_items block') out out' n n' h' ok →
+pub says_first : (rules : Rules) (h h' : NamedSession) (block block' line : List ℕ) (out out' : Option (List ℕ)) (n n' : ℕ) (ok : Bool) → ok ≡ false → block' ≡ block → Says rules h (block_items block') out out' n n' h' ok →
     Says rules h (block_items block ++ Dot line ∷ []) out out' n n' h' ok
 says_first rules h h' block block' line out out' n n' ok not eb p =
     subst (λ v. Says rules h (block_items block ++ Dot line ∷ []) out out' n n' h' v) (sym not)
     (subst (λ b. Broke rules h (block_items b ++ Dot line ∷ []) out out' n n' h') eb
     (broke_more rules h h' (block_items block') (Dot line ∷ []) out out' n n' (subst (λ v. Says rules h (block_items block') out out' n n' h' v) not p)))
 
-pub says_items : (rules : Rules) (h h' : Table) (xs ys : List Item) (out out' : Option (List ℕ)) (n n' : ℕ) (ok : Bool) → ys ≡ xs → Says rules h xs out out' n n' h' ok → Says rules h ys out out' n n' h' ok
+pub says_items : (rules : Rules) (h h' : NamedSession) (xs ys : List Item) (out out' : Option (List ℕ)) (n n' : ℕ) (ok : Bool) → ys ≡ xs → Says rules h xs out out' n n' h' ok → Says rules h ys out out' n n' h' ok
 says_items rules h h' xs ys out out' n n' ok e p = subst (λ v. Says rules h v out out' n n' h' ok) (sym e) p
 
-pub says_true : (rules : Rules) (h h' : Table) (items : List Item) (out out' : Option (List ℕ)) (n n' : ℕ) (ok : Bool) → ok ≡ true → Says rules h items out out' n n' h' ok → Said rules h items out out' n n' h'
+pub says_true : (rules : Rules) (h h' : NamedSession) (items : List Item) (out out' : Option (List ℕ)) (n n' : ℕ) (ok : Bool) → ok ≡ true → Says rules h items out out' n n' h' ok → Said rules h items out out' n n' h'
 says_true rules h h' items out out' n n' ok e s = subst (λ v. Says rules h items out out' n n' h' v) e s
 
-pub says_false : (rules : Rules) (h h' : Table) (items : List Item) (out out' : Option (List ℕ)) (n n' : ℕ) (ok : Bool) → ok ≡ false → Says rules h items out out' n n' h' ok → Broke rules h items out out' n n' h'
+pub says_false : (rules : Rules) (h h' : NamedSession) (items : List Item) (out out' : Option (List ℕ)) (n n' : ℕ) (ok : Bool) → ok ≡ false → Says rules h items out out' n n' h' ok → Broke rules h items out out' n n' h'
 says_false rules h h' items out out' n n' ok e s = subst (λ v. Says rules h items out out' n n' h' v) e s
 
 -- a slice to the end

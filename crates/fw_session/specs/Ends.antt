@@ -4,20 +4,20 @@ use Rattle.std.specs.Io.KnownBytes.{Appends, Consumes, IsAtEnd}
 use Rattle.fw_session.specs.Input.{Item, items_of, to_last_dot}
 use Rattle.fw_session.specs.Streams.{Counts}
 use Rattle.hush_run.specs.Meaning.{Rules}
-use Rattle.fw_session.specs.Replies.{Table, Note, reply, replies, MayStand, AllStand}
+use Rattle.fw_session.specs.Replies.{NamedSession, Note, reply, replies, MayStand, AllStand}
 use Rattle.fw_session.specs.declared.ending.SessionEnding.{SessionEnding}
 use Rattle.fw_session.specs.declared.ending.SessionEnding.TheVariants.{Done, ReadFault, TooLong, WriteFault, Memory}
 
 -- for some notes, all these items were answered
-pub record Said (rules : Rules) (h : Table) (items : List Item) (out : Option (List ℕ)) (out' : Option (List ℕ)) (n : ℕ) (n' : ℕ) (h' : Table) : Type 0 where
+pub record Said (rules : Rules) (h : NamedSession) (items : List Item) (out : Option (List ℕ)) (out' : Option (List ℕ)) (n : ℕ) (n' : ℕ) (h' : NamedSession) : Type 0 where
   pub notes : List Note
   pub stand : AllStand rules h items notes
   pub text : Appends out out' (replies rules h items notes).text
   pub count : Counts n n' (replies rules h items notes).text
-  pub table : h' ≡ (replies rules h items notes).table
+  pub session : h' ≡ (replies rules h items notes).session
 
 -- some were answered, and of the next one's text a front went out and no more; it was done, and nothing after it was begun
-pub record Broke (rules : Rules) (h : Table) (items : List Item) (out : Option (List ℕ)) (out' : Option (List ℕ)) (n : ℕ) (n' : ℕ) (h' : Table) : Type 0 where
+pub record Broke (rules : Rules) (h : NamedSession) (items : List Item) (out : Option (List ℕ)) (out' : Option (List ℕ)) (n : ℕ) (n' : ℕ) (h' : NamedSession) : Type 0 where
   pub before : List Item
   pub item : Item
   pub after : List Item
@@ -25,16 +25,16 @@ pub record Broke (rules : Rules) (h : Table) (items : List Item) (out : Option (
   pub notes : List Note
   pub stand : AllStand rules h before notes
   pub note : Note
-  pub may : MayStand rules (replies rules h before notes).table item note
+  pub may : MayStand rules (replies rules h before notes).session item note
   pub front : List ℕ
   pub rest : List ℕ
-  pub text : (reply rules (replies rules h before notes).table item note).text ≡ front ++ rest
+  pub text : (reply rules (replies rules h before notes).session item note).text ≡ front ++ rest
   pub left : 0 < length rest
   pub wrote : Appends out out' ((replies rules h before notes).text ++ front)
   pub count : Counts n n' ((replies rules h before notes).text ++ front)
-  pub table : h' ≡ (reply rules (replies rules h before notes).table item note).table
+  pub session : h' ≡ (reply rules (replies rules h before notes).session item note).session
 
-abbrev pub Says : Rules → Table → List Item → Option (List ℕ) → Option (List ℕ) → ℕ → ℕ → Table → Bool → Type 0
+abbrev pub Says : Rules → NamedSession → List Item → Option (List ℕ) → Option (List ℕ) → ℕ → ℕ → NamedSession → Bool → Type 0
 Says rules h items out out' n n' h' true = Said rules h items out out' n n' h'
 Says rules h items out out' n n' h' false = Broke rules h items out out' n n' h'
 
@@ -46,7 +46,7 @@ abbrev pub IsRead : Option (List ℕ) → Option (List ℕ) → List ℕ → ℕ
 IsRead input input' bytes read = Consumes input input' bytes × (read ≡ length bytes) × (length bytes ≤ input_limit)
 
 -- a whole call
-abbrev pub Ends : SessionEnding → Rules → Table → Option (List ℕ) → Option (List ℕ) → Option (List ℕ) → Option (List ℕ) → ℕ → ℕ → Table → Type 0
+abbrev pub Ends : SessionEnding → Rules → NamedSession → Option (List ℕ) → Option (List ℕ) → Option (List ℕ) → Option (List ℕ) → ℕ → ℕ → NamedSession → Type 0
 Ends Done rules h input input' out out' read written h' =
     (bytes : List ℕ) × IsRead input input' bytes read × IsAtEnd input' × Said rules h (items_of bytes) out out' 0 written h'
 Ends ReadFault rules h input input' out out' read written h' =

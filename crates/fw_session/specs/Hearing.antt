@@ -4,7 +4,7 @@ use Rattle.std.specs.List.{list_all}
 use Rattle.fw_session.specs.Input.{Item, Block, joined, items_of, to_last_dot}
 use Rattle.fw_session.specs.Streams.{Writes}
 use Rattle.hush_run.specs.Meaning.{Rules}
-use Rattle.fw_session.specs.Replies.{Table, Note, Asked, reply, undo_reply, asked_reply, MayStand, UndoNote, AskedNote}
+use Rattle.fw_session.specs.Replies.{NamedSession, Note, Request, reply, undo_reply, request_reply, MayStand, UndoNote, RequestNote}
 use Rattle.fw_session.specs.Ends.{Said, Broke}
 
 -- an item for these bytes, if there are any
@@ -43,36 +43,36 @@ unfoldable pub EndWhole : List Item → Type 0
 EndWhole items = (rest : List Item) → to_last_dot (items ++ rest) ≡ items ++ to_last_dot rest
 
 -- the bytes `bytes` waited, and `piece` came: some items were answered, and the bytes `bytes'` wait
-pub record Heard (rules : Rules) (bytes : List ℕ) (piece : List ℕ) (bytes' : List ℕ) (h : Table) (h' : Table) (out : Option (List ℕ)) (out' : Option (List ℕ)) (n : ℕ) (n' : ℕ) : Type 0 where
+pub record Heard (rules : Rules) (bytes : List ℕ) (piece : List ℕ) (bytes' : List ℕ) (h : NamedSession) (h' : NamedSession) (out : Option (List ℕ)) (out' : Option (List ℕ)) (n : ℕ) (n' : ℕ) : Type 0 where
   pub items : List Item
   pub cuts : (xs : List ℕ) → items_of (bytes ++ (piece ++ xs)) ≡ items ++ items_of (bytes' ++ xs)
   pub whole : EndWhole items
   pub said : Said rules h items out out' n n' h'
 
 -- the same, and the writer failed at one of them
-pub record HeardBroke (rules : Rules) (bytes : List ℕ) (piece : List ℕ) (h : Table) (h' : Table) (out : Option (List ℕ)) (out' : Option (List ℕ)) (n : ℕ) (n' : ℕ) : Type 0 where
+pub record HeardBroke (rules : Rules) (bytes : List ℕ) (piece : List ℕ) (h : NamedSession) (h' : NamedSession) (out : Option (List ℕ)) (out' : Option (List ℕ)) (n : ℕ) (n' : ℕ) : Type 0 where
   pub items : List Item
   pub cuts : (xs : List ℕ) → items_of (bytes ++ (piece ++ xs)) ≡ items ++ items_of xs
   pub whole : EndWhole items
   pub broke : Broke rules h items out out' n n' h'
 
 -- an undo to a mark that was found
-pub record Undid (t : Table) (found : Option ℕ) (out : Option (List ℕ)) (out' : Option (List ℕ)) (n : ℕ) (n' : ℕ) (t' : Table) (ok : Bool) : Type 0 where
+pub record Undid (t : NamedSession) (found : Option ℕ) (out : Option (List ℕ)) (out' : Option (List ℕ)) (n : ℕ) (n' : ℕ) (t' : NamedSession) (ok : Bool) : Type 0 where
   pub note : Note
   pub may : UndoNote found t.held note
   pub wrote : Writes out out' n n' (undo_reply found t note).text ok
-  pub table : t' ≡ (undo_reply found t note).table
+  pub session : t' ≡ (undo_reply found t note).session
 
 -- a dot line obeyed
-pub record Obeyed (t : Table) (asked : Asked) (out : Option (List ℕ)) (out' : Option (List ℕ)) (n : ℕ) (n' : ℕ) (t' : Table) (ok : Bool) : Type 0 where
+pub record Obeyed (t : NamedSession) (request : Request) (out : Option (List ℕ)) (out' : Option (List ℕ)) (n : ℕ) (n' : ℕ) (t' : NamedSession) (ok : Bool) : Type 0 where
   pub note : Note
-  pub may : AskedNote t asked note
-  pub wrote : Writes out out' n n' (asked_reply t asked note).text ok
-  pub table : t' ≡ (asked_reply t asked note).table
+  pub may : RequestNote t request note
+  pub wrote : Writes out out' n n' (request_reply t request note).text ok
+  pub session : t' ≡ (request_reply t request note).session
 
 -- an item answered
-pub record Answered (rules : Rules) (h : Table) (item : Item) (out : Option (List ℕ)) (out' : Option (List ℕ)) (n : ℕ) (n' : ℕ) (h' : Table) (ok : Bool) : Type 0 where
+pub record Answered (rules : Rules) (h : NamedSession) (item : Item) (out : Option (List ℕ)) (out' : Option (List ℕ)) (n : ℕ) (n' : ℕ) (h' : NamedSession) (ok : Bool) : Type 0 where
   pub note : Note
   pub may : MayStand rules h item note
   pub wrote : Writes out out' n n' (reply rules h item note).text ok
-  pub table : h' ≡ (reply rules h item note).table
+  pub session : h' ≡ (reply rules h item note).session

@@ -1,8 +1,8 @@
 pub mod Input
 pub mod Streams
 pub mod Replies
-pub mod Orders
+pub mod Requests
 pub mod Ends
 pub mod Hearing
-pub mod Tables
+pub mod NamedSessions
 pub mod Talks

@@ -1,12 +1,14 @@
 //! Dry runs over streams: blocks of script and dot lines are read, and what they do is written.
 //! docs/dry-runs.md states the rules.
+//!
+//! To read in this order: ending, talking; running; requests, obeying; names, marks; streams.
 #![tactic(auto)]
 
 mod ending;
 mod marks;
 mod names;
 mod obeying;
-mod orders;
+mod requests;
 mod running;
 mod streams;
 mod talking;

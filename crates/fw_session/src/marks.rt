@@ -1,7 +1,7 @@
 //! The marks of a session with their names, in a fixed table.
 ghost use Rattle.std.specs.Prelude.{◌≡◌, ◌++◌, length, map, option_map, replicate, None};
 ghost use Rattle.fw_session.specs.Replies.{standing};
-ghost use Rattle.fw_session.specs.Tables.{table_in, MarksNamed, names_of};
+ghost use Rattle.fw_session.specs.NamedSessions.{named_session, MarksNamed, names_of};
 
 use crate::names::Name;
 use arrayvec::ArrayVec;
@@ -23,7 +23,7 @@ pub(crate) fn unnamed(session: &Session) -> Names
 
 /// The names of the marks that stand.
 pub(crate) fn standing<'a>(names: &'a Names, session: &Session) -> &'a [Option<Name>]
-    ensures { names_of result.now ≡ standing (table_in session.now (names_of names.now.items)) }
+    ensures { names_of result.now ≡ standing (named_session session.now (names_of names.now.items)) }
 {
     let all = names.as_slice();
     &all[..all.len().min(session.marks() as usize + 1)]
@@ -31,7 +31,7 @@ pub(crate) fn standing<'a>(names: &'a Names, session: &Session) -> &'a [Option<N
 
 /// Makes a mark of this name where fewer than 64 stand: whether it is made.
 pub(crate) fn mark(session: &mut Session, names: &mut Names, name: Name) -> bool
-    ensures { MarksNamed (table_in session.old (names_of names.old.items)) name.items (table_in session.new (names_of names.new.items)) result }
+    ensures { MarksNamed (named_session session.old (names_of names.old.items)) name.items (named_session session.new (names_of names.new.items)) result }
 {
     let count = session.marks() as usize + 1;
     match session.mark() {

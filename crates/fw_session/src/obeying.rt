@@ -2,13 +2,13 @@
 ghost use Rattle.std.specs.Prelude.{◌≡◌, ◌<◌, ◌++◌, [], ◌∷◌, Some, length};
 ghost use Rattle.fw_session.specs.Replies.{listing};
 ghost use Rattle.fw_session.specs.Hearing.{Obeyed, Undid};
-ghost use Rattle.fw_session.specs.Orders.{asked_by};
+ghost use Rattle.fw_session.specs.Requests.{request_view};
 ghost use Rattle.fw_session.specs.Streams.{Writes};
-ghost use Rattle.fw_session.specs.Tables.{table_in, names_of};
+ghost use Rattle.fw_session.specs.NamedSessions.{named_session, names_of};
 
 use crate::marks::{Names, mark, standing};
 use crate::names::last_named;
-use crate::orders::Order;
+use crate::requests::Request;
 use crate::streams::write_text;
 use env_session::{Session, Side, UndoFault};
 use std::io::Write;
@@ -17,37 +17,37 @@ use std::io::Write;
 pub(crate) fn obey<W: Write>(
     session: &mut Session,
     names: &mut Names,
-    order: Order,
+    request: Request,
     output: &mut W,
     written: &mut u64,
 ) -> bool
-    ensures { Obeyed (table_in session.old (names_of names.old.items)) (asked_by order) (W.contents output.old)
-        (W.contents output.new) written.old written.new (table_in session.new (names_of names.new.items)) result }
+    ensures { Obeyed (named_session session.old (names_of names.old.items)) (request_view request) (W.contents output.old)
+        (W.contents output.new) written.old written.new (named_session session.new (names_of names.new.items)) result }
 {
-    match order {
-        Order::Undo => {
+    match request {
+        Request::Undo => {
             // Does nothing: it tells the prover that the opening stands.
             let _marks = session.marks();
             undo(session, names, 0, output, written)
         }
-        Order::Save => match session.save() {
+        Request::Save => match session.save() {
             Ok(Side::First) => write_text(output, b"Saved copy 1\n", written),
             Ok(Side::Second) => write_text(output, b"Saved copy 2\n", written),
             Err(_refused) => write_text(output, b"[Memory]\n", written),
         },
-        Order::Print => write_lines(session, output, written),
-        Order::Mark(name) => {
+        Request::Print => write_lines(session, output, written),
+        Request::Mark(name) => {
             if mark(session, names, name) {
                 write_text(output, b"[Marked]\n", written)
             } else {
                 write_text(output, b"[Full]\n", written)
             }
         }
-        Order::UndoTo(name) => match last_named(standing(names, session), &name) {
+        Request::UndoTo(name) => match last_named(standing(names, session), &name) {
             Some(found) => undo(session, names, found, output, written),
             None => write_text(output, b"[Gone]\n", written),
         },
-        Order::Unknown => write_text(output, b"[Unknown]\n", written),
+        Request::Unknown => write_text(output, b"[Unknown]\n", written),
     }
 }
 
@@ -60,8 +60,8 @@ fn undo<W: Write>(
     written: &mut u64,
 ) -> bool
     requires { found < length session.old.marks }
-    ensures { Undid (table_in session.old (names_of names.now.items)) (Some found) (W.contents output.old)
-        (W.contents output.new) written.old written.new (table_in session.new (names_of names.now.items)) result }
+    ensures { Undid (named_session session.old (names_of names.now.items)) (Some found) (W.contents output.old)
+        (W.contents output.new) written.old written.new (named_session session.new (names_of names.now.items)) result }
 {
     // Does nothing: it tells the prover that there are at most 65 marks.
     let _marks = session.marks();

@@ -4,7 +4,7 @@ ghost use Rattle.fw_session.specs.Input.{Block};
 ghost use Rattle.fw_session.specs.Replies.{ending_name, ending_line};
 ghost use Rattle.fw_session.specs.Hearing.{Answered};
 ghost use Rattle.fw_session.specs.Streams.{Writes};
-ghost use Rattle.fw_session.specs.Tables.{table_in};
+ghost use Rattle.fw_session.specs.NamedSessions.{named_session};
 ghost use Rattle.hush_run.specs.Runs.{rules};
 
 use crate::streams::write_text;
@@ -26,9 +26,9 @@ pub(crate) fn run_block<W: Write>(
     output: &mut W,
     written: &mut u64,
 ) -> bool
-    ensures { (names : List (Option (List ℕ))) → Answered (rules stubs.now limits.now) (table_in session.old names)
+    ensures { (names : List (Option (List ℕ))) → Answered (rules stubs.now limits.now) (named_session session.old names)
         (Block block.items) (W.contents output.old) (W.contents output.new) written.old written.new
-        (table_in session.new names) result }
+        (named_session session.new names) result }
 {
     match Script::parse(alloc, block) {
         Ok(script) => {

@@ -1,7 +1,7 @@
 //! A session over a reader and a writer.
 ghost use Rattle.std.specs.Prelude.{◌≡◌, ◌+◌, ◌≤◌, ◌<◌, ◌++◌, [], ◌∷◌, ℕ, List, Option, length, take, drop};
 ghost use Rattle.fw_session.specs.Input.{Block, Dot, items_of};
-ghost use Rattle.fw_session.specs.Tables.{table_in, table_of, names_of, unnamed};
+ghost use Rattle.fw_session.specs.NamedSessions.{named_session, session_of, names_of, unnamed};
 ghost use Rattle.fw_session.specs.Ends.{Says, Ends};
 ghost use Rattle.fw_session.specs.Hearing.{IsPending, IsLine, block_items};
 ghost use Rattle.fw_session.specs.Talks.{Hears, HearsByte, HearsLine, Finishes};
@@ -10,7 +10,7 @@ ghost use Rattle.hush_run.specs.Runs.{rules};
 use crate::ending::{SessionEnd, SessionEnding, Stop};
 use crate::marks::{Names, unnamed};
 use crate::obeying::obey;
-use crate::orders::order_of;
+use crate::requests::request_of;
 use crate::running::run_block;
 use env_session::Session;
 use hush_run::{Limits, Stubs};
@@ -51,7 +51,7 @@ pub fn session<R: Read, W: Write>(
 ) -> SessionEnd
     ensures { (names : List (Option (List ℕ))) × Ends result.ending (rules stubs.now limits.now) (unnamed session)
         (R.remaining input.old) (R.remaining input.new) (W.contents output.old) (W.contents output.new) result.read
-        result.written (table_in result.session names) }
+        result.written (named_session result.session names) }
 {
     let names = unnamed(&session);
     let mut talk = Talk {
@@ -110,9 +110,9 @@ fn finished<W: Write>(
 ) -> SessionEnd
     requires { IsPending talk.bytes.items talk.start }
     ensures read { result.read ≡ read }
-    ensures ends { (names : List (Option (List ℕ))) × Finishes (rules stubs.now limits.now) (table_of talk)
+    ensures ends { (names : List (Option (List ℕ))) × Finishes (rules stubs.now limits.now) (session_of talk)
         talk.bytes.items (W.contents output.old) (W.contents output.new) talk.written result.written
-        (table_in result.session names) result.ending }
+        (named_session result.session names) result.ending }
 {
     let mut talk = talk;
     if answer_rest(&mut talk, stubs, limits, output) {
@@ -125,8 +125,8 @@ fn finished<W: Write>(
 /// Answers what waits at the end of the input.
 fn answer_rest<W: Write>(talk: &mut Talk, stubs: &Stubs, limits: &Limits, output: &mut W) -> bool
     requires { IsPending talk.old.bytes.items talk.old.start }
-    ensures { Says (rules stubs.now limits.now) (table_of talk.old) (items_of talk.old.bytes.items)
-        (W.contents output.old) (W.contents output.new) talk.old.written talk.new.written (table_of talk.new) result }
+    ensures { Says (rules stubs.now limits.now) (session_of talk.old) (items_of talk.old.bytes.items)
+        (W.contents output.old) (W.contents output.new) talk.old.written talk.new.written (session_of talk.new) result }
 {
     if talk.start < talk.bytes.len() && talk.bytes[talk.start] == b'.' {
         answer_dot(talk, stubs, limits, output)
@@ -140,18 +140,18 @@ fn answer_dot<W: Write>(talk: &mut Talk, stubs: &Stubs, limits: &Limits, output:
     requires { talk.old.start ≤ length talk.old.bytes.items }
     ensures empty { talk.new.bytes.items ≡ [] }
     ensures start { talk.new.start ≡ 0 }
-    ensures says { Says (rules stubs.now limits.now) (table_of talk.old)
+    ensures says { Says (rules stubs.now limits.now) (session_of talk.old)
         (block_items (take talk.old.start talk.old.bytes.items) ++ Dot (drop talk.old.start talk.old.bytes.items) ∷ [])
-        (W.contents output.old) (W.contents output.new) talk.old.written talk.new.written (table_of talk.new) result }
+        (W.contents output.old) (W.contents output.new) talk.old.written talk.new.written (session_of talk.new) result }
 {
-    let order = order_of(&talk.bytes[talk.start..]);
+    let request = request_of(&talk.bytes[talk.start..]);
     talk.bytes.truncate(talk.start);
     talk.start = 0;
     answer_block(talk, stubs, limits, output)
         && obey(
             &mut talk.session,
             &mut talk.names,
-            order,
+            request,
             output,
             &mut talk.written,
         )
@@ -161,8 +161,8 @@ fn answer_dot<W: Write>(talk: &mut Talk, stubs: &Stubs, limits: &Limits, output:
 fn answer_block<W: Write>(talk: &mut Talk, stubs: &Stubs, limits: &Limits, output: &mut W) -> bool
     ensures empty { talk.new.bytes.items ≡ [] }
     ensures start { talk.new.start ≡ talk.old.start }
-    ensures says { Says (rules stubs.now limits.now) (table_of talk.old) (block_items talk.old.bytes.items)
-        (W.contents output.old) (W.contents output.new) talk.old.written talk.new.written (table_of talk.new) result }
+    ensures says { Says (rules stubs.now limits.now) (session_of talk.old) (block_items talk.old.bytes.items)
+        (W.contents output.old) (W.contents output.new) talk.old.written talk.new.written (session_of talk.new) result }
 {
     if talk.bytes.is_empty() {
         return true;

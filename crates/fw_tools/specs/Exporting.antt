@@ -1,4 +1,4 @@
--- What export prints (docs/tools.md, "fwenv export").
+-- What export prints (docs/tools.md, "The tools over a session").
 use Rattle.std.specs.Prelude.{ℕ, List, [], ◌∷◌, codes, if◌then◌else◌}
 use Rattle.std.specs.List.{flat_map}
 use Rattle.std.specs.FinMap.{entries}

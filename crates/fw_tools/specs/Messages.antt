@@ -1,4 +1,4 @@
--- The messages that name a variable (docs/tools.md, "Messages").
+-- The messages that name a variable (docs/tools.md, "The tools over a session").
 use Rattle.std.specs.Prelude.{ℕ, List, [], ◌∷◌, ◌++◌, codes}
 use Rattle.envvars_core.specs.declared.refusals.Refusal.{Refusal}
 use Rattle.envvars_core.specs.declared.refusals.Refusal.TheVariants.{BadForm, BadType, NoCreate, NoDelete, NoOverwrite, Full, Memory}

@@ -1,4 +1,4 @@
--- What printenv prints (docs/tools.md, "fwenv printenv").
+-- What printenv prints (docs/tools.md, "The tools over a session").
 use Rattle.std.specs.Prelude.{◌≡◌, ℕ, ◌==◌, Bool, true, false, if◌then◌else◌, List, [], ◌∷◌, ◌++◌, length, codes, Option, Some, None, is_none, MatchOption}
 use Rattle.std.specs.List.{flat_map, list_any}
 use Rattle.std.specs.FinMap.{get}

@@ -1,4 +1,4 @@
--- What setenv, a set script and an import do to a session (docs/tools.md, "fwenv setenv" and "fwenv import").
+-- What setenv, a set script and an import do to a session (docs/tools.md, "The tools over a session").
 use Rattle.std.specs.Prelude.{◌≡◌, ℕ, zero, suc, List, [], ◌∷◌, ◌++◌, Option, Some, None, take, false, codes}
 use Rattle.std.specs.Fmt.{decimal}
 use Rattle.std.specs.Io.KnownBytes.{Appends, Keeps}

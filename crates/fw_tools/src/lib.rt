@@ -1,4 +1,8 @@
-//! The tools over readers, writers and sessions.
+//! The tools over readers, writers and sessions: what `printenv`, `setenv`, a set script, `import` and `export` do to a
+//! session and print, what the program shows of an image, and the default environment of a text. docs/tools.md states the
+//! rules.
+//!
+//! To read in this order: ending, streams, messages, saying; showing; printing, exporting; counting, setting; defaulting.
 #![tactic(auto)]
 
 mod counting;

@@ -1,6 +1,6 @@
 //! The texts that the tools print besides variables, each once.
 
-/// Standard error where the bytes read are no image: length, checksum or end of the list.
+/// Standard error where the bytes read are no image: their length is none that an image has.
 pub(crate) const BAD_LENGTH: &[u8] = b"## Error: bad image: BadLength\n";
 
 /// The checksum is another.

@@ -129,7 +129,7 @@ fn print_name<W: Write, E: Write>(
     }
 }
 
-/// Whether one of two holds.
+/// Whether one of two holds; a function of its own, so that the prover has one case where `||` has three.
 fn either(one: bool, other: bool) -> bool
     ensures { result ≡ (one || other) }
 {

@@ -212,6 +212,7 @@ fn write_entry(session: &mut Session, entry: &TextEntry) -> Result<Option<Refusa
     ensures done { IfOk result (λ _. session.new ≡ write_done session.old (entry_in entry.now).0 (entry_in entry.now).1 false) }
     ensures unchanged { OnErr result (session.new ≡ session.old) }
 {
+    // A match where the answer would do: it has the prover look at both endings apart.
     match write(session, &entry.name, value_of(entry)) {
         Ok(refusal) => Ok(refusal),
         Err(Memory) => Err(Memory),

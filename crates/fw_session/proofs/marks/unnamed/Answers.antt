@@ -1,6 +1,6 @@
 use Rattle.std.proofs.Common.{◌≡◌, ◌<◌, ◌+◌, ℕ, length, None, ap, ◌∙◌, arith}
 use Rattle.std.specs.Prelude.{replicate}
-use Rattle.fw_session.specs.Tables.{names_of}
+use Rattle.fw_session.specs.NamedSessions.{names_of}
 use Rattle.fw_session.proofs.MarkLemmas.{one_unnamed}
 use Rattle.fw_session.proofs.marks.unnamed.Goals as goal
 

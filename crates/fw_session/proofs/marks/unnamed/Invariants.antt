@@ -1,6 +1,6 @@
 use Rattle.std.proofs.Common.{◌≡◌, None, length}
 use Rattle.std.specs.Prelude.{replicate}
-use Rattle.fw_session.specs.Tables.{names_of}
+use Rattle.fw_session.specs.NamedSessions.{names_of}
 use Rattle.fw_session.proofs.marks.unnamed.Given as goal
 
 abbrev pub invariant-loop-mark : goal.invariant-loop-mark

@@ -1,4 +1,4 @@
-use Rattle.fw_session.proofs.OrderLemmas.{undo_stopped, undo_refused}
+use Rattle.fw_session.proofs.RequestLemmas.{undo_stopped, undo_refused}
 use Rattle.fw_session.proofs.obeying.undo.Goals as goal
 
 pub returns-in-Err-Memory : goal.returns-in-Err-Memory

@@ -1,5 +1,5 @@
 use Rattle.std.proofs.Common.{sym, ap, ◌∙◌}
-use Rattle.fw_session.specs.Tables.{names_of}
+use Rattle.fw_session.specs.NamedSessions.{names_of}
 use Rattle.fw_session.proofs.SaysLemmas.{says_no_block, says_block, long}
 use Rattle.fw_session.proofs.talking.answer_block.Goals as goal
 

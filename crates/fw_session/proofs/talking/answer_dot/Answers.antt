@@ -3,7 +3,7 @@ use Rattle.fw_session.proofs.talking.answer_dot.Goals as goal
 
 pub returns-then-answer_block-clause-says : goal.returns-then-answer_block-clause-says
 returns-then-answer_block-clause-says g c =
-    says_both _ _ _ _ _ c.truncate.new.self.items _ _ _ _ _ _ _ _ _ c.obey.result c.truncate.ensures.items c.order_of-order.ensures (slice_rest _ _ _ c.deref.ensures.value) c.if-answer_block.ensures.says c.obey.ensures
+    says_both _ _ _ _ _ c.truncate.new.self.items _ _ _ _ _ _ _ _ _ c.obey.result c.truncate.ensures.items c.request_of-request.ensures (slice_rest _ _ _ c.deref.ensures.value) c.if-answer_block.ensures.says c.obey.ensures
 
 pub returns-else-answer_block-clause-says : goal.returns-else-answer_block-clause-says
 returns-else-answer_block-clause-says g c = says_first _ _ _ _ c.truncate.new.self.items _ _ _ _ _ c.answer_block.result c.if-answer_block.false c.truncate.ensures.items c.answer_block.ensures.says

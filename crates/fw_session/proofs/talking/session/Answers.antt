@@ -1,11 +1,11 @@
 use Rattle.std.proofs.Common.{arith, refl, ap, length, ◌+◌, ◌≤◌, ◌<◌, ◌≡◌, length-take}
 use Rattle.fw_session.specs.declared.ending.SessionEnding.TheVariants.{ReadFault, TooLong, WriteFault, Memory}
-use Rattle.fw_session.specs.Tables.{table_in, unnamed}
+use Rattle.fw_session.specs.NamedSessions.{named_session, unnamed}
 use Rattle.fw_session.proofs.EndLemmas.{ended_as, reading_none, reading_more, read_failed, one_too_many, at_its_end, write_failed, no_room, gave_piece, piece_long, stopped_by_write, stopped_by_memory}
 use Rattle.fw_session.proofs.talking.session.Goals as goal
 
 pub loop-read-init : goal.loop-read-init
-loop-read-init g c = reading_none _ (unnamed c.args.session) _ _ _ c.new.ensures.items refl (ap (table_in c.args.session) c.unnamed-names.ensures) refl
+loop-read-init g c = reading_none _ (unnamed c.args.session) _ _ _ c.new.ensures.items refl (ap (named_session c.args.session) c.unnamed-names.ensures) refl
 
 pub returns-in-Err : goal.returns-in-Err
 returns-in-Err g c =

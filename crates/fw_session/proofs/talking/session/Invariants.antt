@@ -1,6 +1,6 @@
 use Rattle.std.proofs.Common.{◌-◌}
 use Rattle.hush_run.specs.Runs.{rules}
-use Rattle.fw_session.specs.Tables.{unnamed}
+use Rattle.fw_session.specs.NamedSessions.{unnamed}
 use Rattle.fw_session.specs.Talks.{Reading}
 use Rattle.fw_session.proofs.talking.session.Given as goal
 

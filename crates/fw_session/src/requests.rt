@@ -1,13 +1,13 @@
 //! Dot lines.
 ghost use Rattle.std.specs.Prelude.{◌≡◌, take, drop};
-ghost use Rattle.fw_session.specs.Replies.{asked, asked_in, named_in, is_end_blank};
-ghost use Rattle.fw_session.specs.Orders.{asked_by};
+ghost use Rattle.fw_session.specs.Replies.{request_of, request_in, named_request_in, is_end_blank};
+ghost use Rattle.fw_session.specs.Requests.{request_view};
 
 use crate::names::{Name, name_in};
 
 /// What a dot line asks for.
 #[derive(Drop)]
-pub(crate) enum Order {
+pub(crate) enum Request {
     Undo,
     Save,
     Print,
@@ -17,48 +17,48 @@ pub(crate) enum Order {
 }
 
 /// What a dot line asks for.
-pub(crate) fn order_of(line: &[u8]) -> Order
-    ensures { asked_by result ≡ asked line.now }
+pub(crate) fn request_of(line: &[u8]) -> Request
+    ensures { request_view result ≡ request_of line.now }
 {
     let mut length = line.len();
     while length > 0 && is_end_blank(line[length - 1]) {
         length -= 1;
     }
-    order_in(&line[..length])
+    request_in(&line[..length])
 }
 
 /// The same of a line without the blanks at its end.
-fn order_in(word: &[u8]) -> Order
-    ensures { asked_by result ≡ asked_in word.now }
+fn request_in(word: &[u8]) -> Request
+    ensures { request_view result ≡ request_in word.now }
 {
     if word == b".undo".as_slice() {
-        Order::Undo
+        Request::Undo
     } else if word == b".save".as_slice() {
-        Order::Save
+        Request::Save
     } else if word == b".print".as_slice() {
-        Order::Print
+        Request::Print
     } else {
-        named_order_in(word)
+        named_request_in(word)
     }
 }
 
 /// The same of a line with a name, if it has one.
-fn named_order_in(word: &[u8]) -> Order
-    ensures { asked_by result ≡ named_in word.now }
+fn named_request_in(word: &[u8]) -> Request
+    ensures { request_view result ≡ named_request_in word.now }
 {
     let front = front_of(word);
     if front == b".mark".as_slice() {
         match name_in(behind_of(word)) {
-            Some(name) => Order::Mark(name),
-            None => Order::Unknown,
+            Some(name) => Request::Mark(name),
+            None => Request::Unknown,
         }
     } else if front == b".undo".as_slice() {
         match name_in(behind_of(word)) {
-            Some(name) => Order::UndoTo(name),
-            None => Order::Unknown,
+            Some(name) => Request::UndoTo(name),
+            None => Request::Unknown,
         }
     } else {
-        Order::Unknown
+        Request::Unknown
     }
 }
 

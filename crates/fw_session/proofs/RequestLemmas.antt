@@ -12,60 +12,60 @@ use Rattle.env_session.specs.declared.faults.UndoFault.TheVariants.{Memory}
 use Rattle.env_session.specs.declared.stored.Side.{Side}
 use Rattle.hush_commands.specs.Saving.{saved_line}
 use Rattle.fw_session.proofs.StreamLemmas.{writes_none, writes_then, writes_broke}
-use Rattle.fw_session.specs.Orders.{asked_by}
+use Rattle.fw_session.specs.Requests.{request_view}
 use Rattle.fw_session.specs.Streams.{Writes}
-use Rattle.fw_session.specs.Tables.{table_in, MarksNamed}
-use Rattle.fw_session.specs.Replies.{Table, Through, Refused, Stopped, Asked, Undo, Save, Print, Mark, UndoTo, Unknown, said, listing, line_of, standing, last_named, trimmed, onto_trimmed, is_end_blank, asked_in, asked}
+use Rattle.fw_session.specs.NamedSessions.{named_session, MarksNamed}
+use Rattle.fw_session.specs.Replies.{NamedSession, Through, Refused, Stopped, Request, Undo, Save, Print, Mark, UndoTo, Unknown, said, listing, line_of, standing, last_named, trimmed, onto_trimmed, is_end_blank, request_in, request_of}
 use Rattle.fw_session.specs.Hearing.{Obeyed, Undid}
-use Rattle.fw_session.specs.declared.orders.Order.{Order}
+use Rattle.fw_session.specs.declared.requests.Request as code
 
 -- an undo to a mark that stands
 pub undo_done : (h h' : Held) (names : List (Option (List ℕ))) (k : ℕ) (out out' : Option (List ℕ)) (n n' : ℕ) (ok : Bool) → h' ≡ undone k h → Writes out out' n n' (said (codes "[Undone]")) ok →
-    Undid (table_in h names) (Some k) out out' n n' (table_in h' names) ok
-undo_done h h' names k out out' n n' ok e w = record { note = Through; may = tt; wrote = w; table = ap (λ v. table_in v names) e }
+    Undid (named_session h names) (Some k) out out' n n' (named_session h' names) ok
+undo_done h h' names k out out' n n' ok e w = record { note = Through; may = tt; wrote = w; session = ap (λ v. named_session v names) e }
 
 pub undo_stopped : (h h' : Held) (names : List (Option (List ℕ))) (k j : ℕ) (out out' : Option (List ℕ)) (n n' : ℕ) (ok : Bool) → IsStopped k h h' j → Writes out out' n n' (said (codes "[Memory]")) ok →
-    Undid (table_in h names) (Some k) out out' n n' (table_in h' names) ok
+    Undid (named_session h names) (Some k) out out' n n' (named_session h' names) ok
 undo_stopped h h' names k j out out' n n' ok s w =
-    record { note = Stopped j; may = subst (λ v. IsStopped k h v j) s.left s; wrote = w; table = ap (λ v. table_in v names) s.left }
+    record { note = Stopped j; may = subst (λ v. IsStopped k h v j) s.left s; wrote = w; session = ap (λ v. named_session v names) s.left }
 
 pub undo_refused : (k : ℕ) (h h' : Held) (fault : UndoFault) → fault ≡ Memory → UndoesTo k h h' (Err fault) → (j : ℕ) × IsStopped k h h' j
 undo_refused k h h' fault e u = subst (λ f. UndoesTo k h h' (Err f)) e u
 
-pub undo_obeyed : (t t' : Table) (out out' : Option (List ℕ)) (n n' : ℕ) (ok : Bool) → Undid t (Some 0) out out' n n' t' ok → Obeyed t Undo out out' n n' t' ok
-undo_obeyed t t' out out' n n' ok u = record { note = u.note; may = u.may; wrote = u.wrote; table = u.table }
+pub undo_obeyed : (t t' : NamedSession) (out out' : Option (List ℕ)) (n n' : ℕ) (ok : Bool) → Undid t (Some 0) out out' n n' t' ok → Obeyed t Undo out out' n n' t' ok
+undo_obeyed t t' out out' n n' ok u = record { note = u.note; may = u.may; wrote = u.wrote; session = u.session }
 
-undo_to_obeyed : (t t' : Table) (name : List ℕ) (found : Option ℕ) (out out' : Option (List ℕ)) (n n' : ℕ) (ok : Bool) → found ≡ last_named name (standing t) → Undid t found out out' n n' t' ok → Obeyed t (UndoTo name) out out' n n' t' ok
+undo_to_obeyed : (t t' : NamedSession) (name : List ℕ) (found : Option ℕ) (out out' : Option (List ℕ)) (n n' : ℕ) (ok : Bool) → found ≡ last_named name (standing t) → Undid t found out out' n n' t' ok → Obeyed t (UndoTo name) out out' n n' t' ok
 undo_to_obeyed t t' name found out out' n n' ok e u =
     let v : Undid t (last_named name (standing t)) out out' n n' t' ok = subst (λ f. Undid t f out out' n n' t' ok) e u in
-    record { note = v.note; may = v.may; wrote = v.wrote; table = v.table }
+    record { note = v.note; may = v.may; wrote = v.wrote; session = v.session }
 
-pub found_obeyed : (t t' : Table) (name : List ℕ) (k : ℕ) (marks : List (Option (List ℕ))) (out out' : Option (List ℕ)) (n n' : ℕ) (ok : Bool) → marks ≡ standing t → Some k ≡ last_named name marks → Undid t (Some k) out out' n n' t' ok →
+pub found_obeyed : (t t' : NamedSession) (name : List ℕ) (k : ℕ) (marks : List (Option (List ℕ))) (out out' : Option (List ℕ)) (n n' : ℕ) (ok : Bool) → marks ≡ standing t → Some k ≡ last_named name marks → Undid t (Some k) out out' n n' t' ok →
     Obeyed t (UndoTo name) out out' n n' t' ok
 found_obeyed t t' name k marks out out' n n' ok s e u = undo_to_obeyed t t' name (Some k) out out' n n' ok (e ∙ ap (last_named name) s) u
 
-pub gone_obeyed : (t : Table) (name : List ℕ) (marks : List (Option (List ℕ))) (out out' : Option (List ℕ)) (n n' : ℕ) (ok : Bool) → marks ≡ standing t → None ≡ last_named name marks → Writes out out' n n' (said (codes "[Gone]")) ok →
+pub gone_obeyed : (t : NamedSession) (name : List ℕ) (marks : List (Option (List ℕ))) (out out' : Option (List ℕ)) (n n' : ℕ) (ok : Bool) → marks ≡ standing t → None ≡ last_named name marks → Writes out out' n n' (said (codes "[Gone]")) ok →
     Obeyed t (UndoTo name) out out' n n' t ok
 gone_obeyed t name marks out out' n n' ok s e w =
-    let u : Undid t None out out' n n' t ok = record { note = Through; may = tt; wrote = w; table = refl } in
+    let u : Undid t None out out' n n' t ok = record { note = Through; may = tt; wrote = w; session = refl } in
     undo_to_obeyed t t name None out out' n n' ok (e ∙ ap (last_named name) s) u
 
 pub save_done : (h h' : Held) (names : List (Option (List ℕ))) (side : Side) (out out' : Option (List ℕ)) (n n' : ℕ) (ok : Bool) → side ≡ side_of h → h' ≡ saved h → Writes out out' n n' (saved_line side) ok →
-    Obeyed (table_in h names) Save out out' n n' (table_in h' names) ok
+    Obeyed (named_session h names) Save out out' n n' (named_session h' names) ok
 save_done h h' names side out out' n n' ok which e w =
-    record { note = Through; may = tt; wrote = subst (λ s. Writes out out' n n' (saved_line s) ok) which w; table = ap (λ v. table_in v names) e }
+    record { note = Through; may = tt; wrote = subst (λ s. Writes out out' n n' (saved_line s) ok) which w; session = ap (λ v. named_session v names) e }
 
 pub save_refused : (h h' : Held) (names : List (Option (List ℕ))) (out out' : Option (List ℕ)) (n n' : ℕ) (ok : Bool) → h' ≡ h → last_saved (side_of h) h.marks ≡ false → Writes out out' n n' (said (codes "[Memory]")) ok →
-    Obeyed (table_in h names) Save out out' n n' (table_in h' names) ok
-save_refused h h' names out out' n n' ok e may w = record { note = Refused; may = may; wrote = w; table = ap (λ v. table_in v names) e }
+    Obeyed (named_session h names) Save out out' n n' (named_session h' names) ok
+save_refused h h' names out out' n n' ok e may w = record { note = Refused; may = may; wrote = w; session = ap (λ v. named_session v names) e }
 
-pub print_done : (t : Table) (out out' : Option (List ℕ)) (n n' : ℕ) (ok : Bool) → Writes out out' n n' (listing t.held.now.env) ok → Obeyed t Print out out' n n' t ok
-print_done t out out' n n' ok w = record { note = Through; may = tt; wrote = w; table = refl }
+pub print_done : (t : NamedSession) (out out' : Option (List ℕ)) (n n' : ℕ) (ok : Bool) → Writes out out' n n' (listing t.held.now.env) ok → Obeyed t Print out out' n n' t ok
+print_done t out out' n n' ok w = record { note = Through; may = tt; wrote = w; session = refl }
 
-pub unknown_told : (t : Table) (out out' : Option (List ℕ)) (n n' : ℕ) (ok : Bool) → Writes out out' n n' (said (codes "[Unknown]")) ok → Obeyed t Unknown out out' n n' t ok
-unknown_told t out out' n n' ok w = record { note = Through; may = tt; wrote = w; table = refl }
+pub unknown_told : (t : NamedSession) (out out' : Option (List ℕ)) (n n' : ℕ) (ok : Bool) → Writes out out' n n' (said (codes "[Unknown]")) ok → Obeyed t Unknown out out' n n' t ok
+unknown_told t out out' n n' ok w = record { note = Through; may = tt; wrote = w; session = refl }
 
-pub mark_made : (t t' : Table) (name : List ℕ) (made : Bool) (out out' : Option (List ℕ)) (n n' : ℕ) (ok : Bool) → MarksNamed t name t' made → made ≡ true → Writes out out' n n' (said (codes "[Marked]")) ok → Obeyed t (Mark name) out out' n n' t' ok
+pub mark_made : (t t' : NamedSession) (name : List ℕ) (made : Bool) (out out' : Option (List ℕ)) (n n' : ℕ) (ok : Bool) → MarksNamed t name t' made → made ≡ true → Writes out out' n n' (said (codes "[Marked]")) ok → Obeyed t (Mark name) out out' n n' t' ok
 mark_made t t' name false out out' n n' ok m e w = absurd (cc)
 mark_made t t' name true out out' n n' ok m e w =
     let room : (nat_lt 64 (length t.held.marks)) ≡ false = m.0 in
@@ -73,10 +73,10 @@ mark_made t t' name true out out' n n' ok m e w =
       note = Through;
       may = tt;
       wrote = rw room w;
-      table = rw room m.1;
+      session = rw room m.1;
     }
 
-pub mark_full : (t t' : Table) (name : List ℕ) (made : Bool) (out out' : Option (List ℕ)) (n n' : ℕ) (ok : Bool) → MarksNamed t name t' made → made ≡ false → Writes out out' n n' (said (codes "[Full]")) ok → Obeyed t (Mark name) out out' n n' t' ok
+pub mark_full : (t t' : NamedSession) (name : List ℕ) (made : Bool) (out out' : Option (List ℕ)) (n n' : ℕ) (ok : Bool) → MarksNamed t name t' made → made ≡ false → Writes out out' n n' (said (codes "[Full]")) ok → Obeyed t (Mark name) out out' n n' t' ok
 mark_full t t' name true out out' n n' ok m e w = absurd (cc)
 mark_full t t' name false out out' n n' ok m e w =
     let full : (nat_lt 64 (length t.held.marks)) ≡ true = m.0 in
@@ -84,11 +84,11 @@ mark_full t t' name false out out' n n' ok m e w =
       note = Through;
       may = tt;
       wrote = rw full w;
-      table = rw full m.1;
+      session = rw full m.1;
     }
 
--- what an order asks for
-pub obeyed_as : (t t' : Table) (a a' : Asked) (out out' : Option (List ℕ)) (n n' : ℕ) (ok : Bool) → a' ≡ a → Obeyed t a out out' n n' t' ok → Obeyed t a' out out' n n' t' ok
+-- what a dot line asks for
+pub obeyed_as : (t t' : NamedSession) (a a' : Request) (out out' : Option (List ℕ)) (n n' : ℕ) (ok : Bool) → a' ≡ a → Obeyed t a out out' n n' t' ok → Obeyed t a' out out' n n' t' ok
 obeyed_as t t' a a' out out' n n' ok e o = subst (λ v. Obeyed t v out out' n n' t' ok) (sym e) o
 
 lines_joined : (ps : List Pair) → flat_map (λ x. x ++ 10 ∷ []) (map (λ p. p.0 ++ 61 ∷ p.1) ps) ≡ flat_map line_of ps
@@ -150,6 +150,6 @@ pub trim_none : (line : List ℕ) (n : ℕ) → n ≤ 0 → (n ≤ length line) 
 trim_none line zero z was = was.1
 trim_none line (suc n) z was = absurd (omega arith)
 
-pub order_known : (line word : List ℕ) (order : Order) → asked_by order ≡ asked_in word → trimmed line ≡ word → asked_by order ≡ asked line
-unfolding asked
-order_known line word order e t = e ∙ ap asked_in (sym t)
+pub request_known : (line word : List ℕ) (request : code.Request) → request_view request ≡ request_in word → trimmed line ≡ word → request_view request ≡ request_of line
+unfolding request_of
+request_known line word request e t = e ∙ ap request_in (sym t)
