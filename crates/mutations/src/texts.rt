@@ -178,11 +178,29 @@ fn imported_at_once(
     )
 }
 
-/// The variables that can be exported are read back as they are.
+/// Whether an import would read back the name of each variable.
+fn are_exportable(session: &Session) -> bool {
+    for (name, _) in session.vars().iter() {
+        if matches!(name, [b' ' | b'\t' | b'#', ..]) || name.contains(&b'\n') {
+            return false;
+        }
+    }
+    true
+}
+
+/// The variables that can be exported are read back as they are; others are told.
 fn exported_again(alloc: Global, session: &Session) -> Result<(), Fault> {
     let (mut output, mut errors) = (Vec::new(alloc), Vec::new(alloc));
     let end = export(alloc, session, &mut output, &mut errors);
-    if end.status != 0 {
+    if end.fault.is_some() {
+        return Err(Fault::Memory);
+    }
+    let is_whole = are_exportable(session);
+    holds(
+        "an export is whole where each name can be read back",
+        (end.status == 0) == is_whole && errors.is_empty() == is_whole,
+    )?;
+    if !is_whole {
         return Ok(());
     }
     let Ok(entries) = parse_import(alloc, &output) else {

@@ -10,10 +10,10 @@ use std::alloc::{AllocError, Global};
 use std::io::{self, Write};
 
 /// The image's size in bytes.
-const SIZE: u32 = 524_288;
+pub const SIZE: u32 = 524_288;
 
 /// How many variables it has, each of ten bytes.
-const COUNT: u32 = 40_000;
+pub const COUNT: u32 = 40_000;
 
 /// How many items `.flags` gets, each of nine bytes, with commas between them.
 const ITEMS: u32 = 1_000;
@@ -38,7 +38,7 @@ const CHANGED: Shape = Shape {
 };
 
 /// An image with every variable.
-fn image(alloc: Global) -> Option<Vec<u8>> {
+pub fn image(alloc: Global) -> Option<Vec<u8>> {
     let geometry = Geometry::new(Layout::Single, SIZE)?;
     let mut image = vec![in alloc; 0u8; SIZE as usize].ok()?;
     if image.len() != geometry.size() as usize {
@@ -66,7 +66,7 @@ fn flags(alloc: Global) -> Result<Vec<u8>, AllocError> {
 }
 
 /// A session over the image. Refused for memory, it hands the image back, and made again it starts.
-fn start<W: Write>(alloc: Global, out: &mut W, first: Vec<u8>) -> io::Result<Option<Session>> {
+pub fn start<W: Write>(alloc: Global, out: &mut W, first: Vec<u8>) -> io::Result<Option<Session>> {
     let Some(geometry) = Geometry::new(Layout::Single, SIZE) else {
         return Ok(None);
     };
@@ -91,6 +91,14 @@ fn is_shaped(vars: &Vars, shape: Shape) -> bool {
         count = count.wrapping_add(1);
     }
     count == shape.count && vars.used() == shape.used
+}
+
+/// Whether the writes stand: one over a value, a new name, and one that is gone.
+fn is_changed(vars: &Vars) -> bool {
+    vars.get(&name(500)) == Some(b"7".as_slice())
+        && vars.get(&name(501)) == Some(b"1".as_slice())
+        && vars.get(b"w") == Some(b"1".as_slice())
+        && vars.get(&name(39_999)).is_none()
 }
 
 /// The checksum of the copy.
@@ -171,7 +179,8 @@ fn sweep_session<W: Write>(out: &mut W, session: &mut Session, flags: &[u8]) -> 
     row(out, "large start", b"40000 variables")?;
     change(out, session, flags)?;
     save(out, session)?;
-    if !is_shaped(session.vars(), CHANGED) || copy_sum(session) == copy {
+    let is_right = is_shaped(session.vars(), CHANGED) && is_changed(session.vars());
+    if !is_right || copy_sum(session) == copy {
         return wrong(out, "large save");
     }
     row(out, "large save", b"40001 variables")?;

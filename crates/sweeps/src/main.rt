@@ -3,13 +3,18 @@
 //!
 //! scripts/test runs this program once for each of its allocations, with that one refused. A line that begins with
 //! `refused:` says which call met the refusal; every other line is the same whichever allocation it was. A word on standard
-//! input chooses a part, so that what is large isn't done again for each small allocation: `small` or `large`.
+//! input chooses a part by its first letter, so that what is large isn't done again for each small allocation: `small`,
+//! `texts`, `wide` or `large`.
 #![tactic(auto)]
 
 mod defaulting;
+mod frames;
 mod keeping;
 mod large;
 mod lines;
+mod long_blocks;
+mod long_sessions;
+mod long_texts;
 mod many;
 mod pages;
 mod runs;
@@ -21,19 +26,33 @@ mod tools;
 mod variables;
 mod whole_runs;
 mod whole_sessions;
+mod wide;
 
 use std::io::{self, Read};
 
 fn main(rt: HostRuntime) -> io::Result<()> {
     let mut word = [0u8; 1];
     rt.stdin().read(&mut word)?;
-    if word[0] != b'l' {
-        sweep_small(&rt)?;
+    match word[0] {
+        b's' => sweep_small(&rt),
+        b't' => sweep_texts(&rt),
+        b'w' => wide::sweep(rt.alloc(), &mut rt.stdout()),
+        b'l' => large::sweep(rt.alloc(), &mut rt.stdout()),
+        _ => sweep_all(&rt),
     }
-    if word[0] != b's' {
-        large::sweep(rt.alloc(), &mut rt.stdout())?;
-    }
-    Ok(())
+}
+
+fn sweep_all(rt: &HostRuntime) -> io::Result<()> {
+    sweep_small(rt)?;
+    sweep_texts(rt)?;
+    wide::sweep(rt.alloc(), &mut rt.stdout())?;
+    large::sweep(rt.alloc(), &mut rt.stdout())
+}
+
+/// Texts of 500 lines, and what takes them.
+fn sweep_texts(rt: &HostRuntime) -> io::Result<()> {
+    long_texts::sweep(rt.alloc(), &mut rt.stdout())?;
+    long_blocks::sweep(rt.alloc(), &mut rt.stdout())
 }
 
 fn sweep_small(rt: &HostRuntime) -> io::Result<()> {
@@ -46,6 +65,7 @@ fn sweep_small(rt: &HostRuntime) -> io::Result<()> {
     tools::sweep(rt.alloc(), &mut rt.stdout())?;
     scripts::sweep(rt.alloc(), &mut rt.stdout())?;
     runs::sweep(rt.alloc(), &mut rt.stdout())?;
+    frames::sweep(rt.alloc(), &mut rt.stdout())?;
     whole_runs::sweep(rt.alloc(), &mut rt.stdout())?;
     whole_sessions::sweep(rt.alloc(), &mut rt.stdout())
 }

@@ -1,15 +1,20 @@
-//! The tools over a session that was just started: `setenv`, `set_script`, `import`, `export` and `print_at_once`.
+//! The tools over a session that was just started: `setenv`, `set_script` and `script_text`, `import` and `import_text`,
+//! `export` and `print_at_once`.
 
 use crate::lines::{refused, row, wrong};
 use crate::pages::Page;
 use crate::sessions::{ALL, is_bad, shows, start};
 use env_session::Session;
-use envcfg_core::{TextEntry, TextFault, parse_import};
-use fw_tools::{StreamFault, ToolEnd, export, import, print_at_once, set_script, setenv};
+use envcfg_core::{ImportText, ScriptText, TextEntry, TextFault, parse_import};
+use fw_tools::{
+    StreamFault, ToolEnd, export, import, import_text, print_at_once, script_text, set_script,
+    setenv,
+};
 use std::alloc::Global;
 use std::io::{self, Write};
 
-/// The entries that a set script and an import take. The second is refused: the first makes it one for decimal digits.
+/// The entries that a set script and an import take; read as either text they are the same. The second is refused: the first
+/// makes it one for decimal digits.
 const TEXT: &[u8] = b".flags=a:d\na=x\nb=1\n";
 
 /// A tool.
@@ -17,7 +22,9 @@ const TEXT: &[u8] = b".flags=a:d\na=x\nb=1\n";
 enum Tool {
     Set,
     Script,
+    ReadScript,
     Import,
+    ReadImport,
     Export,
     Print,
 }
@@ -51,9 +58,29 @@ const SCRIPT: Wanted = Wanted {
     is_saved: false,
 };
 
+/// The same, read line by line.
+const READ_SCRIPT: Wanted = Wanted {
+    tool: Tool::ReadScript,
+    name: "script_text",
+    output: b"",
+    errors: b"## Error: type check failure for \"a\"\n",
+    after: b".flags=a:d;p=1;q=2;r=3;",
+    is_saved: false,
+};
+
 const IMPORT: Wanted = Wanted {
     tool: Tool::Import,
     name: "import",
+    output: b"",
+    errors: b"## Error: 1 entries refused\n",
+    after: b".flags=a:d;b=1;p=1;q=2;r=3;",
+    is_saved: true,
+};
+
+/// The same, read entry by entry.
+const READ_IMPORT: Wanted = Wanted {
+    tool: Tool::ReadImport,
+    name: "import_text",
     output: b"",
     errors: b"## Error: 1 entries refused\n",
     after: b".flags=a:d;b=1;p=1;q=2;r=3;",
@@ -115,7 +142,9 @@ fn call(
             &mut pages.errors,
         ),
         Tool::Script => set_script(session, entries, &mut pages.errors),
+        Tool::ReadScript => take_script(alloc, session, TEXT, &mut pages.errors),
         Tool::Import => import(session, entries, &mut pages.errors),
+        Tool::ReadImport => take_import(alloc, session, TEXT, &mut pages.errors),
         Tool::Export => export(alloc, session, &mut pages.output, &mut pages.errors),
         Tool::Print => print_at_once(
             alloc,
@@ -128,10 +157,26 @@ fn call(
     }
 }
 
+/// A set script whose lines are read one by one.
+fn take_script(alloc: Global, session: &mut Session, text: &[u8], errors: &mut Page) -> ToolEnd {
+    match ScriptText::new(text) {
+        Ok(script) => script_text(alloc, session, script, errors),
+        Err(_) => ToolEnd::done(1),
+    }
+}
+
+/// An import whose entries are read one by one.
+fn take_import(alloc: Global, session: &mut Session, text: &[u8], errors: &mut Page) -> ToolEnd {
+    match ImportText::new(text) {
+        Ok(entries) => import_text(alloc, session, entries, errors),
+        Err(_) => ToolEnd::done(1),
+    }
+}
+
 /// Whether the variables are those before the call, or what some first writes of it leave.
 fn is_begun(tool: Tool, session: &Session, after: &[u8]) -> bool {
     let between = match tool {
-        Tool::Import => shows(session, b".flags=a:d;p=1;q=2;r=3;"),
+        Tool::Import | Tool::ReadImport => shows(session, b".flags=a:d;p=1;q=2;r=3;"),
         _ => false,
     };
     between || shows(session, ALL) || shows(session, after)
@@ -190,7 +235,7 @@ pub fn sweep<W: Write>(alloc: Global, out: &mut W) -> io::Result<()> {
     let Ok(entries) = entries else {
         return wrong(out, "parse_import for the tools");
     };
-    for wanted in [SET, SCRIPT, IMPORT, EXPORT, PRINT] {
+    for wanted in [SET, SCRIPT, READ_SCRIPT, IMPORT, READ_IMPORT, EXPORT, PRINT] {
         sweep_one(alloc, out, wanted, &entries)?;
     }
     Ok(())

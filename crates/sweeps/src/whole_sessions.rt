@@ -75,15 +75,18 @@ const STOPPED: [Stopped; 20] = [
     (19, b"[Memory 0 0]\n", b"#", b"[Finished 0 0]\n"),
 ];
 
+/// More steps than a block of them takes.
+const STEPS: u32 = 1_000;
+
 /// A session as it stands in the end, and what it printed.
 #[derive(Drop)]
-struct Told {
-    end: SessionEnd,
-    output: Page,
+pub struct Told {
+    pub end: SessionEnd,
+    pub output: Page,
 }
 
 /// The stand-ins, of which there are none.
-fn stand_ins<W: Write>(alloc: Global, out: &mut W) -> io::Result<Option<Stubs>> {
+pub fn stand_ins<W: Write>(alloc: Global, out: &mut W) -> io::Result<Option<Stubs>> {
     if let Ok(stubs) = Stubs::parse(alloc, b"") {
         return Ok(Some(stubs));
     }
@@ -117,17 +120,18 @@ fn texts_of(items: &[Item]) -> io::Result<Page> {
     Ok(page)
 }
 
-/// An input over a session that was just started.
-fn talk<W: Write>(
+/// An input over a session that was just started, of which each block may take so many steps.
+pub fn talk<W: Write>(
     alloc: Global,
     out: &mut W,
     stubs: &Stubs,
-    input: &Page,
+    steps: u32,
+    mut input: &[u8],
 ) -> io::Result<Option<Told>> {
-    match (start(alloc, out)?, Limits::new(1000, 2, 64, 256)) {
+    match (start(alloc, out)?, Limits::new(steps, 2, 64, 256)) {
         (Some(begun), Some(limits)) => {
             let mut output = Page::new();
-            let end = session(alloc, begun, stubs, &limits, &mut input.text(), &mut output);
+            let end = session(alloc, begun, stubs, &limits, &mut input, &mut output);
             Ok(Some(Told { end, output }))
         }
         _ => Ok(None),
@@ -138,7 +142,7 @@ fn talk<W: Write>(
 fn talk_whole<W: Write>(alloc: Global, out: &mut W, stubs: &Stubs) -> io::Result<Option<Told>> {
     let mut input = Page::new();
     put_inputs(&mut input, ITEMS)?;
-    talk(alloc, out, stubs, &input)
+    talk(alloc, out, stubs, STEPS, input.text())
 }
 
 /// Whether it is what memory that suffices gives.
@@ -152,7 +156,7 @@ fn is_whole(told: &Told) -> io::Result<bool> {
 }
 
 /// Whether two sessions have left the same variables, copy and marks.
-fn is_same(one: &Session, other: &Session) -> bool {
+pub fn is_same(one: &Session, other: &Session) -> bool {
     one.vars().iter().eq(other.vars().iter())
         && one.copy(Side::First) == other.copy(Side::First)
         && one.marks() == other.marks()
@@ -177,7 +181,7 @@ fn is_stopped_so<W: Write>(
     input.write_all(like)?;
     put_inputs(&mut input, behind(place))?;
     let front = texts_of(first(place))?;
-    let Some(other) = talk(alloc, out, stubs, &input)? else {
+    let Some(other) = talk(alloc, out, stubs, STEPS, input.text())? else {
         return Ok(false);
     };
     let rest = rest_of(told.output.text(), front.text(), said);
@@ -208,7 +212,7 @@ fn is_ended<W: Write>(alloc: Global, out: &mut W, stubs: &Stubs, told: &Told) ->
     for count in 0..=ITEMS.len() {
         let mut input = Page::new();
         put_inputs(&mut input, first(count))?;
-        let Some(other) = talk(alloc, out, stubs, &input)? else {
+        let Some(other) = talk(alloc, out, stubs, STEPS, input.text())? else {
             return Ok(false);
         };
         let text = texts_of(first(count))?;
