@@ -26,48 +26,24 @@ compiled() {
     echo "$program"
 }
 
-# counted COMMAND [WORDS]: the instructions of a command, nothing where LIMIT seconds (600) don't suffice; its output goes
-# to $work/output, its profile to $work/profile.
+# counted COMMAND [WORDS]: the instructions of a command, which has to end with the status WANTED (0); nothing where LIMIT
+# seconds (600) don't suffice. Its output goes to $work/output, its profile to $work/profile.
 counted() {
     local status=0
     timeout "${LIMIT:-600}" valgrind --tool=callgrind --callgrind-out-file="$work/profile" "$@" \
         >"$work/output" 2>"$work/counted" || status=$?
-    if [ "$status" != 124 ]; then sed -n 's/.*Collected : *//p' "$work/counted"; fi
+    if [ "$status" = 124 ]; then return; fi
+    if [ "$status" != "${WANTED:-0}" ] || ! grep -q 'Collected' "$work/counted"; then
+        tail -n 20 "$work/counted" >&2
+        echo "$(basename "$0"): $* ended with status $status" >&2
+        return 1
+    fi
+    sed -n 's/.*Collected : *//p' "$work/counted"
 }
 
 # in_millions NUMBER
 in_millions() {
     awk -v n="$1" 'BEGIN { printf "%.2f", n / 1e6 }'
-}
-
-# workspace NAME CRATE..: a repository of its own with the crate NAME, which stands on these crates and whose files the
-# caller writes into $space/crates/NAME, and with copies of those that are ours. Proofs made before are taken over.
-workspace() {
-    local name=$1 crate
-    shift
-    space=$work/$name
-    mkdir -p "$space/crates/$name/src"
-    : >"$space/crates.txt"
-    for crate; do
-        [ -d "$top/crates/$crate" ] || continue
-        mkdir -p "$space/crates/$crate"
-        [ -d "$space/crates/$crate/out" ] || [ ! -d "$top/crates/$crate/out" ] ||
-            cp -a "$top/crates/$crate/out" "$space/crates/$crate/"
-        rm -rf "$space/crates/$crate"/{src,specs,proofs}
-        cp -a "$top/crates/$crate"/{src,specs,proofs} "$space/crates/$crate/"
-        grep "^$crate:" "$top/crates.txt" >>"$space/crates.txt"
-    done
-    echo "$name: $*" >>"$space/crates.txt"
-}
-
-# built NAME: builds the crate NAME of the workspace and prints its program's path; what the build says goes to a log.
-built() {
-    echo "$(basename "$0"): proving and building the program that measures (minutes the first time) .." >&2
-    if ! (cd "$space/crates/$1" && ${RT:-rt} run </dev/null) >"$work/$1.log" 2>&1; then
-        tail -n 40 "$work/$1.log" >&2
-        exit 1
-    fi
-    echo "$space/crates/$1/out/$1"
 }
 
 # program_of NAME: the path of the program that the crate NAME is, proved and built where that is needed; what the build

@@ -1,9 +1,10 @@
-"""Writes an image to standard output: make_image.py SIZE COUNT [shuffled|descending|runs] [short] [flags] [redundant].
+"""Writes an image to standard output: make_image.py SIZE COUNT [shuffled|descending|runs] [short|items] [flags] [redundant].
 
 COUNT variables in ascending order of names, shuffled (the same order each time), descending, or the first 512 ascending
 and then the others descending (runs): names v000000 and so on with values
 of 17 bytes, or short ones, names of three bytes with values of one. With flags there is a `.flags` before them with an
-item for each of the first 1,000 names: decimal, any access. The image is a single one, or a redundant one with flag 1.
+item for each of the first 1,000 names: decimal, any access. With items there is no variable but a `.flags` of COUNT items, each
+for a name of five bytes. The image is a single one, or a redundant one with flag 1.
 """
 import random
 import struct
@@ -12,7 +13,9 @@ import zlib
 
 size, count = int(sys.argv[1]), int(sys.argv[2])
 wishes = sys.argv[3:]
-if "short" in wishes:
+if "items" in wishes:
+    entries = [b".flags=" + b",".join(b"%05x:d" % i for i in range(count)) + b"\0"]
+elif "short" in wishes:
     entries = [bytes((64 + i // 4096, 64 + i // 64 % 64, 64 + i % 64)) + b"=x\0" for i in range(count)]
 else:
     entries = [b"v%06d=%s\0" % (i, b"x" * 17) for i in range(count)]

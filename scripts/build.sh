@@ -49,12 +49,18 @@ build_crate() {
     mkdir -p "$top/crates/$2/out"
     [ -t 2 ] || echo "$title: proving and building${taken:+ (the last one took $taken s)}" >&2
     (cd "$top/crates/$2" && exec "${command[@]}") </dev/null >"$log" 2>&1 &
-    while kill -0 $! 2>/dev/null; do
+    local prover=$!
+    # what runs in the background doesn't hear of Ctrl-C
+    trap 'kill "$prover" 2>/dev/null; exit 130' INT TERM
+    while kill -0 "$prover" 2>/dev/null; do
         counts=$(sed -n 's/^so far: \([0-9]* of [0-9]*\) functions.*/, \1 functions/p' "$log" | tail -n 1)
         show_progress "$title: $((SECONDS - begun)) s$counts"
         sleep 0.5
     done
-    if ! wait $!; then
+    local is_built=yes
+    wait "$prover" || is_built=
+    trap - INT TERM
+    if [ ! "$is_built" ]; then
         show_progress ''
         tail -n 40 "$log" >&2
         echo "$title: not built; $log has all that the toolchain said" >&2
@@ -73,7 +79,7 @@ build() {
         return 1
     fi
     crates_of_program
-    echo 'fwenv is missing or older than its sources: proving and building it takes some minutes the first time' >&2
+    echo 'fwenv is missing or older than its sources: proving and building it takes about half an hour the first time' >&2
     for crate in "${crates[@]}"; do
         number=$((number + 1))
         build_crate "$number" "$crate" || return 1

@@ -1,5 +1,5 @@
 """Inputs of `fwenv session` that are cut or damaged, beside a model (model.py): each front of some inputs, each front
-behind which standard input fails, and some that are changed at random from a seed.
+behind which standard input fails, or ends and goes on, and some that are changed at random from a seed.
 
     damaged.py PROGRAM CUT.so FOLDER COUNT SEED
 
@@ -85,17 +85,18 @@ class Board:
         self.command = [program, "session", "-c", config, "--default", default, "--stubs", stubs, "--write", *limits]
         self.passed = self.failed = 0
 
-    def check(self, what, text, fails=False, step=None):
-        """Runs the program over an input, behind which standard input fails where `fails` is true. At most `step` bytes
-        come a call."""
+    def check(self, what, text, fails=False, pauses=False, step=None):
+        """Runs the program over an input, behind which standard input fails where `fails` is true; where `pauses` is, it
+        ends there, and would go on if it were read again. At most `step` bytes come a call."""
         self.device.write_bytes(b"\xff" * SIZE * 2)
         cut = {}
-        if fails or step:
+        if fails or pauses or step:
             cut = {"LD_PRELOAD": self.preload, "CUT_FD": "0", "CUT_CALL": "read"}
             if step:
                 cut["CUT_STEP"] = str(step)
-            if fails:
+            if fails or pauses:
                 cut["CUT_AFTER"] = str(len(text))
+                cut["CUT_THEN"] = "pause" if pauses else "fail"
         model = Model(2, SIZE, DEFAULTS, STUBS, LIMITS)
         output = model.answer(text, is_whole=not fails)
         copies = [b"\xff" * SIZE] * 2 if fails else model.environment.copies
@@ -103,7 +104,7 @@ class Board:
         try:
             done = subprocess.run(
                 self.command,
-                input=text + b"\n.save\n" * fails,
+                input=text + b"\n.save\n" * (fails or pauses),
                 capture_output=True,
                 timeout=WAITED,
                 env={**os.environ, **cut},
@@ -128,6 +129,7 @@ def main():
             board.check(f"the first {length} bytes", text[:length])
             board.check(f"standard input that fails behind {length} bytes", text[:length], fails=True)
             board.check("the same, byte by byte", text[:length], fails=True, step=1)
+            board.check(f"standard input that ends behind {length} bytes and goes on", text[:length], pauses=True)
         for step in (1, 3):
             board.check(f"{step} bytes a call", text, step=step)
     for number, text in enumerate(mutants(int(count), int(seed))):
