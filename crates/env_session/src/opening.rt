@@ -20,7 +20,12 @@ use std::alloc::Global;
 use std::array;
 
 impl Session {
-    /// A session over stored copies. A refusal hands them back.
+    /// A session over stored copies, with a default environment.
+    ///
+    /// # Errors
+    ///
+    /// The copies come back, with the first of these that applies: `Length`, one has not the length that the geometry wants, or
+    /// is missing or too many; `DefaultTooBig`, the defaults don't fit into a copy; `Memory`.
     pub fn start(
         alloc: Global,
         stored: Stored,
@@ -36,6 +41,7 @@ impl Session {
         }
         match opened(alloc, &stored, &defaults) {
             Ok((vars, current)) => {
+                // for the proof: the variables fit
                 let _size = vars.used();
                 Ok(Session {
                     alloc,

@@ -59,6 +59,7 @@ pub(crate) fn write_in(
 {
     let span = &mut spans[last];
     let answer = vars.write_kept(name, new, force, defaults, &mut span.olds);
+    // for the proof: the variables fit
     let _size = vars.used();
     answer
 }

@@ -1,3 +1,4 @@
+//! The entries of texts, and their faults.
 ghost use Rattle.std.specs.Prelude.{◌≡◌, option_map};
 ghost use Rattle.envcfg_core.specs.declared.entry.TextFault.TheVariants.{Memory};
 ghost use Rattle.envcfg_core.specs.Bytes.{some_unless_empty};

@@ -1,5 +1,8 @@
 //! The text forms around a stored environment: `fw_env.config`, text for
 //! import and export, and set scripts. docs/texts.md states each form.
+//!
+//! To read in this order: numerals, lines, accept, place, config; cuts, entry, spelled, import, import_text, export;
+//! set_script, script_text; laws.
 #![tactic(auto)]
 
 mod accept;

@@ -3,7 +3,7 @@ use Rattle.std.specs.Prelude.{ℕ, List, take, drop}
 use Rattle.envimg_core.specs.Geometry.{Shape, head}
 use Rattle.envimg_core.specs.declared.writer.ImageWriter.{ImageWriter}
 
--- the layout and the size of the image that is written
+-- the layout, the size and the byte order of the image that is written
 abbrev pub shape_of : ImageWriter → Shape
 shape_of w = w.geometry
 

@@ -1,6 +1,8 @@
 //! The stored environment: geometry, checksum, state of a copy, choice between two copies, entries, written images.
 //!
 //! No call takes memory. docs/images.md states the format.
+//!
+//! To read in this order: geometry, order, checksum; pieces, area; state, choice; writer; laws.
 #![tactic(auto)]
 
 mod area;

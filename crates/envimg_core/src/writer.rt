@@ -32,6 +32,7 @@ impl<'a> ImageWriter<'a> {
         ensures empty { written result ≡ [] }
         ensures same_slice { result.image.ghost_name ≡ image.entry.ghost_name }
     {
+        // for the proof: the size is one of the layout's
         let _size = geometry.size();
         ImageWriter {
             image,

@@ -1,4 +1,4 @@
--- InOrder in runs, one run after another, and where a variable stands in them.
+-- Variables in runs, one run after another, and where one stands in them.
 use Rattle.std.specs.Prelude.{◌≡◌, ℕ, zero, suc, ◌<◌, ◌≤◌, T, List, [], ◌∷◌, ◌++◌, map, flat_map, length, take, drop, All, Vec, vec_len, slice_index_or}
 use Rattle.std.specs.declared.alloc.Global.{Global}
 use Rattle.std.specs.FinMap.Entries.{is_sorted}
@@ -17,11 +17,11 @@ Run = Vec Variable Global
 abbrev pub flat : List Run → List Variable
 flat runs = flat_map (λ r. r.items) runs
 
--- the variables of variables
+-- variables as names with their values
 abbrev pub pairs : List ℕ → List Variable → List Pair
 pairs area variables = map (pair_of area) variables
 
--- the variables of runs
+-- the names with their values of all runs, in order
 abbrev pub listed : List ℕ → List Run → List Pair
 listed area runs = pairs area (flat runs)
 

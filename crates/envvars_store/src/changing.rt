@@ -1,4 +1,4 @@
-// Writes among variables in the order of their names.
+//! Writes among variables in the order of their names.
 ghost use Rattle.std.specs.Prelude.{◌≡◌, OnOk, OnErr};
 ghost use Rattle.std.specs.FinMap.Entries.{put, where_key};
 ghost use Rattle.envimg_core.specs.Environment.{bytes_cmp};

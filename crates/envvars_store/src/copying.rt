@@ -1,4 +1,4 @@
-// Copies of variables, in memory of their own.
+//! Copies of variables, in memory of their own.
 ghost use Rattle.std.specs.Prelude.{◌≡◌, IfOk, All};
 ghost use Rattle.envvars_store.specs.Runs.{flat, IsFilled};
 
@@ -36,7 +36,7 @@ pub(crate) fn copied(alloc: Global, bytes: &[u8]) -> Result<Vec<u8>, AllocError>
     Ok(copy)
 }
 
-// The runs, each variable in memory of its own.
+/// The runs, each variable in memory of its own.
 fn copied_runs(alloc: Global, runs: &[Run]) -> Result<Vec<Run>, AllocError>
     requires { All IsFilled runs.now }
     ensures variables { IfOk result (λ v. flat v.items ≡ flat runs.now) }
@@ -49,7 +49,7 @@ fn copied_runs(alloc: Global, runs: &[Run]) -> Result<Vec<Run>, AllocError>
     Ok(copy)
 }
 
-// One run. A short one gets room to take in its neighbour, as each run has it.
+/// One run. A short one gets room to take in its neighbour, as each run has it.
 fn copied_run(alloc: Global, run: &[Variable]) -> Result<Run, AllocError>
     ensures { IfOk result (λ v. v.items ≡ run.now) }
 {

@@ -1,4 +1,4 @@
-// Where a name stands among variables in the order of their names.
+//! Where a name stands among variables in the order of their names.
 ghost use Rattle.std.specs.Prelude.{◌≡◌, ◌<◌, ◌≤◌, suc, length, drop, IsTrue, MatchOption, MatchResult, T, All};
 ghost use Rattle.std.specs.FinMap.Entries.{is_sorted};
 ghost use Rattle.envimg_core.specs.Environment.{bytes_cmp};
@@ -44,7 +44,7 @@ pub(crate) fn locate_near(
     locate(area, runs, name)
 }
 
-// Whether the variable at a position has the name.
+/// Whether the variable at a position has the name.
 fn stands_at(area: &[u8], runs: &[Run], name: &[u8], at: Position) -> bool
     requires { AreInOrder area.now runs.now }
     ensures { IsTrue result → StandsAt name.now area.now runs.now at }
@@ -62,7 +62,7 @@ fn stands_at(area: &[u8], runs: &[Run], name: &[u8], at: Position) -> bool
     }
 }
 
-// Whether the name comes after the variable in front of a position, and before the one at it.
+/// Whether the name comes after the variable in front of a position, and before the one at it.
 fn belongs_at(area: &[u8], runs: &[Run], name: &[u8], at: Position) -> bool
     requires { AreInOrder area.now runs.now }
     ensures { IsTrue result → BelongsAt name.now area.now runs.now at }
@@ -76,7 +76,7 @@ fn belongs_at(area: &[u8], runs: &[Run], name: &[u8], at: Position) -> bool
     comes_before(area, runs, name, at)
 }
 
-// Whether the name comes after the variable in front of a position in its run.
+/// Whether the name comes after the variable in front of a position in its run.
 fn comes_after(area: &[u8], runs: &[Run], name: &[u8], at: Position) -> bool
     requires in_order { AreInOrder area.now runs.now }
     requires run { at.run < length runs.now }
@@ -93,7 +93,7 @@ fn comes_after(area: &[u8], runs: &[Run], name: &[u8], at: Position) -> bool
     }
 }
 
-// Whether the name comes before the variable at a position, or before the next run.
+/// Whether the name comes before the variable at a position, or before the next run.
 fn comes_before(area: &[u8], runs: &[Run], name: &[u8], at: Position) -> bool
     requires in_order { AreInOrder area.now runs.now }
     requires run { at.run < length runs.now }
@@ -109,7 +109,7 @@ fn comes_before(area: &[u8], runs: &[Run], name: &[u8], at: Position) -> bool
     }
 }
 
-// Whether the run behind another, if there is one, begins behind the name.
+/// Whether the run behind another, if there is one, begins behind the name.
 fn ends_behind(area: &[u8], runs: &[Run], name: &[u8], run: usize) -> bool
     requires in_order { AreInOrder area.now runs.now }
     requires within { run < length runs.now }
@@ -124,7 +124,7 @@ fn ends_behind(area: &[u8], runs: &[Run], name: &[u8], run: usize) -> bool
     }
 }
 
-// The last run whose first variable doesn't come after the name.
+/// The last run whose first variable doesn't come after the name.
 fn run_of(area: &[u8], runs: &[Run], name: &[u8]) -> Option<usize>
     requires { AreInOrder area.now runs.now }
     ensures { MatchOption result (StartsAfter name.now (listed area.now runs.now)) (IsRunFor name.now area.now runs.now) }
@@ -143,7 +143,7 @@ fn run_of(area: &[u8], runs: &[Run], name: &[u8]) -> Option<usize>
     if low == 0 { None } else { Some(low - 1) }
 }
 
-// The index of the variable with the name in one run, or the index that it would have.
+/// The index of the variable with the name in one run, or the index that it would have.
 fn index_of(area: &[u8], variables: &[Variable], name: &[u8]) -> Result<usize, usize>
     requires lies { All (LiesIn area.now) variables.now }
     requires sorted { T (is_sorted bytes_cmp (pairs area.now variables.now)) }

@@ -1,4 +1,4 @@
-// The variables one after another, in the order of their names.
+//! The variables one after another, in the order of their names.
 ghost use Rattle.std.specs.Prelude.{◌≡◌, [], ◌∷◌, map, All, MatchOption};
 ghost use Rattle.std.specs.Iterator.{YieldsFirstBy, item_count};
 ghost use Rattle.envvars_store.specs.Pairs.{lent_pair, lent_line};
@@ -9,7 +9,7 @@ use crate::runs::Run;
 use crate::variable::Variable;
 use std::marker::Model;
 
-// The variables that are left: those of one run, and those of the runs behind it.
+/// The variables that are left: those of one run, and those of the runs behind it.
 #[derive(Drop)]
 struct InOrder<'a> {
     run: &'a [Variable],
@@ -36,7 +36,7 @@ impl<'a> InOrder<'a> {
         InOrder { run: &[], runs }
     }
 
-    // The next variable.
+    /// The next variable.
     fn next(&mut self) -> Option<&'a Variable>
         ensures { MatchOption result ((self.old ≡ []) × (self.new ≡ [])) (λ variable. self.old ≡ variable.now ∷ self.new) }
     {

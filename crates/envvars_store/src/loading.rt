@@ -1,4 +1,4 @@
-// The variables of a data area.
+//! The variables of a data area.
 ghost use Rattle.std.specs.Prelude.{◌≡◌, ◌+◌, ◌<◌, ◌≤◌, ◌^◌, length, fold, filter, IfOk, IfSome, OnOk, MatchOption, take, drop, false, [], ◌∷◌, All, slice_range};
 ghost use Rattle.envimg_core.specs.Pieces.{entries_of, vars_of, entry_of, has_name, after_entry};
 ghost use Rattle.std.specs.FinMap as env;
@@ -30,7 +30,7 @@ impl Variables {
     }
 }
 
-// The variables of an area as spans of it: as far as its names rise without a search, and from there on entry by entry.
+/// The variables of an area as spans of it: as far as its names rise without a search, and from there on entry by entry.
 fn loaded(alloc: Global, area: &[u8]) -> Result<Vec<Run>, AllocError>
     requires { length area.now ≤ 1048576 }
     ensures in_order { IfOk result (λ runs. AreInOrder area.now runs.items) }
@@ -50,7 +50,7 @@ fn loaded(alloc: Global, area: &[u8]) -> Result<Vec<Run>, AllocError>
     }
 }
 
-// Takes the entries up to the first whose name doesn't come after the last one, or that has no name or value, and answers where that one begins.
+/// Takes the entries up to the first whose name doesn't come after the last one, or that has no name or value, and answers where that one begins.
 fn rising(alloc: Global, area: &[u8], runs: &mut Vec<Run>) -> Result<usize, AllocError>
     requires empty { runs.old.items ≡ [] }
     requires size { length area.now ≤ 1048576 }
@@ -78,7 +78,7 @@ fn rising(alloc: Global, area: &[u8], runs: &mut Vec<Run>) -> Result<usize, Allo
     }
 }
 
-// The span of the entry behind another, if it has a value and its name comes after the other's.
+/// The span of the entry behind another, if it has a value and its name comes after the other's.
 #[inline(always)]
 fn span_behind(area: &[u8], last: Span) -> Option<Span>
     requires span { IsSpan area.now last }
@@ -96,7 +96,7 @@ fn span_behind(area: &[u8], last: Span) -> Option<Span>
     )
 }
 
-// The span of the entry that begins at an index, if it has a value and its name comes after another, which stands before it.
+/// The span of the entry that begins at an index, if it has a value and its name comes after another, which stands before it.
 #[inline(always)]
 fn next_span(area: &[u8], at: usize, from: usize, last: &[u8]) -> Option<Span>
     requires within { at ≤ length area.now }
@@ -112,7 +112,7 @@ fn next_span(area: &[u8], at: usize, from: usize, last: &[u8]) -> Option<Span>
     }
 }
 
-// The same, where the entry ends among the next 32 bytes.
+/// The same, where the entry ends among the next 32 bytes.
 #[inline(always)]
 fn near_span(area: &[u8], at: usize, from: usize, last: &[u8]) -> Option<Span>
     requires within { at ≤ length area.now }
@@ -137,7 +137,7 @@ fn near_span(area: &[u8], at: usize, from: usize, last: &[u8]) -> Option<Span>
     })
 }
 
-// The same, wherever the entry ends.
+/// The same, wherever the entry ends.
 #[inline(never)]
 fn far_span(area: &[u8], at: usize, last: &[u8]) -> Option<Span>
     requires within { at ≤ length area.now }
@@ -157,7 +157,7 @@ fn far_span(area: &[u8], at: usize, last: &[u8]) -> Option<Span>
     })
 }
 
-// Where the piece that begins at an index ends; none where no entry is left.
+/// Where the piece that begins at an index ends; none where no entry is left.
 fn piece_end(area: &[u8], at: usize) -> Option<usize>
     requires { at ≤ length area.now }
     ensures { MatchOption result (entries_of (drop at area.now) ≡ []) (IsPiece area.now at) }
@@ -169,7 +169,7 @@ fn piece_end(area: &[u8], at: usize) -> Option<usize>
     }
 }
 
-// The variables after one more entry.
+/// The variables after one more entry.
 fn read_entry(
     alloc: Global,
     area: &[u8],

@@ -1,4 +1,4 @@
-// Names by number, so that one is known again without a search.
+//! Names by number, so that one is known again without a search.
 ghost use Rattle.std.specs.Prelude.{◌≡◌, true, IsTrue, OnOk};
 ghost use Rattle.std.specs.FinMap as env;
 ghost use Rattle.envimg_core.specs.Environment.{Environment};

@@ -1,4 +1,4 @@
-// One variable as a text with memory of its own.
+//! One variable as a text with memory of its own.
 ghost use Rattle.std.specs.Prelude.{◌≡◌, ◌++◌, None, Some, IfOk, IfErr, IfSome, IsTrue, option_copied, option_map};
 ghost use Rattle.envimg_core.specs.Environment.{is_name, is_value, IsVariable, joined};
 ghost use Rattle.envvars_store.specs.Pairs.{marked, unmarked};
@@ -61,7 +61,7 @@ impl Text {
         Text::joined(alloc, name, old.unwrap_or(&[]), &[MARK])
     }
 
-    // The variable `name` whose value is a front and a rest. For a name of 4 GiB there is no memory.
+    /// The variable `name` whose value is a front and a rest. For a name of 4 GiB there is no memory.
     #[inline(always)]
     fn joined(alloc: Global, name: &[u8], front: &[u8], rest: &[u8]) -> Result<Text, AllocError>
         requires name_form { IsTrue (is_name name.now) }

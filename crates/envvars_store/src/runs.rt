@@ -1,4 +1,4 @@
-// InOrder in runs of a bounded length, so that a write moves one run at most.
+//! Variables in runs of a bounded length, so that a write moves one run at most.
 ghost use Rattle.std.specs.Prelude.{◌≡◌, ◌+◌, ◌<◌, ◌≤◌, suc, [], ◌∷◌, ◌++◌, length, All, IfOk, OnOk, OnErr, MatchOption};
 ghost use Rattle.envvars_store.specs.Runs.{flat, front, rest, later, variables_at, IsFilled};
 
@@ -85,7 +85,7 @@ pub(crate) fn insert_at(
     insert_in(runs, at, variable)
 }
 
-// Puts a variable into a run that is there.
+/// Puts a variable into a run that is there.
 fn insert_in(runs: &mut Vec<Run>, at: Position, variable: Variable) -> Result<(), AllocError>
     requires run { at.run < length runs.old.items }
     requires index { at.index ≤ length (variables_at runs.old.items at.run) }
@@ -107,7 +107,7 @@ pub(crate) fn run_of_one(alloc: Global, variable: Variable) -> Result<Run, Alloc
     Ok(run)
 }
 
-// Cuts a run in two halves, and answers where the position is now.
+/// Cuts a run in two halves, and answers where the position is now.
 fn divide(runs: &mut Vec<Run>, at: Position) -> Result<Position, AllocError>
     requires run { at.run < length runs.old.items }
     requires index { at.index ≤ length (variables_at runs.old.items at.run) }
@@ -163,7 +163,7 @@ pub(crate) fn remove_at(runs: &mut Vec<Run>, at: Position)
     }
 }
 
-// Takes a variable out of its run, and the run away where that was its last.
+/// Takes a variable out of its run, and the run away where that was its last.
 fn take_at(runs: &mut Vec<Run>, at: Position)
     requires run { at.run < length runs.old.items }
     requires index { at.index < length (variables_at runs.old.items at.run) }
@@ -195,7 +195,7 @@ pub(crate) fn take_last(runs: &mut Vec<Run>) -> Option<Variable>
     Some(variable)
 }
 
-// Makes a run and the one behind it one run, where they are short and it has the room.
+/// Makes a run and the one behind it one run, where they are short and it has the room.
 fn join(runs: &mut Vec<Run>, first: usize)
     requires { All IsFilled runs.old.items }
     ensures variables { flat runs.new.items ≡ flat runs.old.items }

@@ -1,4 +1,4 @@
-// The variables in the order of their names.
+//! The variables in the order of their names.
 ghost use Rattle.std.specs.Prelude.{◌≡◌, ◌↔◌, map, All, IsTrue, IsOk, IsSome, OnOk, OnErr, IfErr, IfSome, option_map};
 ghost use Rattle.std.specs.FinMap as env;
 ghost use Rattle.envimg_core.specs.Environment.{bytes_cmp, is_name, is_value, IsVariable, joined};

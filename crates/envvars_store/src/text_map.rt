@@ -1,4 +1,4 @@
-// Variables in texts of their own, which can be taken out again.
+//! Variables in texts of their own, which can be taken out again.
 ghost use Rattle.std.specs.Prelude.{◌≡◌, ◌+◌, Some, All, true, false, OnOk, OnErr, IfSome, MatchOption, option_map};
 ghost use Rattle.std.specs.FinMap as env;
 ghost use Rattle.envimg_core.specs.Environment.{IsVariable};

@@ -1,4 +1,4 @@
-// One variable: a span of the loaded area, or a text of its own.
+//! One variable: a span of the loaded area, or a text of its own.
 ghost use Rattle.std.specs.Prelude.{◌≡◌, IfOk};
 ghost use Rattle.envvars_store.specs.Laying.{pair_of, LiesIn};
 ghost use Rattle.envimg_core.specs.Environment.{joined};

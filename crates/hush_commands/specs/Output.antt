@@ -21,6 +21,12 @@ Prints text old new (Ok u) = new ≡ printed (old.text ++ text) old.limit
 Prints text old new (Err Output) = (old.limit < length (old.text ++ text)) × GoesOn old new
 Prints text old new (Err Memory) = GoesOn old new
 
+-- the same, and where it isn't printed, nothing has changed
+abbrev pub PrintsWhole : List ℕ → Printed → Printed → Result (Unit {0}) PrintFault → Type 0
+PrintsWhole text old new (Ok u) = (length (old.text ++ text) ≤ old.limit) × (new ≡ printed (old.text ++ text) old.limit)
+PrintsWhole text old new (Err Output) = (old.limit < length (old.text ++ text)) × (new ≡ old)
+PrintsWhole text old new (Err Memory) = new ≡ old
+
 -- a command's status, and what it prints
 pub record Answer : Type 0 where
   pub status : ℕ
@@ -33,9 +39,3 @@ answer status text = record { status = status; text = text }
 abbrev pub Answers : Answer → Printed → Printed → Result ℕ PrintFault → Type 0
 Answers a old new (Ok status) = (status ≡ a.status) × Prints a.text old new (Ok tt)
 Answers a old new (Err fault) = Prints a.text old new (Err fault)
-
--- the same, and where it isn't printed, nothing has changed
-abbrev pub PrintsWhole : List ℕ → Printed → Printed → Result (Unit {0}) PrintFault → Type 0
-PrintsWhole text old new (Ok u) = (length (old.text ++ text) ≤ old.limit) × (new ≡ printed (old.text ++ text) old.limit)
-PrintsWhole text old new (Err Output) = (old.limit < length (old.text ++ text)) × (new ≡ old)
-PrintsWhole text old new (Err Memory) = new ≡ old

@@ -1,3 +1,4 @@
+//! Why words can't be expanded.
 ghost use Rattle.std.specs.Prelude.{◌≡◌};
 
 use std::alloc::AllocError;

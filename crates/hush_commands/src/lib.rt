@@ -1,6 +1,8 @@
-//! What a dry run of a script is bounded by, what answers in it for commands that need hardware, and what it says
-//! where a command fails.
-//! docs/runs.md states the rules.
+//! One simple command of a dry run: its words are expanded to fields, and it is carried out by them. Also a run's limits,
+//! the stand-ins for commands that need hardware, and what is said where a command fails. docs/runs.md states the rules.
+//!
+//! To read in this order: limits, stubs; scope, expansion, field_buffer; builtins, command, carrying; commands, writing,
+//! listing, deletion; follow; messages, output.
 #![tactic(auto)]
 
 mod builtins;

@@ -181,7 +181,7 @@ IsStack scripts [] = Unit {0}
 IsStack scripts (f ∷ fs) =
     (1 ≤ length (owners f scripts)) × IsFrame (at_in (owners f scripts)) f × (length fs + frame_room (at_in (owners f scripts)) f ≤ 195 * length (owners f scripts)) × IsStack (owners f scripts) fs
 
--- the first part of a node, and the frame that is left behind for the others; none where the node is a step
+-- a node that is a step: a simple command, an assignment, a `for`
 abbrev pub IsStep : Option Sub → Type 0
 IsStep None = ⊥
 IsStep (Some (OfChains cs)) = ⊥
@@ -193,6 +193,7 @@ IsStep (Some (OfCommand (For name words d))) = Unit {0}
 IsStep (Some (OfCommand (While c d))) = ⊥
 IsStep (Some (OfCommand (Until c d))) = ⊥
 
+-- the first part of a node, and the frame that is left behind for the others; none where the node is a step
 abbrev pub FirstPart : At → NodeId → Option (Frame × NodeId) → Type 0
 FirstPart at id None = IsStep (at id)
 FirstPart at id (Some part) =

@@ -60,6 +60,7 @@ impl<'s> Calls<'s> {
         ensures { self.new ≡ script ∷ self.old }
     {
         let pushed = self.started.push(script);
+        // for the proof: room was reserved, so this isn't refused
         prove!(pushed.is_ok());
     }
 
@@ -69,6 +70,7 @@ impl<'s> Calls<'s> {
         ensures { self.new ≡ behind self.old }
     {
         let done = self.started.pop();
+        // for the proof: a script that was started is there
         prove!(done.is_some());
     }
 }

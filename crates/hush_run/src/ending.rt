@@ -57,7 +57,7 @@ pub(crate) enum Reason {
 pub(crate) enum Stop {
     /// It has ended.
     Ended(Reason),
-    /// A growth was refused, and the step that was due isn't begun.
+    /// A growth was refused; the step that was due isn't counted and has changed nothing.
     Memory,
 }
 

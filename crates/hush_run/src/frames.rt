@@ -99,6 +99,7 @@ impl Frames {
         ensures { self.new ≡ record self.old { frames = frame ∷ self.old.frames } }
     {
         let pushed = self.items.push(frame);
+        // for the proof: room was reserved, so this isn't refused
         prove!(pushed.is_ok());
     }
 

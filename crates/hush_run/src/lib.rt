@@ -1,5 +1,7 @@
 //! Dry runs of boot scripts: a script run over a session under limits, with hardware answered by stand-ins.
 //! docs/runs.md states the rules.
+//!
+//! To read in this order: ending, outcome; progress, machine, advancing; node_step, steps; descent, rising, turns; frames.
 #![tactic(auto)]
 
 mod advancing;

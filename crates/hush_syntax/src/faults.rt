@@ -1,3 +1,4 @@
+//! What can be wrong with a script, and where.
 ghost use Rattle.std.specs.Prelude.{◌≡◌};
 ghost use Rattle.hush_syntax.specs.Faults.{word_fault};
 ghost use Rattle.hush_syntax.specs.declared.faults.FaultKind.TheVariants.{Memory};

@@ -1,3 +1,4 @@
+//! The reserved words.
 ghost use Rattle.std.specs.Prelude.{◌≡◌};
 ghost use Rattle.hush_words.specs.Parts.{word_atoms};
 

@@ -10,7 +10,7 @@ use Rattle.hush_words.specs.Words.Piece.{Bare, Escaped, Joined, Single, Double, 
 use Rattle.hush_words.specs.Tokens.{Token, Lexeme, opens_word, lexeme_text, lexeme_tokens, has_no_nul}
 use Rattle.hush_words.specs.Tokens.Lexeme.{WordOf, EndOfLine, Separator, And, Or, Blank, JoinedLine, Comment}
 
--- a part at the front of a text, and the text behind it
+-- a piece at the front of a text, and the text behind it
 abbrev pub Found : Type 0 → Type 0
 Found P = Option (P × List ℕ)
 
@@ -26,11 +26,12 @@ behind test (b ∷ bs) = if test b then behind test bs else b ∷ bs
 abbrev pub found : {P : Type 0} → P → List ℕ → Found P
 found p rest = Some (p, rest)
 
--- parts as long as one is found, at most n of them, and the rest
+-- one that was found, and those behind it
 abbrev pub many_from : {P : Type 0} → (List ℕ → List P × List ℕ) → List ℕ → Found P → List P × List ℕ
 many_from more text None = ([], text)
 many_from more text (Some f) = (f.0 ∷ (more f.1).0, (more f.1).1)
 
+-- pieces as long as one is found, at most n of them, and the rest
 abbrev pub many : {P : Type 0} → (List ℕ → Found P) → ℕ → List ℕ → List P × List ℕ
 many at zero text = ([], text)
 many at (suc n) text = many_from (many at n) text (at text)

@@ -1,3 +1,5 @@
+//! What can be wrong with a word or an operator.
+
 /// What is wrong with a word or an operator (docs/scripts.md, "Words").
 #[derive(Clone, Copy, Debug, PartialEq, Eq)]
 pub enum FaultKind {

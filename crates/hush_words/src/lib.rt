@@ -1,5 +1,7 @@
-//! The words of a script: reads a script's bytes into tokens, the words of which are ranges of those bytes.
+//! The words of a script: reads a script's bytes into tokens. A word is some parts, each a range of those bytes.
 //! The rules are those of docs/scripts.md, "Words".
+//!
+//! To read in this order: parts, tokens, text, faults; reading, words, dollars, quotes, steps; classes; forms; laws.
 #![tactic(auto)]
 
 mod classes;

@@ -1,3 +1,4 @@
+//! The parts that words are made of.
 ghost use Rattle.std.specs.Prelude.{◌≡◌, ◌≤◌, IfSome};
 ghost use Rattle.std.specs.Option.{option_map};
 ghost use Rattle.hush_words.specs.Parts.{span_of, part_atoms, span_bytes};
@@ -20,7 +21,7 @@ pub enum Part {
     Plain(Span),
     /// Bytes that stand for themselves, in quotes or behind a `\`.
     Quoted(Span),
-    /// The place of an opening quote.
+    /// A pair of quotes: no bytes, but with it even an empty word is there.
     Mark,
     /// The value of a variable: the range of its name, and whether it stands in double quotes.
     Value(Span, bool),

@@ -1,3 +1,4 @@
+//! A script's bytes with the parts of its words.
 ghost use Rattle.std.specs.Prelude.{◌≡◌, ◌≤◌, All, length};
 ghost use Rattle.hush_words.specs.Parts.{written, span_bytes, word_parts};
 ghost use Rattle.hush_words.specs.Ranges.{IsWithin, Fits, AllFit};

@@ -1,3 +1,4 @@
+//! The tokens of a script.
 use crate::{Fault, Text, Word};
 
 /// What a token is.

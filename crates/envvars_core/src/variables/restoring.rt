@@ -48,6 +48,7 @@ impl Vars {
         ensures brings_back { restored self.new.env olds.new ≡ restored self.old.env olds.old }
         ensures room { self.new.room ≡ self.old.room }
     {
+        // for the proof: what is used fits
         prove!(self.used <= self.room);
         let (old, hint) = self.find(name);
         let size = self.size_left(name, new, force, defaults, old)?;
@@ -99,6 +100,7 @@ impl Vars {
         ensures restored { self.new ≡ record self.old { env = restored self.old.env olds.old } }
         ensures emptied { olds.new ≡ env.empty }
     {
+        // for the proof: what is used fits
         prove!(self.used <= self.room);
         let size = swap_all(&mut self.variables, olds, self.used as usize);
         self.used = size as u32;

@@ -153,6 +153,7 @@ impl Vars {
         ensures never_memory { result ≢ Err Refusal.Memory }
         ensures accepted { OnOk result (IsAccepted self.now.env self.now.room name.now (option_copied new.entry)) }
     {
+        // for the proof: what is used fits
         prove!(self.used <= self.room);
         let old = self.get(name);
         match self.size_left(name, new, force, defaults, old) {
@@ -246,6 +247,7 @@ impl Vars {
         ensures formed { IfOk result IsFormedWas }
         ensures unchanged { OnErr result (self.new ≡ self.old) }
     {
+        // for the proof: what is used fits
         prove!(self.used <= self.room);
         let (old, hint) = self.find(name);
         let size = self.size_left(name, new, force, defaults, old)?;
