@@ -16,12 +16,12 @@ from pathlib import Path
 
 sys.path.insert(0, str(Path(__file__).parent / "runs"))
 
-from evaluator import Case, Fault, Left, evaluate, opened, stand_ins
+from evaluator import Case, Fault, Left, evaluate, opened, read_stand_ins
 
 SOURCES = Path(__file__).parent.parent / "crates/mutations/src"
 BLANKS = b" \t"
 LIMITS = (100, 3, 64, 256)
-STUBS = b"mmc 0\nusb 1\n"
+STAND_INS = b"mmc 0\nusb 1\n"
 WORD = 2**64 - 1
 
 
@@ -306,7 +306,7 @@ def judged_text(entries_of, text):
 
 
 def judged_stand_ins(text):
-    statuses = stand_ins(text)
+    statuses = read_stand_ins(text)
     if isinstance(statuses, bytes):
         name, number = re.fullmatch(rb"(\w+) in line (\d+)", statuses).groups()
         return name.decode(), int(number)
@@ -318,7 +318,7 @@ def judged_stand_ins(text):
 
 
 def judged_script(text):
-    left = evaluate(Case(text, LIMITS, defaults=DEFAULTS, stubs=STUBS, copies=2, size=160))
+    left = evaluate(Case(text, LIMITS, defaults=DEFAULTS, stand_ins=STAND_INS, copies=2, size=160))
     if not isinstance(left, Left):
         name, place = re.fullmatch(rb"(\w+) at byte (\d+)", left).groups()
         return name.decode(), int(place)

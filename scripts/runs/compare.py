@@ -31,7 +31,7 @@ def area(variables):
 
 def encoded(case):
     """A case as the program reads it."""
-    parts = [area(case.defaults), area(case.variables), case.stubs, case.script]
+    parts = [area(case.defaults), area(case.variables), case.stand_ins, case.script]
     numbers = [case.copies, case.size, *case.limits, *map(len, parts)]
     return b" ".join(b"%d" % number for number in numbers) + b"\n" + b"".join(parts) + b"\n"
 

@@ -551,7 +551,7 @@ BUILTINS = {
 }  # fmt: skip
 
 
-def stand_ins(text):
+def read_stand_ins(text):
     """Statuses by name, or the text of a fault."""
     statuses = {}
     lines = text.split(b"\n")
@@ -586,7 +586,7 @@ class Case:
     limits: tuple  # steps, depth, word, output
     variables: dict = field(default_factory=dict)
     defaults: dict = field(default_factory=dict)
-    stubs: bytes = b""
+    stand_ins: bytes = b""
     copies: int = 1
     size: int = 4096
 
@@ -625,9 +625,9 @@ BY_ZERO = b"## Error: division by zero\n"
 
 
 class Run:
-    def __init__(self, environment, stubs, limits):
+    def __init__(self, environment, stand_ins, limits):
         self.environment = environment
-        self.stubs = stubs
+        self.stand_ins = stand_ins
         self.max_steps, self.max_depth, self.max_word, self.max_output = limits
         self.locals = {}
         self.status = 0
@@ -767,8 +767,8 @@ class Run:
                 getattr(self, names[second])(name, rest[1:])
         elif name in BUILTINS:
             getattr(self, name.partition(b".")[0].decode())(name, rest)
-        elif name in self.stubs:
-            self.done(self.stubs[name], b"+" + b"".join(b" " + each for each in fields) + b"\n")
+        elif name in self.stand_ins:
+            self.done(self.stand_ins[name], b"+" + b"".join(b" " + each for each in fields) + b"\n")
         else:
             self.done(1, UNKNOWN % name)
 
@@ -919,14 +919,14 @@ def opened(case):
 def evaluate(case):
     """What a case leaves; the text of the fault where the stand-ins or the script are refused."""
     environment = opened(case)
-    stubs = stand_ins(case.stubs)
-    if isinstance(stubs, bytes):
-        return stubs
+    stand_ins = read_stand_ins(case.stand_ins)
+    if isinstance(stand_ins, bytes):
+        return stand_ins
     try:
         tree = parse(case.script)
     except Fault as fault:
         return fault.text
-    run = Run(environment, stubs, case.limits)
+    run = Run(environment, stand_ins, case.limits)
     ending = "Finished"
     try:
         run.chains(tree)

@@ -9,8 +9,8 @@ TEXTS = b"0 1 2 10 ff 0x1f -5 010 x ab a=b -n -f -a ! *4 = < sub".split()
 LETTERS = b"abnx019.,-_=<>()[]*!/}{`%@"
 VALUES = [b"0", b"1", b"9", b"1 2", b" a  b ", b"ff", b"x\ty", b"a b c", b"-n", b"$n", b"true", b"two\nlines", b"fi"]
 FLAGS = [b"n:d", b"n:x,x:sr", b"b:so", b"a:sc,boot:sr,b:sc", b"i:b, n : da ,,x", b"r:so", b"a:i", b"a:m,a:sc"]
-STUBS = [b"mmc\nusb 1\nload 7\n", b"mmc 3\r\n# a board\n\n\tload 007 \n", b"usb", b""]
-BAD_STUBS = [b"echo\n", b"mmc\nmmc 1\n", b"usb 256\n", b"mmc 0 0\n", b"usb -1\n", b"# \0\n", b"mmc\nsetexpr.b 1"]
+STAND_IN_FILES = [b"mmc\nusb 1\nload 7\n", b"mmc 3\r\n# a board\n\n\tload 007 \n", b"usb", b""]
+BAD_STAND_IN_FILES = [b"echo\n", b"mmc\nmmc 1\n", b"usb 256\n", b"mmc 0 0\n", b"usb -1\n", b"# \0\n", b"mmc\nsetexpr.b 1"]
 STAND_INS = [b"mmc", b"usb", b"load", b"reset", b"[", b""]
 OPERATORS = [b"=", b"!=", b"<", b">", b"-eq", b"-ne", b"-lt", b"-le", b"-gt", b"-ge", b"x"]
 
@@ -248,9 +248,9 @@ def case(random):
     if random.randrange(100) < 5:
         text = spoiled(random, text)
     defaults = {random.choice([b"a", b"b", *NAMES]): random.choice(VALUES) for _ in range(random.randint(0, 3))}
-    stubs = random.choice(BAD_STUBS) if random.randrange(100) < 2 else random.choice(STUBS)
+    stand_ins = random.choice(BAD_STAND_IN_FILES) if random.randrange(100) < 2 else random.choice(STAND_IN_FILES)
     size = random.choice([random.randint(40, 400), 500])
-    made = Case(text, limits(random), variables(random), defaults, stubs, random.randint(1, 2), size)
+    made = Case(text, limits(random), variables(random), defaults, stand_ins, random.randint(1, 2), size)
     while opened(made) is None:
         made.size += 60
         if made.size > 1500:

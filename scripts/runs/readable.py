@@ -97,7 +97,7 @@ def with_section(case, name, lines):
     if name == "limits":
         return replace(case, limits=tuple(map(int, lines[0].split())))
     if name == "stand-ins":
-        return replace(case, stubs=text_of(lines))
+        return replace(case, stand_ins=text_of(lines))
     return replace(case, **{name: pairs(lines)})
 
 

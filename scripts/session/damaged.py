@@ -1,5 +1,6 @@
 """Inputs of `fwenv session` that are cut or damaged, beside a model (model.py): each front of some inputs, each front
-behind which standard input fails, or ends and goes on, and some that are changed at random from a seed.
+behind which standard input fails, or ends and goes on, at once and byte by byte, and some that are changed at random from a
+seed. No input is tried twice in one way.
 
     damaged.py PROGRAM CUT.so FOLDER COUNT SEED
 
@@ -8,6 +9,7 @@ both streams, its status and every byte of the device are compared with what the
 two seconds of a processor. The last line is 'N passed, M failed'.
 """
 
+import itertools
 import os
 import random
 import resource
@@ -19,7 +21,7 @@ from model import Model
 
 SIZE = 96
 DEFAULTS = {b".flags": b"n:d,o:so", b"n": b"1", b"s": b"echo $x; setenv x 3", b"x": b"1 2"}
-STUBS = {b"mmc": 0, b"usb": 1}
+STAND_INS = {b"mmc": 0, b"usb": 1}
 LIMITS = (50, 3, 64, 256)
 WARNING = b"Warning: Bad CRC, using default environment\n"
 CANNOT_READ = b"fwenv: cannot read standard input\n"
@@ -57,9 +59,10 @@ def changed(text, numbers):
     )
 
 
-def mutants(count, seed):
+def mutants(seed):
+    """Inputs that are changed at random, without an end."""
     numbers = random.Random(seed)
-    for _ in range(count):
+    while True:
         text = numbers.choice(INPUTS)
         for _ in range(numbers.randrange(1, 5)):
             text = changed(text, numbers)
@@ -79,15 +82,22 @@ class Board:
         config.write_text(f"{self.device} 0 {SIZE:x}\n{self.device} {SIZE} {SIZE:x}\n")
         default = folder / "damaged-default"
         default.write_bytes(b"".join(name + b"=" + value + b"\n" for name, value in DEFAULTS.items()))
-        stubs = folder / "damaged-stubs"
-        stubs.write_bytes(b"".join(b"%s %d\n" % each for each in STUBS.items()))
+        stand_ins = folder / "damaged-stand-ins"
+        stand_ins.write_bytes(b"".join(b"%s %d\n" % each for each in STAND_INS.items()))
         limits = [f"--{name}={most}" for name, most in zip(("steps", "depth", "word", "output"), LIMITS)]
-        self.command = [program, "session", "-c", config, "--default", default, "--stubs", stubs, "--write", *limits]
+        self.command = [program, "session", "-c", config, "--default", default, "--stubs", stand_ins, "--write", *limits]
+        self.tried = set()
         self.passed = self.failed = 0
 
     def check(self, what, text, fails=False, pauses=False, step=None):
         """Runs the program over an input, behind which standard input fails where `fails` is true; where `pauses` is, it
-        ends there, and would go on if it were read again. At most `step` bytes come a call."""
+        ends there, and would go on if it were read again. At most `step` bytes come a call. Answers whether it wasn't tried
+        before."""
+        # (of one byte at most none comes in two ways)
+        way = (text, fails, pauses, step if len(text) > 1 else None)
+        if way in self.tried:
+            return False
+        self.tried.add(way)
         self.device.write_bytes(b"\xff" * SIZE * 2)
         cut = {}
         if fails or pauses or step:
@@ -97,7 +107,7 @@ class Board:
             if fails or pauses:
                 cut["CUT_AFTER"] = str(len(text))
                 cut["CUT_THEN"] = "pause" if pauses else "fail"
-        model = Model(2, SIZE, DEFAULTS, STUBS, LIMITS)
+        model = Model(2, SIZE, DEFAULTS, STAND_INS, LIMITS)
         output = model.answer(text, is_whole=not fails)
         copies = [b"\xff" * SIZE] * 2 if fails else model.environment.copies
         wanted = (int(fails), output, WARNING + CANNOT_READ * fails, b"".join(copies))
@@ -115,10 +125,11 @@ class Board:
             found = f"nothing within {WAITED} seconds"
         if found == wanted:
             self.passed += 1
-            return
+            return True
         self.failed += 1
         if self.failed <= 5:
             print(f"FAILED: {what}: {text!r}:\n  {found!r:.900}\n  in place of\n  {wanted!r:.900}")
+        return True
 
 
 def main():
@@ -127,13 +138,14 @@ def main():
     for text in INPUTS:
         for length in range(len(text) + 1):
             board.check(f"the first {length} bytes", text[:length])
-            board.check(f"standard input that fails behind {length} bytes", text[:length], fails=True)
-            board.check("the same, byte by byte", text[:length], fails=True, step=1)
-            board.check(f"standard input that ends behind {length} bytes and goes on", text[:length], pauses=True)
+            for step in (None, 1):
+                board.check(f"standard input that fails behind {length} bytes", text[:length], fails=True, step=step)
+                board.check(f"standard input that ends behind {length} bytes and goes on", text[:length], pauses=True, step=step)
         for step in (1, 3):
             board.check(f"{step} bytes a call", text, step=step)
-    for number, text in enumerate(mutants(int(count), int(seed))):
-        board.check(f"number {number} of seed {seed}", text)
+    changed_inputs = (text for text in mutants(int(seed)) if board.check(f"changed at random from seed {seed}", text))
+    for _ in itertools.islice(changed_inputs, int(count)):
+        pass
     print(f"{board.passed} passed, {board.failed} failed")
 
 

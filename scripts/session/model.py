@@ -35,12 +35,12 @@ def items_of(text, is_whole):
 
 
 class Model:
-    def __init__(self, copies, size, defaults, stubs, limits):
+    def __init__(self, copies, size, defaults, stand_ins, limits):
         self.environment = Environment(copies, size, {})
         for name, value in defaults.items():
             assert self.environment.write(name, value, True) is None
         self.environment.defaults = dict(self.environment.variables)
-        self.stubs = stubs
+        self.stand_ins = stand_ins
         self.limits = limits
         self.opening = self.state()
         self.marks = []
@@ -68,7 +68,7 @@ class Model:
             tree = parse(block)
         except Fault:
             return b"[Syntax]\n"
-        run = Run(self.environment, self.stubs, self.limits)
+        run = Run(self.environment, self.stand_ins, self.limits)
         ending = "Finished"
         try:
             run.chains(tree)

@@ -1,7 +1,7 @@
 //! Simple commands as a run makes them, again and again.
 use crate::made_ready::{WORD_LIMIT, session, words_of};
 use crate::{Outcome, Task};
-use hush_commands::{FieldBuffer, Locals, Output, Scope, Stubs, carry_out};
+use hush_commands::{FieldBuffer, Locals, Output, Scope, StandIns, carry_out};
 use std::io::{self, Error, ErrorKind};
 use std::time::Instant;
 
@@ -11,7 +11,7 @@ pub fn setexpr(rt: &HostRuntime, task: Task) -> io::Result<Outcome> {
     let words = words_of(rt.alloc(), b"setexpr n $n + 1".to_vec(rt.alloc())?)?;
     let mut session = session(rt.alloc())?;
     let locals = Locals::new(rt.alloc());
-    let stubs = no_stubs(rt)?;
+    let stand_ins = no_stand_ins(rt)?;
     let mut fields = FieldBuffer::new(rt.alloc());
     let mut output = Output::new(rt.alloc(), 0);
     let mut refused = 0u32;
@@ -19,13 +19,20 @@ pub fn setexpr(rt: &HostRuntime, task: Task) -> io::Result<Outcome> {
     if task.wanted {
         for _ in 0..task.count {
             let scope = Scope {
-                text: &words.lexed.text,
+                text: &words.text,
                 vars: session.vars(),
                 locals: &locals,
                 status: 0,
             };
             let _made = fields.expand(&scope, &words.words, WORD_LIMIT);
-            let answer = carry_out(rt.alloc(), &mut session, &stubs, &fields, 0, &mut output);
+            let answer = carry_out(
+                rt.alloc(),
+                &mut session,
+                &stand_ins,
+                &fields,
+                0,
+                &mut output,
+            );
             refused = refused.wrapping_add(u32::from(answer != Ok(0)));
         }
     }
@@ -43,11 +50,11 @@ pub fn test(rt: &HostRuntime, task: Task) -> io::Result<Outcome> {
     let words = words_of(rt.alloc(), b"test 3 -lt 10".to_vec(rt.alloc())?)?;
     let mut session = session(rt.alloc())?;
     let locals = Locals::new(rt.alloc());
-    let stubs = no_stubs(rt)?;
+    let stand_ins = no_stand_ins(rt)?;
     let mut fields = FieldBuffer::new(rt.alloc());
     let mut output = Output::new(rt.alloc(), 0);
     let scope = Scope {
-        text: &words.lexed.text,
+        text: &words.text,
         vars: session.vars(),
         locals: &locals,
         status: 0,
@@ -57,7 +64,14 @@ pub fn test(rt: &HostRuntime, task: Task) -> io::Result<Outcome> {
     let start = Instant::now(rt)?;
     if task.wanted {
         for _ in 0..task.count {
-            let answer = carry_out(rt.alloc(), &mut session, &stubs, &fields, 0, &mut output);
+            let answer = carry_out(
+                rt.alloc(),
+                &mut session,
+                &stand_ins,
+                &fields,
+                0,
+                &mut output,
+            );
             refused = refused.wrapping_add(u32::from(answer != Ok(0)));
         }
     }
@@ -69,6 +83,6 @@ pub fn test(rt: &HostRuntime, task: Task) -> io::Result<Outcome> {
     })
 }
 
-fn no_stubs(rt: &HostRuntime) -> io::Result<Stubs> {
-    Stubs::parse(rt.alloc(), b"").map_err(|_| Error::from(ErrorKind::OutOfMemory))
+fn no_stand_ins(rt: &HostRuntime) -> io::Result<StandIns> {
+    StandIns::parse(rt.alloc(), b"").map_err(|_| Error::from(ErrorKind::OutOfMemory))
 }

@@ -18,15 +18,6 @@ const QUOTED: &[u8] =
 /// How often a value is doubled.
 const DOUBLINGS: u32 = 32;
 
-/// How many bytes the fields have.
-fn length_of(fields: &FieldBuffer) -> usize {
-    let mut length = 0usize;
-    for field in fields.fields() {
-        length = length.wrapping_add(field.len());
-    }
-    length
-}
-
 /// The word with ten substitutions, so many times. Leaves the bytes of its fields.
 pub fn expand(rt: &HostRuntime, task: Task, quoted: bool) -> io::Result<Outcome> {
     let text = if quoted { QUOTED } else { UNQUOTED };
@@ -45,7 +36,7 @@ fn expand_words(rt: &HostRuntime, words: &Words, rounds: u32, wanted: bool) -> i
     let session = session(rt.alloc())?;
     let locals = Locals::new(rt.alloc());
     let scope = Scope {
-        text: &words.lexed.text,
+        text: &words.text,
         vars: session.vars(),
         locals: &locals,
         status: 0,
@@ -89,6 +80,15 @@ pub fn double(rt: &HostRuntime, task: Task) -> io::Result<Outcome> {
     })
 }
 
+/// How many bytes the fields have.
+fn length_of(fields: &FieldBuffer) -> usize {
+    let mut length = 0usize;
+    for field in fields.fields() {
+        length = length.wrapping_add(field.len());
+    }
+    length
+}
+
 /// `x=$x$x`; answers whether it was set.
 fn double_once(
     alloc: Global,
@@ -100,9 +100,9 @@ fn double_once(
     let vars = Vars::empty(alloc, 1);
     let mut is_set = false;
     for word in &words.words {
-        if let Some(assignment) = word.assignment(&words.lexed.text) {
+        if let Some(assignment) = word.assignment(&words.text) {
             let scope = Scope {
-                text: &words.lexed.text,
+                text: &words.text,
                 vars: &vars,
                 locals,
                 status: 0,

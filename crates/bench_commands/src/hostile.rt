@@ -3,7 +3,7 @@ use crate::made_ready::repeated;
 use crate::{Outcome, Task};
 use bench_parts::name;
 use hush_calc::Fields;
-use hush_commands::Stubs;
+use hush_commands::StandIns;
 use std::io::{self, Error, ErrorKind};
 use std::time::Instant;
 
@@ -15,11 +15,13 @@ pub fn stand_ins(rt: &HostRuntime, task: Task) -> io::Result<Outcome> {
         text.extend_from_slice(b" 7\n")?;
     }
     let start = Instant::now(rt)?;
-    let parsed = Stubs::parse(rt.alloc(), if task.wanted { &text } else { &[] });
+    let parsed = StandIns::parse(rt.alloc(), if task.wanted { &text } else { &[] });
     let taken = start.elapsed(rt)?.as_nanos();
     match parsed {
-        Ok(stubs) => {
-            let status = stubs.status(&name(task.count.wrapping_sub(1))).unwrap_or(0);
+        Ok(stand_ins) => {
+            let status = stand_ins
+                .status(&name(task.count.wrapping_sub(1)))
+                .unwrap_or(0);
             Ok(Outcome {
                 left: usize::from(status),
                 refused: 0,
@@ -49,17 +51,6 @@ pub fn digits(rt: &HostRuntime, task: Task) -> io::Result<Outcome> {
     tested(rt, task, &text, &[task.count as usize, 3, 19])
 }
 
-fn tested(rt: &HostRuntime, task: Task, text: &[u8], lengths: &[usize]) -> io::Result<Outcome> {
-    let start = Instant::now(rt)?;
-    let holds = task.wanted && hush_calc::test(Fields::new(text, lengths));
-    let taken = start.elapsed(rt)?.as_nanos();
-    Ok(Outcome {
-        left: usize::from(holds),
-        refused: 0,
-        taken,
-    })
-}
-
 /// `setexpr` of a value with so many digits. Leaves the length of what it writes.
 pub fn values(rt: &HostRuntime, task: Task) -> io::Result<Outcome> {
     let mut text = repeated(rt.alloc(), b"f", task.count)?;
@@ -75,6 +66,17 @@ pub fn values(rt: &HostRuntime, task: Task) -> io::Result<Outcome> {
     let taken = start.elapsed(rt)?.as_nanos();
     Ok(Outcome {
         left,
+        refused: 0,
+        taken,
+    })
+}
+
+fn tested(rt: &HostRuntime, task: Task, text: &[u8], lengths: &[usize]) -> io::Result<Outcome> {
+    let start = Instant::now(rt)?;
+    let holds = task.wanted && hush_calc::test(Fields::new(text, lengths));
+    let taken = start.elapsed(rt)?.as_nanos();
+    Ok(Outcome {
+        left: usize::from(holds),
         refused: 0,
         taken,
     })

@@ -4,7 +4,7 @@ use env_session::{Session, Stored};
 use envimg_core::{Geometry, Layout};
 use envvars_core::Vars;
 use hush_syntax::Word;
-use hush_words::{Lexed, TokenKind, read};
+use hush_words::Text;
 use std::alloc::{AllocError, Global};
 use std::io::{self, Error, ErrorKind};
 
@@ -35,20 +35,15 @@ const OTHERS: u32 = 140;
 /// A script's words, and their text.
 #[derive(Drop)]
 pub struct Words {
-    pub lexed: Lexed,
+    pub text: Text,
     pub words: Vec<Word>,
 }
 
 /// The words of a text.
 pub fn words_of(alloc: Global, text: Vec<u8>) -> Result<Words, AllocError> {
-    let lexed = read(alloc, text)?;
-    let mut words = Vec::new(alloc);
-    for token in &lexed.tokens {
-        if let TokenKind::Word(word) = token.kind {
-            words.push(word)?;
-        }
-    }
-    Ok(Words { lexed, words })
+    let text = Text::new(text)?;
+    let words = bench_parts::words_of(alloc, &text)?;
+    Ok(Words { text, words })
 }
 
 /// A session with 151 variables, over an image that has none.

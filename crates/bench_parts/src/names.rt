@@ -17,10 +17,6 @@ pub fn name(i: u32) -> Name {
     ]
 }
 
-fn digit(n: u32) -> u8 {
-    (n % 10) as u8 + 48
-}
-
 /// How many numbers [`scattered`] mixes.
 pub(crate) const COUNT: u32 = 262_144;
 
@@ -49,4 +45,8 @@ pub fn repeated_names(alloc: Global, count: u32) -> Result<Vec<Name>, AllocError
         names.push(name(scattered(i) % 1_000))?;
     }
     Ok(names)
+}
+
+fn digit(n: u32) -> u8 {
+    (n % 10) as u8 + 48
 }

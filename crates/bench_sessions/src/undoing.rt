@@ -83,9 +83,9 @@ pub fn saving(
         is_saved = session.save().is_ok();
     }
     let taken = begun.elapsed(rt)?.as_nanos();
-    let touched = session.touched();
+    let changed_names = session.changed_names();
     let is_right = task.mode != Mode::Check || reads_back(alloc, session)?;
-    Ok(outcome(touched, refused, taken, is_saved && is_right))
+    Ok(outcome(changed_names, refused, taken, is_saved && is_right))
 }
 
 /// Whether a session over what this one leaves shows the same.
@@ -115,5 +115,10 @@ pub fn undoing(
     }
     let taken = begun.elapsed(rt)?.as_nanos();
     let is_right = task.mode != Mode::Check || Shown::of(alloc, &session, task.mode)?.is(&wanted);
-    Ok(outcome(session.touched(), refused, taken, is_undone && is_right))
+    Ok(outcome(
+        session.changed_names(),
+        refused,
+        taken,
+        is_undone && is_right,
+    ))
 }

@@ -2,7 +2,7 @@
 
 use crate::fixtures::{carried, fields, session};
 use env_session::{Session, Side};
-use hush_commands::{Command, Output, PrintFault, Stubs};
+use hush_commands::{Command, Output, PrintFault, StandIns};
 use std::alloc::{AllocError, Global};
 use std::process::Abort;
 use std::test::Fail;
@@ -177,12 +177,12 @@ fn commands_leave_the_words_behind_their_name(rt: HostRuntime) -> Result<(), Fai
         (b"mmc", b"dev 0", Command::StandIn(3), Some(b"dev")),
         (b"mmcinfo", b"0", Command::Unknown, Some(b"0")),
     ];
-    match Stubs::parse(rt.alloc(), b"mmc 3") {
-        Ok(stubs) => {
+    match StandIns::parse(rt.alloc(), b"mmc 3") {
+        Ok(stand_ins) => {
             for (name, text, command, next) in table {
                 let behind = fields(rt.alloc(), text)?;
                 let mut words = behind.fields();
-                let found = Command::of(&stubs, name, &mut words);
+                let found = Command::of(&stand_ins, name, &mut words);
                 assert_eq!(rt; (found, words.next()), (command, next), "of {name:?}");
             }
         }

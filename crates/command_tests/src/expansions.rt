@@ -1,9 +1,10 @@
 //! Expansion by its rules (docs/runs.md, "Expansion"). The fields are worked out by hand.
 
-use crate::fixtures::{WORD, words_of};
+use crate::fixtures::WORD;
+use bench_parts::words_of;
 use envvars_core::Vars;
 use hush_commands::{ExpansionFault, FieldBuffer, Locals, Scope};
-use hush_words::{Lexed, read};
+use hush_words::Text;
 use std::alloc::{AllocError, Global};
 use std::test::Fail;
 
@@ -29,14 +30,14 @@ fn local_variables(alloc: Global) -> Result<Locals, AllocError> {
 fn expand(
     alloc: Global,
     buffer: &mut FieldBuffer,
-    lexed: &Lexed,
+    text: &Text,
     limit: u32,
 ) -> Result<Option<ExpansionFault>, AllocError> {
     let vars = environment(alloc);
     let locals = local_variables(alloc)?;
-    let words = words_of(alloc, lexed)?;
+    let words = words_of(alloc, text)?;
     let scope = Scope {
-        text: &lexed.text,
+        text,
         vars: &vars,
         locals: &locals,
         status: 207,
@@ -82,8 +83,8 @@ fn words_have_fields(rt: HostRuntime) -> Result<(), Fail> {
     ];
     let mut buffer = FieldBuffer::new(rt.alloc());
     for (text, expected) in table {
-        let lexed = read(rt.alloc(), text.to_vec(rt.alloc())?)?;
-        let fault = expand(rt.alloc(), &mut buffer, &lexed, 4096)?;
+        let copy = Text::new(text.to_vec(rt.alloc())?)?;
+        let fault = expand(rt.alloc(), &mut buffer, &copy, 4096)?;
         let fields = joined(rt.alloc(), &buffer)?;
         assert_eq!(rt; (fault, fields.as_slice()), (None, expected), "of {text:?}");
     }
@@ -110,8 +111,8 @@ fn words_have_a_limit(rt: HostRuntime) -> Result<(), Fail> {
     ];
     let mut buffer = FieldBuffer::new(rt.alloc());
     for (text, limit, expected) in table {
-        let lexed = read(rt.alloc(), text.to_vec(rt.alloc())?)?;
-        let fault = expand(rt.alloc(), &mut buffer, &lexed, limit)?;
+        let copy = Text::new(text.to_vec(rt.alloc())?)?;
+        let fault = expand(rt.alloc(), &mut buffer, &copy, limit)?;
         let wanted = if expected {
             None
         } else {
@@ -130,17 +131,17 @@ fn assigned(
     limit: u32,
 ) -> Result<Vec<u8>, AllocError> {
     let vars = environment(alloc);
-    let lexed = read(alloc, Vec::from_slice(alloc, text)?)?;
+    let text = Text::new(Vec::from_slice(alloc, text)?)?;
     let mut values = Vec::new(alloc);
     let mut buffer = FieldBuffer::new(alloc);
-    for word in &words_of(alloc, &lexed)? {
+    for word in &words_of(alloc, &text)? {
         let scope = Scope {
-            text: &lexed.text,
+            text: &text,
             vars: &vars,
             locals,
             status: 9,
         };
-        if let Some(assignment) = word.assignment(&lexed.text) {
+        if let Some(assignment) = word.assignment(&text) {
             match buffer.expand_value(&scope, assignment.value, limit) {
                 Ok(()) => values.extend_from_slice(&joined(alloc, &buffer)?)?,
                 Err(ExpansionFault::Word) => values.extend_from_slice(b"Word")?,
@@ -176,9 +177,9 @@ fn marks_alone_are_one_field(rt: HostRuntime) -> Result<(), Fail> {
     for _ in 0..65_536u32 {
         text.extend_from_slice(b"''")?;
     }
-    let lexed = read(rt.alloc(), text)?;
+    let text = Text::new(text)?;
     let mut buffer = FieldBuffer::new(rt.alloc());
-    let fault = expand(rt.alloc(), &mut buffer, &lexed, 0)?;
+    let fault = expand(rt.alloc(), &mut buffer, &text, 0)?;
     let fields = joined(rt.alloc(), &buffer)?;
     assert_eq!(rt; (fault, fields.as_slice()), (None, b"|".as_slice()));
     Ok(())

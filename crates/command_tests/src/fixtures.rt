@@ -1,12 +1,13 @@
 //! Fields, sessions and commands for the tests.
 
+use bench_parts::words_of;
 use env_session::{Session, Stored};
 use envimg_core::{Geometry, Layout};
 use envvars_core::Vars;
 use hush_commands::{
-    ExpansionFault, FieldBuffer, Locals, Output, PrintFault, Scope, Stubs, carry_out,
+    ExpansionFault, FieldBuffer, Locals, Output, PrintFault, Scope, StandIns, carry_out,
 };
-use hush_words::{Lexed, TokenKind, Word, read};
+use hush_words::Text;
 use std::alloc::{AllocError, Global};
 
 /// The largest word.
@@ -34,23 +35,12 @@ pub(crate) fn repeated(alloc: Global, bytes: &[u8], count: u32) -> Result<Vec<u8
     bytes.repeat(alloc, count as usize)
 }
 
-/// The words of a text.
-pub(crate) fn words_of(alloc: Global, lexed: &Lexed) -> Result<Vec<Word>, AllocError> {
-    let mut words = Vec::new(alloc);
-    for token in &lexed.tokens {
-        if let TokenKind::Word(word) = token.kind {
-            words.push(word)?;
-        }
-    }
-    Ok(words)
-}
-
 /// What the words of a text are expanded to, where no variable has a value.
 pub(crate) fn fields(alloc: Global, text: &[u8]) -> Result<FieldBuffer, AllocError> {
-    let lexed = read(alloc, Vec::from_slice(alloc, text)?)?;
-    let words = words_of(alloc, &lexed)?;
+    let text = Text::new(Vec::from_slice(alloc, text)?)?;
+    let words = words_of(alloc, &text)?;
     let scope = Scope {
-        text: &lexed.text,
+        text: &text,
         vars: &Vars::empty(alloc, 1),
         locals: &Locals::new(alloc),
         status: 0,
@@ -67,8 +57,8 @@ pub(crate) fn carried(
     command: &FieldBuffer,
     output: &mut Output,
 ) -> Result<Result<u8, PrintFault>, AllocError> {
-    match Stubs::parse(alloc, b"mmc 3") {
-        Ok(stubs) => Ok(carry_out(alloc, session, &stubs, command, 7, output)),
+    match StandIns::parse(alloc, b"mmc 3") {
+        Ok(stand_ins) => Ok(carry_out(alloc, session, &stand_ins, command, 7, output)),
         Err(_) => Err(AllocError),
     }
 }

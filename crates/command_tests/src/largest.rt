@@ -1,10 +1,11 @@
 //! The calls that take memory, each with as much as it may be given, and ample memory for it.
 
-use crate::fixtures::{OUTPUT, WORD, carried, fields, repeated, session, words_of};
+use crate::fixtures::{OUTPUT, WORD, carried, fields, repeated, session};
+use bench_parts::words_of;
 use env_session::{Session, Side};
 use envvars_core::Vars;
-use hush_commands::{FieldBuffer, Locals, Output, PrintFault, Scope, Stubs};
-use hush_words::read;
+use hush_commands::{FieldBuffer, Locals, Output, PrintFault, Scope, StandIns};
+use hush_words::Text;
 use std::alloc::{AllocError, Global};
 use std::process::Abort;
 use std::test::Fail;
@@ -53,10 +54,10 @@ fn expanded(
     locals: &Locals,
     text: Vec<u8>,
 ) -> Result<Option<(usize, usize)>, AllocError> {
-    let lexed = read(alloc, text)?;
-    let words = words_of(alloc, &lexed)?;
+    let text = Text::new(text)?;
+    let words = words_of(alloc, &text)?;
     let scope = Scope {
-        text: &lexed.text,
+        text: &text,
         vars: &Vars::empty(alloc, 1),
         locals,
         status: 0,
@@ -94,16 +95,16 @@ fn the_largest_words_are_expanded(rt: HostRuntime) -> Result<(), Fail> {
 
 /// The value that the assignments of a text have, where none is refused.
 fn assigned(alloc: Global, locals: &Locals, text: &[u8]) -> Result<FieldBuffer, AllocError> {
-    let lexed = read(alloc, Vec::from_slice(alloc, text)?)?;
+    let text = Text::new(Vec::from_slice(alloc, text)?)?;
     let mut buffer = FieldBuffer::new(alloc);
-    for word in &words_of(alloc, &lexed)? {
+    for word in &words_of(alloc, &text)? {
         let scope = Scope {
-            text: &lexed.text,
+            text: &text,
             vars: &Vars::empty(alloc, 1),
             locals,
             status: 0,
         };
-        if let Some(assignment) = word.assignment(&lexed.text) {
+        if let Some(assignment) = word.assignment(&text) {
             buffer
                 .expand_value(&scope, assignment.value, WORD)
                 .map_err(|_| AllocError)?;
@@ -127,8 +128,8 @@ fn the_largest_value_is_assigned(rt: HostRuntime) -> Result<(), Fail> {
 #[test]
 fn a_stand_in_of_the_longest_name_is_read(rt: HostRuntime) -> Result<(), Fail> {
     let name = repeated(rt.alloc(), b"n", OUTPUT)?;
-    match Stubs::parse(rt.alloc(), &name) {
-        Ok(stubs) => assert_eq!(rt; stubs.status(&name), Some(0)),
+    match StandIns::parse(rt.alloc(), &name) {
+        Ok(stand_ins) => assert_eq!(rt; stand_ins.status(&name), Some(0)),
         Err(fault) => assert!(rt; false, "{fault:?}"),
     }
     Ok(())

@@ -1,6 +1,6 @@
 //! Stand-in files.
 
-use hush_commands::{StubFault, Stubs};
+use hush_commands::{StandInFault, StandIns};
 use std::test::Fail;
 
 #[test]
@@ -30,8 +30,12 @@ fn stand_ins_are_read(rt: HostRuntime) -> Result<(), Fail> {
         (b"b 1\na 2\nc 3\nab 4", b"ab", Some(4)),
     ];
     for (text, name, expected) in table {
-        match Stubs::parse(rt.alloc(), text) {
-            Ok(stubs) => assert_eq!(rt; stubs.status(name), expected, "{name:?} of {text:?}"),
+        match StandIns::parse(rt.alloc(), text) {
+            Ok(stand_ins) => assert_eq!(rt;
+                stand_ins.status(name),
+                expected,
+                "{name:?} of {text:?}"
+            ),
             Err(fault) => assert!(rt; false, "{fault:?} of {text:?}"),
         }
     }
@@ -40,32 +44,32 @@ fn stand_ins_are_read(rt: HostRuntime) -> Result<(), Fail> {
 
 #[test]
 fn faults_of_stand_ins_have_their_line(rt: HostRuntime) -> Result<(), Fail> {
-    let table: [(&[u8], StubFault); 22] = [
-        (b"echo 0", StubFault::Builtin(1)),
-        (b"x\nx", StubFault::Twice(2)),
-        (b"x 256", StubFault::Line(1)),
-        (b"x 1 2", StubFault::Line(1)),
-        (b"x y", StubFault::Line(1)),
-        (b"x -1", StubFault::Line(1)),
-        (b"x 1x", StubFault::Line(1)),
-        (b"x 0x1", StubFault::Line(1)),
-        (b"x 99999999999999999999999999", StubFault::Line(1)),
-        (b"x 1\r\r", StubFault::Line(1)),
-        (b"x\0", StubFault::Line(1)),
-        (b"#\0", StubFault::Line(1)),
-        (b" \0", StubFault::Line(1)),
-        (b"\n\n# c\nx\n\ty\nx 9", StubFault::Twice(6)),
-        (b"x\ny 300\nx", StubFault::Line(2)),
-        (b"x\nx\ny 300", StubFault::Twice(2)),
-        (b"exit 0", StubFault::Builtin(1)),
-        (b"echo 256", StubFault::Line(1)),
-        (b"echo 1 2", StubFault::Line(1)),
-        (b"x 1\nx 256", StubFault::Line(2)),
-        (b"a\r\nenv\r\n", StubFault::Builtin(2)),
-        (b"x\nx 1 2", StubFault::Line(2)),
+    let table: [(&[u8], StandInFault); 22] = [
+        (b"echo 0", StandInFault::Builtin(1)),
+        (b"x\nx", StandInFault::Twice(2)),
+        (b"x 256", StandInFault::Line(1)),
+        (b"x 1 2", StandInFault::Line(1)),
+        (b"x y", StandInFault::Line(1)),
+        (b"x -1", StandInFault::Line(1)),
+        (b"x 1x", StandInFault::Line(1)),
+        (b"x 0x1", StandInFault::Line(1)),
+        (b"x 99999999999999999999999999", StandInFault::Line(1)),
+        (b"x 1\r\r", StandInFault::Line(1)),
+        (b"x\0", StandInFault::Line(1)),
+        (b"#\0", StandInFault::Line(1)),
+        (b" \0", StandInFault::Line(1)),
+        (b"\n\n# c\nx\n\ty\nx 9", StandInFault::Twice(6)),
+        (b"x\ny 300\nx", StandInFault::Line(2)),
+        (b"x\nx\ny 300", StandInFault::Twice(2)),
+        (b"exit 0", StandInFault::Builtin(1)),
+        (b"echo 256", StandInFault::Line(1)),
+        (b"echo 1 2", StandInFault::Line(1)),
+        (b"x 1\nx 256", StandInFault::Line(2)),
+        (b"a\r\nenv\r\n", StandInFault::Builtin(2)),
+        (b"x\nx 1 2", StandInFault::Line(2)),
     ];
     for (text, expected) in table {
-        let fault = Stubs::parse(rt.alloc(), text).err();
+        let fault = StandIns::parse(rt.alloc(), text).err();
         assert_eq!(rt; fault, Some(expected), "of {text:?}");
     }
     Ok(())
@@ -91,8 +95,8 @@ fn builtins_have_no_stand_in(rt: HostRuntime) -> Result<(), Fail> {
         b"exit",
     ];
     for name in table {
-        let fault = Stubs::parse(rt.alloc(), name).err();
-        assert_eq!(rt; fault, Some(StubFault::Builtin(1)), "of {name:?}");
+        let fault = StandIns::parse(rt.alloc(), name).err();
+        assert_eq!(rt; fault, Some(StandInFault::Builtin(1)), "of {name:?}");
     }
     Ok(())
 }
@@ -109,23 +113,23 @@ fn many_stand_ins_are_read(rt: HostRuntime) -> Result<(), Fail> {
         (b"n99999", Some(159)),
         (b"n100000", None),
     ];
-    match Stubs::parse(rt.alloc(), &text) {
-        Ok(stubs) => {
+    match StandIns::parse(rt.alloc(), &text) {
+        Ok(stand_ins) => {
             for (name, expected) in table {
-                assert_eq!(rt; stubs.status(name), expected, "{name:?}");
+                assert_eq!(rt; stand_ins.status(name), expected, "{name:?}");
             }
         }
         Err(fault) => assert!(rt; false, "{fault:?}"),
     }
     text.extend_from_slice(b"n54321")?;
-    let fault = Stubs::parse(rt.alloc(), &text).err();
-    assert_eq!(rt; fault, Some(StubFault::Twice(100_001)));
+    let fault = StandIns::parse(rt.alloc(), &text).err();
+    assert_eq!(rt; fault, Some(StandInFault::Twice(100_001)));
     Ok(())
 }
 
 #[test]
 fn faults_are_shown(rt: HostRuntime) -> Result<(), Fail> {
-    let shown = format!(in rt.alloc(); "{}, {}", StubFault::Line(7), StubFault::Memory)?;
+    let shown = format!(in rt.alloc(); "{}, {}", StandInFault::Line(7), StandInFault::Memory)?;
     assert_eq!(rt; shown.as_str(), "Line in line 7, Memory");
     Ok(())
 }

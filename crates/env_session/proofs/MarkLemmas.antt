@@ -1,8 +1,7 @@
 -- Spans, and the marks that they stand for.
-use Rattle.std.proofs.Common.{◌≡◌, ℕ, zero, suc, ◌+◌, ◌-◌, ◌<◌, ◌≤◌, Bool, true, false, List, [], ◌∷◌, ◌++◌, length, take, drop, get_or, Option, Some, None, IsTrue, Vec, Result, Ok, Err, OnOk, OnErr, is_some, unwrap_or, not, refl, sym, ap, subst, ◌∙◌, arith}
+use Rattle.std.proofs.Common.{◌≡◌, ℕ, zero, suc, ◌<◌, ◌≤◌, List, [], ◌∷◌, ◌++◌, length, take, drop, get_or, Option, IsTrue, Result, Ok, Err, OnOk, OnErr, is_some, unwrap_or, not, refl, sym, ap, subst, ◌∙◌, arith}
 use Rattle.std.proofs.Math.ListN.{set}
 use Rattle.std.specs.List.{AllByRecursion}
-use Rattle.std.specs.declared.alloc.Global.{Global}
 use Rattle.std.specs.FinMap as env
 use Rattle.envimg_core.specs.Environment.{Environment, used}
 use Rattle.envimg_core.specs.Geometry.{Shape, room_of}
@@ -12,11 +11,12 @@ use Rattle.envvars_core.specs.Refusals.{after}
 use Rattle.envvars_core.specs.Olds.{OldValues, kept_by, restored, goes_in_place}
 use Rattle.envvars_core.specs.Variables.{Contents}
 use Rattle.envvars_core.proofs.RestoreLemmas.{restored-written, restored-empty}
-use Rattle.env_session.specs.Session.{bytes_of, State, Mark, Held, IsSound, new_mark, on_last, state_at, written, marked, last_changed, last_begun, last_undone, last_left, MayRefuse}
-use Rattle.env_session.specs.Holding.{second_back, back, mark_of, begin_of, marks_of, IsBlank, now_of, held_of, IsHeld, on_nth, olds_at, back_at, keeping, beginning, emptied}
-use Rattle.env_session.specs.Names.{changed_by, names_of, comes_back_in_place}
-use Rattle.env_session.proofs.NameLemmas.{names-empty, names-kept_by, names-len, same_in_place}
-use Rattle.env_session.specs.declared.spans.Span.{Span}
+use Rattle.env_session.specs.Session.{bytes_of, State, Mark, Held, IsSound, new_mark, on_last, written, marked, last_changed_names, last_begun, MayRefuse}
+use Rattle.env_session.specs.SpanSteps.{on_nth, olds_at, back_at, keeping, beginning, emptied, last_undone, last_removed}
+use Rattle.env_session.specs.Spans.{second_back, back, mark_of, begin_of, marks_of, IsEmptySpan, now_of, held_of, IsHeld, kept_names}
+use Rattle.env_session.specs.NameSets.{changed_names_after, comes_back_in_place}
+use Rattle.env_session.proofs.NameSetLemmas.{names-empty, names-kept_by, names-len, same_in_place}
+use Rattle.env_session.specs.declared.marks.Span.{Span}
 use Rattle.env_session.specs.declared.stored.Stored.{Stored}
 
 -- one of a list, and the list with that one changed
@@ -82,10 +82,10 @@ on_last-end f [] m = refl
 on_last-end f (x ∷ []) m = refl
 on_last-end f (x ∷ y ∷ ms) m = ap (λ ys. x ∷ ys) (on_last-end f (y ∷ ms) m)
 
-pub last_changed-end : (ms : List Mark) (m : Mark) → last_changed (ms ++ m ∷ []) ≡ m.changed
-last_changed-end [] m = refl
-last_changed-end (x ∷ []) m = refl
-last_changed-end (x ∷ y ∷ ms) m = last_changed-end (y ∷ ms) m
+pub last_changed_names-end : (ms : List Mark) (m : Mark) → last_changed_names (ms ++ m ∷ []) ≡ m.changed_names
+last_changed_names-end [] m = refl
+last_changed_names-end (x ∷ []) m = refl
+last_changed_names-end (x ∷ y ∷ ms) m = last_changed_names-end (y ∷ ms) m
 
 pub last_begun-end : (ms : List Mark) (m : Mark) (now : State) → last_begun (ms ++ m ∷ []) now ≡ m.begun
 last_begun-end [] m now = refl
@@ -142,7 +142,7 @@ marks_set f spans k s now n = ap (λ ss. marks_of ss now) (n.set_upto f) ∙ mar
 
 -- a write
 abbrev pub kept_in : Environment → List ℕ → Option (List ℕ) → Mark → Mark
-kept_in m n new mark = record mark { changed = changed_by m n new mark.changed }
+kept_in m n new mark = record mark { changed_names = changed_names_after m n new mark.changed_names }
 
 back-keeping : (s : Span) (now : State) (n : List ℕ) (new : Option (List ℕ)) → back (keeping now.env n new s) (record now { env = after now.env n new }) ≡ back s now
 back-keeping s now n new = λ i. record { env = restored-written now.env s.olds n new i; first = unwrap_or (bytes_of s.first) now.first; second = second_back (bytes_of s.second) now.second; current = s.current }
@@ -151,7 +151,7 @@ pub marks_written : (spans : List Span) (k : ℕ) (s : Span) (now : State) (n : 
 marks_written spans k s now n new is =
     let later : State = record now { env = after now.env n new } in
     marks_set (keeping now.env n new) spans k s later is
-    ∙ (λ i. marks_of (take k spans) (back-keeping s now n new i) ++ record { begun = back-keeping s now n new i; changed = names-kept_by now.env n new s.olds i; first_saved = is_some s.first; second_saved = is_some s.second } ∷ [])
+    ∙ (λ i. marks_of (take k spans) (back-keeping s now n new i) ++ record { begun = back-keeping s now n new i; changed_names = names-kept_by now.env n new s.olds i; first_saved = is_some s.first; second_saved = is_some s.second } ∷ [])
     ∙ sym (on_last-end (kept_in now.env n new) (marks_of (take k spans) (back s now)) (mark_of s now))
     ∙ ap (on_last (kept_in now.env n new)) (sym (marks_upto spans k s now is))
 
@@ -184,7 +184,7 @@ is_held_written stored vars vars' current spans spans' k n new held fits e e' =
       many = ap length e' ∙ length-on_nth (keeping vars.env n new) k spans ∙ held.many;
       sound = record { fits = subst (λ (r : ℕ). used vars'.env ≤ r) room fits; first = held.sound.first; second = held.sound.second };
       begun = subst (AllByRecursion (SoundMark stored.geometry)) (sym marks) (all-on_last (SoundMark stored.geometry) (kept_in vars.env n new) (marks_of (take (suc k) spans) now) (λ m p. p) held.begun);
-      blank = subst (AllByRecursion IsBlank) (sym (ap (drop (suc k)) e' ∙ s.1.nth.set_rest (keeping vars.env n new))) held.blank;
+      empty = subst (AllByRecursion IsEmptySpan) (sym (ap (drop (suc k)) e' ∙ s.1.nth.set_rest (keeping vars.env n new))) held.empty;
     }
 
 pub is_held_write : {E : Type 0} (r : Result (Unit {0}) E) (stored : Stored) (vars vars' : Contents) (current : Choice) (spans spans' : List Span) (k : ℕ) (n : List ℕ) (new : Option (List ℕ)) → IsHeld stored vars current spans k → used vars'.env ≤ vars'.room → OnOk r (vars' ≡ record vars { env = after vars.env n new }) → OnOk r (spans' ≡ on_nth (keeping vars.env n new) k spans) → OnErr r (vars' ≡ vars) → OnErr r (spans' ≡ spans) → IsHeld stored vars' current spans' k
@@ -196,24 +196,24 @@ held_write (Ok u) stored defaults vars vars' current spans spans' k n new h with
 held_write (Err e) stored defaults vars vars' current spans spans' k n new h within a b is = tt
 
 -- a mark
-pub back-blank : (s : Span) (now : State) → IsBlank s → back (beginning now.current s) now ≡ now
-back-blank s now b = λ i. record { env = (ap (restored now.env) b.olds ∙ restored-empty now.env) i; first = ap (λ o. unwrap_or (bytes_of o) now.first) b.first i; second = ap (λ o. second_back (bytes_of o) now.second) b.second i; current = now.current }
+pub back-empty : (s : Span) (now : State) → IsEmptySpan s → back (beginning now.current s) now ≡ now
+back-empty s now b = λ i. record { env = (ap (restored now.env) b.olds ∙ restored-empty now.env) i; first = ap (λ o. unwrap_or (bytes_of o) now.first) b.first i; second = ap (λ o. second_back (bytes_of o) now.second) b.second i; current = now.current }
 
-pub mark-blank : (s : Span) (now : State) → IsBlank s → mark_of (beginning now.current s) now ≡ new_mark now
-mark-blank s now b = λ i. record { begun = back-blank s now b i; changed = (ap names_of b.olds ∙ names-empty) i; first_saved = ap is_some b.first i; second_saved = ap is_some b.second i }
+pub mark-empty : (s : Span) (now : State) → IsEmptySpan s → mark_of (beginning now.current s) now ≡ new_mark now
+mark-empty s now b = λ i. record { begun = back-empty s now b i; changed_names = (ap kept_names b.olds ∙ names-empty) i; first_saved = ap is_some b.first i; second_saved = ap is_some b.second i }
 
-blank_at : (spans : List Span) (k : ℕ) (s : Span) → IsNth spans k s → AllByRecursion IsBlank (drop k spans) → IsBlank s
-blank_at spans k s n all = (subst (AllByRecursion IsBlank) n.from all).0
+empty_at : (spans : List Span) (k : ℕ) (s : Span) → IsNth spans k s → AllByRecursion IsEmptySpan (drop k spans) → IsEmptySpan s
+empty_at spans k s n all = (subst (AllByRecursion IsEmptySpan) n.from all).0
 
-pub marks_marked : (spans : List Span) (k : ℕ) (s : Span) (now : State) → IsNth spans (suc k) s → IsBlank s → marks_of (take (suc (suc k)) (on_nth (beginning now.current) (suc k) spans)) now ≡ marks_of (take (suc k) spans) now ++ new_mark now ∷ []
+pub marks_marked : (spans : List Span) (k : ℕ) (s : Span) (now : State) → IsNth spans (suc k) s → IsEmptySpan s → marks_of (take (suc (suc k)) (on_nth (beginning now.current) (suc k) spans)) now ≡ marks_of (take (suc k) spans) now ++ new_mark now ∷ []
 marks_marked spans k s now n b =
-    marks_set (beginning now.current) spans (suc k) s now n ∙ (λ i. marks_of (take (suc k) spans) (back-blank s now b i) ++ mark-blank s now b i ∷ [])
+    marks_set (beginning now.current) spans (suc k) s now n ∙ (λ i. marks_of (take (suc k) spans) (back-empty s now b i) ++ mark-empty s now b i ∷ [])
 
 pub held_marked : (stored : Stored) (defaults vars : Contents) (current : Choice) (spans spans' : List Span) (k : ℕ) → IsHeld stored vars current spans k → suc k < length spans → spans' ≡ on_nth (beginning current) (suc k) spans → held_of stored defaults vars current spans' (suc k) ≡ marked (held_of stored defaults vars current spans k)
 held_marked stored defaults vars current spans spans' k held within e =
     let s = span_of spans (suc k) within in
     let now = now_of stored vars current in
-    let b = blank_at spans (suc k) s.0 s.1.nth held.blank in
+    let b = empty_at spans (suc k) s.0 s.1.nth held.empty in
     ap (λ ss. held_of stored defaults vars current ss (suc k)) e
     ∙ (λ i. record { shape = stored.geometry; defaults = defaults; now = now; marks = marks_marked spans k s.0 now s.1.nth b i })
 
@@ -221,7 +221,7 @@ pub is_held_marked : (stored : Stored) (vars : Contents) (current : Choice) (spa
 is_held_marked stored vars current spans spans' k held within e =
     let s = span_of spans (suc k) within in
     let now = now_of stored vars current in
-    let b = blank_at spans (suc k) s.0 s.1.nth held.blank in
+    let b = empty_at spans (suc k) s.0 s.1.nth held.empty in
     let marks : marks_of (take (suc (suc k)) spans') now ≡ marks_of (take (suc k) spans) now ++ new_mark now ∷ [] = ap (λ ss. marks_of (take (suc (suc k)) ss) now) e ∙ marks_marked spans k s.0 now s.1.nth b in
     record {
       room = held.room;
@@ -229,7 +229,7 @@ is_held_marked stored vars current spans spans' k held within e =
       many = ap length e ∙ length-on_nth (beginning current) (suc k) spans ∙ held.many;
       sound = held.sound;
       begun = subst (AllByRecursion (SoundMark stored.geometry)) (sym marks) (all-both (SoundMark stored.geometry) (marks_of (take (suc k) spans) now) (new_mark now ∷ []) held.begun (held.sound, tt));
-      blank = subst (AllByRecursion IsBlank) (sym (ap (drop (suc (suc k))) e ∙ s.1.nth.set_rest (beginning current))) (subst (AllByRecursion IsBlank) s.1.nth.from held.blank).1;
+      empty = subst (AllByRecursion IsEmptySpan) (sym (ap (drop (suc (suc k))) e ∙ s.1.nth.set_rest (beginning current))) (subst (AllByRecursion IsEmptySpan) s.1.nth.from held.empty).1;
     }
 
 -- an undo of the last span
@@ -250,16 +250,16 @@ may_refuse stored defaults vars current spans k h within is refused =
     let now = now_of stored vars current in
     let marks = marks_upto spans k s.0 now s.1.nth in
     let begun : (last_begun (marks_of (take (suc k) spans) now) now).env ≡ restored vars.env s.0.olds = ap (λ ms. (last_begun ms now).env) marks ∙ ap (λ (x : State). x.env) (last_begun-end (marks_of (take k spans) (back s.0 now)) (mark_of s.0 now) now) in
-    let changed : last_changed (marks_of (take (suc k) spans) now) ≡ names_of s.0.olds = ap last_changed marks ∙ last_changed-end (marks_of (take k spans) (back s.0 now)) (mark_of s.0 now) in
-    let same : goes_in_place vars.env (olds_at spans k) ≡ comes_back_in_place (last_begun (marks_of (take (suc k) spans) now) now).env vars.env (last_changed (marks_of (take (suc k) spans) now)) =
+    let changed : last_changed_names (marks_of (take (suc k) spans) now) ≡ kept_names s.0.olds = ap last_changed_names marks ∙ last_changed_names-end (marks_of (take k spans) (back s.0 now)) (mark_of s.0 now) in
+    let same : goes_in_place vars.env (olds_at spans k) ≡ comes_back_in_place (last_begun (marks_of (take (suc k) spans) now) now).env vars.env (last_changed_names (marks_of (take (suc k) spans) now)) =
     ap (goes_in_place vars.env) s.1.olds_is ∙ same_in_place vars.env s.0.olds ∙ (λ i. comes_back_in_place (sym begun i) vars.env (sym changed i)) in
     subst MayRefuse is (subst (λ b. IsTrue (not b)) same refused)
 
 marks_emptied : (spans : List Span) (k : ℕ) (s : Span) (now : State) → IsNth spans k s → marks_of (take (suc k) (on_nth emptied k spans)) (back s now) ≡ on_last (λ m. new_mark m.begun) (marks_of (take (suc k) spans) now)
 marks_emptied spans k s now n =
-    let b : IsBlank (emptied s) = record { olds = refl; first = refl; second = refl } in
+    let b : IsEmptySpan (emptied s) = record { olds = refl; first = refl; second = refl } in
     marks_set emptied spans k s (back s now) n
-    ∙ (λ i. marks_of (take k spans) (back-blank (emptied s) (back s now) b i) ++ mark-blank (emptied s) (back s now) b i ∷ [])
+    ∙ (λ i. marks_of (take k spans) (back-empty (emptied s) (back s now) b i) ++ mark-empty (emptied s) (back s now) b i ∷ [])
     ∙ sym (on_last-end (λ m. new_mark m.begun) (marks_of (take k spans) (back s now)) (mark_of s now))
     ∙ ap (on_last (λ m. new_mark m.begun)) (sym (marks_upto spans k s now n))
 
@@ -274,8 +274,8 @@ held_undone stored stored' defaults vars vars' current current' spans spans' k w
     (λ i. record { shape = shape i; defaults = defaults; now = now_is i; marks = marks_of (take (suc k) (e i)) (now_is i) })
     ∙ (λ i. record { shape = stored.geometry; defaults = defaults; now = begun_last spans k s.0 now s.1.nth i; marks = marks_emptied spans k s.0 now s.1.nth i })
 
-pub held_left : (stored stored' : Stored) (defaults vars vars' : Contents) (current current' : Choice) (spans spans' : List Span) (k : ℕ) → suc k < length spans → stored'.geometry ≡ stored.geometry → now_of stored' vars' current' ≡ back_at spans (suc k) (now_of stored vars current) → spans' ≡ on_nth emptied (suc k) spans → held_of stored' defaults vars' current' spans' k ≡ last_left (held_of stored defaults vars current spans (suc k))
-held_left stored stored' defaults vars vars' current current' spans spans' k within shape is e =
+pub held_removed : (stored stored' : Stored) (defaults vars vars' : Contents) (current current' : Choice) (spans spans' : List Span) (k : ℕ) → suc k < length spans → stored'.geometry ≡ stored.geometry → now_of stored' vars' current' ≡ back_at spans (suc k) (now_of stored vars current) → spans' ≡ on_nth emptied (suc k) spans → held_of stored' defaults vars' current' spans' k ≡ last_removed (held_of stored defaults vars current spans (suc k))
+held_removed stored stored' defaults vars vars' current current' spans spans' k within shape is e =
     let s = span_of spans (suc k) within in
     let now = now_of stored vars current in
     let now_is : now_of stored' vars' current' ≡ back s.0 now = is ∙ s.1.back_is now in
@@ -299,15 +299,15 @@ is_held_undone stored stored' vars vars' current current' spans spans' k held ro
       many = ap length e ∙ length-on_nth emptied k spans ∙ held.many;
       sound = sound_now stored stored' vars vars' current current' spans k s.0 held s.1 shape is;
       begun = subst (λ (g : Shape). AllByRecursion (SoundMark g) (marks_of (take (suc k) spans') (now_of stored' vars' current'))) (sym shape) (subst (AllByRecursion (SoundMark stored.geometry)) (sym marks) (all-on_last (SoundMark stored.geometry) (λ m. new_mark m.begun) (marks_of (take (suc k) spans) now) (λ m p. p) held.begun));
-      blank = subst (AllByRecursion IsBlank) (sym (ap (drop (suc k)) e ∙ s.1.nth.set_rest emptied)) held.blank;
+      empty = subst (AllByRecursion IsEmptySpan) (sym (ap (drop (suc k)) e ∙ s.1.nth.set_rest emptied)) held.empty;
     }
 
-pub is_held_left : (stored stored' : Stored) (vars vars' : Contents) (current current' : Choice) (spans spans' : List Span) (k : ℕ) → IsHeld stored vars current spans (suc k) → vars'.room ≡ vars.room → stored'.geometry ≡ stored.geometry → now_of stored' vars' current' ≡ back_at spans (suc k) (now_of stored vars current) → spans' ≡ on_nth emptied (suc k) spans → IsHeld stored' vars' current' spans' k
-is_held_left stored stored' vars vars' current current' spans spans' k held room shape is e =
+pub is_held_removed : (stored stored' : Stored) (vars vars' : Contents) (current current' : Choice) (spans spans' : List Span) (k : ℕ) → IsHeld stored vars current spans (suc k) → vars'.room ≡ vars.room → stored'.geometry ≡ stored.geometry → now_of stored' vars' current' ≡ back_at spans (suc k) (now_of stored vars current) → spans' ≡ on_nth emptied (suc k) spans → IsHeld stored' vars' current' spans' k
+is_held_removed stored stored' vars vars' current current' spans spans' k held room shape is e =
     let s = span_of spans (suc k) (omega (arith, held.few, held.many)) in
     let now = now_of stored vars current in
     let now_is : now_of stored' vars' current' ≡ back s.0 now = is ∙ s.1.back_is now in
-    let b : IsBlank (emptied s.0) = record { olds = refl; first = refl; second = refl } in
+    let b : IsEmptySpan (emptied s.0) = record { olds = refl; first = refl; second = refl } in
     let marks : marks_of (take (suc k) spans') (now_of stored' vars' current') ≡ marks_of (take (suc k) spans) (back s.0 now) = (λ i. marks_of (take (suc k) (e i)) (now_is i)) ∙ ap (λ ss. marks_of ss (back s.0 now)) (s.1.nth.set_front emptied) in
     let front = all-front (SoundMark stored.geometry) (marks_of (take (suc k) spans) (back s.0 now)) (mark_of s.0 now ∷ []) (subst (AllByRecursion (SoundMark stored.geometry)) (marks_upto spans (suc k) s.0 now s.1.nth) held.begun) in
     record {
@@ -316,11 +316,11 @@ is_held_left stored stored' vars vars' current current' spans spans' k held room
       many = ap length e ∙ length-on_nth emptied (suc k) spans ∙ held.many;
       sound = sound_now stored stored' vars vars' current current' spans (suc k) s.0 held s.1 shape is;
       begun = subst (λ (g : Shape). AllByRecursion (SoundMark g) (marks_of (take (suc k) spans') (now_of stored' vars' current'))) (sym shape) (subst (AllByRecursion (SoundMark stored.geometry)) (sym marks) front);
-      blank = subst (AllByRecursion IsBlank) (sym (ap (drop (suc k)) e ∙ s.1.nth.set_from emptied)) (b, held.blank);
+      empty = subst (AllByRecursion IsEmptySpan) (sym (ap (drop (suc k)) e ∙ s.1.nth.set_from emptied)) (b, held.empty);
     }
 
-pub touched_is : (spans : List Span) (k : ℕ) (s : Span) (now : State) → IsNth spans k s → env.len s.olds ≡ env.len (last_changed (marks_of (take (suc k) spans) now))
-touched_is spans k s now n = names-len s.olds ∙ ap env.len (sym (last_changed-end (marks_of (take k spans) (back s now)) (mark_of s now)) ∙ ap last_changed (sym (marks_upto spans k s now n)))
+pub changed_names_is : (spans : List Span) (k : ℕ) (s : Span) (now : State) → IsNth spans k s → env.len s.olds ≡ env.len (last_changed_names (marks_of (take (suc k) spans) now))
+changed_names_is spans k s now n = names-len s.olds ∙ ap env.len (sym (last_changed_names-end (marks_of (take k spans) (back s now)) (mark_of s now)) ∙ ap last_changed_names (sym (marks_upto spans k s now n)))
 
 -- what one span's change makes of the spans
 pub kept_ok : {E : Type 0} (r : Result (Unit {0}) E) (spans : List Span) (k : ℕ) (d : Span) (olds : OldValues) (m : Environment) (n : List ℕ) (new : Option (List ℕ)) → k < length spans → OnOk r (olds ≡ kept_by m n new (get_or spans k d).olds) → OnOk r (set spans k (record (get_or spans k d) { olds = olds }) ≡ on_nth (keeping m n new) k spans)
@@ -341,14 +341,6 @@ back_ok (Err e) spans k d now now' within h = tt
 
 pub olds_here : (spans : List Span) (k : ℕ) (d : Span) → k < length spans → olds_at spans k ≡ (get_or spans k d).olds
 olds_here spans k d within = let s = span_of spans k within in s.1.olds_is ∙ ap (λ (x : Span). x.olds) (sym (s.1.nth.is d))
-
-pub on_err : {A E : Type 0} (r : Result A E) (P Q : Type 0) → (P → Q) → OnErr r P → OnErr r Q
-on_err (Ok a) P Q f h = h
-on_err (Err e) P Q f h = f h
-
-pub err_any : {A E : Type 0} (r : Result A E) (P : Type 0) → P → OnErr r P
-err_any (Ok a) P h = tt
-err_any (Err e) P h = h
 
 pub is_held_undo : {E : Type 0} (r : Result (Unit {0}) E) (stored stored' : Stored) (vars vars' : Contents) (current current' : Choice) (spans spans' : List Span) (k : ℕ) → IsHeld stored vars current spans k → vars'.room ≡ vars.room → stored'.geometry ≡ stored.geometry → OnOk r (now_of stored' vars' current' ≡ back_at spans k (now_of stored vars current)) → OnOk r (spans' ≡ on_nth emptied k spans) → OnErr r ((vars' ≡ vars) × (stored' ≡ stored) × (current' ≡ current) × (spans' ≡ spans)) → IsHeld stored' vars' current' spans' k
 is_held_undo (Ok u) stored stored' vars vars' current current' spans spans' k held room shape a b c = is_held_undone stored stored' vars vars' current current' spans spans' k held room shape a b

@@ -1,12 +1,9 @@
 -- What the laws of this crate say.
-use Rattle.std.specs.Prelude.{◌≡◌, ℕ, ◌<◌, nat_le, Bool, true, List, length, IsTrue, Option}
+use Rattle.std.specs.Prelude.{◌≡◌, ℕ, ◌<◌, nat_le, Bool, true, List, length, IsTrue}
 use Rattle.std.specs.List.{AllByRecursion, list_all}
 use Rattle.envvars_core.specs.Attributes.{attributes}
-use Rattle.envvars_core.specs.declared.attributes.Attr.{Attr}
-use Rattle.envimg_core.specs.Environment.{Environment}
-use Rattle.envimg_core.specs.declared.choice.Choice.{Choice}
-use Rattle.env_session.specs.Names.{no_names}
-use Rattle.env_session.specs.Session.{State, Held, state_at, undone, opening, IsStopped}
+use Rattle.env_session.specs.NameSets.{no_names}
+use Rattle.env_session.specs.Session.{State, Held, state_at, undone, opening, IsStoppedUndo}
 use Rattle.env_session.specs.Requests.{Request, Write, Import, Save, MarkNow, UndoTo, Print, Runs}
 
 -- whether a request leaves mark n standing: only an undo to a mark below it takes it away
@@ -20,10 +17,12 @@ spares n Print = true
 
 -- whatever was asked since: a mark that was spared stands, and the state at it is what it was
 abbrev pub MarksStand : Type 0
-MarksStand = (h after : Held) (requests : List Request) (n : ℕ) → n < length h.marks → IsTrue (list_all (spares n) requests) → Runs h requests after → (n < length after.marks) × (state_at after.marks n after.now ≡ state_at h.marks n h.now)
+MarksStand =
+    (h after : Held) (requests : List Request) (n : ℕ) → n < length h.marks → IsTrue (list_all (spares n) requests) → Runs h requests after →
+    (n < length after.marks) × (state_at after.marks n after.now ≡ state_at h.marks n h.now)
 
 -- two states are the same in all that a session shows
-pub record IsAgain (before now : State) : Type 0 where
+pub record IsSameState (before now : State) : Type 0 where
   pub variables : now.env ≡ before.env
   pub attributes_are : (n : List ℕ) → attributes now.env n ≡ attributes before.env n
   pub first_copy : now.first ≡ before.first
@@ -32,16 +31,20 @@ pub record IsAgain (before now : State) : Type 0 where
 
 -- whatever was asked since, an undo to a mark that was spared gives the state when it was made
 abbrev pub UndoReturns : Type 0
-UndoReturns = (h after : Held) (requests : List Request) (n : ℕ) → n < length h.marks → IsTrue (list_all (spares n) requests) → Runs h requests after → IsAgain (state_at h.marks n h.now) (undone n after).now
+UndoReturns =
+    (h after : Held) (requests : List Request) (n : ℕ) → n < length h.marks → IsTrue (list_all (spares n) requests) → Runs h requests after →
+    IsSameState (state_at h.marks n h.now) (undone n after).now
 
 -- whatever was asked since, an undo of all gives the opening
 abbrev pub UndoRestores : Type 0
-UndoRestores = (h after : Held) (requests : List Request) → 0 < length h.marks → Runs h requests after → IsAgain (opening h) (undone 0 after).now
+UndoRestores =
+    (h after : Held) (requests : List Request) → 0 < length h.marks → Runs h requests after →
+    IsSameState (opening h) (undone 0 after).now
 
 -- no accepted write changed a value in any span
 abbrev pub IsUnchanged : Held → Type 0
-IsUnchanged h = AllByRecursion (λ m. m.changed ≡ no_names) h.marks
+IsUnchanged h = AllByRecursion (λ m. m.changed_names ≡ no_names) h.marks
 
 -- then no undo is stopped for want of memory
 abbrev pub QuietUndo : Type 0
-QuietUndo = (old new : Held) (n k : ℕ) → IsUnchanged old → IsStopped n old new k → ⊥
+QuietUndo = (old new : Held) (n k : ℕ) → IsUnchanged old → IsStoppedUndo n old new k → ⊥

@@ -2,7 +2,7 @@
 //! stand in undo_tests; this one looks at private fields.
 
 use super::*;
-use crate::spans::Span;
+use crate::marks::Span;
 use envimg_core::{Choice, Geometry, Layout};
 use envvars_core::Vars;
 use std::test::Fail;

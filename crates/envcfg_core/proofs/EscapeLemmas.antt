@@ -5,10 +5,10 @@ use Rattle.std.proofs.lemmas.Bool.{cases_Bool, cond-true, cond-false, eqb-true, 
 use Rattle.std.proofs.lemmas.List.{append_assoc, append-nil, length-append, take_all, drop_all, drop_more}
 use Rattle.std.proofs.lemmas.List.Sums.{sum_by-cons}
 use Rattle.memchr.specs.Find.{IsFirstByte}
-use Rattle.envcfg_core.specs.Bytes.{is_newline, backslash}
-use Rattle.envcfg_core.specs.Views.{is_marked, begins_marked}
+use Rattle.envcfg_core.specs.Bytes.{backslash, is_marked}
+use Rattle.text_parts.specs.Bytes.{is_newline, begins}
 use Rattle.envcfg_core.specs.Export.{escaped, escaped_byte}
-use Rattle.envcfg_core.proofs.CutLemmas.{position_or_len-yes, position_or_len-no, position_or_len-found, position_or_len-none}
+use Rattle.text_parts.proofs.CutLemmas.{position_or_len-yes, position_or_len-no, position_or_len-found, position_or_len-none}
 
 abbrev pub is_backslash : ℕ → Bool
 is_backslash b = eqb b backslash
@@ -72,7 +72,7 @@ escaped_without_marks value None none not_found =
     ∙ ap (λ xs. value ++ escaped xs) (drop_all k value (omega arith)) ∙ append-nil value
 escaped_without_marks value (Some k) found not_found = absurd (not_found k refl)
 
-escaped_marked : (value : List ℕ) → begins_marked value ≡ true → escaped value ≡ (backslash ∷ take 1 value) ++ escaped (drop 1 value)
+escaped_marked : (value : List ℕ) → begins is_marked value ≡ true → escaped value ≡ (backslash ∷ take 1 value) ++ escaped (drop 1 value)
 escaped_marked [] h = absurd (true≢false (sym h))
 escaped_marked (b ∷ bs) h = ap (λ xs. xs ++ escaped bs) (cond-true _ _ _ h)
 
@@ -83,9 +83,9 @@ pub escaped_at_mark : (value front back marked others : List ℕ) (at : ℕ) →
 escaped_at_mark value front back marked others at found f b m o =
     let e = position_or_len-found is_marked value at found in
     let P : ℕ → Type 0 = λ k. escaped value ≡ take k value ++ escaped (drop k value) in
-    let Q : List ℕ → Type 0 = λ xs. begins_marked xs ≡ true in
+    let Q : List ℕ → Type 0 = λ xs. begins is_marked xs ≡ true in
     let here : drop at value ≡ get_or value at 0 ∷ drop (at + 1) value = drop_more value at 0 (found.0.high) in
-    let begins : begins_marked back ≡ true = subst Q (sym (b ∙ here)) found.1 in
+    let begins : begins is_marked back ≡ true = subst Q (sym (b ∙ here)) found.1 in
     subst P e (escaped-cut value)
     ∙ ap (λ xs. xs ++ escaped (drop at value)) (sym f)
     ∙ ap (λ xs. front ++ escaped xs) (sym b)

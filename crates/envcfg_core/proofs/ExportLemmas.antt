@@ -1,105 +1,56 @@
--- An exported variable, read back in front of any text.
-use Rattle.std.proofs.Common.{◌≡◌, ℕ, suc, ◌+◌, ◌<◌, ◌||◌, Bool, true, false, cond, eqb, List, [], ◌∷◌, ◌++◌, length, Some, Ok, refl, sym, ap, ◌∙◌, ⊎_elim, arith, add_assoc}
-use Rattle.std.specs.List.{position_or_len, list_any, count_by, AllByRecursion}
-use Rattle.std.proofs.lemmas.Bool.{cases_Bool, or_parts, or_from, cond-true, cond-false, not-true, ne_eqb, true≢false}
-use Rattle.std.proofs.lemmas.List.{append_assoc, length-append, take_at, drop_at}
-use Rattle.std.proofs.lemmas.List.Sums.{sum_by-cons}
+-- An exported variable, read back in front of any text: its text is one of its spellings.
+use Rattle.std.proofs.Common.{◌≡◌, ℕ, ◌+◌, ◌||◌, Bool, true, false, not, eqb, List, [], ◌∷◌, ◌++◌, Some, Ok, refl, sym, ap, ◌∙◌, ⊎_elim, arith}
+use Rattle.std.specs.Prelude.{map, ◌&&◌}
+use Rattle.std.specs.List.{list_all, list_any, count_by, AllByRecursion}
+use Rattle.std.proofs.lemmas.Bool.{cases_Bool, or_parts, or_from, cond-true, cond-false, not-true}
 use Rattle.std.proofs.lemmas.List.Folds.{list_any-append}
-use Rattle.envimg_core.specs.Environment.{Pair, is_name, is_value, is_zero, is_equals, is_empty}
-use Rattle.envcfg_core.specs.Bytes.{is_newline, is_blank, hash, equals, backslash, some_unless_empty}
-use Rattle.envcfg_core.specs.Entries.{Outcome, with_first}
-use Rattle.envcfg_core.specs.Import.{Spelled, spelled, with_byte, ends_name, entries_from, begins_skipped, import_of}
-use Rattle.envcfg_core.specs.Export.{escaped_byte, escaped, exported, begins_unreadable, is_unreadable, IsExportable, exported_all, entries_of_pairs}
-use Rattle.envcfg_core.proofs.CutLemmas.{position_or_len-no}
-use Rattle.envcfg_core.proofs.ImportLemmas.{entry_with_name, entries_from-nil}
+use Rattle.envimg_core.specs.Bytes.{equals}
+use Rattle.envimg_core.specs.Environment.{Pair, is_value, is_zero, is_empty}
+use Rattle.text_parts.specs.Bytes.{newline, is_newline}
+use Rattle.envcfg_core.specs.Bytes.{backslash, is_marked, some_unless_empty}
+use Rattle.envcfg_core.specs.Entries.{with_first}
+use Rattle.envcfg_core.specs.Import.{entries_from, import_of}
+use Rattle.envcfg_core.specs.Export.{escaped_byte, escaped, exported, IsExportable, exported_all, pair_entry, line_behind, entries_of_pairs}
+use Rattle.envcfg_core.specs.Spelling.{SpelledByte, is_spelling, value_text, value_of, assigned}
+use Rattle.envcfg_core.proofs.ImportLemmas.{entries_from-nil}
+use Rattle.envcfg_core.proofs.NamedLemmas.{name_parts, not_empty}
+use Rattle.envcfg_core.proofs.SpellingLemmas.{assignment-read}
 
--- an escaped byte spells that byte
-spelled-escaped_byte : (b : ℕ) (text : List ℕ) → spelled false (escaped_byte b ++ text) ≡ with_byte b (spelled false text)
-spelled-escaped_byte b text =
-    ⊎_elim
-    (λ h. ap (λ xs. spelled false (xs ++ text)) (cond-true _ (backslash ∷ b ∷ []) (b ∷ []) h))
-    (λ h.
-    let parts = or_parts (eqb b backslash) (is_newline b) h in
-    ap (λ xs. spelled false (xs ++ text)) (cond-false _ (backslash ∷ b ∷ []) (b ∷ []) h) ∙ cond-false _ _ _ parts.1 ∙ cond-false _ _ _ parts.0)
-    (cases_Bool (eqb b backslash || is_newline b))
+-- the spelling of an exported value: `\` stands before the bytes that need it
+abbrev marked : ℕ → SpelledByte
+marked b = record { byte = b; escaped = is_marked b }
 
--- an escaped value and a newline, in front of any text, spell the value
-pub spelled-escaped : (value rest : List ℕ) →
-    spelled false (escaped value ++ 10 ∷ rest) ≡ record { bytes = value; newlines = count_by is_newline value + 1; rest = rest }
-spelled-escaped [] rest = refl
-spelled-escaped (b ∷ bs) rest =
-    let text = escaped bs ++ 10 ∷ rest in
-    let f : ℕ → Spelled = λ n. record { bytes = b ∷ bs; newlines = n; rest = rest } in
-    let one = cond (is_newline b) 1 0 in
-    ap (spelled false) (append_assoc (escaped_byte b) (escaped bs) (10 ∷ rest))
-    ∙ spelled-escaped_byte b text
-    ∙ ap (with_byte b) (spelled-escaped bs rest)
-    ∙ ap f (sym (add_assoc one (count_by is_newline bs) 1) ∙ ap (λ n. n + 1) (sym (sum_by-cons (λ x. cond (is_newline x) 1 0) b bs)))
+escaped-is : (value : List ℕ) → escaped value ≡ value_text (map marked value)
+escaped-is [] = refl
+escaped-is (b ∷ bs) = ap (λ ys. escaped_byte b ++ ys) (escaped-is bs)
 
--- what stands before the `=` behind a name
-pub position-of_name : (name rest : List ℕ) → list_any is_equals name ≡ false → list_any is_newline name ≡ false →
-    position_or_len ends_name (name ++ equals ∷ rest) ≡ length name
-position-of_name [] rest e n = refl
-position-of_name (b ∷ bs) rest e n =
-    let eqs = or_parts (is_equals b) _ e in
-    let nls = or_parts (is_newline b) _ n in
-    position_or_len-no ends_name b (bs ++ equals ∷ rest) (or_from _ _ eqs.0 nls.0) ∙ ap (λ k. 1 + k) (position-of_name bs rest eqs.1 nls.1) ∙ (let f : 1 + length bs ≡ suc (length bs) = omega arith in f)
+value-is : (value : List ℕ) → value_of (map marked value) ≡ value
+value-is [] = refl
+value-is (b ∷ bs) = ap (λ ys. b ∷ ys) (value-is bs)
 
--- neither of two tests passes where their join doesn't
-neither : (p q : ℕ → Bool) (xs : List ℕ) → list_any (λ b. p b || q b) xs ≡ false → (list_any p xs ≡ false) × (list_any q xs ≡ false)
-neither p q [] h = (refl, refl)
-neither p q (x ∷ xs) h =
-    let here = or_parts (p x || q x) _ h in
-    let both = or_parts (p x) (q x) here.0 in
-    let later = neither p q xs here.1 in
-    (or_from _ _ both.0 later.0, or_from _ _ both.1 later.1)
+or_not : (b : Bool) → (b || not b) ≡ true
+or_not true = refl
+or_not false = refl
 
-pub name_parts : (name : List ℕ) → is_name name ≡ true → (is_empty name ≡ false) × (list_any is_zero name ≡ false) × (list_any is_equals name ≡ false)
-name_parts name h =
-    let parts = or_parts (is_empty name) _ (not-true _ h) in
-    let bytes = neither is_zero is_equals name parts.1 in
-    (parts.0, bytes.0, bytes.1)
+marked-spells : (value : List ℕ) → list_all is_spelling (map marked value) ≡ true
+marked-spells [] = refl
+marked-spells (b ∷ bs) = ap (λ t. t && list_all is_spelling (map marked bs)) (or_not (is_marked b)) ∙ marked-spells bs
 
 value_parts : (value : List ℕ) → is_value value ≡ true → (is_empty value ≡ false) × (list_any is_zero value ≡ false)
 value_parts value h = let parts = or_parts (is_empty value) _ (not-true _ h) in (parts.0, parts.1)
 
-pub not_empty : (xs : List ℕ) → is_empty xs ≡ false → eqb (length xs) 0 ≡ false
-not_empty [] h = h
-not_empty (x ∷ xs) h = ne_eqb (suc (length xs)) 0 (λ e. omega arith)
-
 kept_value : (value : List ℕ) → is_empty value ≡ false → Some value ≡ some_unless_empty value
 kept_value value h = sym (cond-false _ _ _ (not_empty value h))
 
-exported-front : (name value rest : List ℕ) → exported name value ++ rest ≡ name ++ equals ∷ (escaped value ++ 10 ∷ rest)
-exported-front name value rest =
-    append_assoc name (equals ∷ (escaped value ++ 10 ∷ [])) rest ∙ ap (λ xs. name ++ equals ∷ xs) (append_assoc (escaped value) (10 ∷ []) rest)
-
-pub begins_entry : (name rest : List ℕ) → is_empty name ≡ false → is_unreadable name ≡ false → begins_skipped (name ++ rest) ≡ false
-begins_entry [] rest h u = absurd (true≢false h)
-begins_entry (b ∷ bs) rest h u =
-    let parts = or_parts (is_blank b || eqb b hash) _ u in
-    let first = or_parts (is_blank b) (eqb b hash) parts.0 in
-    let newline = or_parts (is_newline b) _ parts.1 in
-    or_from _ _ (or_from _ _ first.0 newline.0) first.1
-
 -- one exported variable in front of any text is one entry, and the entries of that text
 pub entries_from-exported : (line : ℕ) (p : Pair) (rest : List ℕ) → IsExportable p →
-    entries_from line (exported p.0 p.1 ++ rest)
-    ≡ with_first (record { name = p.0; value = Some p.1; line = line }) (entries_from (line + count_by is_newline p.1 + 1) rest)
+    entries_from line (exported p.0 p.1 ++ rest) ≡ with_first (pair_entry line p) (entries_from (line_behind line p) rest)
 entries_from-exported line p rest h =
-    let name = p.0 in
-    let behind = equals ∷ (escaped p.1 ++ 10 ∷ rest) in
-    let text = name ++ behind in
-    let parts = name_parts name h.name in
-    let readable = or_parts (begins_unreadable name) _ h.readable in
-    let v : Spelled = record { bytes = p.1; newlines = count_by is_newline p.1 + 1; rest = rest } in
-    let F : ℕ → Outcome = λ n. with_first (record { name = name; value = Some p.1; line = line }) (entries_from n rest) in
-    let some : 0 < length text = omega (arith, length-append name behind) in
-    ap (entries_from line) (exported-front name p.1 rest)
-    ∙ entry_with_name line (length name) text name behind v (Some p.1) some (begins_entry name behind parts.0 h.readable)
-    (sym (position-of_name name (escaped p.1 ++ 10 ∷ rest) parts.2 readable.1)) (sym (take_at name behind (length name) refl)) (sym (drop_at name behind (length name) refl))
-    (not_empty name parts.0) (sym (spelled-escaped p.1 rest)) (kept_value p.1 (value_parts p.1 h.value).0)
-    ∙ ap F (sym (add_assoc line (count_by is_newline p.1) 1))
+    ap (λ ys. entries_from line ((p.0 ++ equals ∷ (ys ++ newline ∷ [])) ++ rest)) (escaped-is p.1)
+    ∙ assignment-read line p.0 (map marked p.1) rest (record { name_is = h.name; readable = h.readable }) (marked-spells p.1)
+    ∙ ap (λ ys. with_first (assigned line p.0 ys) (entries_from (line + (count_by is_newline ys + 1)) rest)) (value-is p.1)
+    ∙ ap (λ v. with_first (record { name = p.0; value = v; line = line }) (entries_from (line + (count_by is_newline p.1 + 1)) rest)) (sym (kept_value p.1 (value_parts p.1 h.value).0))
+    ∙ ap (λ n. with_first (pair_entry line p) (entries_from n rest)) (let e : line + (count_by is_newline p.1 + 1) ≡ line_behind line p = omega arith in e)
 
 -- variables exported one after the other
 pub entries_from-exported_all : (line : ℕ) (pairs : List Pair) → AllByRecursion IsExportable pairs →
@@ -127,8 +78,8 @@ no_zero-exported_all : (pairs : List Pair) → AllByRecursion IsExportable pairs
 no_zero-exported_all [] all = refl
 no_zero-exported_all (p ∷ pairs) all =
     let h = all.0 in
-    let value = list_any-append is_zero (escaped p.1) (10 ∷ []) ∙ or_from _ _ (no_zero-escaped p.1 (value_parts p.1 h.value).1) refl in
-    let whole = list_any-append is_zero p.0 (equals ∷ (escaped p.1 ++ 10 ∷ [])) ∙ or_from _ _ (name_parts p.0 h.name).1 value in
+    let value = list_any-append is_zero (escaped p.1) (newline ∷ []) ∙ or_from _ _ (no_zero-escaped p.1 (value_parts p.1 h.value).1) refl in
+    let whole = list_any-append is_zero p.0 (equals ∷ (escaped p.1 ++ newline ∷ [])) ∙ or_from _ _ (name_parts p.0 h.name).1 value in
     list_any-append is_zero (exported p.0 p.1) (exported_all pairs) ∙ or_from _ _ whole (no_zero-exported_all pairs all.1)
 
 -- the law

@@ -6,10 +6,13 @@ use Rattle.std.proofs.lemmas.Bool.{or_parts, cond-true, cond-false, eqb-true}
 use Rattle.std.proofs.lemmas.List.{append_assoc, append-nil, length-drop}
 use Rattle.envcfg_core.specs.declared.entry.TextFault.{TextFault}
 use Rattle.envcfg_core.specs.declared.entry.TextFault.TheVariants.{EmptyName, Nul, Memory}
-use Rattle.envcfg_core.specs.Bytes.{is_newline, is_blank, hash, equals, some_unless_empty}
-use Rattle.envcfg_core.specs.Entries.{Entry, Outcome, with_first, with_front, IsFaultOf}
+use Rattle.envimg_core.specs.Bytes.{equals}
+use Rattle.envcfg_core.specs.Bytes.{some_unless_empty}
+use Rattle.text_parts.specs.Bytes.{is_newline, is_blank, hash, begins}
+use Rattle.envcfg_core.specs.Entries.{Entry, Outcome, with_first, IsFaultOf}
+use Rattle.envcfg_core.specs.ImportSteps.{with_front}
 use Rattle.envcfg_core.specs.ImportText.{entries_in, entries_left}
-use Rattle.envcfg_core.specs.Import.{Spelled, spelled, with_byte, ended_by_newline, behind_name, ends_name, entry_first, skip_or_entry, begins_skipped, is_skipped, entries_within, entries_from, import_of}
+use Rattle.envcfg_core.specs.Import.{Spelled, spelled, with_byte, ended_by_newline, behind_name, ends_name, entry_first, skip_or_entry, is_skipped, entries_within, entries_from, import_of}
 
 same_cond : {X : Type 0} (b : Bool) (x y v w : X) → x ≡ v → y ≡ w → cond b x y ≡ cond b v w
 same_cond true x y v w e f = e
@@ -79,7 +82,7 @@ entries_from-entry line b bs h =
     let blanks = or_parts (is_blank b) (is_newline b) parts.0 in
     entries_from-step line (b ∷ bs) ∙ cond-false _ _ _ blanks.0 ∙ cond-false _ _ _ blanks.1 ∙ cond-false _ _ _ parts.1
 
-pub entries_from-place : (line : ℕ) (text : List ℕ) → 0 < length text → begins_skipped text ≡ false → entries_from line text ≡ entry_first entries_from line text
+pub entries_from-place : (line : ℕ) (text : List ℕ) → 0 < length text → begins is_skipped text ≡ false → entries_from line text ≡ entry_first entries_from line text
 entries_from-place line [] some h = absurd (omega arith)
 entries_from-place line (b ∷ bs) some h = entries_from-entry line b bs h
 
@@ -100,14 +103,14 @@ IsFaultOf-with_front entries outcome whole Nul e h = e ∙ ap (with_front entrie
 IsFaultOf-with_front entries outcome whole Memory e h = tt
 
 -- an entry at the front of a text, as the code takes it apart
-pub entry_without_name : (line n : ℕ) (text name : List ℕ) → 0 < length text → begins_skipped text ≡ false →
+pub entry_without_name : (line n : ℕ) (text name : List ℕ) → 0 < length text → begins is_skipped text ≡ false →
     n ≡ position_or_len ends_name text → name ≡ take n text → eqb (length name) 0 ≡ true → entries_from line text ≡ Err (EmptyName line)
 entry_without_name line n text name some h e f none =
     let is : name ≡ before_first ends_name text = f ∙ ap (λ k. take k text) e in
     let P : List ℕ → Type 0 = λ xs. eqb (length xs) 0 ≡ true in
     entries_from-place line text some h ∙ cond-true _ _ _ (subst P is none)
 
-pub entry_with_name : (line n : ℕ) (text name behind : List ℕ) (v : Spelled) (value : Option (List ℕ)) → 0 < length text → begins_skipped text ≡ false →
+pub entry_with_name : (line n : ℕ) (text name behind : List ℕ) (v : Spelled) (value : Option (List ℕ)) → 0 < length text → begins is_skipped text ≡ false →
     n ≡ position_or_len ends_name text → name ≡ take n text → behind ≡ drop n text → eqb (length name) 0 ≡ false →
     v ≡ behind_name behind → value ≡ some_unless_empty v.bytes →
     entries_from line text ≡ with_first (record { name = name; value = value; line = line }) (entries_from (line + v.newlines) v.rest)
@@ -143,7 +146,7 @@ import_read text [] line entries no_zero read h =
 import_read text (b ∷ bs) line entries no_zero read h = absurd (omega (arith, eqb-true (length (b ∷ bs)) 0 h))
 
 -- an entry passed over, without its value's bytes
-pub entry_passed : (line n : ℕ) (text name behind : List ℕ) (newlines : ℕ) (rest : List ℕ) → 0 < length text → begins_skipped text ≡ false →
+pub entry_passed : (line n : ℕ) (text name behind : List ℕ) (newlines : ℕ) (rest : List ℕ) → 0 < length text → begins is_skipped text ≡ false →
     n ≡ position_or_len ends_name text → name ≡ take n text → behind ≡ drop n text → eqb (length name) 0 ≡ false →
     newlines ≡ (behind_name behind).newlines → rest ≡ (behind_name behind).rest →
     (e : Entry) × (entries_from line text ≡ with_first e (entries_from (line + newlines) rest))

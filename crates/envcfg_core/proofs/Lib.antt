@@ -1,11 +1,12 @@
-pub mod CutLemmas
-mod ScriptLemmas
+pub mod ScriptLemmas
 pub mod SpelledLemmas
 pub mod ImportLemmas
+pub mod NamedLemmas
+pub mod LineLawLemmas
+pub mod SpellingLemmas
 pub mod ExportLemmas
 pub mod EscapeLemmas
-pub mod LineLemmas
-pub mod FieldLemmas
+pub mod SkippedLineLemmas
+pub mod OffsetLemmas
 pub mod ConfigLemmas
 pub mod Rows
-pub mod LawLemmas

@@ -1,8 +1,9 @@
 -- The lines of a set script, one after another.
-use Rattle.std.proofs.Common.{◌≡◌, ℕ, List, [], ◌∷◌, ◌++◌, Option, Some, None, Ok, Err, sym, ap, ◌∙◌}
+use Rattle.std.proofs.Common.{◌≡◌, List, [], ◌∷◌, ◌++◌, Option, Some, None, Ok, sym, ap, ◌∙◌}
 use Rattle.std.specs.Str.Lines.{strip_carriage_return}
-use Rattle.envcfg_core.specs.Entries.{Entry, Outcome, with_first, with_front}
-use Rattle.envcfg_core.specs.Lines.{Line}
+use Rattle.envcfg_core.specs.Entries.{Entry, Outcome}
+use Rattle.envcfg_core.specs.ImportSteps.{with_front}
+use Rattle.text_parts.specs.Lines.{Line}
 use Rattle.envcfg_core.specs.SetScript.{line_outcome, before, entries_of_lines}
 use Rattle.envcfg_core.proofs.ImportLemmas.{with_front-push}
 

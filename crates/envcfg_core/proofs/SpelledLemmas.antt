@@ -3,10 +3,11 @@ use Rattle.std.proofs.Common.{◌≡◌, ℕ, suc, ◌+◌, eqb, zero-add, add_a
 use Rattle.std.specs.List.{position_or_len}
 use Rattle.std.proofs.lemmas.Bool.{cases_Bool, or_parts}
 use Rattle.std.proofs.lemmas.List.{append_assoc, take_all, drop_all}
-use Rattle.envcfg_core.specs.Bytes.{is_newline}
-use Rattle.envcfg_core.specs.Import.{Spelled, spelled, onto}
-use Rattle.envcfg_core.specs.Views.{is_marked}
-use Rattle.envcfg_core.proofs.CutLemmas.{position_or_len-yes, position_or_len-no, position_or_len-none, position_or_len-found}
+use Rattle.text_parts.specs.Bytes.{is_newline}
+use Rattle.envcfg_core.specs.Import.{Spelled, spelled}
+use Rattle.envcfg_core.specs.ImportSteps.{onto}
+use Rattle.envcfg_core.specs.Bytes.{is_marked}
+use Rattle.text_parts.proofs.CutLemmas.{position_or_len-yes, position_or_len-no, position_or_len-none, position_or_len-found}
 use Rattle.memchr.specs.Find.{IsFirstByte}
 
 pub onto_none : (v : Spelled) → v ≡ onto [] 0 v

@@ -1,6 +1,6 @@
 -- The configuration, read line by line.
-use Rattle.std.specs.Prelude.{◌≡◌, ℕ, ◌+◌, ℤ, pos, negsuc, Bool, false, ◌||◌, ◌&&◌, not, ◌==◌, nat_lt, nat_le, List, [], ◌∷◌, length, filter, Option, Some, None, option_map, option_and_then, Result, Ok, Err, slice_index, string_bytes, if◌then◌else◌}
-use Rattle.std.specs.List.{slice_split, filter_map}
+use Rattle.std.specs.Prelude.{◌≡◌, ℕ, ◌+◌, ℤ, pos, negsuc, Bool, false, ◌||◌, ◌&&◌, not, ◌==◌, nat_lt, List, [], ◌∷◌, Option, Some, None, option_map, option_and_then, Result, Ok, Err, string_bytes, if◌then◌else◌}
+use Rattle.std.specs.List.{filter_map}
 use Rattle.std.specs.Str.{is_utf8, bytes_eq}
 use Rattle.envimg_core.specs.declared.geometry.Layout.{Layout}
 use Rattle.envimg_core.specs.declared.geometry.Layout.TheVariants.{Single, Redundant}
@@ -8,25 +8,19 @@ use Rattle.envcfg_core.specs.declared.config.Config.{Config}
 use Rattle.envcfg_core.specs.declared.config.ConfigFault.{ConfigFault}
 use Rattle.envcfg_core.specs.declared.config.ConfigFault.TheVariants.{NoCopy, Size, Unequal, Overlap, NotUtf8, Memory}
 use Rattle.envcfg_core.specs.declared.place.Place.{Place}
-use Rattle.envcfg_core.specs.Bytes.{is_blank, hash}
-use Rattle.envcfg_core.specs.Lines.{Line, numbered_lines}
+use Rattle.text_parts.specs.Bytes.{begins_with, carriage_return, hash, is_blank}
+use Rattle.text_parts.specs.Lines.{Line, numbered_lines}
+use Rattle.text_parts.specs.Words.{words_between}
+use Rattle.envcfg_core.specs.Sizes.{copy_size, least_size}
 use Rattle.envcfg_core.specs.Numerals.{offset_of, size_of}
 
 -- a space, a tab or a carriage return
 abbrev pub is_space : ℕ → Bool
-is_space b = is_blank b || b == 13
-
-abbrev pub begins_space : List ℕ → Bool
-begins_space [] = false
-begins_space (b ∷ bs) = is_space b
+is_space b = is_blank b || b == carriage_return
 
 -- the fields of a line: what stands between spaces, where something does
 abbrev pub fields : List ℕ → List (List ℕ)
-fields text = filter (λ field. not (length field == 0)) (slice_split is_space text)
-
--- the sizes that an image may have; none for any other number
-abbrev pub copy_size : ℕ → Option ℕ
-copy_size n = if nat_le 8 n && nat_le n 1048576 then Some n else None
+fields text = words_between is_space text
 
 -- an accepted line: its number, and its three readable fields
 pub record Accepted : Type 0 where
@@ -44,7 +38,7 @@ accepted_by line (device ∷ offset ∷ size ∷ more) =
 
 -- a line is accepted unless it is a comment or has no three readable fields
 abbrev pub accepted_line : Line → Option Accepted
-accepted_line line = if slice_index line.1 0 == hash then None else accepted_by line.0 (fields line.1)
+accepted_line line = if begins_with hash line.1 then None else accepted_by line.0 (fields line.1)
 
 abbrev pub accepted_lines : List Line → List Accepted
 accepted_lines lines = filter_map accepted_line lines
@@ -94,7 +88,7 @@ single_of a = then_with (checked a) (λ size. Ok (record { layout = Single; size
 abbrev pub paired : Accepted → Accepted → ℕ → ℕ → Result Settings ConfigFault
 paired a b m n =
     if not (m == n) then Err Unequal
-    else if m == 8 then Err (Size a.line)
+    else if m == least_size then Err (Size a.line)
     else if overlap a b m then Err Overlap
     else Ok (record { layout = Redundant; size = m; first = place_of a; second = Some (place_of b) })
 

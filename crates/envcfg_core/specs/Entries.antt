@@ -1,5 +1,5 @@
 -- What the texts for import and the set scripts are read as: entries in the order of the text, or one fault.
-use Rattle.std.specs.Prelude.{◌≡◌, ℕ, List, ◌∷◌, ◌++◌, Option, option_map, Result, Ok, Err}
+use Rattle.std.specs.Prelude.{◌≡◌, ℕ, List, ◌∷◌, Option, option_map, Result, Ok, Err}
 use Rattle.envcfg_core.specs.declared.entry.TextEntry.{TextEntry}
 use Rattle.envcfg_core.specs.declared.entry.TextFault.{TextFault}
 use Rattle.envcfg_core.specs.declared.entry.TextFault.TheVariants.{EmptyName, Nul, Memory}
@@ -18,14 +18,10 @@ entry_view e = record { name = e.name.items; value = option_map (λ v. v.items) 
 abbrev pub Outcome : Type 0
 Outcome = Result (List Entry) TextFault
 
--- an outcome with an entry, or several, before those that it has
+-- an outcome with an entry before those that it has
 abbrev pub with_first : Entry → Outcome → Outcome
 with_first e (Ok entries) = Ok (e ∷ entries)
 with_first e (Err fault) = Err fault
-
-abbrev pub with_front : List Entry → Outcome → Outcome
-with_front front (Ok entries) = Ok (front ++ entries)
-with_front front (Err fault) = Err fault
 
 -- the fault is the definition's, or memory was refused
 abbrev pub IsFaultOf : {A : Type 0} → Result A TextFault → TextFault → Type 0

@@ -1,13 +1,16 @@
 -- The text of an exported variable.
-use Rattle.std.specs.Prelude.{◌≡◌, ℕ, ◌+◌, Bool, true, false, ◌||◌, ◌==◌, List, [], ◌∷◌, ◌++◌, Some, if◌then◌else◌}
+use Rattle.std.specs.Prelude.{◌≡◌, ℕ, ◌+◌, Bool, true, false, ◌||◌, List, [], ◌∷◌, ◌++◌, Some, if◌then◌else◌}
 use Rattle.std.specs.List.{list_any, flat_map, count_by}
 use Rattle.envimg_core.specs.Environment.{Pair, is_name, is_value}
-use Rattle.envcfg_core.specs.Bytes.{newline, is_newline, is_blank, hash, equals, backslash}
+use Rattle.text_parts.specs.Bytes.{begins, newline, is_newline}
+use Rattle.envimg_core.specs.Bytes.{equals}
+use Rattle.envcfg_core.specs.Bytes.{backslash, is_marked}
 use Rattle.envcfg_core.specs.Entries.{Entry}
+use Rattle.envcfg_core.specs.Import.{is_skipped}
 
 -- `\` stands before each `\` and each newline
 abbrev pub escaped_byte : ℕ → List ℕ
-escaped_byte b = if b == backslash || is_newline b then backslash ∷ b ∷ [] else b ∷ []
+escaped_byte b = if is_marked b then backslash ∷ b ∷ [] else b ∷ []
 
 abbrev pub escaped : List ℕ → List ℕ
 escaped value = flat_map escaped_byte value
@@ -16,13 +19,9 @@ escaped value = flat_map escaped_byte value
 abbrev pub exported : List ℕ → List ℕ → List ℕ
 exported name value = name ++ (equals ∷ (escaped value ++ (newline ∷ [])))
 
--- a name that an import would not read back: it begins with a blank or like a comment, or a newline would end it
-abbrev pub begins_unreadable : List ℕ → Bool
-begins_unreadable [] = false
-begins_unreadable (b ∷ bs) = is_blank b || b == hash
-
+-- a name that an import would not read back: it begins with what is skipped there, or a newline would end it
 abbrev pub is_unreadable : List ℕ → Bool
-is_unreadable name = begins_unreadable name || list_any is_newline name
+is_unreadable name = begins is_skipped name || list_any is_newline name
 
 -- a variable that can be exported
 pub record IsExportable (p : Pair) : Type 0 where

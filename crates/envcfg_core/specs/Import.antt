@@ -1,9 +1,13 @@
--- The text for import, read entry by entry.
-use Rattle.std.specs.Prelude.{ℕ, zero, suc, ◌+◌, Bool, true, false, ◌||◌, ◌==◌, List, [], ◌∷◌, ◌++◌, length, drop, Ok, Err, if◌then◌else◌}
+-- The text for import, as its reader goes over it entry by entry: for any text, one with a fault too, it says what is read.
+-- What a writer may count on is the law `spelled_texts_are_read`: a text that spells entries, in any of the ways that
+-- Spelling.antt allows, is read as them.
+use Rattle.std.specs.Prelude.{ℕ, zero, suc, ◌+◌, Bool, true, false, ◌||◌, ◌==◌, List, [], ◌∷◌, length, drop, Ok, Err, if◌then◌else◌}
 use Rattle.std.specs.List.{list_any, position_or_len, before_first, after_first}
 use Rattle.envcfg_core.specs.declared.entry.TextFault.TheVariants.{EmptyName, Nul}
 use Rattle.envimg_core.specs.Environment.{is_zero}
-use Rattle.envcfg_core.specs.Bytes.{some_unless_empty, is_newline, is_blank, hash, equals, backslash}
+use Rattle.text_parts.specs.Bytes.{hash, is_blank, is_newline}
+use Rattle.envimg_core.specs.Bytes.{equals}
+use Rattle.envcfg_core.specs.Bytes.{some_unless_empty, backslash}
 use Rattle.envcfg_core.specs.Entries.{Outcome, with_first}
 
 -- a value as its text spells it: the bytes that it stands for, the newlines that its text holds, and what follows the text
@@ -15,10 +19,6 @@ pub record Spelled : Type 0 where
 -- the value text with one byte more at its front
 abbrev pub with_byte : ℕ → Spelled → Spelled
 with_byte b v = record { bytes = b ∷ v.bytes; newlines = (if is_newline b then 1 else 0) + v.newlines; rest = v.rest }
-
--- the value text with bytes and newlines before it
-abbrev pub onto : List ℕ → ℕ → Spelled → Spelled
-onto bytes newlines v = record { bytes = bytes ++ v.bytes; newlines = newlines + v.newlines; rest = v.rest }
 
 -- a text in which no byte of a value is left: a newline ends it, or the end of the text
 abbrev pub ended_by_newline : List ℕ → Spelled
@@ -52,6 +52,10 @@ entry_first later line text =
     if length name == 0 then Err (EmptyName line)
     else with_first (record { name = name; value = some_unless_empty value.bytes; line = line }) (later (line + value.newlines) value.rest)
 
+-- a byte that is skipped at an entry's place, or begins what is skipped there
+abbrev pub is_skipped : ℕ → Bool
+is_skipped b = is_blank b || is_newline b || b == hash
+
 -- at an entry's place blanks, newlines and comments are skipped
 abbrev pub skip_or_entry : (ℕ → List ℕ → Outcome) → ℕ → List ℕ → Outcome
 skip_or_entry later line [] = Ok []
@@ -60,14 +64,6 @@ skip_or_entry later line (b ∷ bs) =
     else if is_newline b then later (line + 1) bs
     else if b == hash then later (line + 1) (after_first is_newline bs)
     else entry_first later line (b ∷ bs)
-
--- a byte that is skipped at an entry's place, or begins what is skipped
-abbrev pub is_skipped : ℕ → Bool
-is_skipped b = is_blank b || is_newline b || b == hash
-
-abbrev pub begins_skipped : List ℕ → Bool
-begins_skipped [] = false
-begins_skipped (b ∷ bs) = is_skipped b
 
 -- the entries of a text that begins in this line, in at most so many steps, each of which takes a byte at least
 unfoldable pub entries_within : ℕ → ℕ → List ℕ → Outcome

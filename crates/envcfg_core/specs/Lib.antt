@@ -1,12 +1,15 @@
+-- What the public calls promise.
 pub mod Bytes
-pub mod Candidate
 pub mod Config
 pub mod Entries
 pub mod Export
 pub mod Import
 pub mod ImportText
-pub mod Lines
 pub mod Numerals
 pub mod Place
 pub mod SetScript
-pub mod Views
+pub mod Sizes
+pub mod Spelling
+-- What the steps of the code hand on: no promise speaks of these.
+pub mod ConfigSteps
+pub mod ImportSteps

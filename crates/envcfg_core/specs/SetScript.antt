@@ -1,21 +1,23 @@
 -- The set script, read line by line.
-use Rattle.std.specs.Prelude.{ℕ, Bool, ◌||◌, ◌==◌, List, [], ◌∷◌, length, slice_index, Option, Some, None, Result, Ok, Err, if◌then◌else◌}
+use Rattle.std.specs.Prelude.{ℕ, Bool, ◌||◌, ◌==◌, List, [], ◌∷◌, length, Option, Some, None, Result, Ok, Err, if◌then◌else◌}
 use Rattle.std.specs.List.{list_any, list_all, before_first, after_first}
 use Rattle.std.specs.Str.Lines.{strip_carriage_return}
 use Rattle.envcfg_core.specs.declared.entry.TextFault.{TextFault}
 use Rattle.envcfg_core.specs.declared.entry.TextFault.TheVariants.{EmptyName, Nul}
 use Rattle.envimg_core.specs.Environment.{is_zero}
-use Rattle.envcfg_core.specs.Bytes.{some_unless_empty, is_blank, without_blanks, hash, equals}
+use Rattle.text_parts.specs.Bytes.{begins_with, hash, is_blank, without_blanks}
+use Rattle.text_parts.specs.Lines.{Line, numbered_lines}
+use Rattle.envimg_core.specs.Bytes.{equals}
+use Rattle.envcfg_core.specs.Bytes.{some_unless_empty}
 use Rattle.envcfg_core.specs.Entries.{Entry, Outcome, with_first}
-use Rattle.envcfg_core.specs.Lines.{Line, numbered_lines}
 
 -- a key ends at the first blank or `=`
 abbrev pub ends_key : ℕ → Bool
 ends_key b = is_blank b || b == equals
 
--- a line that is empty, blanks alone, or whose first byte is `#`
+-- a line whose first byte is `#`, or that is empty or blanks alone
 abbrev pub is_skipped_line : List ℕ → Bool
-is_skipped_line text = list_all is_blank text || slice_index text 0 == hash
+is_skipped_line text = begins_with hash text || list_all is_blank text
 
 -- what a line holds: the key, and behind the byte that ends it and further blanks the value
 abbrev pub line_outcome : ℕ → List ℕ → Result (Option Entry) TextFault

@@ -1,10 +1,13 @@
 //! The lines of a configuration that count.
 ghost use Rattle.std.specs.Prelude.{◌≡◌, ◌∷◌, [], length, MatchOption, option_map, false};
-ghost use Rattle.envcfg_core.specs.Candidate.{candidate_view};
-ghost use Rattle.envcfg_core.specs.Config.{accepted_line, copy_size, fields, begins_space};
+ghost use Rattle.envcfg_core.specs.ConfigSteps.{candidate_view};
+ghost use Rattle.text_parts.specs.Bytes.{begins};
+ghost use Rattle.envcfg_core.specs.Config.{accepted_line, fields, is_space};
 
 use crate::numerals::{read_offset, read_size};
+use crate::sizes::copy_size;
 use memchr::memchr3;
+use text_parts::begins_with_byte;
 
 /// A line with three readable fields.
 #[derive(Clone, Copy)]
@@ -23,7 +26,7 @@ pub(crate) struct Candidate<'a> {
 pub(crate) fn accept_line(number: usize, line: &[u8]) -> Option<Candidate<'_>>
     ensures { option_map candidate_view result ≡ accepted_line (number, line.now) }
 {
-    if line.first() == Some(&b'#') {
+    if begins_with_byte(b'#', line) {
         return None;
     }
     let (device, rest) = next_field(line)?;
@@ -37,17 +40,6 @@ pub(crate) fn accept_line(number: usize, line: &[u8]) -> Option<Candidate<'_>>
         offset,
         size,
     })
-}
-
-/// The size, where an image may have it.
-fn copy_size(number: u64) -> Option<u32>
-    ensures { result ≡ copy_size number }
-{
-    if (8..=1_048_576).contains(&number) {
-        Some(number as u32)
-    } else {
-        None
-    }
 }
 
 /// The first field of a line, and what follows it.
@@ -67,7 +59,7 @@ fn next_field(text: &[u8]) -> Option<(&[u8], &[u8])>
 /// The text without the spaces, tabs and carriage returns at its front.
 fn skip_spaces(text: &[u8]) -> &[u8]
     ensures same { fields result.now ≡ fields text.now }
-    ensures reached { begins_space result.now ≡ false }
+    ensures reached { begins is_space result.now ≡ false }
 {
     let mut rest = text;
     while let Some((first, others)) = rest.split_first() {

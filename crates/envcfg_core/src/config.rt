@@ -2,15 +2,16 @@
 ghost use Rattle.std.specs.Prelude.{◌≡◌, [], Ok, IfOk, IfErr, IfNone, option_map};
 ghost use Rattle.std.specs.List.{cons_option};
 ghost use Rattle.envcfg_core.specs.declared.config.ConfigFault.TheVariants.{Memory};
-ghost use Rattle.envcfg_core.specs.Candidate.{candidate_view};
+ghost use Rattle.envcfg_core.specs.ConfigSteps.{candidate_view};
 ghost use Rattle.envcfg_core.specs.Config.{accepted_lines, checked, config_of, config_view, place_view, redundant_of, shares_byte, single_of, IsConfigFaultOf};
 
 use crate::accept::{Candidate, accept_line};
-use crate::lines::{Lines, numbered_lines};
 use crate::place::Place;
+use crate::sizes::SIZE_MIN;
 use envimg_core::Layout;
 use std::alloc::{AllocError, Global};
 use std::str;
+use text_parts::{Lines, numbered_lines};
 use thiserror::Error;
 
 /// Where the copies of an environment lie, and how large each is.
@@ -119,7 +120,7 @@ fn redundant(
     if size != second_size {
         return Err(ConfigFault::Unequal);
     }
-    if size == 8 {
+    if size == SIZE_MIN {
         return Err(ConfigFault::Size(first.line));
     }
     if first.device == second.device && shares_byte(first.offset, second.offset, size) {

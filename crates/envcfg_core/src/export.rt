@@ -2,10 +2,12 @@
 ghost use Rattle.std.specs.Prelude.{◌≡◌, ◌++◌, ◌^◌, ◌<◌, ◌≤◌, ◌+◌, ◌↔◌, IsTrue, OnOk, OnErr, IsErrOf, length, vec_len, vec_capacity};
 ghost use Rattle.std.specs.Option.{SomeIff};
 ghost use Rattle.envimg_core.specs.Environment.{is_name, is_value};
-ghost use Rattle.envcfg_core.specs.Export.{exported, escaped, begins_unreadable, is_unreadable};
+ghost use Rattle.text_parts.specs.Bytes.{begins};
+ghost use Rattle.envcfg_core.specs.Import.{is_skipped};
+ghost use Rattle.envcfg_core.specs.Export.{exported, escaped, is_unreadable};
 
-use crate::cuts::contains_byte;
 use memchr::{memchr_iter, memchr2};
+use text_parts::contains_byte;
 use thiserror::Error;
 
 /// Why a variable isn't exported.
@@ -51,15 +53,15 @@ pub fn export_entry(name: &[u8], value: &[u8], output: &mut Vec<u8>) -> Result<(
 fn is_unreadable(name: &[u8]) -> bool
     ensures { result ≡ is_unreadable name.now }
 {
-    begins_unreadable(name) || contains_byte(b'\n', name)
+    begins_skipped(name) || contains_byte(b'\n', name)
 }
 
-/// Whether the name begins with a blank or like a comment.
-fn begins_unreadable(name: &[u8]) -> bool
-    ensures { result ≡ begins_unreadable name.now }
+/// Whether the name begins with what an import skips: a blank, a newline, or a comment.
+fn begins_skipped(name: &[u8]) -> bool
+    ensures { result ≡ begins is_skipped name.now }
 {
     match name.split_first() {
-        Some((first, _)) => *first == b' ' || *first == b'\t' || *first == b'#',
+        Some((first, _)) => *first == b' ' || *first == b'\t' || *first == b'\n' || *first == b'#',
         None => false,
     }
 }

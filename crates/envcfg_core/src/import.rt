@@ -1,12 +1,15 @@
-//! The text for import.
+//! The text for import. What a text is read as is defined by the steps of a reader (`specs/Import.antt`); the law
+//! `spelled_texts_are_read` says that entries are read back from any of their spellings (`specs/Spelling.antt`).
 ghost use Rattle.std.specs.Prelude.{◌≡◌, ◌+◌, ◌^◌, ◌<◌, ◌≤◌, length, map, IfOk, IfErr, Ok, Err, false};
 ghost use Rattle.envcfg_core.specs.Entries.{Entry, entry_view, with_first, IsFaultOf};
-ghost use Rattle.envcfg_core.specs.Import.{import_of, entries_from, begins_skipped};
+ghost use Rattle.text_parts.specs.Bytes.{begins};
+ghost use Rattle.envcfg_core.specs.Import.{import_of, entries_from, is_skipped};
 
-use crate::cuts::{after_line, contains_byte, name_len};
+use crate::cuts::{after_line, name_len};
 use crate::entry::{TextEntry, TextFault, some_unless_empty};
 use crate::spelled::{read_behind_name, skip_behind_name};
 use std::alloc::Global;
+use text_parts::contains_byte;
 
 /// What is left of a text, and the line in which it begins.
 #[derive(Clone, Copy)]
@@ -39,7 +42,7 @@ pub fn parse_import(alloc: Global, text: &[u8]) -> Result<Vec<TextEntry>, TextFa
 
 /// Reads the entry at the front of the text, and answers what follows it too.
 pub(crate) fn read_entry(alloc: Global, rest: Rest<'_>) -> Result<(TextEntry, Rest<'_>), TextFault>
-    requires place { begins_skipped rest.text.now ≡ false }
+    requires place { begins is_skipped rest.text.now ≡ false }
     requires some { 0 < length rest.text.now }
     requires fits { rest.line + length rest.text.now < 2 ^ 64 }
     ensures read { IfOk result (λ found. entries_from rest.entry.line rest.entry.text.now
@@ -71,7 +74,7 @@ pub(crate) fn read_entry(alloc: Global, rest: Rest<'_>) -> Result<(TextEntry, Re
 
 /// Passes over the entry at the front of the text, and answers what follows it.
 pub(crate) fn skip_entry(rest: Rest<'_>) -> Result<Rest<'_>, TextFault>
-    requires place { begins_skipped rest.text.now ≡ false }
+    requires place { begins is_skipped rest.text.now ≡ false }
     requires some { 0 < length rest.text.now }
     requires fits { rest.line + length rest.text.now < 2 ^ 64 }
     ensures passed { IfOk result (λ next. (entry : Entry) × (entries_from rest.entry.line rest.entry.text.now
@@ -95,7 +98,7 @@ pub(crate) fn skip_entry(rest: Rest<'_>) -> Result<Rest<'_>, TextFault>
 pub(crate) fn skip_to_entry(place: Rest<'_>) -> Rest<'_>
     requires { place.line + length place.text.now < 2 ^ 64 }
     ensures same { entries_from place.entry.line place.entry.text.now ≡ entries_from result.line result.text.now }
-    ensures reached { begins_skipped result.text.now ≡ false }
+    ensures reached { begins is_skipped result.text.now ≡ false }
     ensures within { result.line + length result.text.now ≤ place.entry.line + length place.entry.text.now }
     ensures no_longer { length result.text.now ≤ length place.entry.text.now }
 {

@@ -4,11 +4,11 @@ ghost use Rattle.envcfg_core.specs.Entries.{entry_view};
 ghost use Rattle.envcfg_core.specs.Import.{import_of};
 ghost use Rattle.envcfg_core.specs.declared.entry.TextFault.TheVariants.{Memory};
 
-use crate::cuts::contains_byte;
 use crate::entry::{TextEntry, TextFault};
 use crate::import::{Rest, read_entry, skip_entry, skip_to_entry};
 use std::alloc::Global;
 use std::marker::Model;
+use text_parts::contains_byte;
 
 /// A text for import that has no fault (docs/texts.md, "Text for import and export"). Its entries are read one by one,
 /// so that a text of many entries takes no memory for all of them.

@@ -1,11 +1,19 @@
 //! Laws of the text forms, each the contract of a function without a body.
 ghost use Rattle.std.specs.Prelude.{◌≡◌, ℕ, ◌+◌, true, false, List, ◌∷◌, ◌++◌, None, Ok};
 ghost use Rattle.std.specs.List.{list_all, list_any, AllByRecursion};
-ghost use Rattle.envimg_core.specs.Environment.{Pair, is_name};
-ghost use Rattle.envcfg_core.specs.Bytes.{hash, is_blank, is_newline, newline};
+ghost use Rattle.envimg_core.specs.Environment.{Pair, is_name, is_zero};
+ghost use Rattle.text_parts.specs.Bytes.{hash, is_blank, is_newline, newline};
 ghost use Rattle.envcfg_core.specs.Entries.{with_first};
 ghost use Rattle.envcfg_core.specs.Export.{IsExportable, entries_of_pairs, exported, exported_all, is_unreadable, line_behind, pair_entry};
 ghost use Rattle.envcfg_core.specs.Import.{entries_from, import_of};
+ghost use Rattle.envcfg_core.specs.Spelling.{Part, IsPart, Ending, IsEnding, spelled_text, spelled_entries};
+
+/// A text that spells entries is read as them, however it spells them: with `\` before bytes that don't need it too, with
+/// blanks, empty lines and comments between them, and with a last line that no newline ends.
+pub fn spelled_texts_are_read()
+    ensures { (parts : List Part) (ending : Ending) → AllByRecursion IsPart parts → IsEnding ending
+        → list_any is_zero (spelled_text parts ending) ≡ false → import_of (spelled_text parts ending) ≡ Ok (spelled_entries 1 parts ending) }
+{}
 
 /// A text made of exported variables, any number of them one after the other, is read as those variables
 /// in their order, each at the line in which it begins.

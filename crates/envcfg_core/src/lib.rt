@@ -1,7 +1,7 @@
 //! The text forms around a stored environment: `fw_env.config`, text for
 //! import and export, and set scripts. docs/texts.md states each form.
 //!
-//! To read in this order: numerals, lines, accept, place, config; cuts, entry, spelled, import, import_text, export;
+//! To read in this order: sizes, numerals, accept, place, config; cuts, entry, spelled, import, import_text, export;
 //! set_script, script_text; laws.
 #![tactic(auto)]
 
@@ -13,11 +13,11 @@ mod export;
 mod import;
 mod import_text;
 pub mod laws;
-mod lines;
 mod numerals;
 mod place;
 mod script_text;
 mod set_script;
+mod sizes;
 mod spelled;
 
 pub use config::{Config, ConfigFault, parse_config};

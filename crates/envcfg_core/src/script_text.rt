@@ -4,12 +4,11 @@ ghost use Rattle.envcfg_core.specs.Entries.{entry_view, with_first, IsFaultOf};
 ghost use Rattle.envcfg_core.specs.SetScript.{set_script_of, entries_of_lines};
 ghost use Rattle.envcfg_core.specs.declared.entry.TextFault.TheVariants.{Memory};
 
-use crate::cuts::contains_byte;
 use crate::entry::{TextEntry, TextFault};
-use crate::lines::{Lines, numbered_lines};
-use crate::set_script::{check_line, read_line, strip_carriage_return};
+use crate::set_script::{check_line, read_line};
 use std::alloc::Global;
 use std::marker::Model;
+use text_parts::{Lines, contains_byte, numbered_lines, strip_carriage_return};
 
 /// A set script that has no fault (docs/texts.md, "Set scripts"). Its entries are read one by one, so that a script of many
 /// lines takes no memory for all of them.

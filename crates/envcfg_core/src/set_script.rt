@@ -1,15 +1,15 @@
 //! The set script.
 ghost use Rattle.std.specs.Prelude.{◌≡◌, map, option_map, Option, IfOk, IfErr, Ok, Err};
 ghost use Rattle.std.specs.List.{before_first, after_first};
-ghost use Rattle.std.specs.Str.Lines.{strip_carriage_return};
 ghost use Rattle.envcfg_core.specs.Entries.{Entry, entry_view, IsFaultOf};
 ghost use Rattle.envcfg_core.specs.SetScript.{set_script_of, line_outcome, is_skipped_line, ends_key};
 
-use crate::cuts::{contains_byte, without_blanks};
 use crate::entry::{TextEntry, TextFault, some_unless_empty};
-use crate::lines::numbered_lines;
 use memchr::memchr3;
 use std::alloc::Global;
+use text_parts::{
+    begins_with_byte, contains_byte, numbered_lines, strip_carriage_return, without_blanks,
+};
 
 /// Reads a set script: in each line a key, blanks or `=`, and a value (docs/texts.md, "Set scripts").
 ///
@@ -76,10 +76,7 @@ pub(crate) fn check_line(number: usize, line: &[u8]) -> Result<(), TextFault>
 fn is_skipped_line(line: &[u8]) -> bool
     ensures { result ≡ is_skipped_line line.now }
 {
-    match line.split_first() {
-        Some((first, _)) => *first == b'#' || without_blanks(line).is_empty(),
-        None => true,
-    }
+    begins_with_byte(b'#', line) || without_blanks(line).is_empty()
 }
 
 /// Cuts a line at the first blank or `=`.
@@ -90,15 +87,5 @@ fn cut_key(line: &[u8]) -> (&[u8], &[u8])
     match memchr3(b' ', b'\t', b'=', line) {
         Some(at) => (&line[..at], &line[at + 1..]),
         None => (line, &[]),
-    }
-}
-
-/// The line without the one carriage return at its end, if it has one.
-pub(crate) fn strip_carriage_return(line: &[u8]) -> &[u8]
-    ensures { result.now ≡ strip_carriage_return line.now }
-{
-    match line.split_last() {
-        Some((last, front)) if *last == b'\r' => front,
-        _ => line,
     }
 }

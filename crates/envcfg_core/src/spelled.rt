@@ -1,8 +1,9 @@
 //! A value as the text for import spells it.
 ghost use Rattle.std.specs.Prelude.{◌≡◌, ◌+◌, ◌≤◌, length, if◌then◌else◌, IfOk, false, true};
-ghost use Rattle.envcfg_core.specs.Bytes.{is_newline};
-ghost use Rattle.envcfg_core.specs.Import.{spelled, behind_name, onto};
-ghost use Rattle.envcfg_core.specs.Views.{value_view, stop_view, StopIsWithin, begins_marked};
+ghost use Rattle.text_parts.specs.Bytes.{begins, is_newline};
+ghost use Rattle.envcfg_core.specs.Bytes.{is_marked};
+ghost use Rattle.envcfg_core.specs.Import.{spelled, behind_name};
+ghost use Rattle.envcfg_core.specs.ImportSteps.{onto, value_view, stop_view, StopIsWithin};
 
 use memchr::memchr2;
 use std::alloc::{AllocError, Global};
@@ -29,37 +30,44 @@ pub(crate) enum Stop<'a> {
     Literal(u8, &'a [u8]),
 }
 
-/// Cuts off the bytes before the first `\` or newline.
-fn cut_plain(text: &[u8]) -> (&[u8], Stop<'_>)
-    ensures value { spelled false text.now ≡ onto result.0.now 0 (stop_view result.1) }
-    ensures within { StopIsWithin (length text.now) result.1 }
+/// Reads what stands behind a name: after `=` a value, else nothing up to the end of the line.
+pub(crate) fn read_behind_name<'a>(
+    alloc: Global,
+    text: &'a [u8],
+) -> Result<ValueText<'a>, AllocError>
+    ensures value { IfOk result (λ value. value_view value ≡ behind_name text.entry.now) }
+    ensures within { IfOk result (λ value. value.newlines + length value.rest.now ≤ length text.entry.now) }
 {
-    let Some(at) = memchr2(b'\\', b'\n', text) else {
-        return (text, Stop::End);
+    let Some((first, rest)) = text.split_first() else {
+        return Ok(ValueText {
+            bytes: Vec::new(alloc),
+            newlines: 0,
+            rest: &[],
+        });
     };
-    let (plain, marked) = text.split_at(at);
-    (plain, stop_at(marked))
-}
-
-/// What a text that begins with `\` or a newline begins with.
-fn stop_at(marked: &[u8]) -> Stop<'_>
-    requires { begins_marked marked.now ≡ true }
-    ensures value { stop_view result ≡ spelled false marked.now }
-    ensures within { StopIsWithin (length marked.now) result }
-{
-    match marked {
-        [b'\n', rest @ ..] => Stop::Newline(rest),
-        [_, literal, rest @ ..] => Stop::Literal(*literal, rest),
-        _ => Stop::Literal(b'\\', &[]),
+    if *first == b'=' {
+        return read_value(alloc, rest);
     }
+    Ok(ValueText {
+        bytes: Vec::new(alloc),
+        newlines: 1,
+        rest,
+    })
 }
 
-/// How many newlines one byte is.
-fn newlines_in(byte: u8) -> usize
-    ensures count { result ≡ (if is_newline byte then 1 else 0) }
-    ensures few { result ≤ 1 }
+/// What `read_behind_name` leaves: how many newlines it passes, and what follows them.
+pub(crate) fn skip_behind_name(text: &[u8]) -> (usize, &[u8])
+    ensures newlines { result.0 ≡ (behind_name text.now).newlines }
+    ensures rest { result.1.now ≡ (behind_name text.now).rest }
+    ensures within { result.0 + length result.1.now ≤ length text.now }
 {
-    usize::from(byte == b'\n')
+    let Some((first, rest)) = text.split_first() else {
+        return (0, &[]);
+    };
+    if *first == b'=' {
+        return skip_value(rest);
+    }
+    (1, rest)
 }
 
 /// Reads a value's text, up to the newline that ends it.
@@ -116,42 +124,35 @@ fn skip_value(text: &[u8]) -> (usize, &[u8])
     }
 }
 
-/// What `read_behind_name` leaves: how many newlines it passes, and what follows them.
-pub(crate) fn skip_behind_name(text: &[u8]) -> (usize, &[u8])
-    ensures newlines { result.0 ≡ (behind_name text.now).newlines }
-    ensures rest { result.1.now ≡ (behind_name text.now).rest }
-    ensures within { result.0 + length result.1.now ≤ length text.now }
+/// Cuts off the bytes before the first `\` or newline.
+fn cut_plain(text: &[u8]) -> (&[u8], Stop<'_>)
+    ensures value { spelled false text.now ≡ onto result.0.now 0 (stop_view result.1) }
+    ensures within { StopIsWithin (length text.now) result.1 }
 {
-    let Some((first, rest)) = text.split_first() else {
-        return (0, &[]);
+    let Some(at) = memchr2(b'\\', b'\n', text) else {
+        return (text, Stop::End);
     };
-    if *first == b'=' {
-        return skip_value(rest);
-    }
-    (1, rest)
+    let (plain, marked) = text.split_at(at);
+    (plain, stop_at(marked))
 }
 
-/// Reads what stands behind a name: after `=` a value, else nothing up to the end of the line.
-pub(crate) fn read_behind_name<'a>(
-    alloc: Global,
-    text: &'a [u8],
-) -> Result<ValueText<'a>, AllocError>
-    ensures value { IfOk result (λ value. value_view value ≡ behind_name text.entry.now) }
-    ensures within { IfOk result (λ value. value.newlines + length value.rest.now ≤ length text.entry.now) }
+/// What a text that begins with `\` or a newline begins with.
+fn stop_at(marked: &[u8]) -> Stop<'_>
+    requires { begins is_marked marked.now ≡ true }
+    ensures value { stop_view result ≡ spelled false marked.now }
+    ensures within { StopIsWithin (length marked.now) result }
 {
-    let Some((first, rest)) = text.split_first() else {
-        return Ok(ValueText {
-            bytes: Vec::new(alloc),
-            newlines: 0,
-            rest: &[],
-        });
-    };
-    if *first == b'=' {
-        return read_value(alloc, rest);
+    match marked {
+        [b'\n', rest @ ..] => Stop::Newline(rest),
+        [_, literal, rest @ ..] => Stop::Literal(*literal, rest),
+        _ => Stop::Literal(b'\\', &[]),
     }
-    Ok(ValueText {
-        bytes: Vec::new(alloc),
-        newlines: 1,
-        rest,
-    })
+}
+
+/// How many newlines one byte is.
+fn newlines_in(byte: u8) -> usize
+    ensures count { result ≡ (if is_newline byte then 1 else 0) }
+    ensures few { result ≤ 1 }
+{
+    usize::from(byte == b'\n')
 }

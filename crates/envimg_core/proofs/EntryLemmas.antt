@@ -5,14 +5,12 @@ use Rattle.std.specs.List.{slice_split, position_or_len, before_first, after_fir
 use Rattle.std.proofs.lemmas.List.Sums.{position_or_len_is, take_while-cons}
 use Rattle.std.proofs.lemmas.List.Splits.{slice_split_first, slice_split_none, slice_split-cons_yes, slice_split-cons_no}
 use Rattle.std.proofs.lemmas.List.Elements.{All-from_get_or}
-use Rattle.std.proofs.lemmas.List.{take_all, drop_all}
+use Rattle.std.proofs.lemmas.List.{take_all, take_rest, drop_all}
 use Rattle.memchr.specs.Find.{IsFirstByte}
 use Rattle.envimg_core.specs.Environment.{is_zero, is_equals, is_empty}
-use Rattle.envimg_core.specs.Pieces.{but_last, ended_pieces, is_terminated, Entry, entry_of, value_of, has_name, entries_of, YieldsEntry}
-
-not_true : (b : Bool) → (b ≡ true → ⊥) → b ≡ false
-not_true true h = absurd (h refl)
-not_true false h = refl
+use Rattle.envimg_core.specs.Pieces.{but_last, ended_pieces, is_terminated, Entry, entry_of, value_of, has_name, entries_of}
+use Rattle.envimg_core.specs.Steps.{YieldsEntry}
+use Rattle.envimg_core.proofs.Facts.{not_true}
 
 -- where the first byte that passes stands
 pub found : (p : ℕ → Bool) (xs : List ℕ) (k : ℕ) → IsFirstByte p xs (Some k) → position_or_len p xs ≡ k
@@ -32,7 +30,8 @@ split_cons (x ∷ xs) =
       | false ↦ λ e. (x ∷ below.0, below.1, slice_split-cons_no is_zero x xs e ∙ ap (onto_first x) below.2)
     ] refl
 
-ended_first : (xs : List ℕ) (k : ℕ) → position_or_len is_zero xs ≡ k → k < length xs → ended_pieces xs ≡ take k xs ∷ ended_pieces (drop (k + 1) xs)
+-- the first piece, where the first 0 stands at k
+pub ended_first : (xs : List ℕ) (k : ℕ) → position_or_len is_zero xs ≡ k → k < length xs → ended_pieces xs ≡ take k xs ∷ ended_pieces (drop (k + 1) xs)
 ended_first xs k e h =
     let rest = split_cons (drop (k + 1) xs) in
     let cut : slice_split is_zero xs ≡ take k xs ∷ slice_split is_zero (drop (k + 1) xs) =
@@ -67,12 +66,9 @@ next_entry_of xs k p h =
     ∙ ap (λ ps. filter has_name (map entry_of ps)) (take_while-cons (λ q. not (is_empty q)) (take k xs) (ended_pieces (drop (k + 1) xs))
     ∙ ap (λ b. cond (not b) (take k xs ∷ take_while (λ q. not (is_empty q)) (ended_pieces (drop (k + 1) xs))) []) (front_empty k xs p high))
 
-pub range_rest : (n : ℕ) (xs : List ℕ) → take (length xs - n) (drop n xs) ≡ drop n xs
-range_rest n xs = take_all _ _ (omega (arith, length-drop n xs))
-
 pub piece_ahead : (xs : List ℕ) (k : ℕ) → 0 < k → IsFirstByte is_zero xs (Some k) → YieldsEntry xs (take k xs) (take (length xs - (k + 1)) (drop (k + 1) xs))
 piece_ahead xs k p h =
-    subst (YieldsEntry xs (take k xs)) (sym (range_rest (k + 1) xs))
+    subst (YieldsEntry xs (take k xs)) (sym (take_rest xs (k + 1)))
     (next_entry_of xs k p h, let high : k < length xs = omega (arith, h.0.high) in omega (arith, length-drop (k + 1) xs))
 
 -- ---- a piece cut at its first '='
@@ -88,7 +84,7 @@ pub cut_at : (xs : List ℕ) (k : ℕ) (v : Option (List ℕ)) → IsFirstByte i
 cut_at xs k v h e =
     let place : position_or_len is_equals xs ≡ k = found is_equals xs k h in
     let name : take k xs ≡ before_first is_equals xs = ap (λ (n : ℕ). take n xs) (sym place) in
-    let rest : v ≡ value_of (after_first is_equals xs) = e ∙ ap value_of (range_rest (k + 1) xs ∙ ap (λ (n : ℕ). drop (n + 1) xs) (sym place)) in
+    let rest : v ≡ value_of (after_first is_equals xs) = e ∙ ap value_of (take_rest xs (k + 1) ∙ ap (λ (n : ℕ). drop (n + 1) xs) (sym place)) in
     λ i. (name i, rest i)
 
 -- ---- a list that is ended begins with a 0, or has two side by side

@@ -1,5 +1,5 @@
 -- What is loaded from a terminated area fits into it.
-use Rattle.std.proofs.Common.{◌≡◌, ◌≢◌, ℕ, suc, ◌+◌, ◌-◌, ◌≤◌, Bool, true, false, not, cond, List, [], ◌∷◌, map, filter, fold, length, Option, Some, None, sum_by, IsTrue, T, refl, sym, ap, ◌∙◌, subst, arith, length-take, length-drop}
+use Rattle.std.proofs.Common.{◌≡◌, ◌≢◌, ℕ, suc, ◌+◌, ◌-◌, ◌≤◌, Bool, true, false, not, cond, List, [], ◌∷◌, map, filter, fold, length, Some, None, sum_by, IsTrue, T, refl, sym, ap, ◌∙◌, subst, arith, length-take, length-drop}
 use Rattle.std.specs.List.{list_any, slice_split, onto_first, take_while, position_or_len, before_first, after_first}
 use Rattle.std.specs.declared.cmp.Ordering.TheVariants.{Less, Equal, Greater}
 use Rattle.std.specs.Ordering.{eq_by_cmp}
@@ -7,9 +7,9 @@ use Rattle.std.specs.FinMap as env
 use Rattle.std.specs.FinMap.Entries.{put, where_key, by_order, is_sorted, is_sorted-where_key, find-where_key}
 use Rattle.std.specs.Cmp.{eq_by_cmp_equiv}
 use Rattle.std.specs.Cmp.Lexicographic.{nat_list_cmp_total}
-use Rattle.std.specs.FinMap.{slice_cmp-IsAntisymmetric, nat_cmp-IsAntisymmetric}
 use Rattle.std.proofs.lemmas.List.Sums.{sum_by-cons, take_while-cons}
 use Rattle.std.proofs.lemmas.List.Splits.{slice_split-cons_yes, slice_split-cons_no}
+use Rattle.envimg_core.proofs.Facts.{same_name, turned_cond}
 use Rattle.envimg_core.specs.Environment.{Environment, Pair, bytes_cmp, pair_size, used, is_zero, is_equals, is_empty}
 use Rattle.envimg_core.specs.Pieces.{but_last, ended_pieces, is_terminated, Entry, entry_of, value_of, has_name, entries_of, after_entry, vars_of}
 use Rattle.envimg_core.proofs.EntryLemmas.{split_cons}
@@ -30,7 +30,7 @@ put_cost k v (e ∷ es) =
     let whole : sum_by pair_size (e ∷ es) ≡ length e.0 + length e.1 + 2 + sum_by pair_size es = sum_by-cons pair_size e es in
     elim (bytes_cmp k e.0) as (λ o. bytes_cmp k e.0 ≡ o → sum_by pair_size (by_order o ((k, v) ∷ e ∷ es) ((e.0, v) ∷ es) (e ∷ put bytes_cmp k v es)) ≤ sum_by pair_size (e ∷ es) + (length k + length v + 2)) [
       | Less ↦ λ is. omega (arith, sum_by-cons pair_size (k, v) (e ∷ es))
-      | Equal ↦ λ is. omega (arith, sum_by-cons pair_size (e.0, v) es, ap length (slice_cmp-IsAntisymmetric nat_cmp-IsAntisymmetric k e.0 is))
+      | Equal ↦ λ is. omega (arith, sum_by-cons pair_size (e.0, v) es, ap length (same_name k e.0 is))
       | Greater ↦ λ is. omega (arith, sum_by-cons pair_size e (put bytes_cmp k v es))
     ] refl
 
@@ -47,7 +47,7 @@ where_cost p (e ∷ es) =
 -- what is left where a name is taken away
 pub entries_remove : (m : Environment) (k : List ℕ) → env.entries (env.remove m k) ≡ where_key bytes_cmp (λ x. not (eq_by_cmp bytes_cmp k x)) (env.entries m)
 entries_remove m k =
-    ap env.entries (sym (env.same_map nat_list_cmp_total same left (env.remove m k) (λ q. alike q)))
+    ap env.entries (sym (env.same_map nat_list_cmp_total same_name left (env.remove m k) (λ q. alike q)))
     ∙ env.entries-from_sorted bytes_cmp es sorted
   where
     keep : List ℕ → Bool
@@ -62,18 +62,11 @@ entries_remove m k =
     left : Environment
     left = env.from_sorted es
 
-    same : (x y : List ℕ) → bytes_cmp x y ≡ Equal → x ≡ y
-    same = slice_cmp-IsAntisymmetric nat_cmp-IsAntisymmetric
-
-    turned : (b : Bool) (x y : Option (List ℕ)) → cond (not b) x y ≡ cond b y x
-    turned true x y = refl
-    turned false x y = refl
-
     alike : (q : List ℕ) → env.get left q ≡ env.get (env.remove m k) q
     alike q =
         env.get-from_sorted bytes_cmp es q sorted
-        ∙ find-where_key bytes_cmp keep q (λ x t. ap keep (sym (same q x t))) (env.entries m)
-        ∙ turned (eq_by_cmp bytes_cmp k q) (env.find bytes_cmp q (env.entries m)) None
+        ∙ find-where_key bytes_cmp keep q (λ x t. ap keep (sym (same_name q x t))) (env.entries m)
+        ∙ turned_cond (eq_by_cmp bytes_cmp k q) (env.find bytes_cmp q (env.entries m)) None
         ∙ ap (λ b. cond b None (env.find bytes_cmp q (env.entries m))) ((eq_by_cmp_equiv nat_list_cmp_total).symm k q)
         ∙ ap (cond (eq_by_cmp bytes_cmp q k) None) (sym (env.get-entries m q))
         ∙ sym (env.get-remove nat_list_cmp_total m k q)

@@ -1,24 +1,24 @@
 -- An image reads back.
-use Rattle.std.proofs.Common.{◌≡◌, ℕ, zero, suc, ◌+◌, ◌-◌, ◌*◌, ◌/◌, ◌%◌, ◌^◌, ◌<◌, ◌≤◌, ◌++◌, Bool, true, false, not, cond, List, [], ◌∷◌, map, filter, fold, length, take, drop, get_or, replicate, Some, sum_by, IsTrue, T, refl, sym, ap, ◌∙◌, subst, arith, eq-eqb, append_assoc, append-nil, length-append, lit<}
+use Rattle.std.proofs.Common.{◌≡◌, ℕ, zero, suc, ◌+◌, ◌-◌, ◌*◌, ◌/◌, ◌%◌, ◌^◌, ◌<◌, ◌≤◌, ◌++◌, Bool, true, false, not, cond, List, [], ◌∷◌, map, filter, fold, length, take, drop, get_or, replicate, Some, sum_by, T, refl, sym, ap, ◌∙◌, subst, arith, eq-eqb, append_assoc, append-nil, length-append, lit<}
 use Rattle.std.proofs.Math.Nat.{pow-suc}
 use Rattle.std.proofs.Math.Seq.{take-append_seam, drop-append-add, get_or-append_seam}
 use Rattle.std.proofs.Math.ListN.{get_or-append}
 use Rattle.std.proofs.lemmas.List.{length-map, nil_from_length}
 use Rattle.std.proofs.lemmas.List.Elements.{All-from_get_or, All-head, All-tail}
-use Rattle.std.specs.Prelude.{◌==◌, ◌&&◌, ◌||◌}
-use Rattle.std.specs.List.{list_all, list_any, All, take_while, position_or_len, before_first, after_first}
-use Rattle.std.specs.declared.cmp.Ordering.{Ordering}
-use Rattle.std.specs.declared.cmp.Ordering.TheVariants.{Less, Equal, Greater}
+use Rattle.std.specs.Prelude.{◌==◌, ◌||◌}
+use Rattle.std.specs.List.{list_any, All, take_while, position_or_len, before_first, after_first}
+use Rattle.std.specs.declared.cmp.Ordering.TheVariants.{Greater}
 use Rattle.std.specs.Ordering.{is_lt, ordering_reverse}
 use Rattle.std.specs.FinMap as env
 use Rattle.std.specs.FinMap.Entries.{put, is_sorted, below_all, by_order}
 use Rattle.std.specs.Cmp.Lexicographic.{nat_list_cmp_total}
+use Rattle.std.proofs.lemmas.Bool.{or_parts}
 use Rattle.std.proofs.lemmas.List.{length-replicate}
 use Rattle.std.proofs.lemmas.List.Folds.{list_any-append}
 use Rattle.std.proofs.lemmas.List.Splits.{slice_split_at}
 use Rattle.std.proofs.lemmas.List.Sums.{sum_by-cons, take_while-cons, position_or_len_is}
 use Rattle.envimg_core.specs.Checksum.{add, number, polynomial, divide, bits, dividend, checksum}
-use Rattle.envimg_core.specs.Environment.{Environment, Pair, IsVariable, bytes_cmp, pair_size, used, is_name, is_value, is_zero, is_equals, is_empty}
+use Rattle.envimg_core.specs.Environment.{Environment, Pair, IsVariable, bytes_cmp, pair_size, used, is_name, is_zero, is_equals, is_empty}
 use Rattle.envimg_core.specs.Geometry.{Shape, IsSize, head, area_of}
 use Rattle.envimg_core.specs.Order.{stored_checksum}
 use Rattle.envimg_core.specs.Image.{stored_pair, stored_pairs, filled_area, framed}
@@ -32,33 +32,24 @@ use Rattle.envimg_core.specs.declared.order.Order.TheVariants.{Little, Big}
 use Rattle.envimg_core.specs.declared.state.CopyState.{CopyState}
 use Rattle.envimg_core.specs.declared.state.CopyState.TheVariants.{Good, BadLength, BadCrc, Unterminated}
 use Rattle.envimg_core.proofs.EntryLemmas.{split_cons}
+use Rattle.envimg_core.proofs.Facts.{and_left, and_right, is_less, not_or}
 
 -- ---- inserting entries in ascending order gives their map
 
 abbrev pub valued : Pair → Entry
 valued p = (p.0, Some p.1)
 
-T_both : (a b : Bool) → T (a && b) → T a × T b
-T_both true b h = (tt, h)
-T_both false b h = absurd h
-
-less_than : (o : Ordering) → T (is_lt o) → o ≡ Less
-less_than Less h = refl
-less_than Equal h = absurd h
-less_than Greater h = absurd h
-
 -- the last key is above all others, so its entry goes to the end
 put_last : (k v : List ℕ) (xs ys : List Pair) → T (is_sorted bytes_cmp (xs ++ (k, v) ∷ ys)) → put bytes_cmp k v xs ≡ xs ++ (k, v) ∷ []
 put_last k v [] ys h = refl
 put_last k v (x ∷ xs) ys h =
-    let parts = T_both (below_all bytes_cmp x.0 (xs ++ (k, v) ∷ ys)) (is_sorted bytes_cmp (xs ++ (k, v) ∷ ys)) h in
-    let above : bytes_cmp k x.0 ≡ Greater = nat_list_cmp_total.antisymm k x.0 ∙ ap ordering_reverse (less_than (bytes_cmp x.0 k) (below_there x.0 xs parts.0)) in
+    let above : bytes_cmp k x.0 ≡ Greater = nat_list_cmp_total.antisymm k x.0 ∙ ap ordering_reverse (is_less (bytes_cmp x.0 k) (below_there x.0 xs (and_left _ _ h))) in
     ap (λ o. by_order o ((k, v) ∷ x ∷ xs) ((x.0, v) ∷ xs) (x ∷ put bytes_cmp k v xs)) above
-    ∙ ap (λ zs. x ∷ zs) (put_last k v xs ys parts.1)
+    ∙ ap (λ zs. x ∷ zs) (put_last k v xs ys (and_right _ _ h))
   where
     below_there : (q : List ℕ) (zs : List Pair) → T (below_all bytes_cmp q (zs ++ (k, v) ∷ ys)) → T (is_lt (bytes_cmp q k))
-    below_there q [] b = (T_both (is_lt (bytes_cmp q k)) (below_all bytes_cmp q ys) b).0
-    below_there q (z ∷ zs) b = below_there q zs ((T_both (is_lt (bytes_cmp q z.0)) (below_all bytes_cmp q (zs ++ (k, v) ∷ ys)) b).1)
+    below_there q [] b = and_left (is_lt (bytes_cmp q k)) (below_all bytes_cmp q ys) b
+    below_there q (z ∷ zs) b = below_there q zs (and_right (is_lt (bytes_cmp q z.0)) (below_all bytes_cmp q (zs ++ (k, v) ∷ ys)) b)
 
 inserted : (es : List Pair) (m : Environment) → T (is_sorted bytes_cmp (env.entries m ++ es)) → env.entries (fold after_entry m (map valued es)) ≡ env.entries m ++ es
 inserted [] m h = sym (append-nil (env.entries m))
@@ -77,19 +68,10 @@ entries_again m =
 
 -- ---- the entries of a stored list
 
-or_false : (a b : Bool) → (a || b) ≡ false → (a ≡ false) × (b ≡ false)
-or_false false b h = (refl, h)
-or_false true b h = cc
-
-not_or : (a b : Bool) → not (a || b) ≡ true → (a ≡ false) × (b ≡ false)
-not_or false false h = (refl, refl)
-not_or false true h = cc
-not_or true b h = cc
-
 none_at : (p : ℕ → Bool) (xs : List ℕ) (k : ℕ) → list_any p xs ≡ false → k < length xs → p (get_or xs k 0) ≡ false
 none_at p [] k h l = absurd (omega arith)
-none_at p (x ∷ xs) zero h l = (or_false (p x) (list_any p xs) h).0
-none_at p (x ∷ xs) (suc k) h l = none_at p xs k ((or_false (p x) (list_any p xs) h).1) (omega arith)
+none_at p (x ∷ xs) zero h l = (or_parts (p x) (list_any p xs) h).0
+none_at p (x ∷ xs) (suc k) h l = none_at p xs k ((or_parts (p x) (list_any p xs) h).1) (omega arith)
 
 no_byte : (p : ℕ → Bool) (xs : List ℕ) → list_any p xs ≡ false → All (λ x. p x ≡ false) xs
 no_byte p xs h = All-from_get_or (λ x. p x ≡ false) xs 0 (λ k l. none_at p xs k h l)
@@ -97,8 +79,8 @@ no_byte p xs h = All-from_get_or (λ x. p x ≡ false) xs 0 (λ k l. none_at p x
 any_either : (p q : ℕ → Bool) (xs : List ℕ) → list_any (λ b. p b || q b) xs ≡ false → (list_any p xs ≡ false) × (list_any q xs ≡ false)
 any_either p q [] h = (refl, refl)
 any_either p q (x ∷ xs) h =
-    let parts = or_false (p x || q x) (list_any (λ b. p b || q b) xs) h in
-    let here = or_false (p x) (q x) parts.0 in
+    let parts = or_parts (p x || q x) (list_any (λ b. p b || q b) xs) h in
+    let here = or_parts (p x) (q x) parts.0 in
     let there = any_either p q xs parts.1 in
     (ap (λ b. b || list_any p xs) here.0 ∙ there.0, ap (λ b. b || list_any q xs) here.1 ∙ there.1)
 
@@ -204,7 +186,7 @@ checksum_below bs =
 
 -- ---- the whole image
 
-length-stored : (ps : List Pair) → length (stored_pairs ps) ≡ sum_by pair_size ps
+pub length-stored : (ps : List Pair) → length (stored_pairs ps) ≡ sum_by pair_size ps
 length-stored [] = refl
 length-stored ((n, v) ∷ ps) =
     length-append (stored_pair (n, v)) (stored_pairs ps)
@@ -225,13 +207,13 @@ high_first_back : (c : ℕ) → c < 2 ^ 32 → c / 16777216 % 256 * 16777216 + (
 high_first_back c h = omega arith
 
 -- what a frame holds: the checksum, the flag and the area, and nothing more
-record IsFrame (layout : Layout) (order : Order) (flag : ℕ) (area copy : List ℕ) : Type 0 where
+record IsFramed (layout : Layout) (order : Order) (flag : ℕ) (area copy : List ℕ) : Type 0 where
   size : length copy ≡ head layout + length area
   sum : stored_checksum order copy ≡ checksum area
   shown : flag_of layout copy ≡ shown_flag layout flag
   behind : drop (head layout) copy ≡ area
 
-frame_holds : (layout : Layout) (order : Order) (flag : ℕ) (area : List ℕ) → IsFrame layout order flag area (framed layout order flag area)
+frame_holds : (layout : Layout) (order : Order) (flag : ℕ) (area : List ℕ) → IsFramed layout order flag area (framed layout order flag area)
 frame_holds Single Little flag area =
     record { size = omega arith; sum = low_first_back (checksum area) (checksum_below area); shown = refl; behind = refl }
 frame_holds Single Big flag area =

@@ -1,9 +1,10 @@
 mod ChecksumLemmas
-mod EntryLemmas
+pub mod EntryLemmas
 mod Examples
+pub mod Facts
 mod FitLemmas
 mod HalfLemmas
-mod ImageLemmas
+pub mod ImageLemmas
 mod LawLemmas
 mod TableLemmas
 mod WriterLemmas

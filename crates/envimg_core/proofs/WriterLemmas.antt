@@ -5,7 +5,8 @@ use Rattle.std.proofs.Math.Seq.{take-append_seam, drop-append-add}
 use Rattle.envimg_core.specs.Geometry.{Shape, head}
 use Rattle.envimg_core.specs.declared.geometry.Layout.{Layout}
 use Rattle.envimg_core.specs.declared.order.Order.{Order}
-use Rattle.envimg_core.specs.Image.{spliced, stored_pair, framed, filled_area, image_with}
+use Rattle.envimg_core.specs.Steps.{spliced}
+use Rattle.envimg_core.specs.Image.{stored_pair, framed, filled_area, image_with}
 
 -- a front of n elements
 take_front : (n : ℕ) (xs ys : List ℕ) → length xs ≡ n → take n (xs ++ ys) ≡ xs

@@ -1,17 +1,18 @@
 -- The sizes of an image, and where its parts lie (docs/images.md, "Layouts").
 use Rattle.std.specs.Prelude.{ℕ, ◌+◌, ◌-◌, ◌≤◌, List, drop}
+use Rattle.envimg_core.specs.Bytes.{checksum_size, flag_size, least_room, greatest_size}
 use Rattle.envimg_core.specs.declared.geometry.Layout.{Layout}
 use Rattle.envimg_core.specs.declared.geometry.Layout.TheVariants.{Single, Redundant}
 use Rattle.envimg_core.specs.declared.order.Order.{Order}
 
--- the bytes before the data area: four of checksum, and the flag of a redundant copy
+-- the bytes before the data area: the checksum, and the flag of a redundant copy
 abbrev pub head : Layout → ℕ
-head Single = 4
-head Redundant = 5
+head Single = checksum_size
+head Redundant = checksum_size + flag_size
 
--- the sizes that an image of this layout may have: a data area of at least 4 bytes, and at most 1 MiB in all
+-- the sizes that an image of this layout may have: a data area that is not too short, and at most 1 MiB in all
 abbrev pub IsSize : Layout → ℕ → Type 0
-IsSize layout size = (head layout + 4 ≤ size) × (size ≤ 1048576)
+IsSize layout size = (head layout + least_room ≤ size) × (size ≤ greatest_size)
 
 -- a layout, the size of one copy in bytes, and the byte order of its checksum
 pub record Shape : Type 0 where

@@ -1,9 +1,10 @@
 -- A written image (docs/images.md, "Written images").
-use Rattle.std.specs.Prelude.{ℕ, ◌+◌, ◌-◌, List, [], ◌∷◌, ◌++◌, length, replicate, take, drop}
+use Rattle.std.specs.Prelude.{ℕ, ◌+◌, ◌-◌, List, [], ◌∷◌, ◌++◌, length, replicate}
 use Rattle.std.specs.List.{flat_map}
 use Rattle.std.specs.FinMap.{entries}
+use Rattle.envimg_core.specs.Bytes.{end_byte}
 use Rattle.envimg_core.specs.Checksum.{checksum}
-use Rattle.envimg_core.specs.Environment.{Environment, Pair, joined}
+use Rattle.envimg_core.specs.Environment.{Environment, Pair, entry_text}
 use Rattle.envimg_core.specs.Geometry.{Shape, room_of}
 use Rattle.envimg_core.specs.Order.{checksum_bytes}
 use Rattle.envimg_core.specs.declared.geometry.Layout.{Layout}
@@ -12,14 +13,14 @@ use Rattle.envimg_core.specs.declared.order.Order.{Order}
 
 -- an entry as it is stored: name, '=', value, and the 0 that ends it
 abbrev pub stored_pair : Pair → List ℕ
-stored_pair p = joined p ++ 0 ∷ []
+stored_pair p = entry_text p ++ end_byte ∷ []
 
 abbrev pub stored_pairs : List Pair → List ℕ
 stored_pairs ps = flat_map stored_pair ps
 
 -- the entries' bytes, one more 0, and zeros to the end
 abbrev pub filled_area : ℕ → List ℕ → List ℕ
-filled_area room stored = stored ++ 0 ∷ replicate (room - (length stored + 1)) 0
+filled_area room stored = stored ++ end_byte ∷ replicate (room - (length stored + 1)) end_byte
 
 -- the flag byte, where the layout has one
 abbrev pub flag_bytes : Layout → ℕ → List ℕ
@@ -37,7 +38,3 @@ image_with shape flag stored = framed shape.layout shape.order flag (filled_area
 -- the image of an environment: its entries in ascending order of the names' bytes
 abbrev pub image_of : Shape → ℕ → Environment → List ℕ
 image_of shape flag env = image_with shape flag (stored_pairs (entries env))
-
--- xs with these bytes written over it from place i on
-abbrev pub spliced : ℕ → List ℕ → List ℕ → List ℕ
-spliced i bytes xs = take i xs ++ bytes ++ drop (i + length bytes) xs

@@ -1,5 +1,5 @@
 -- What the laws of this crate say.
-use Rattle.std.specs.Prelude.{◌≡◌, ℕ, ◌≤◌, Bool, List, Option, length, reverse, find, All, IsTrue}
+use Rattle.std.specs.Prelude.{◌≡◌, ℕ, ◌≤◌, List, Option, length, reverse, find, All, IsTrue}
 use Rattle.std.specs.Option.{option_and_then}
 use Rattle.std.specs.Ordering.{eq_by_cmp}
 use Rattle.std.specs.FinMap.{entries, get}
@@ -37,7 +37,9 @@ ReadsBack shape flag env =
 
 -- every image that can be written
 abbrev pub ImageReadsBack : Type 0
-ImageReadsBack = (shape : Shape) (flag : ℕ) (env : Environment) → IsSize shape.layout shape.size → AreVariables env → used env ≤ room_of shape → ReadsBack shape flag env
+ImageReadsBack =
+    (shape : Shape) (flag : ℕ) (env : Environment) →
+    IsSize shape.layout shape.size → AreVariables env → used env ≤ room_of shape → ReadsBack shape flag env
 
 -- the variables of a terminated area fit into it
 abbrev pub LoadedFits : Type 0

@@ -1,3 +1,5 @@
+-- What the public calls promise.
+pub mod Bytes
 pub mod Checksum
 pub mod Environment
 pub mod Geometry
@@ -6,5 +8,7 @@ pub mod ImageWriter
 pub mod Laws
 pub mod Order
 pub mod Pieces
-pub mod Register
 pub mod State
+-- What the steps of the code do: no promise speaks of these.
+pub mod Register
+pub mod Steps

@@ -1,5 +1,5 @@
 -- A data area as a list of pieces: its bytes cut at each 0 (docs/images.md, "Entries").
-use Rattle.std.specs.Prelude.{◌≡◌, ℕ, ◌<◌, if◌then◌else◌, length, Bool, not, List, [], ◌∷◌, map, filter, fold, Option, Some, None, option_map}
+use Rattle.std.specs.Prelude.{ℕ, Bool, not, List, [], ◌∷◌, map, filter, fold, Option, Some, None, option_map}
 use Rattle.std.specs.List.{slice_split, before_first, after_first, list_any, take_while}
 use Rattle.std.specs.FinMap.{insert, remove, empty}
 use Rattle.std.specs.Borrow.{Bor}
@@ -53,8 +53,3 @@ vars_of es = fold after_entry empty es
 -- an entry that is lent, as the entry that it shows
 abbrev pub entry_view : Bor (List ℕ) × Option (Bor (List ℕ)) → Entry
 entry_view lent = (lent.0.now, option_map (λ v. v.now) lent.1)
-
--- an area with a piece at its front: the piece's entry, if it has a name, comes before those of the rest
-abbrev pub YieldsEntry : List ℕ → List ℕ → List ℕ → Type 0
-YieldsEntry area piece rest =
-    (entries_of area ≡ (if has_name (entry_of piece) then entry_of piece ∷ entries_of rest else entries_of rest)) × (length rest < length area)

@@ -1,4 +1,5 @@
--- How the code computes a checksum: a register of 32 bits that turns byte by byte. `checksum` knows nothing of it.
+-- How the steps of the code compute a checksum: a register of 32 bits that turns byte by byte.
+-- No promise speaks of it: `checksum` is a division.
 use Rattle.std.specs.Prelude.{ℕ, zero, suc, ◌/◌, ◌%◌, ◌==◌, if◌then◌else◌, List, [], ◌∷◌, length, bit_xor, ◌+◌}
 
 -- one bit leaves the register at its low end

@@ -1,5 +1,7 @@
 -- The state of a stored copy, and which of two copies is current (docs/images.md, "State of a copy" and "Choice").
-use Rattle.std.specs.Prelude.{ℕ, ◌==◌, ◌&&◌, Bool, not, nat_lt, if◌then◌else◌, List, length, slice_index}
+use Rattle.std.specs.Prelude.{ℕ, ◌==◌, ◌&&◌, Bool, not, nat_lt, if◌then◌else◌, List, length, Option, None, unwrap_or}
+use Rattle.std.specs.List.{slice_get}
+use Rattle.envimg_core.specs.Bytes.{checksum_size, last_flag}
 use Rattle.envimg_core.specs.Checksum.{checksum}
 use Rattle.envimg_core.specs.Geometry.{Shape, area_of}
 use Rattle.envimg_core.specs.Order.{stored_checksum}
@@ -11,10 +13,14 @@ use Rattle.envimg_core.specs.declared.state.CopyState.TheVariants.{Good, BadLeng
 use Rattle.envimg_core.specs.declared.choice.Choice.{Choice}
 use Rattle.envimg_core.specs.declared.choice.Choice.TheVariants.{First, Second, Neither}
 
--- the flag byte of a redundant copy stands behind the checksum; a single image has none, and counts as 0
+-- the flag byte of a redundant copy stands behind the checksum; a single image has none
+abbrev pub flag_byte : Layout → List ℕ → Option ℕ
+flag_byte Single copy = None
+flag_byte Redundant copy = slice_get copy checksum_size
+
+-- the flag that a copy shows: where it has none, 0
 abbrev pub flag_of : Layout → List ℕ → ℕ
-flag_of Single copy = 0
-flag_of Redundant copy = slice_index copy 4
+flag_of layout copy = unwrap_or (flag_byte layout copy) 0
 
 abbrev pub has_checksum : Shape → List ℕ → Bool
 has_checksum shape copy = stored_checksum shape.order copy == checksum (area_of shape copy)
@@ -27,11 +33,11 @@ state_of shape copy =
     else if not (is_terminated (area_of shape copy)) then Unterminated
     else Good (flag_of shape.layout copy)
 
--- two good copies: the larger flag, but 0 comes after 255; of equal flags the first
+-- two good copies: the larger flag, but 0 comes after the last; of equal flags the first
 abbrev pub choice_by_flags : ℕ → ℕ → Choice
 choice_by_flags first second =
-    if first == 255 && second == 0 then Second
-    else if first == 0 && second == 255 then First
+    if first == last_flag && second == 0 then Second
+    else if first == 0 && second == last_flag then First
     else if nat_lt first second then Second
     else First
 

@@ -2,6 +2,7 @@
 ghost use Rattle.std.specs.Prelude.{◌≡◌};
 ghost use Rattle.envimg_core.specs.State.{choice_of, choice_by_flags};
 
+use crate::bytes::LAST_FLAG;
 use crate::state::CopyState;
 
 /// Which stored copy holds the environment.
@@ -29,13 +30,13 @@ pub fn choose(first: CopyState, second: CopyState) -> Choice
     }
 }
 
-/// The newer of two good copies: flags count up by one with each save, and 0 comes after 255.
+/// The newer of two good copies: flags count up by one with each save, and 0 comes after the last.
 fn newer(first: u8, second: u8) -> Choice
     ensures { result ≡ choice_by_flags first second }
 {
     match (first, second) {
-        (255, 0) => Choice::Second,
-        (0, 255) => Choice::First,
+        (LAST_FLAG, 0) => Choice::Second,
+        (0, LAST_FLAG) => Choice::First,
         _ if first < second => Choice::Second,
         _ => Choice::First,
     }

@@ -1,7 +1,9 @@
 //! The geometry of an image: layout, size and byte order.
 ghost use Rattle.std.specs.Prelude.{◌≡◌, ◌≤◌, ◌+◌, ◌^◌, ◌<◌, SomeIff, OnSome, option_map, Some, None, if◌then◌else◌, ◌==◌, length, IsSome, ◌↔◌};
 ghost use Rattle.envimg_core.specs.Geometry.{Shape, IsSize, head, room_of, area_of};
+ghost use Rattle.envimg_core.specs.State.{flag_of};
 
+use crate::bytes::{AREA_MIN, CHECKSUM_LEN, FLAG_LEN, SIZE_MAX};
 use crate::order::Order;
 use std::marker::Model;
 
@@ -15,22 +17,26 @@ pub enum Layout {
 }
 
 impl Layout {
+    /// The flag that a copy shows: the byte behind its checksum, or 0 where it has none.
+    pub fn flag(self, copy: &[u8]) -> u8
+        ensures { result ≡ flag_of self copy.now }
+    {
+        match self {
+            Layout::Single => 0,
+            Layout::Redundant => copy.get(CHECKSUM_LEN).copied().unwrap_or(0),
+        }
+    }
+
     /// The bytes before the data area.
     const fn head_len(self) -> usize
         ensures { result ≡ head self }
     {
         match self {
-            Layout::Single => 4,
-            Layout::Redundant => 5,
+            Layout::Single => CHECKSUM_LEN,
+            Layout::Redundant => CHECKSUM_LEN + FLAG_LEN,
         }
     }
 }
-
-/// The greatest size of an image, in bytes: 1 MiB (docs/images.md, "Layouts").
-const SIZE_MAX: u32 = 1_048_576;
-
-/// The shortest data area, in bytes.
-const AREA_MIN: usize = 4;
 
 /// The layout, the size of one copy, and the byte order of its checksum.
 #[derive(Clone, Copy, Debug, PartialEq, Eq)]
@@ -53,14 +59,6 @@ impl Model for Geometry {
 }
 
 impl Geometry {
-    /// The bytes before the data area.
-    pub(crate) fn head_len(&self) -> usize
-        ensures value { result ≡ head self.now.layout }
-        ensures in_range { IsSize self.now.layout self.now.size }
-    {
-        self.layout.head_len()
-    }
-
     /// The geometry of copies of `size` bytes whose checksum stands little-endian: `None` where the layout has no image
     /// of that size, which is below 8 bytes (single) or 9 bytes (redundant) and above 1,048,576.
     pub fn new(layout: Layout, size: u32) -> Option<Geometry>
@@ -115,12 +113,21 @@ impl Geometry {
 
     /// The data area of a copy: `None` where the copy's length is not the size.
     pub fn area<'a>(&self, copy: &'a [u8]) -> Option<&'a [u8]>
-        ensures value { option_map (λ area. area.now) result ≡ (if length copy.now == self.now.size then Some (area_of self.now copy.now) else None) }
+        ensures value { option_map (λ area. area.now) result
+            ≡ (if length copy.now == self.now.size then Some (area_of self.now copy.now) else None) }
         ensures in_range { IsSize self.now.layout self.now.size }
     {
         if copy.len() != self.size as usize {
             return None;
         }
         Some(&copy[self.layout.head_len()..])
+    }
+
+    /// The bytes before the data area.
+    pub(crate) fn head_len(&self) -> usize
+        ensures value { result ≡ head self.now.layout }
+        ensures in_range { IsSize self.now.layout self.now.size }
+    {
+        self.layout.head_len()
     }
 }

@@ -2,10 +2,11 @@
 //!
 //! No call takes memory. docs/images.md states the format.
 //!
-//! To read in this order: geometry, order, checksum; pieces, area; state, choice; writer; laws.
+//! To read in this order: bytes, geometry, order, checksum; pieces, area; state, choice; writer; laws.
 #![tactic(auto)]
 
 mod area;
+mod bytes;
 mod checksum;
 mod choice;
 mod geometry;
@@ -16,6 +17,7 @@ mod state;
 mod writer;
 
 pub use area::entries;
+pub use bytes::{END, EQUALS, SIZE_MAX};
 pub use checksum::{crc32, crc32_bitwise};
 pub use choice::{Choice, choose};
 pub use geometry::{Geometry, Layout};

@@ -1,5 +1,6 @@
 //! The byte order of a stored checksum.
 ghost use Rattle.std.specs.Prelude.{◌≡◌, ◌≤◌, ◌++◌, length, drop};
+ghost use Rattle.envimg_core.specs.Bytes.{checksum_size};
 ghost use Rattle.envimg_core.specs.Order.{checksum_bytes, stored_checksum};
 
 use byteorder::{BigEndian, ByteOrder, LittleEndian};
@@ -14,9 +15,9 @@ pub enum Order {
 }
 
 impl Order {
-    /// The checksum in the first four bytes.
+    /// The checksum at the front of a copy.
     pub(crate) fn read_checksum(self, bytes: &[u8]) -> u32
-        requires { 4 ≤ length bytes.now }
+        requires { checksum_size ≤ length bytes.now }
         ensures { result ≡ stored_checksum self bytes.now }
     {
         match self {
@@ -25,10 +26,10 @@ impl Order {
         }
     }
 
-    /// Writes a checksum over the first four bytes.
+    /// Writes a checksum over the front of a copy.
     pub(crate) fn write_checksum(self, bytes: &mut [u8], checksum: u32)
-        requires { 4 ≤ length bytes.old }
-        ensures { bytes.new ≡ checksum_bytes self checksum ++ drop 4 bytes.old }
+        requires { checksum_size ≤ length bytes.old }
+        ensures { bytes.new ≡ checksum_bytes self checksum ++ drop checksum_size bytes.old }
     {
         match self {
             Order::Little => LittleEndian::write_u32(bytes, checksum),

@@ -1,8 +1,10 @@
 //! The entries of a data area, lent one after the other.
 ghost use Rattle.std.specs.Prelude.{◌≡◌, [], ◌∷◌, ◌==◌, length, List, MatchOption, option_map};
 ghost use Rattle.std.specs.Iterator.{YieldsFirstBy, item_count};
-ghost use Rattle.envimg_core.specs.Pieces.{Entry, entries_of, value_of, entry_of, entry_view, YieldsEntry};
+ghost use Rattle.envimg_core.specs.Pieces.{Entry, entries_of, value_of, entry_of, entry_view};
+ghost use Rattle.envimg_core.specs.Steps.{YieldsEntry};
 
+use crate::bytes::{END, EQUALS};
 use memchr::memchr;
 use std::marker::Model;
 
@@ -48,7 +50,8 @@ impl<'a> Iterator for Entries<'a> {
 
 /// The first entry of an area, and the area behind it.
 fn next_entry<'a>(area: &'a [u8]) -> Option<(Entry<'a>, &'a [u8])>
-    ensures { MatchOption result (entries_of area.now ≡ []) (λ r. entries_of area.now ≡ entry_view r.0 ∷ entries_of r.1.now) }
+    ensures { MatchOption result (entries_of area.now ≡ [])
+        (λ r. entries_of area.now ≡ entry_view r.0 ∷ entries_of r.1.now) }
 {
     let mut rest = area;
     'pieces: loop {
@@ -69,7 +72,7 @@ fn next_entry<'a>(area: &'a [u8]) -> Option<(Entry<'a>, &'a [u8])>
 fn next_piece(area: &[u8]) -> Option<(&[u8], &[u8])>
     ensures { MatchOption result (entries_of area.now ≡ []) (λ r. YieldsEntry area.now r.0.now r.1.now) }
 {
-    match memchr(0, area) {
+    match memchr(END, area) {
         None => None,
         Some(0) => None,
         Some(end) => Some((&area[..end], &area[end + 1..])),
@@ -80,7 +83,7 @@ fn next_piece(area: &[u8]) -> Option<(&[u8], &[u8])>
 fn cut(piece: &[u8]) -> Entry<'_>
     ensures { entry_view result ≡ entry_of piece.now }
 {
-    match memchr(b'=', piece) {
+    match memchr(EQUALS, piece) {
         None => (piece, None),
         Some(end) => (&piece[..end], value(&piece[end + 1..])),
     }

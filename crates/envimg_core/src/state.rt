@@ -1,10 +1,11 @@
 //! The state of a stored copy.
-ghost use Rattle.std.specs.Prelude.{◌≡◌, ◌≤◌, ◌+◌, ◌<◌, length, slice_index};
+ghost use Rattle.std.specs.Prelude.{◌≡◌, ◌≤◌, ◌+◌, ◌<◌, length};
 ghost use Rattle.envimg_core.specs.Pieces.{is_terminated};
-ghost use Rattle.envimg_core.specs.State.{state_of, flag_of};
+ghost use Rattle.envimg_core.specs.State.{state_of};
 
+use crate::bytes::END;
 use crate::checksum::crc32;
-use crate::geometry::{Geometry, Layout};
+use crate::geometry::Geometry;
 
 /// What a stored copy is good for.
 #[derive(Clone, Copy, Debug, PartialEq, Eq)]
@@ -32,18 +33,7 @@ pub fn check_copy(geometry: &Geometry, copy: &[u8]) -> CopyState
     if !is_ended(area) {
         return CopyState::Unterminated;
     }
-    CopyState::Good(flag(geometry.layout(), copy))
-}
-
-/// The flag byte of a copy that has one, else 0.
-fn flag(layout: Layout, copy: &[u8]) -> u8
-    requires { 5 ≤ length copy.now }
-    ensures { result ≡ flag_of layout copy.now }
-{
-    match layout {
-        Layout::Single => 0,
-        Layout::Redundant => copy[4],
-    }
+    CopyState::Good(geometry.layout().flag(copy))
 }
 
 /// Whether the list of entries is ended inside the area: the area begins with a 0, or two stand side by side.
@@ -51,9 +41,9 @@ fn is_ended(area: &[u8]) -> bool
     requires { 1 ≤ length area.now }
     ensures { result ≡ is_terminated area.now }
 {
-    let mut ended = area[0] == 0;
+    let mut ended = area[0] == END;
     for i in 1..area.len() {
-        ended |= (area[i - 1] == 0) & (area[i] == 0);
+        ended |= (area[i - 1] == END) & (area[i] == END);
     }
     ended
 }

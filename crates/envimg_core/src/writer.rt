@@ -1,10 +1,13 @@
 //! Writing an image in place.
 ghost use Rattle.std.specs.Prelude.{◌≡◌, ◌≤◌, ◌+◌, ◌-◌, ◌<◌, ◌↔◌, ◌++◌, [], ◌∷◌, List, IsTrue, if◌then◌else◌, length, take, drop, replicate};
-ghost use Rattle.envimg_core.specs.Geometry.{head, room_of};
+ghost use Rattle.envimg_core.specs.Bytes.{checksum_size, end_byte};
+ghost use Rattle.envimg_core.specs.Geometry.{head};
 ghost use Rattle.envimg_core.specs.Checksum.{checksum};
-ghost use Rattle.envimg_core.specs.Image.{stored_pair, image_with, framed, spliced};
+ghost use Rattle.envimg_core.specs.Image.{stored_pair, image_with, framed};
+ghost use Rattle.envimg_core.specs.Steps.{spliced};
 ghost use Rattle.envimg_core.specs.Order.{checksum_bytes};
 
+use crate::bytes::{CHECKSUM_LEN, END, EQUALS, FLAG_LEN};
 use crate::checksum::crc32;
 use crate::geometry::{Geometry, Layout};
 use crate::order::Order;
@@ -22,7 +25,7 @@ pub struct ImageWriter<'a> {
 }
 
 impl<'a> ImageWriter<'a> {
-    ghost use Rattle.envimg_core.specs.ImageWriter.{shape_of, written};
+    ghost use Rattle.envimg_core.specs.ImageWriter.{shape_of, written, room_left, loan_of};
 
     /// A writer of the image of this geometry, with no entry yet. The slice has the image's size; what it holds counts
     /// for nothing.
@@ -30,7 +33,7 @@ impl<'a> ImageWriter<'a> {
         requires { length image.old ≡ geometry.now.size }
         ensures shape { shape_of result ≡ geometry.now }
         ensures empty { written result ≡ [] }
-        ensures same_slice { result.image.ghost_name ≡ image.entry.ghost_name }
+        ensures same_slice { loan_of result ≡ image.entry.ghost_name }
     {
         // for the proof: the size is one of the layout's
         let _size = geometry.size();
@@ -41,13 +44,14 @@ impl<'a> ImageWriter<'a> {
         }
     }
 
-    /// Appends an entry, `name=value` and a 0. Answers false, with the entries as they were, exactly where the entry and
-    /// the final 0 don't fit into the data area.
+    /// Appends an entry, `name=value` and a 0. Answers false, with the entries as they were, exactly where the entry
+    /// doesn't fit into the room that is left: the data area also holds the 0 that ends the list.
     pub fn put(&mut self, name: &[u8], value: &[u8]) -> bool
-        ensures fits { IsTrue result ↔ (length (written self.old) + length (stored_pair (name.now, value.now)) + 1 ≤ room_of (shape_of self.old)) }
-        ensures entries { written self.new ≡ (if result then written self.old ++ stored_pair (name.now, value.now) else written self.old) }
+        ensures fits { IsTrue result ↔ (length (stored_pair (name.now, value.now)) ≤ room_left self.old) }
+        ensures entries { written self.new
+            ≡ (if result then written self.old ++ stored_pair (name.now, value.now) else written self.old) }
         ensures shape { shape_of self.new ≡ shape_of self.old }
-        ensures same_slice { self.new.image.ghost_name ≡ self.old.image.ghost_name }
+        ensures same_slice { loan_of self.new ≡ loan_of self.old }
     {
         let start = self.geometry.head_len() + self.stored;
         let free = self.image.len() - start - 1;
@@ -59,7 +63,8 @@ impl<'a> ImageWriter<'a> {
         true
     }
 
-    /// Ends the list, fills the rest with zeros, and writes the flag (a single image has none) and the checksum.
+    /// Ends the list, fills the rest with zeros, and writes the flag (a single image has none) and the checksum: the slice
+    /// then holds the image.
     pub fn finish(self, flag: u8)
         ensures { self.exit.0.now ≡ image_with (shape_of self.entry) flag (written self.entry) }
     {
@@ -79,9 +84,9 @@ fn store(image: &mut [u8], start: usize, name: &[u8], value: &[u8])
     ensures { image.new ≡ spliced start (stored_pair (name.now, value.now)) image.old }
 {
     overwrite(image, start, name);
-    overwrite(image, start + name.len(), b"=");
+    overwrite(image, start + name.len(), &[EQUALS]);
     overwrite(image, start + name.len() + 1, value);
-    overwrite(image, start + name.len() + 1 + value.len(), b"\0");
+    overwrite(image, start + name.len() + 1 + value.len(), &[END]);
 }
 
 /// Writes `bytes` over what stands in `image` from `start` on.
@@ -95,29 +100,29 @@ fn overwrite(image: &mut [u8], start: usize, bytes: &[u8])
 /// Writes zeros from `start` to the end.
 fn clear_from(image: &mut [u8], start: usize)
     requires { start ≤ length image.old }
-    ensures { image.new ≡ take start image.old ++ replicate (length image.old - start) 0 }
+    ensures { image.new ≡ take start image.old ++ replicate (length image.old - start) end_byte }
 {
-    image[start..].fill(0);
+    image[start..].fill(END);
 }
 
 /// Writes the flag, where the layout has one, and the checksum of the data area in this byte order.
 fn seal(image: &mut [u8], layout: Layout, order: Order, flag: u8)
-    requires { 8 ≤ length image.old }
+    requires { head layout ≤ length image.old }
     ensures { image.new ≡ framed layout order flag (drop (head layout) image.old) }
 {
     match layout {
-        Layout::Single => sign(image, 4, order),
+        Layout::Single => sign(image, CHECKSUM_LEN, order),
         Layout::Redundant => {
-            image[4] = flag;
-            sign(image, 5, order);
+            image[CHECKSUM_LEN] = flag;
+            sign(image, CHECKSUM_LEN + FLAG_LEN, order);
         }
     }
 }
 
 /// Writes the checksum of what stands from `head` on.
 fn sign(image: &mut [u8], head: usize, order: Order)
-    requires { (4 ≤ length image.old) × (head ≤ length image.old) }
-    ensures { image.new ≡ checksum_bytes order (checksum (drop head image.old)) ++ drop 4 image.old }
+    requires { (checksum_size ≤ length image.old) × (head ≤ length image.old) }
+    ensures { image.new ≡ checksum_bytes order (checksum (drop head image.old)) ++ drop checksum_size image.old }
 {
     let checksum = crc32(&image[head..]);
     order.write_checksum(image, checksum);

@@ -1,5 +1,5 @@
-//! Tests of the crates below sessions: images, texts, variables in memory, and variables with their types and access. They
-//! stand apart from those crates, so that each of them is proved once.
+//! Tests of the crates below sessions: images, texts, variables in memory, and variables with their types and access.
+//! They stand apart from those crates, so that each of them is proved once.
 #![tactic(auto)]
 
 #[cfg(test)]

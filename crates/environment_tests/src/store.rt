@@ -5,7 +5,7 @@ ghost use Rattle.envimg_core.specs.Environment.{is_name, is_value};
 
 mod ordered_map;
 
-use envvars_store::{Text, Texts, Variables, unmarked};
+use envvars_store::{OwnedVariable, OwnedVariables, Variables, untagged};
 use std::alloc::{AllocError, Global};
 use std::test::Fail;
 
@@ -100,18 +100,18 @@ fn writes_in_any_order_are_listed_ascending(rt: HostRuntime) -> Result<(), Fail>
 }
 
 #[test]
-fn a_text_replaces_only_what_is_there(rt: HostRuntime) -> Result<(), Fail> {
+fn an_owned_variable_replaces_only_what_is_there(rt: HostRuntime) -> Result<(), Fail> {
     let alloc = rt.alloc();
     let mut variables = Variables::load(alloc, b"a=1\0\0")?;
-    let text = Text::new(alloc, b"a", b"22")?;
-    assert_eq!(rt; text.name(), b"a".as_slice());
-    assert_eq!(rt; text.value(), b"22".as_slice());
-    assert_eq!(rt; text.line(), b"a=22".as_slice());
-    let second = text.try_clone(alloc)?;
+    let owned = OwnedVariable::new(alloc, b"a", b"22")?;
+    assert_eq!(rt; owned.name(), b"a".as_slice());
+    assert_eq!(rt; owned.value(), b"22".as_slice());
+    assert_eq!(rt; owned.line(), b"a=22".as_slice());
+    let second = owned.try_clone(alloc)?;
     assert!(rt; variables.replace(second).is_ok());
     assert_eq!(rt; variables.get(b"a"), Some(b"22".as_slice()));
     take_out(&mut variables, b"a");
-    match variables.replace(text) {
+    match variables.replace(owned) {
         Ok(()) => assert!(rt; false),
         Err(back) => assert_eq!(rt; back.line(), b"a=22".as_slice()),
     }
@@ -120,54 +120,55 @@ fn a_text_replaces_only_what_is_there(rt: HostRuntime) -> Result<(), Fail> {
 }
 
 #[test]
-fn texts_are_taken_out_from_the_last_name(rt: HostRuntime) -> Result<(), Fail> {
+fn owned_variables_are_taken_out_from_the_last_name(rt: HostRuntime) -> Result<(), Fail> {
     let alloc = rt.alloc();
-    let mut texts = Texts::new(alloc);
+    let mut owned = OwnedVariables::new(alloc);
     for (name, value) in [(b"b", b"2"), (b"c", b"3"), (b"a", b"1")] {
-        let (found, hint) = texts.find(name);
+        let (found, hint) = owned.find(name);
         if found.is_none() {
-            texts.add(hint, Text::new(alloc, name, value)?)?;
+            owned.add(hint, OwnedVariable::new(alloc, name, value)?)?;
         }
     }
-    assert_eq!(rt; texts.len(), 3);
-    texts.remove(b"b");
-    texts.remove(b"q");
-    assert_eq!(rt; texts.len(), 2);
+    assert_eq!(rt; owned.len(), 3);
+    owned.remove(b"b");
+    owned.remove(b"q");
+    assert_eq!(rt; owned.len(), 2);
     let mut names = Vec::new(alloc);
-    for (name, _) in texts.iter() {
+    for (name, _) in owned.iter() {
         names.extend_from_slice(name)?;
     }
     assert_eq!(rt; names.as_slice(), b"ac".as_slice());
     for wanted in [b"c=3".as_slice(), b"a=1".as_slice()] {
-        match texts.take_last() {
-            Some(text) => assert_eq!(rt; text.line(), wanted),
+        match owned.take_last() {
+            Some(last) => assert_eq!(rt; last.line(), wanted),
             None => assert!(rt; false),
         }
     }
-    assert!(rt; texts.take_last().is_none());
-    assert_eq!(rt; texts.len(), 0);
+    assert!(rt; owned.take_last().is_none());
+    assert_eq!(rt; owned.len(), 0);
     Ok(())
 }
 
-// The spots of five variables are looked at for each name: the first holds the text of b, the next that of d, the others none.
+// The positions of five variables are looked at for each name: at the first b is found, at the next d, at the others
+// none.
 #[test]
-fn a_text_is_found_from_any_spot(rt: HostRuntime) -> Result<(), Fail> {
+fn an_owned_variable_is_found_from_any_position(rt: HostRuntime) -> Result<(), Fail> {
     let alloc = rt.alloc();
-    let mut texts = Texts::new(alloc);
+    let mut owned = OwnedVariables::new(alloc);
     for (name, value) in [(b"b", b"2"), (b"d", b"4")] {
-        let (found, hint) = texts.find(name);
+        let (found, hint) = owned.find(name);
         if found.is_none() {
-            texts.add(hint, Text::new(alloc, name, value)?)?;
+            owned.add(hint, OwnedVariable::new(alloc, name, value)?)?;
         }
     }
     let variables = Variables::load(alloc, b"a=9\0b=9\0c=9\0d=9\0e=9\0\0")?;
     for other in [b"a", b"b", b"c", b"d", b"e"] {
         let (_, hint) = variables.find(other);
-        let (none, _) = texts.find_near(hint, b"a");
+        let (none, _) = owned.find_near(hint, b"a");
         assert!(rt; !none);
-        let (two, _) = texts.find_near(hint, b"b");
+        let (two, _) = owned.find_near(hint, b"b");
         assert!(rt; two);
-        let (four, _) = texts.find_near(hint, b"d");
+        let (four, _) = owned.find_near(hint, b"d");
         assert!(rt; four);
     }
     Ok(())
@@ -177,54 +178,54 @@ fn a_text_is_found_from_any_spot(rt: HostRuntime) -> Result<(), Fail> {
 #[test]
 fn a_number_is_no_more_than_a_hint(rt: HostRuntime) -> Result<(), Fail> {
     let alloc = rt.alloc();
-    let mut texts = Texts::new(alloc);
-    let (_, any) = texts.find(b"a");
+    let mut owned = OwnedVariables::new(alloc);
+    let (_, any) = owned.find(b"a");
     let mut hints = Vec::new(alloc);
     for name in [b"c", b"a", b"b"] {
-        let (is_there, hint) = texts.find_near(any, name);
+        let (is_there, hint) = owned.find_near(any, name);
         assert!(rt; !is_there);
         if !is_there {
-            texts.add(hint, Text::new(alloc, name, b"1")?)?;
+            owned.add(hint, OwnedVariable::new(alloc, name, b"1")?)?;
         }
-        let (is_added, _) = texts.find_near(hint, name);
+        let (is_added, _) = owned.find_near(hint, name);
         assert!(rt; is_added);
         if is_added {
-            texts.number(name);
+            owned.number(name);
         }
         hints.push(hint)?;
     }
     for hint in hints.iter() {
         for name in [b"a", b"b", b"c"] {
-            let (is_there, _) = texts.find_near(*hint, name);
+            let (is_there, _) = owned.find_near(*hint, name);
             assert!(rt; is_there);
         }
-        let (is_there, _) = texts.find_near(*hint, b"d");
+        let (is_there, _) = owned.find_near(*hint, b"d");
         assert!(rt; !is_there);
     }
-    texts.remove(b"a");
+    owned.remove(b"a");
     for hint in hints.iter() {
-        let (is_there, _) = texts.find_near(*hint, b"a");
+        let (is_there, _) = owned.find_near(*hint, b"a");
         assert!(rt; !is_there);
-        let (is_left, _) = texts.find_near(*hint, b"b");
+        let (is_left, _) = owned.find_near(*hint, b"b");
         assert!(rt; is_left);
     }
     Ok(())
 }
 
 #[test]
-fn a_mark_tells_no_value_from_each_value(rt: HostRuntime) -> Result<(), Fail> {
+fn a_tag_tells_no_value_from_each_value(rt: HostRuntime) -> Result<(), Fail> {
     let alloc = rt.alloc();
-    let none = Text::marked(alloc, b"a", None)?;
+    let none = OwnedVariable::tagged(alloc, b"a", None)?;
     assert_eq!(rt; none.line(), b"a=-".as_slice());
-    assert!(rt; none.unmarked().is_err());
-    let dash = Text::marked(alloc, b"a", Some(b"-"))?;
+    assert!(rt; none.untagged().is_err());
+    let dash = OwnedVariable::tagged(alloc, b"a", Some(b"-"))?;
     assert_eq!(rt; dash.line(), b"a=--".as_slice());
-    match dash.unmarked() {
+    match dash.untagged() {
         Ok(text) => assert_eq!(rt; text.line(), b"a=-".as_slice()),
         Err(_) => assert!(rt; false),
     }
-    assert_eq!(rt; unmarked(b"-"), None);
-    assert_eq!(rt; unmarked(b"1-"), Some(b"1".as_slice()));
+    assert_eq!(rt; untagged(b"-"), None);
+    assert_eq!(rt; untagged(b"1-"), Some(b"1".as_slice()));
     Ok(())
 }
 

@@ -7,7 +7,7 @@ use Rattle.std.specs.FinMap as env
 use Rattle.std.specs.FinMap.{get-empty, get-insert, get-remove}
 use Rattle.envimg_core.specs.Environment.{Environment, bytes_cmp}
 use Rattle.envimg_core.specs.Pieces.{with_value}
-use Rattle.envvars_store.proofs.OrderLemmas.{same_name}
+use Rattle.envimg_core.proofs.Facts.{same_name}
 use Rattle.envvars_core.specs.Attributes.{attr_among, attributes_in, attributes, flags_name}
 
 pub attributes_by : (m : Environment) (o : Option (List ℕ)) (n : List ℕ) → o ≡ env.get m flags_name → attributes_in (unwrap_or o []) n ≡ attributes m n

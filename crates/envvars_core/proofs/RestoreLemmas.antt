@@ -1,9 +1,9 @@
 -- What putting kept values back gives.
-use Rattle.std.proofs.Common.{◌≡◌, ◌≢◌, ◌+◌, ◌*◌, ◌-◌, ◌<◌, ℕ, Bool, true, false, cond, not, ◌&&◌, ◌||◌, T, List, [], ◌∷◌, fold, Result, Ok, Err, OnOk, IsTrue, Option, Some, None, IfSome, IsSome, is_some, unwrap_or, refl, sym, ap, subst, ◌∙◌, arith}
+use Rattle.std.proofs.Common.{◌≡◌, ◌≢◌, ◌+◌, ◌*◌, ◌-◌, ◌<◌, ℕ, Bool, true, false, cond, not, ◌&&◌, ◌||◌, T, List, [], ◌∷◌, fold, IsTrue, Option, Some, None, IfSome, IsSome, is_some, unwrap_or, refl, sym, ap, subst, ◌∙◌, arith}
 use Rattle.std.specs.Prelude.{is_none, ◌/◌, ◌%◌}
 use Rattle.std.proofs.Math.Nat.{mod-lt, mod-eq_of_lt, mod-add-div, mod-add-mod, add-mod-mod, add-mod_right, add-mul-mod_self_left}
 use Rattle.std.specs.List.{list_all}
-use Rattle.std.specs.Ordering.{is_eq, is_lt, eq_by_cmp}
+use Rattle.std.specs.Ordering.{is_eq, eq_by_cmp}
 use Rattle.std.specs.declared.cmp.Ordering.{Ordering}
 use Rattle.std.specs.declared.cmp.Ordering.TheVariants.{Less, Equal, Greater}
 use Rattle.std.specs.Cmp.Lexicographic.{nat_list_cmp_total}
@@ -14,29 +14,21 @@ use Rattle.std.proofs.lemmas.Bool.{false≢true}
 use Rattle.std.proofs.lemmas.Slice.Eq.{bytes_eq-Decides}
 use Rattle.envimg_core.specs.Environment.{Environment, bytes_cmp, used}
 use Rattle.envimg_core.specs.Pieces.{Entry, with_value, after_entry}
-use Rattle.envvars_store.proofs.OrderLemmas.{and_left, and_right, same_name}
+use Rattle.envimg_core.proofs.Facts.{and_left, and_right, left_true, right_true, same_name, find_below}
 use Rattle.envvars_core.specs.Attributes.{attributes, flags_name}
 use Rattle.envvars_core.specs.Variables.{size_of}
 use Rattle.envvars_core.proofs.SizeLemmas.{used-remove, used-with_value}
 use Rattle.envvars_core.specs.Refusals.{given, after}
 use Rattle.std.specs.Option.{option_or}
 use Rattle.envvars_core.specs.Laws.{and_written, written_kept, is_changed}
-use Rattle.envvars_core.specs.Olds.{OldValues, same_value, kept, kept_by, restored, has_place, goes_in_place, HavePlaces}
+use Rattle.envvars_core.specs.Olds.{OldValues, same_value, kept, kept_by, restored, has_place, goes_in_place}
+use Rattle.envvars_core.specs.Steps.{HavePlaces}
 use Rattle.envvars_core.proofs.KeptLemmas.{attributes_by}
-
-less : (o : Ordering) → T (is_lt o) → o ≡ Less
-less Less p = refl
-less Equal p = absurd p
-less Greater p = absurd p
 
 -- a value set or taken away
 pub get-with_value : (m : Environment) (n : List ℕ) (v : Option (List ℕ)) (q : List ℕ) → env.get (with_value m n v) q ≡ cond (eq_by_cmp bytes_cmp q n) v (env.get m q)
 get-with_value m n None q = env.get-remove nat_list_cmp_total m n q
 get-with_value m n (Some v) q = env.get-insert nat_list_cmp_total m n v q
-
-pub find_below : (q : List ℕ) (es : List Entry) → T (below_all bytes_cmp q es) → find bytes_cmp q es ≡ None
-find_below q [] h = refl
-find_below q (e ∷ es) h = ap (λ r. cond (is_eq r) (Some e.1) (find bytes_cmp q es)) (less _ (and_left _ _ h)) ∙ find_below q es (and_right _ _ h)
 
 -- each name in turn: what it is given counts, and else what was there
 pub get-fold : (es : List Entry) (m : Environment) (q : List ℕ) → T (is_sorted bytes_cmp es) → env.get (fold after_entry m es) q ≡ unwrap_or (find bytes_cmp q es) (env.get m q)
@@ -238,25 +230,9 @@ pub kept_by-new : (m : Environment) (olds : OldValues) (n : List ℕ) (new : Opt
 unfolding kept_by
 kept_by-new m olds n new e = ap (λ b. cond b olds (kept olds n (env.get m n))) (sym e)
 
-pub on_ok : {A E : Type 0} (r : Result A E) (P Q : Type 0) → (P → Q) → OnOk r P → OnOk r Q
-on_ok (Ok a) P Q f h = f h
-on_ok (Err e) P Q f h = h
-
-pub on_any : {A E : Type 0} (r : Result A E) (P : Type 0) → P → OnOk r P
-on_any (Ok a) P h = h
-on_any (Err e) P h = tt
-
-left_true : (a b : Bool) → (a && b) ≡ true → a ≡ true
-left_true true b e = refl
-left_true false b e = e
-
-right_true : (a b : Bool) → (a && b) ≡ true → b ≡ true
-right_true true b e = e
-right_true false b e = absurd (false≢true e)
-
-not_true : (b : Bool) → not b ≡ true → b ≡ false
-not_true true e = absurd (false≢true e)
-not_true false e = refl
+not_false : (b : Bool) → not b ≡ true → b ≡ false
+not_false true e = absurd (false≢true e)
+not_false false e = refl
 
 pub in_place-places : (m : Environment) (olds : OldValues) → IsTrue (goes_in_place m olds) → HavePlaces m (env.entries olds)
 unfolding goes_in_place
@@ -264,7 +240,7 @@ in_place-places m olds h = places-from m (env.entries olds) (right_true (not (en
 
 pub in_place-flags : (m : Environment) (olds : OldValues) → IsTrue (goes_in_place m olds) → env.contains_key olds flags_name ≡ false
 unfolding goes_in_place
-in_place-flags m olds h = not_true (env.contains_key olds flags_name) (left_true (not (env.contains_key olds flags_name)) (list_all (has_place m) (env.entries olds)) h)
+in_place-flags m olds h = not_false (env.contains_key olds flags_name) (left_true (not (env.contains_key olds flags_name)) (list_all (has_place m) (env.entries olds)) h)
 
 -- what is counted modulo a number comes out as the number itself once that is below it
 pub swapped_size : (w r a b size present kept : ℕ) → size ≡ (r + a) % w → present ≡ a % w → kept ≡ b % w → 0 < w → ((size + (w - present)) % w + kept) % w ≡ (r + b) % w

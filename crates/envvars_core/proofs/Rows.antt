@@ -6,7 +6,8 @@ use Rattle.std.specs.FinMap.{get-empty}
 use Rattle.envimg_core.specs.Environment.{Environment, Pair, bytes_cmp, pair_size, used}
 use Rattle.envvars_core.specs.Types.{has_type}
 use Rattle.envvars_core.specs.Attributes.{attributes_in, attributes, flags_name, plain}
-use Rattle.envvars_core.specs.Refusals.{given, holds_no_zero, access_refusal, forbidden, attr_refusal, after, full, refusal}
+use Rattle.envvars_core.specs.Refusals.{given, holds_no_zero, access_refusal, forbidden, after, full, refusal}
+use Rattle.envvars_core.specs.Steps.{attr_refusal}
 use Rattle.envvars_core.specs.declared.types.Kind.TheVariants.{String, Decimal, Hexadecimal, Boolean, IpAddress, MacAddress}
 use Rattle.envvars_core.specs.declared.attributes.Access.TheVariants.{Any, ReadOnly, WriteOnce, ChangeDefault}
 use Rattle.envvars_core.specs.declared.attributes.Attr.{Attr}

@@ -1,10 +1,12 @@
--- The attributes of a variable, its type and its access, as the value of `.flags` gives them (docs/variables.md, "The variable .flags").
-use Rattle.std.specs.Prelude.{ℕ, ◌-◌, ◌==◌, ◌||◌, ◌&&◌, Bool, not, List, [], ◌∷◌, length, take, drop, map, filter, find, reverse, Option, Some, unwrap_or, codes, if◌then◌else◌}
+-- The attributes of a variable, its type and its access, as the value of `.flags` gives them
+-- (docs/variables.md, "The variable .flags").
+use Rattle.std.specs.Prelude.{ℕ, ◌-◌, ◌==◌, ◌||◌, Bool, not, List, [], ◌∷◌, length, take, drop, map, filter, find, reverse, Option, unwrap_or, codes, if◌then◌else◌}
 use Rattle.std.specs.List.{slice_split, before_first, after_first, prefix_len, suffix_len}
 use Rattle.std.specs.Option.{option_map}
 use Rattle.std.specs.Ordering.{eq_by_cmp}
 use Rattle.std.specs.FinMap.{get}
 use Rattle.envimg_core.specs.Environment.{Environment, bytes_cmp, is_empty}
+use Rattle.envvars_core.specs.Bytes.{comma, colon, space, tab, decimal_letter, hexadecimal_letter, boolean_letter, ip_address_letter, mac_address_letter, read_only_letter, write_once_letter, change_default_letter}
 use Rattle.envvars_core.specs.declared.types.Kind.{Kind}
 use Rattle.envvars_core.specs.declared.types.Kind.TheVariants.{String, Decimal, Hexadecimal, Boolean, IpAddress, MacAddress}
 use Rattle.envvars_core.specs.declared.attributes.Access.{Access}
@@ -16,14 +18,14 @@ abbrev pub flags_name : List ℕ
 flags_name = codes ".flags"
 
 abbrev pub is_comma : ℕ → Bool
-is_comma b = b == 44
+is_comma b = b == comma
 
 abbrev pub is_colon : ℕ → Bool
-is_colon b = b == 58
+is_colon b = b == colon
 
 -- a space or a tab
 abbrev pub is_blank : ℕ → Bool
-is_blank b = (b == 32) || (b == 9)
+is_blank b = (b == space) || (b == tab)
 
 abbrev pub without_leading_blanks : List ℕ → List ℕ
 without_leading_blanks text = drop (prefix_len is_blank text) text
@@ -36,11 +38,21 @@ trimmed text = without_trailing_blanks (without_leading_blanks text)
 
 -- the type that a letter means: an unknown one means a string
 abbrev pub kind_of : ℕ → Kind
-kind_of c = if c == 100 then Decimal else (if c == 120 then Hexadecimal else (if c == 98 then Boolean else (if c == 105 then IpAddress else (if c == 109 then MacAddress else String))))
+kind_of c =
+    if c == decimal_letter then Decimal
+    else if c == hexadecimal_letter then Hexadecimal
+    else if c == boolean_letter then Boolean
+    else if c == ip_address_letter then IpAddress
+    else if c == mac_address_letter then MacAddress
+    else String
 
 -- the access that a letter means: an unknown one means any
 abbrev pub access_of : ℕ → Access
-access_of c = if c == 114 then ReadOnly else (if c == 111 then WriteOnce else (if c == 99 then ChangeDefault else Any))
+access_of c =
+    if c == read_only_letter then ReadOnly
+    else if c == write_once_letter then WriteOnce
+    else if c == change_default_letter then ChangeDefault
+    else Any
 
 -- what a variable has that no item names
 abbrev pub plain : Attr
@@ -53,35 +65,31 @@ attr_of (t ∷ []) = record { kind = kind_of t; access = Any }
 attr_of (t ∷ a ∷ more) = record { kind = kind_of t; access = access_of a }
 
 -- a name and its attributes
-abbrev pub Item : Type 0
-Item = List ℕ × Attr
+abbrev pub FlagsItem : Type 0
+FlagsItem = List ℕ × Attr
 
 -- the name stands before the first ':', the attributes behind it, without the blanks around either
-abbrev pub item_of : List ℕ → Item
+abbrev pub item_of : List ℕ → FlagsItem
 item_of piece = (trimmed (before_first is_colon piece), attr_of (trimmed (after_first is_colon piece)))
 
-abbrev pub names_one : Item → Bool
+abbrev pub names_one : FlagsItem → Bool
 names_one item = not (is_empty item.0)
 
 -- the items of a text: what stands between its commas, but for items with an empty name
-abbrev pub items_of : List ℕ → List Item
-items_of text = filter names_one (map item_of (slice_split is_comma text))
+abbrev pub flags_items : List ℕ → List FlagsItem
+flags_items text = filter names_one (map item_of (slice_split is_comma text))
 
 -- the attributes of the first item for a name, if there is one
-abbrev pub found_among : List Item → List ℕ → Option Attr
+abbrev pub found_among : List FlagsItem → List ℕ → Option Attr
 found_among items n = option_map (λ item. item.1) (find (λ item. eq_by_cmp bytes_cmp n item.0) items)
 
--- the same with one more item in front, which counts where it has a name
-abbrev pub found_after : Item → List Item → List ℕ → Option Attr
-found_after item items n = if names_one item && eq_by_cmp bytes_cmp n item.0 then Some item.1 else found_among items n
-
 -- the attributes of the first item for a name; a string and any where there is none
-abbrev pub attr_among : List Item → List ℕ → Attr
+abbrev pub attr_among : List FlagsItem → List ℕ → Attr
 attr_among items n = unwrap_or (found_among items n) plain
 
 -- the attributes that a text gives a name: those of the last item for it
 unfoldable pub attributes_in : List ℕ → List ℕ → Attr
-attributes_in text n = attr_among (reverse (items_of text)) n
+attributes_in text n = attr_among (reverse (flags_items text)) n
 
 -- the attributes of a name in an environment: those that the value of `.flags` gives it
 unfoldable pub attributes : Environment → List ℕ → Attr

@@ -10,7 +10,8 @@ use Rattle.envvars_core.specs.Olds.{OldValues, same_value, kept_by, restored}
 
 -- what is kept for a name decides, and else the name has what it has
 abbrev pub RestoredIs : Type 0
-RestoredIs = (env : Environment) (olds : OldValues) (n : List ℕ) → get (restored env olds) n ≡ unwrap_or (get olds n) (get env n)
+RestoredIs =
+    (env : Environment) (olds : OldValues) (n : List ℕ) → get (restored env olds) n ≡ unwrap_or (get olds n) (get env n)
 
 -- where nothing is kept nothing is brought back
 abbrev pub NothingRestored : Type 0
@@ -26,13 +27,17 @@ written_kept env writes = fold and_written (env, finite.empty) writes
 
 -- putting back what was kept gives what was there before the first of them
 abbrev pub WritesRestored : Type 0
-WritesRestored = (env : Environment) (writes : List Entry) → restored (written_kept env writes).0 (written_kept env writes).1 ≡ env
+WritesRestored =
+    (env : Environment) (writes : List Entry) → restored (written_kept env writes).0 (written_kept env writes).1 ≡ env
 
 -- whether some write of the list changed the value of a name
 abbrev pub is_changed : List ℕ → Environment → List Entry → Bool
 is_changed n env [] = false
-is_changed n env (w ∷ ws) = (eq_by_cmp bytes_cmp n w.0 && not (same_value (get env w.0) (given w.1))) || is_changed n (after env w.0 w.1) ws
+is_changed n env (w ∷ ws) =
+    (eq_by_cmp bytes_cmp n w.0 && not (same_value (get env w.0) (given w.1))) || is_changed n (after env w.0 w.1) ws
 
 -- one value is kept for each name that was changed, and it is the first: the one before all of them
 abbrev pub FirstKept : Type 0
-FirstKept = (env : Environment) (writes : List Entry) (n : List ℕ) → get (written_kept env writes).1 n ≡ (if is_changed n env writes then Some (get env n) else None)
+FirstKept =
+    (env : Environment) (writes : List Entry) (n : List ℕ) →
+    get (written_kept env writes).1 n ≡ (if is_changed n env writes then Some (get env n) else None)

@@ -9,7 +9,6 @@ use Rattle.envimg_core.specs.Pieces.{value_of, with_value}
 use Rattle.envvars_core.specs.Types.{has_type}
 use Rattle.envvars_core.specs.Attributes.{attributes}
 use Rattle.envvars_core.specs.declared.types.Kind.{Kind}
-use Rattle.envvars_core.specs.declared.attributes.Attr.{Attr}
 use Rattle.envvars_core.specs.declared.attributes.Access.{Access}
 use Rattle.envvars_core.specs.declared.attributes.Access.TheVariants.{Any, ReadOnly, WriteOnce, ChangeDefault}
 use Rattle.envvars_core.specs.declared.refusals.Refusal.{Refusal}
@@ -33,7 +32,8 @@ abbrev pub is_value_of : List ℕ → Option (List ℕ) → Bool
 is_value_of v None = false
 is_value_of v (Some d) = bytes_eq v d
 
--- what an access refuses: to create, to delete, to overwrite. The values are the old one, that of the default environment and the new one
+-- what an access refuses: to create, to delete, to overwrite. The values are the old one, that of the default
+-- environment and the new one
 abbrev pub access_refusal : Access → Option (List ℕ) → Option (List ℕ) → Option (List ℕ) → Option Refusal
 access_refusal Any old default new = None
 access_refusal ReadOnly None default None = None
@@ -52,18 +52,18 @@ abbrev pub after : Environment → List ℕ → Option (List ℕ) → Environmen
 after env n new = with_value env n (given new)
 
 -- what the checks found, in their order: the first that applies refuses the write
--- (`formed`: name and value have their forms; `nothing`: there is no variable, and none is made; `typed`: the value has the type)
+-- (`formed`: name and value have their forms; `nothing`: there is no variable, and none is made;
+-- `typed`: the value has the type)
 abbrev pub first_refusal : Bool → Bool → Bool → Option Refusal → Option Refusal → Option Refusal
 first_refusal formed nothing typed forbidden full =
-    if not formed then Some BadForm else (if nothing then None else (if not typed then Some BadType else option_or forbidden full))
+    if not formed then Some BadForm
+    else if nothing then None
+    else if not typed then Some BadType
+    else option_or forbidden full
 
 -- what the access refuses, unless the write is forced
 abbrev pub forbidden : Bool → Access → Option (List ℕ) → Option (List ℕ) → Option (List ℕ) → Option Refusal
 forbidden force access old default new = if force then None else access_refusal access old default new
-
--- what the attributes refuse: the type first, then the access, unless the write is forced
-abbrev pub attr_refusal : Bool → Attr → Option (List ℕ) → Option (List ℕ) → Option (List ℕ) → Option Refusal
-attr_refusal force attr old default new = if not (has_type_if_some attr.kind new) then Some BadType else forbidden force attr.access old default new
 
 -- what the size refuses
 abbrev pub full : ℕ → Environment → Option Refusal

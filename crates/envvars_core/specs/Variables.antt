@@ -1,10 +1,9 @@
 -- Variables as callers see them: an environment, and the room of its data area.
-use Rattle.std.specs.Prelude.{◌≡◌, ℕ, ◌≤◌, List, Option, Some, None, IfSome, IsTrue, option_map, refl}
+use Rattle.std.specs.Prelude.{◌≡◌, ℕ, List, Option, Some, None, IfSome, IsTrue, option_map, refl}
 use Rattle.std.specs.Coded.{Coded, code_by, coded×, coded_ℕ, coded_list}
 use Rattle.std.specs.FinMap as finite
-use Rattle.envimg_core.specs.Environment.{Environment, is_name, is_value, pair_size, used}
-use Rattle.envvars_core.specs.Attributes.{Item, attr_among, attributes}
-use Rattle.envvars_core.specs.declared.variables.writing.Was.{Was}
+use Rattle.envimg_core.specs.Environment.{Environment, is_name, is_value, pair_size}
+use Rattle.envvars_core.specs.declared.variables.writing.PreviousValue.{PreviousValue}
 
 pub record Contents : Type 0 where
   pub env : Environment
@@ -12,23 +11,19 @@ pub record Contents : Type 0 where
 
 abbrev pub contents_code : Coded Contents
 contents_code =
-    code_by (Environment × ℕ) (coded× (finite.code (coded_list coded_ℕ) (coded_list coded_ℕ)) coded_ℕ) (λ v. (v.env, v.room)) (λ p. record { env = p.0; room = p.1 }) (λ _. refl)
+    code_by (Environment × ℕ) (coded× (finite.code (coded_list coded_ℕ) (coded_list coded_ℕ)) coded_ℕ)
+    (λ v. (v.env, v.room)) (λ p. record { env = p.0; room = p.1 }) (λ _. refl)
 
 -- the bytes that the variable of a name takes: none where it has no value
 abbrev pub size_of : List ℕ → Option (List ℕ) → ℕ
 size_of n None = 0
 size_of n (Some v) = pair_size (n, v)
 
--- what is kept beside an environment is what it says: the running size, which the room holds, and the attributes
-pub record IsKept (env : Environment) (flags : List Item) (size room : ℕ) : Type 0 where
-  pub sized : size ≡ used env
-  pub fits : size ≤ room
-  pub parsed : (n : List ℕ) → attr_among flags n ≡ attributes env n
-
 -- a name, and the value that it had or none
-abbrev pub IsWas : Was → List ℕ → Option (List ℕ) → Type 0
-IsWas was n before = (was.name.items ≡ n) × (option_map (λ v. v.items) was.before ≡ before)
+abbrev pub IsPreviousValue : PreviousValue → List ℕ → Option (List ℕ) → Type 0
+IsPreviousValue previous n value = (previous.name.items ≡ n) × (option_map (λ v. v.items) previous.value ≡ value)
 
 -- the name is a name, and the value, where there was one, a value
-abbrev pub IsFormedWas : Was → Type 0
-IsFormedWas was = IsTrue (is_name was.name.items) × IfSome (option_map (λ v. v.items) was.before) (λ v. IsTrue (is_value v))
+abbrev pub IsFormedPreviousValue : PreviousValue → Type 0
+IsFormedPreviousValue previous =
+    IsTrue (is_name previous.name.items) × IfSome (option_map (λ v. v.items) previous.value) (λ v. IsTrue (is_value v))

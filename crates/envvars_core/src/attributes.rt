@@ -27,30 +27,6 @@ pub struct Attr {
     pub access: Access,
 }
 
-fn kind_of(letter: u8) -> Kind
-    ensures { result ≡ kind_of letter }
-{
-    match letter {
-        b'd' => Kind::Decimal,
-        b'x' => Kind::Hexadecimal,
-        b'b' => Kind::Boolean,
-        b'i' => Kind::IpAddress,
-        b'm' => Kind::MacAddress,
-        _ => Kind::String,
-    }
-}
-
-fn access_of(letter: u8) -> Access
-    ensures { result ≡ access_of letter }
-{
-    match letter {
-        b'r' => Access::ReadOnly,
-        b'o' => Access::WriteOnce,
-        b'c' => Access::ChangeDefault,
-        _ => Access::Any,
-    }
-}
-
 impl Attr {
     /// What a variable has that no item of `.flags` names.
     pub(crate) const PLAIN: Attr = Attr {
@@ -73,5 +49,31 @@ pub(crate) fn attr_of(letters: &[u8]) -> Attr
             kind: kind_of(*kind),
             access: access_of(*access),
         },
+    }
+}
+
+/// The type that a letter means: an unknown one means a string.
+fn kind_of(letter: u8) -> Kind
+    ensures { result ≡ kind_of letter }
+{
+    match letter {
+        b'd' => Kind::Decimal,
+        b'x' => Kind::Hexadecimal,
+        b'b' => Kind::Boolean,
+        b'i' => Kind::IpAddress,
+        b'm' => Kind::MacAddress,
+        _ => Kind::String,
+    }
+}
+
+/// The access that a letter means: an unknown one means any.
+fn access_of(letter: u8) -> Access
+    ensures { result ≡ access_of letter }
+{
+    match letter {
+        b'r' => Access::ReadOnly,
+        b'o' => Access::WriteOnce,
+        b'c' => Access::ChangeDefault,
+        _ => Access::Any,
     }
 }

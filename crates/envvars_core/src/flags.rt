@@ -2,7 +2,8 @@
 
 ghost use Rattle.std.specs.Prelude.{◌≡◌, ℕ, ◌≤◌, List, [], length, IfOk, OnOk};
 ghost use Rattle.std.specs.List.{prefix_len, suffix_len, position_or_len};
-ghost use Rattle.envvars_core.specs.Attributes.{is_blank, is_colon, trimmed, item_of, found_among, attr_among, found_after, attributes_in, attributes};
+ghost use Rattle.envvars_core.specs.Attributes.{is_blank, is_colon, trimmed, item_of, found_among, attr_among, attributes_in, attributes};
+ghost use Rattle.envvars_core.specs.Steps.{found_after};
 
 use crate::attributes::{Attr, attr_of};
 use envvars_store::Variables;
@@ -21,9 +22,9 @@ pub(crate) struct Flags {
 
 impl Model for Flags {
     ghost use Rattle.std.specs.Prelude.{List, map};
-    ghost use Rattle.envvars_core.specs.Attributes.{Item};
+    ghost use Rattle.envvars_core.specs.Attributes.{FlagsItem};
 
-    ghost Value = { List Item };
+    ghost Value = { List FlagsItem };
 
     ghost view = { λ a. map (λ e. (e.0.items, e.1)) a.items.entries };
 }
@@ -78,12 +79,14 @@ impl Flags {
     }
 }
 
+/// Whether it is a space or a tab.
 fn is_blank(byte: u8) -> bool
     ensures { result ≡ is_blank byte }
 {
     byte == b' ' || byte == b'\t'
 }
 
+/// How many blanks stand at the front.
 fn leading_blanks(text: &[u8]) -> usize
     ensures blanks { result ≡ prefix_len is_blank text.now }
     ensures within { result ≤ length text.now }
@@ -91,6 +94,7 @@ fn leading_blanks(text: &[u8]) -> usize
     text.iter().take_while(|b| is_blank(**b)).count()
 }
 
+/// How many blanks stand at the end.
 fn trailing_blanks(text: &[u8]) -> usize
     ensures blanks { result ≡ suffix_len is_blank text.now }
     ensures within { result ≤ length text.now }

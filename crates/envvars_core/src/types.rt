@@ -28,35 +28,35 @@ impl Kind {
     {
         match self {
             Kind::String => true,
-            Kind::Decimal => are_digits(Base::Ten, value),
+            Kind::Decimal => are_digits(Base::Decimal, value),
             Kind::Hexadecimal => is_hexadecimal(value) || is_prefixed_hexadecimal(value),
             Kind::Boolean => is_boolean(value),
-            Kind::IpAddress => are_groups(value, 4, b'.', Base::Ten, 3),
-            Kind::MacAddress => are_groups(value, 6, b':', Base::Sixteen, 2),
+            Kind::IpAddress => are_groups(value, 4, b'.', Base::Decimal, 3),
+            Kind::MacAddress => are_groups(value, 6, b':', Base::Hexadecimal, 2),
         }
     }
 }
 
-/// The base of a number: its digits are ten or sixteen.
+/// The base of a number: its digits are decimal or hexadecimal.
 #[derive(Clone, Copy)]
 enum Base {
-    Ten,
-    Sixteen,
+    Decimal,
+    Hexadecimal,
 }
 
 fn are_digits(base: Base, bytes: &[u8]) -> bool
     ensures { result ≡ list_all (is_digit base) bytes.now }
 {
     match base {
-        Base::Ten => bytes.iter().all(|b| b.is_ascii_digit()),
-        Base::Sixteen => bytes.iter().all(|b| b.is_ascii_hexdigit()),
+        Base::Decimal => bytes.iter().all(|b| b.is_ascii_digit()),
+        Base::Hexadecimal => bytes.iter().all(|b| b.is_ascii_hexdigit()),
     }
 }
 
 fn is_hexadecimal(value: &[u8]) -> bool
     ensures { result ≡ is_hexadecimal value.now }
 {
-    !value.is_empty() && are_digits(Base::Sixteen, value)
+    !value.is_empty() && are_digits(Base::Hexadecimal, value)
 }
 
 fn is_prefixed_hexadecimal(value: &[u8]) -> bool

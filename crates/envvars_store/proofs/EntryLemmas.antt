@@ -1,30 +1,20 @@
 -- One piece of a data area as an entry, and what it does to the variables.
-use Rattle.std.proofs.Common.{◌≡◌, ◌≢◌, ℕ, zero, suc, ◌+◌, ◌-◌, ◌<◌, ◌≤◌, Bool, true, false, not, ◌||◌, IsTrue, List, [], ◌∷◌, ◌++◌, length, take, drop, get_or, map, filter, fold, All, Option, Some, None, sym, ap, subst, ◌∙◌, refl, arith, length-take, length-take-le, length-drop, slice_range, take-take}
+use Rattle.std.proofs.Common.{◌≡◌, ◌≢◌, ℕ, zero, suc, ◌+◌, ◌-◌, ◌<◌, ◌≤◌, false, not, ◌||◌, IsTrue, List, [], ◌∷◌, ◌++◌, length, take, drop, get_or, map, filter, fold, All, Option, Some, None, sym, ap, subst, ◌∙◌, refl, arith, length-take, length-take-le, length-drop, slice_range, take-take}
 use Rattle.std.specs.FinMap as env
-use Rattle.std.specs.List.{slice_split, position_or_len, take_while}
+use Rattle.std.specs.List.{position_or_len, take_while}
 use Rattle.std.proofs.lemmas.List.{take_all, take_rest, drop_all, drop-take, get_or-take}
 use Rattle.std.proofs.Math.Seq.{drop-drop}
-use Rattle.std.proofs.lemmas.List.Sums.{position_or_len_is, take_while-cons, fold-append}
-use Rattle.std.proofs.lemmas.List.Splits.{slice_split_first, slice_split_none, length-slice_split}
+use Rattle.std.proofs.lemmas.List.Sums.{take_while-cons, fold-append}
+use Rattle.std.proofs.lemmas.List.Splits.{slice_split_none}
 use Rattle.std.proofs.lemmas.List.Folds.{list_any_none}
 use Rattle.std.proofs.lemmas.List.Elements.{filter-append, All-take, All-drop}
 use Rattle.memchr.specs.Find.{IsFirstByte, is_byte}
+use Rattle.envimg_core.proofs.Facts.{not_true}
+use Rattle.envimg_core.proofs.EntryLemmas.{found, missed, ended_first}
+use Rattle.std.proofs.lemmas.Bool.{or_from}
 use Rattle.envimg_core.specs.Environment.{Environment, is_empty, is_zero, is_equals, is_name, is_value, IsVariable}
 use Rattle.envimg_core.specs.Pieces.{but_last, ended_pieces, Entry, value_of, entry_of, entries_of, has_name, after_entry, with_value}
 use Rattle.envvars_store.specs.Pieces.{IsPiece}
-
-pub is_false : (b : Bool) → (b ≢ true) → b ≡ false
-is_false true h = absurd (h refl)
-is_false false h = refl
-
--- where the search stops is the first place that has the byte
-pub first_at : (a : ℕ) (xs : List ℕ) (k : ℕ) → IsFirstByte (is_byte a) xs (Some k) → position_or_len (is_byte a) xs ≡ k
-first_at a xs k f =
-    let within : k < length xs = f.0.high in
-    position_or_len_is (is_byte a) xs k 0 (omega arith) (λ i h. is_false _ (f.0.before i (omega arith) h)) (λ _. f.1)
-
-pub first_none : (a : ℕ) (xs : List ℕ) → IsFirstByte (is_byte a) xs None → position_or_len (is_byte a) xs ≡ length xs
-first_none a xs f = position_or_len_is (is_byte a) xs (length xs) 0 (omega arith) (λ i h. is_false _ (f i (omega arith) h)) (λ h. absurd (omega arith))
 
 same_default : (xs : List ℕ) (i d e : ℕ) → i < length xs → get_or xs i d ≡ get_or xs i e
 same_default [] i d e h = absurd (omega arith)
@@ -36,10 +26,10 @@ pub before_at : (a : ℕ) (xs : List ℕ) (k : ℕ) → IsFirstByte (is_byte a) 
 before_at a xs k f i d h =
     let within : k < length xs = f.0.high in
     let short : i < k = omega (arith, length-take k xs) in
-    ap (is_byte a) (get_or-take k xs i d short ∙ same_default xs i d 0 (omega arith)) ∙ is_false _ (f.0.before i (omega arith) short)
+    ap (is_byte a) (get_or-take k xs i d short ∙ same_default xs i d 0 (omega arith)) ∙ not_true _ (f.0.before i (omega arith) short)
 
 pub none_at : (a : ℕ) (xs : List ℕ) → IsFirstByte (is_byte a) xs None → All (λ b. is_byte a b ≡ false) xs
-none_at a xs f i d h = ap (is_byte a) (same_default xs i d 0 h) ∙ is_false _ (f i (omega arith) h)
+none_at a xs f i d h = ap (is_byte a) (same_default xs i d 0 h) ∙ not_true _ (f i (omega arith) h)
 
 pub entry_at : (xs : List ℕ) (k : ℕ) → position_or_len is_equals xs ≡ k → entry_of xs ≡ (take k xs, value_of (drop (k + 1) xs))
 entry_at xs k e = ap (λ n. (take n xs, value_of (drop (n + 1) xs))) e
@@ -66,12 +56,9 @@ gives m xs k e p w =
     ∙ named m (take k xs) (Some (drop (k + 1) xs)) (omega (arith, length-take k xs))
 
 -- the forms of its name and value
-neither : (a b : Bool) → a ≡ false → b ≡ false → (a || b) ≡ false
-neither a b p q = ap (λ x. x || b) p ∙ q
-
 named_form : (n : List ℕ) → 0 < length n → All (λ b. is_zero b ≡ false) n → All (λ b. is_equals b ≡ false) n → IsTrue (is_name n)
 named_form [] h z e = absurd (omega arith)
-named_form (b ∷ bs) h z e = ap not (list_any_none (λ c. is_zero c || is_equals c) (b ∷ bs) (λ i d w. neither _ _ (z i d w) (e i d w)))
+named_form (b ∷ bs) h z e = ap not (list_any_none (λ c. is_zero c || is_equals c) (b ∷ bs) (λ i d w. or_from _ _ (z i d w) (e i d w)))
 
 pub name_formed : (xs : List ℕ) (k : ℕ) → All (λ b. is_zero b ≡ false) xs → IsFirstByte (is_byte 61) xs (Some k) → 0 < k → IsTrue (is_name (take k xs))
 name_formed xs k z f p =
@@ -83,16 +70,6 @@ value_formed [] h z = absurd (omega arith)
 value_formed (b ∷ bs) h z = ap not (list_any_none is_zero (b ∷ bs) z)
 
 -- the entries of an area, one piece after another
-but_last_cons : (x : List ℕ) (s : List (List ℕ)) → 0 < length s → but_last (x ∷ s) ≡ x ∷ but_last s
-but_last_cons x [] h = absurd (omega arith)
-but_last_cons x (y ∷ ys) h = refl
-
-pieces_first : (xs : List ℕ) (k : ℕ) → position_or_len is_zero xs ≡ k → k < length xs → ended_pieces xs ≡ take k xs ∷ ended_pieces (drop (k + 1) xs)
-pieces_first xs k e w =
-    let short : position_or_len is_zero xs < length xs = omega arith in
-    ap but_last (slice_split_first is_zero xs 0 short ∙ ap (λ n. take n xs ∷ slice_split is_zero (drop (n + 1) xs)) e)
-    ∙ but_last_cons _ _ (omega (arith, length-slice_split is_zero (drop (k + 1) xs)))
-
 entries_in : List (List ℕ) → List Entry
 entries_in ps = filter has_name (map entry_of (take_while (λ piece. not (is_empty piece)) ps))
 
@@ -117,10 +94,10 @@ nothing = refl
 
 pub entries_next : (xs : List ℕ) (k : ℕ) → position_or_len is_zero xs ≡ k → 0 < k → k < length xs → entries_of xs ≡ filter has_name (entry_of (take k xs) ∷ []) ++ entries_of (drop (k + 1) xs)
 entries_next xs k e p w =
-    entries_are xs ∙ ap entries_in (pieces_first xs k e w) ∙ full_first (take k xs) _ (omega (arith, length-take k xs)) ∙ ap (λ es. filter has_name (entry_of (take k xs) ∷ []) ++ es) (sym (entries_are (drop (k + 1) xs)))
+    entries_are xs ∙ ap entries_in (ended_first xs k e w) ∙ full_first (take k xs) _ (omega (arith, length-take k xs)) ∙ ap (λ es. filter has_name (entry_of (take k xs) ∷ []) ++ es) (sym (entries_are (drop (k + 1) xs)))
 
 pub entries_end : (xs : List ℕ) → position_or_len is_zero xs ≡ 0 → 0 < length xs → entries_of xs ≡ []
-entries_end xs e w = entries_are xs ∙ ap entries_in (pieces_first xs 0 e w) ∙ empty_first _
+entries_end xs e w = entries_are xs ∙ ap entries_in (ended_first xs 0 e w) ∙ empty_first _
 
 pub entries_none : (xs : List ℕ) → All (λ b. is_zero b ≡ false) xs → entries_of xs ≡ []
 entries_none xs z = entries_are xs ∙ ap (λ ps. entries_in (but_last ps)) (slice_split_none is_zero xs z) ∙ nothing
@@ -137,7 +114,7 @@ piece_found area at k w f p =
       some = omega arith;
       within = inner;
       whole = subst (All (λ b. is_zero b ≡ false)) (sym cut) (before_at 0 (drop at area) k f);
-      next = entries_next (drop at area) k (first_at 0 _ k f) p short ∙ ap (λ es. filter has_name (entry_of es ∷ []) ++ entries_of (drop (k + 1) (drop at area))) (sym cut) ∙ ap (λ r. filter has_name (entry_of (slice_range area at (at + k)) ∷ []) ++ entries_of r) (drop-drop (k + 1) at area ∙ ap (λ n. drop n area) behind);
+      next = entries_next (drop at area) k (found (is_byte 0) _ k f) p short ∙ ap (λ es. filter has_name (entry_of es ∷ []) ++ entries_of (drop (k + 1) (drop at area))) (sym cut) ∙ ap (λ r. filter has_name (entry_of (slice_range area at (at + k)) ∷ []) ++ entries_of r) (drop-drop (k + 1) at area ∙ ap (λ n. drop n area) behind);
     }
 
 -- the variables after one more piece
@@ -150,10 +127,10 @@ piece_read area at end m n goal p e is =
 -- the four ways of a piece: no '=', nothing before it, nothing behind it, a name and a value
 pub none_takes : (m : Environment) (xs : List ℕ) → 0 < length xs → IsFirstByte (is_byte 61) xs None → env.remove m xs ≡ fold after_entry m (filter has_name (entry_of xs ∷ []))
 none_takes m xs h f =
-    ap (env.remove m) (sym (take_all (length xs) xs (omega arith))) ∙ sym (takes_away m xs (length xs) (first_none 61 xs f) h (omega arith) (omega arith))
+    ap (env.remove m) (sym (take_all (length xs) xs (omega arith))) ∙ sym (takes_away m xs (length xs) (missed (is_byte 61) xs f) h (omega arith) (omega arith))
 
 pub some_takes : (m : Environment) (xs : List ℕ) (k : ℕ) → IsFirstByte (is_byte 61) xs (Some k) → (k ≢ 0) → k + 1 ≡ length xs → env.remove m (take k xs) ≡ fold after_entry m (filter has_name (entry_of xs ∷ []))
-some_takes m xs k f n e = sym (takes_away m xs k (first_at 61 xs k f) (omega arith) (omega arith) (omega arith))
+some_takes m xs k f n e = sym (takes_away m xs k (found (is_byte 61) xs k f) (omega arith) (omega arith) (omega arith))
 
 -- a search in what follows a place
 pub rest_first : (a : ℕ) (area : List ℕ) (at : ℕ) (r : Option ℕ) → IsFirstByte (is_byte a) (take (length area - at) (drop at area)) r → IsFirstByte (is_byte a) (drop at area) r
@@ -162,9 +139,9 @@ rest_first a area at r f = subst (λ xs. IsFirstByte (is_byte a) xs r) (take_res
 pub ended : (xs : List ℕ) (k : ℕ) → k ≡ 0 → IsFirstByte (is_byte 0) xs (Some k) → entries_of xs ≡ []
 ended xs k e f =
     let within : k < length xs = f.0.high in
-    entries_end xs (first_at 0 xs k f ∙ e) (omega arith)
+    entries_end xs (found (is_byte 0) xs k f ∙ e) (omega arith)
 
--- a name and a value as spans of an area
+-- a name and a value as extents of an area
 pub name_part : (area : List ℕ) (s e k : ℕ) → k ≤ e - s → slice_range area s (s + k) ≡ take k (slice_range area s e)
 name_part area s e k h =
     let same : s + k - s ≡ k = omega arith in
@@ -194,7 +171,7 @@ place_gives m area s e k p f n o =
     let size = piece_long area s e p in
     ap (λ a. env.insert m a (slice_range area (s + k + 1) e)) (name_part area s e k (omega arith))
     ∙ ap (env.insert m (take k (slice_range area s e))) (value_part area s e k (omega arith))
-    ∙ sym (gives m (slice_range area s e) k (first_at 61 (slice_range area s e) k f) (omega arith) (omega arith))
+    ∙ sym (gives m (slice_range area s e) k (found (is_byte 61) (slice_range area s e) k f) (omega arith) (omega arith))
 
 pub piece_some : (area : List ℕ) (s e : ℕ) → IsPiece area s e → 0 < length (slice_range area s e)
 piece_some area s e p = let h = p.some in omega (arith, piece_long area s e p)

@@ -7,9 +7,10 @@ use Rattle.std.proofs.lemmas.List.Elements.{All-cons}
 use Rattle.envimg_core.specs.Environment.{Pair, bytes_cmp}
 use Rattle.envvars_store.specs.Order.{AllBefore, StartsAfter, IsFound, IsGap}
 use Rattle.envvars_store.specs.Laying.{pair_of, LiesIn}
-use Rattle.envvars_store.specs.Runs.{Run, flat, pairs, listed, variables_at, IsFilled, AreInOrder, IsRunFor, StandsAt, BelongsAt}
+use Rattle.envvars_store.specs.Runs.{Run, flat, pairs, listed, variables_at, IsFilled, AreInOrder, IsRunFor, IsPositionOf, BelongsAt}
 use Rattle.envvars_store.specs.declared.variable.Variable.{Variable}
-use Rattle.envvars_store.proofs.OrderLemmas.{and_left, and_right, and_both, all_before_greater, all_before_equal, all_before_push, all_before_append, sorted_rest}
+use Rattle.envimg_core.proofs.Facts.{and_left, and_right, and_both}
+use Rattle.envvars_store.proofs.OrderLemmas.{all_before_greater, all_before_equal, all_before_push, all_before_append, sorted_rest}
 use Rattle.envvars_store.proofs.RunLemmas.{variables_read, flat_cut, long}
 
 -- the variables, cut at an index
@@ -145,7 +146,7 @@ before_position q area runs r k x o e b =
     (all_before_append q (listed area (take r runs)) (pairs area (take k (variables_at runs r))) o.before
     (subst (AllBefore q) (take-map (pair_of area) k x.items ∙ ap (λ m. pairs area (take k m)) (sym e)) b))
 
-pub found_position : (q area : List ℕ) (runs : List Run) (r k : ℕ) (x : Run) → IsRunFor q area runs r → x ≡ get_or runs r x → IsFound q (pairs area x.items) k → StandsAt q area runs (record { run = r; index = k })
+pub found_position : (q area : List ℕ) (runs : List Run) (r k : ℕ) (x : Run) → IsRunFor q area runs r → x ≡ get_or runs r x → IsFound q (pairs area x.items) k → IsPositionOf q area runs (record { run = r; index = k })
 found_position q area runs r k x o at f =
     let e : variables_at runs r ≡ x.items = variables_read runs r x o.within at in
     let within : k < length x.items = omega (arith, f.within, length-map x.items (pair_of area)) in

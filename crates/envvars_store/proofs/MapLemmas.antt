@@ -1,12 +1,12 @@
 -- Sorted variables as an environment: what `put` and the filter make of it.
-use Rattle.std.proofs.Common.{◌≡◌, ℕ, Bool, true, false, T, List, [], Option, Some, None, IsSome, is_some, Result, Ok, Err, OnOk, OnErr, length, cond, not, sym, ap, ◌∙◌, refl, is_eq}
+use Rattle.std.proofs.Common.{◌≡◌, ℕ, T, List, [], Option, Some, None, IsSome, is_some, length, cond, not, sym, ap, ◌∙◌, is_eq}
 use Rattle.std.specs.Ordering.{eq_by_cmp}
 use Rattle.std.proofs.lemmas.Bool.{false≢true}
 use Rattle.std.specs.FinMap as env
 use Rattle.std.specs.FinMap.Entries.{put, find, is_sorted, is_sorted-put, is_sorted-where_key, find-where_key}
-use Rattle.std.specs.FinMap.{slice_cmp-IsAntisymmetric, nat_cmp-IsAntisymmetric}
 use Rattle.std.specs.Cmp.{alike_right, eq_by_cmp_equiv}
 use Rattle.std.proofs.lemmas.Cmp.{nat_list_cmp_total}
+use Rattle.envimg_core.proofs.Facts.{same_name, turned_cond}
 use Rattle.envimg_core.specs.Environment.{Pair, bytes_cmp, Environment}
 use Rattle.envvars_store.specs.Order.{is_other}
 use Rattle.envvars_store.proofs.OrderLemmas.{without}
@@ -28,13 +28,9 @@ pub env_put : (q v : List ℕ) (es : List Pair) → T (is_sorted bytes_cmp es) �
 env_put q v es h =
     env.same_entries_map _ _ (env.entries-from_sorted bytes_cmp _ (sorted_put q v es h) ∙ ap (put bytes_cmp q v) (sym (env.entries-from_sorted bytes_cmp es h)) ∙ sym (env.entries-insert nat_list_cmp_total (env_of es) q v))
 
-turned_cond : {A : Type 0} (b : Bool) (x y : A) → cond (not b) x y ≡ cond b y x
-turned_cond true x y = refl
-turned_cond false x y = refl
-
 pub env_without : (q : List ℕ) (es : List Pair) → T (is_sorted bytes_cmp es) → env_of (without q es) ≡ env.remove (env_of es) q
 env_without q es h =
-    env.same_map nat_list_cmp_total (slice_cmp-IsAntisymmetric nat_cmp-IsAntisymmetric) _ _ (λ p.
+    env.same_map nat_list_cmp_total same_name _ _ (λ p.
     env.get-from_sorted bytes_cmp (without q es) p (sorted_without q es h)
     ∙ find-where_key bytes_cmp (is_other q) p (λ x t. ap (λ r. not (is_eq r)) (sym (alike_right nat_list_cmp_total p x q t))) es
     ∙ turned_cond (eq_by_cmp bytes_cmp q p) (find bytes_cmp p es) None
@@ -58,11 +54,3 @@ some_is o v e = ap is_some e
 
 pub none_is : (o : Option (List ℕ)) → o ≡ None → IsSome o → ⊥
 none_is o e s = false≢true (sym (ap is_some e) ∙ s)
-
-pub on_ok : {A E : Type 0} (r : Result A E) (P Q : Type 0) → (P → Q) → OnOk r P → OnOk r Q
-on_ok (Ok a) P Q f h = f h
-on_ok (Err e) P Q f h = h
-
-pub on_err : {A E : Type 0} (r : Result A E) (P : Type 0) → P → OnErr r P
-on_err (Ok a) P h = tt
-on_err (Err e) P h = h

@@ -1,35 +1,11 @@
 -- Variables in the order of their names, as a front and a rest: what a search says gives `put`, `find` and the filter.
-use Rattle.std.proofs.Common.{◌≡◌, ℕ, Bool, true, false, cond, not, ◌&&◌, T, List, [], ◌∷◌, ◌++◌, Some, None, sym, ap, subst, ◌∙◌, refl, is_eq, is_lt, Ordering, Less, Equal, Greater}
+use Rattle.std.proofs.Common.{◌≡◌, ℕ, cond, not, T, List, [], ◌∷◌, ◌++◌, Some, None, sym, ap, subst, ◌∙◌, refl, is_eq, Ordering, Less, Equal, Greater}
 use Rattle.std.specs.Ordering.{ordering_reverse}
-use Rattle.std.specs.FinMap.{slice_cmp-IsAntisymmetric, nat_cmp-IsAntisymmetric}
 use Rattle.std.specs.FinMap.Entries.{by_order, put, find, where_key, below_all, is_sorted}
 use Rattle.std.proofs.lemmas.Cmp.{nat_list_cmp_total}
+use Rattle.envimg_core.proofs.Facts.{and_left, and_right, and_both, is_less, less_is, same_name, find_below}
 use Rattle.envimg_core.specs.Environment.{Pair, bytes_cmp}
 use Rattle.envvars_store.specs.Order.{AllBefore, StartsAfter, is_other}
-
-pub and_left : (a b : Bool) → T (a && b) → T a
-and_left true b p = tt
-and_left false b p = p
-
-pub and_right : (a b : Bool) → T (a && b) → T b
-and_right true b p = p
-and_right false b p = absurd p
-
-pub and_both : (a b : Bool) → T a → T b → T (a && b)
-and_both true b p q = q
-and_both false b p q = p
-
-is_less : (o : Ordering) → T (is_lt o) → o ≡ Less
-is_less Less p = refl
-is_less Equal p = absurd p
-is_less Greater p = absurd p
-
-pub less_is : (o : Ordering) → o ≡ Less → T (is_lt o)
-less_is o e = subst (λ r. T (is_lt r)) (sym e) tt
-
--- names that compare as equal are equal
-pub same_name : (q n : List ℕ) → bytes_cmp q n ≡ Equal → q ≡ n
-same_name q n e = slice_cmp-IsAntisymmetric nat_cmp-IsAntisymmetric q n e
 
 pub turned : (q n : List ℕ) (o : Ordering) → bytes_cmp q n ≡ o → bytes_cmp n q ≡ ordering_reverse o
 turned q n o e = nat_list_cmp_total.antisymm n q ∙ ap ordering_reverse e
@@ -82,10 +58,6 @@ below_from q e (y ∷ ys) s h = and_both _ _ (less_is _ (nat_list_cmp_total.tran
 starts_below : (q : List ℕ) (ys : List Pair) → T (is_sorted bytes_cmp ys) → StartsAfter q ys → T (below_all bytes_cmp q ys)
 starts_below q [] h s = tt
 starts_below q (y ∷ ys) h s = and_both _ _ (less_is _ s) (below_from q y ys s (and_left _ _ h))
-
-find_below : (q : List ℕ) (ys : List Pair) → T (below_all bytes_cmp q ys) → find bytes_cmp q ys ≡ None
-find_below q [] h = refl
-find_below q (y ∷ ys) h = ap (λ o. cond (is_eq o) (Some y.1) (find bytes_cmp q ys)) (is_less _ (and_left _ _ h)) ∙ find_below q ys (and_right _ _ h)
 
 pub sorted_rest : (xs ys : List Pair) → T (is_sorted bytes_cmp (xs ++ ys)) → T (is_sorted bytes_cmp ys)
 sorted_rest [] ys h = h

@@ -8,10 +8,11 @@ use Rattle.std.proofs.lemmas.List.Elements.{All-append, All-cons}
 use Rattle.envimg_core.specs.Environment.{Pair, bytes_cmp, Environment, IsVariable}
 use Rattle.envvars_store.specs.Order.{AllBefore, StartsAfter}
 use Rattle.envvars_store.specs.Laying.{pair_of, LiesIn}
-use Rattle.envvars_store.specs.Runs.{Run, flat, pairs, listed, variables_at, front, rest, later, IsFilled, HoldsVariable, AreInOrder, StandsAt, BelongsAt}
+use Rattle.envvars_store.specs.Runs.{Run, flat, pairs, listed, variables_at, front, rest, later, IsFilled, HoldsVariable, AreInOrder, IsPositionOf, BelongsAt}
 use Rattle.envvars_store.specs.declared.variable.Variable.{Variable}
 use Rattle.envvars_store.specs.declared.runs.Position.{Position}
-use Rattle.envvars_store.proofs.OrderLemmas.{all_before_equal, all_before_greater, all_before_push, same_name, put_between, put_over, find_at, find_missed, without, without_at, without_missed}
+use Rattle.envimg_core.proofs.Facts.{same_name}
+use Rattle.envvars_store.proofs.OrderLemmas.{all_before_equal, all_before_greater, all_before_push, put_between, put_over, find_at, find_missed, without, without_at, without_missed}
 use Rattle.envvars_store.proofs.MapLemmas.{env_of, sorted_put, sorted_without, given_put, given_without, given_entries}
 use Rattle.envvars_store.proofs.RunLemmas.{whole, gap_whole, variables_read, variables_long, long}
 use Rattle.envvars_store.proofs.FindLemmas.{All_front, All_back, pair_read}
@@ -62,7 +63,7 @@ written area runs new a m b p l all lies formed filled is at =
       is_put = new_put;
     }
 
-pub written_over : (area : List ℕ) (runs new : List Run) (s : Position) (p : Variable) → AreInOrder area runs → LiesIn area p → HoldsVariable area p → StandsAt (pair_of area p).0 area runs s → All IsFilled new → flat new ≡ front runs s ++ p ∷ later runs s → IsWritten area runs new p
+pub written_over : (area : List ℕ) (runs new : List Run) (s : Position) (p : Variable) → AreInOrder area runs → LiesIn area p → HoldsVariable area p → IsPositionOf (pair_of area p).0 area runs s → All IsFilled new → flat new ≡ front runs s ++ p ∷ later runs s → IsWritten area runs new p
 written_over area runs new s p l lies formed f filled is =
     let there = variable_there (variables_at runs s.run) s.index f.index in
     let all : flat runs ≡ front runs s ++ there.0 ∷ later runs s = position_cut runs s there.0 f.run f.index there.1 in
@@ -77,7 +78,7 @@ written_into area runs new s p l lies formed g filled is =
     (ap (put bytes_cmp (pair_of area p).0 (pair_of area p).1) (ap (pairs area) all ∙ pairs_seam area (front runs s) (rest runs s))
     ∙ put_between (pair_of area p).0 (pair_of area p).1 (pairs area (front runs s)) (pairs area (rest runs s)) g.before g.after)
 
-pub forgotten : (area : List ℕ) (runs new : List Run) (s : Position) (q : List ℕ) → AreInOrder area runs → StandsAt q area runs s → All IsFilled new → flat new ≡ front runs s ++ later runs s → IsForgotten area runs new q
+pub forgotten : (area : List ℕ) (runs new : List Run) (s : Position) (q : List ℕ) → AreInOrder area runs → IsPositionOf q area runs s → All IsFilled new → flat new ≡ front runs s ++ later runs s → IsForgotten area runs new q
 forgotten area runs new s q l f filled is =
     let there = variable_there (variables_at runs s.run) s.index f.index in
     let all : flat runs ≡ front runs s ++ there.0 ∷ later runs s = position_cut runs s there.0 f.run f.index there.1 in
@@ -115,7 +116,7 @@ laid_same area runs new l filled is =
     }
 
 -- what a look-up finds
-pub got : (area : List ℕ) (runs : List Run) (s : Position) (q : List ℕ) (x : Variable) → AreInOrder area runs → StandsAt q area runs s → x ≡ get_or (variables_at runs s.run) s.index x → env.get (env_of (listed area runs)) q ≡ Some (pair_of area x).1
+pub got : (area : List ℕ) (runs : List Run) (s : Position) (q : List ℕ) (x : Variable) → AreInOrder area runs → IsPositionOf q area runs s → x ≡ get_or (variables_at runs s.run) s.index x → env.get (env_of (listed area runs)) q ≡ Some (pair_of area x).1
 got area runs s q x l f e =
     env.get-from_sorted bytes_cmp (listed area runs) q l.sorted
     ∙ ap (find bytes_cmp q) (ap (pairs area) (position_cut runs s x f.run f.index e) ∙ pairs_cut area (front runs s) x (later runs s))
@@ -127,20 +128,20 @@ got_nothing area runs s q l g =
     ∙ ap (find bytes_cmp q) (ap (pairs area) (gap_whole runs s) ∙ pairs_seam area (front runs s) (rest runs s))
     ∙ find_missed q (pairs area (front runs s)) (pairs area (rest runs s)) (seam_sorted area runs s l) g.before g.after
 
-pub found_as : (q p area more_area : List ℕ) (runs more : List Run) (s : Position) → q ≡ p → area ≡ more_area → runs ≡ more → StandsAt q area runs s → StandsAt p more_area more s
-found_as q p area more_area runs more s a b c f = subst (λ n. StandsAt n more_area more s) a (subst (λ x. StandsAt q x more s) b (subst (λ rs. StandsAt q area rs s) c f))
+pub found_as : (q p area more_area : List ℕ) (runs more : List Run) (s : Position) → q ≡ p → area ≡ more_area → runs ≡ more → IsPositionOf q area runs s → IsPositionOf p more_area more s
+found_as q p area more_area runs more s a b c f = subst (λ n. IsPositionOf n more_area more s) a (subst (λ x. IsPositionOf q x more s) b (subst (λ rs. IsPositionOf q area rs s) c f))
 
 pub gap_as : (q p area more_area : List ℕ) (runs more : List Run) (s : Position) → q ≡ p → area ≡ more_area → runs ≡ more → BelongsAt q area runs s → BelongsAt p more_area more s
 gap_as q p area more_area runs more s a b c f = subst (λ n. BelongsAt n more_area more s) a (subst (λ x. BelongsAt q x more s) b (subst (λ rs. BelongsAt q area rs s) c f))
 
 -- the variable at a position that was found
-pub position_read : (q area : List ℕ) (runs : List Run) (s : Position) (r : Run) (x : Variable) → StandsAt q area runs s → r ≡ get_or runs s.run r → x ≡ get_or r.items s.index x → x ≡ get_or (variables_at runs s.run) s.index x
+pub position_read : (q area : List ℕ) (runs : List Run) (s : Position) (r : Run) (x : Variable) → IsPositionOf q area runs s → r ≡ get_or runs s.run r → x ≡ get_or r.items s.index x → x ≡ get_or (variables_at runs s.run) s.index x
 position_read q area runs s r x f e is = is ∙ ap (λ m. get_or m s.index x) (sym (variables_read runs s.run r f.run e))
 
-pub position_within : (q area : List ℕ) (runs : List Run) (s : Position) (r : Run) → StandsAt q area runs s → r ≡ get_or runs s.run r → s.index < vec_len r
+pub position_within : (q area : List ℕ) (runs : List Run) (s : Position) (r : Run) → IsPositionOf q area runs s → r ≡ get_or runs s.run r → s.index < vec_len r
 position_within q area runs s r f e = let w = f.index in omega (arith, variables_long runs s.run r f.run e)
 
-pub position_placed : (q area : List ℕ) (runs : List Run) (s : Position) (x : Variable) → AreInOrder area runs → StandsAt q area runs s → x ≡ get_or (variables_at runs s.run) s.index x → LiesIn area x
+pub position_placed : (q area : List ℕ) (runs : List Run) (s : Position) (x : Variable) → AreInOrder area runs → IsPositionOf q area runs s → x ≡ get_or (variables_at runs s.run) s.index x → LiesIn area x
 position_placed q area runs s x l f e =
     All_back (LiesIn area) (front runs s) (x ∷ later runs s) (subst (All (LiesIn area)) (position_cut runs s x f.run f.index e) l.lies) 0 x (omega arith)
 
@@ -171,7 +172,7 @@ formed_pairs area (x ∷ variables) h = All-cons IsVariable (pair_of area x) (pa
 pub formed_entries : (area : List ℕ) (runs : List Run) (m : Environment) → AreInOrder area runs → env_of (listed area runs) ≡ m → All IsVariable (env.entries m)
 formed_entries area runs m l e = subst (All IsVariable) (given_entries (listed area runs) m l.sorted e) (formed_pairs area (flat runs) l.formed)
 
-pub got_some : (area : List ℕ) (runs : List Run) (s : Position) (q : List ℕ) → AreInOrder area runs → StandsAt q area runs s → is_some (env.get (env_of (listed area runs)) q) ≡ true
+pub got_some : (area : List ℕ) (runs : List Run) (s : Position) (q : List ℕ) → AreInOrder area runs → IsPositionOf q area runs s → is_some (env.get (env_of (listed area runs)) q) ≡ true
 got_some area runs s q l f =
     let there = variable_there (variables_at runs s.run) s.index f.index in
     ap is_some (got area runs s q there.0 l f there.1)
@@ -183,7 +184,7 @@ listed_lent lent area runs more e f = ap (λ a. listed a runs) e ∙ ap (listed 
 pub laid_lent : (lent area : List ℕ) (runs more : List Run) → lent ≡ area → runs ≡ more → AreInOrder area more → AreInOrder lent runs
 laid_lent lent area runs more e f l = subst (λ a. AreInOrder a runs) (sym e) (subst (AreInOrder area) (sym f) l)
 
-pub got_formed : (area lent : List ℕ) (runs : List Run) (s : Position) (q v : List ℕ) (x : Variable) → AreInOrder area runs → StandsAt q area runs s → x ≡ get_or (variables_at runs s.run) s.index x → lent ≡ area → v ≡ (pair_of lent x).1 → IsVariable (q, v)
+pub got_formed : (area lent : List ℕ) (runs : List Run) (s : Position) (q v : List ℕ) (x : Variable) → AreInOrder area runs → IsPositionOf q area runs s → x ≡ get_or (variables_at runs s.run) s.index x → lent ≡ area → v ≡ (pair_of lent x).1 → IsVariable (q, v)
 got_formed area lent runs s q v x l f e at is =
     let formed : HoldsVariable area x = All_back (HoldsVariable area) (front runs s) (x ∷ later runs s) (subst (All (HoldsVariable area)) (position_cut runs s x f.run f.index e) l.formed) 0 x (omega arith) in
     let given : v ≡ (pair_of area x).1 = is ∙ ap (λ a. (pair_of a x).1) at in
@@ -191,7 +192,7 @@ got_formed area lent runs s q v x l f e at is =
     subst (λ w. IsVariable (q, w)) (sym given) with_name
 
 -- a variable that was read at a position and has the name
-pub found_here : (q area : List ℕ) (runs : List Run) (s : Position) (r : Run) (x : Variable) → AreInOrder area runs → s.run < length runs → r ≡ get_or runs s.run r → x ≡ get_or r.items s.index x → s.index < vec_len r → bytes_cmp q (pair_of area x).0 ≡ Equal → StandsAt q area runs s
+pub found_here : (q area : List ℕ) (runs : List Run) (s : Position) (r : Run) (x : Variable) → AreInOrder area runs → s.run < length runs → r ≡ get_or runs s.run r → x ≡ get_or r.items s.index x → s.index < vec_len r → bytes_cmp q (pair_of area x).0 ≡ Equal → IsPositionOf q area runs s
 found_here q area runs s r x l h at is w eq =
     let e : variables_at runs s.run ≡ r.items = variables_read runs s.run r h at in
     let within : s.index < length (variables_at runs s.run) = omega (arith, ap length e, long r) in

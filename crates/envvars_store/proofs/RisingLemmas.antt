@@ -10,9 +10,9 @@ use Rattle.envimg_core.specs.Environment.{is_equals, bytes_cmp, Environment, IsV
 use Rattle.envimg_core.specs.Pieces.{entries_of, entry_of, has_name, after_entry}
 use Rattle.envvars_store.specs.Order.{AllBefore}
 use Rattle.envvars_store.specs.Laying.{pair_of, LiesIn}
-use Rattle.envvars_store.specs.Pieces.{IsPiece, IsNextSpan}
+use Rattle.envvars_store.specs.Pieces.{IsPiece, IsNextExtent}
 use Rattle.envvars_store.specs.Runs.{Run, flat, pairs, listed, IsFilled, HoldsVariable, AreInOrder}
-use Rattle.envvars_store.specs.declared.variable.Span.{Span}
+use Rattle.envvars_store.specs.declared.variable.Extent.{Extent}
 use Rattle.envvars_store.specs.declared.variable.Variable.{Variable}
 use Rattle.envvars_store.specs.declared.variable.Variable.TheVariants.{Loaded}
 use Rattle.envvars_store.proofs.OrderLemmas.{turned, put_between, all_before_push}
@@ -28,12 +28,12 @@ after_both : (q n last : List ℕ) → bytes_cmp q n ≡ Greater → bytes_cmp n
 after_both q n last a b = turned last q Less (nat_list_cmp_total.trans last n q (turned n last Greater b) (turned q n Greater a))
 
 -- what a push in rising order leaves
-pub record IsRisen (area : List ℕ) (runs new : List Run) (p : Span) : Type 0 where
+pub record IsRisen (area : List ℕ) (runs new : List Run) (p : Extent) : Type 0 where
   pub in_order : AreInOrder area new
   pub is_put : listed area new ≡ put bytes_cmp (pair_of area (Loaded p)).0 (pair_of area (Loaded p)).1 (listed area runs)
   pub rises : (q : List ℕ) → bytes_cmp q (pair_of area (Loaded p)).0 ≡ Greater → AllBefore q (listed area new)
 
-pub risen : (area : List ℕ) (runs new : List Run) (at : ℕ) (last : List ℕ) (p : Span) → AreInOrder area runs → RisesTo area runs last → IsNextSpan area at last p → All IsFilled new → flat new ≡ flat runs ++ Loaded p ∷ [] → IsRisen area runs new p
+pub risen : (area : List ℕ) (runs new : List Run) (at : ℕ) (last : List ℕ) (p : Extent) → AreInOrder area runs → RisesTo area runs last → IsNextExtent area at last p → All IsFilled new → flat new ≡ flat runs ++ Loaded p ∷ [] → IsRisen area runs new p
 risen area runs new at last p l rises next filled is =
     let n = (pair_of area (Loaded p)).0 in
     let v = (pair_of area (Loaded p)).1 in
@@ -44,7 +44,7 @@ risen area runs new at last p l rises next filled is =
     record {
       in_order = record {
         filled = filled;
-        lies = subst (All (LiesIn area)) (sym is) (All-push (LiesIn area) (flat runs) (Loaded p) l.lies next.span);
+        lies = subst (All (LiesIn area)) (sym is) (All-push (LiesIn area) (flat runs) (Loaded p) l.lies next.extent);
         sorted = subst (λ xs. T (is_sorted bytes_cmp xs)) (sym put_is) (sorted_put n v es l.sorted);
         formed = subst (All (HoldsVariable area)) (sym is) (All-push (HoldsVariable area) (flat runs) (Loaded p) l.formed next.formed);
       };
@@ -52,20 +52,20 @@ risen area runs new at last p l rises next filled is =
       rises = λ q g. subst (AllBefore q) (sym more) (all_before_push q es (n, v) (rises q (after_both q n last g next.rising)) g);
     }
 
-pub risen_left : (area : List ℕ) (runs new : List Run) (at : ℕ) (last : List ℕ) (p : Span) (goal : Environment) → AreInOrder area runs → IsNextSpan area at last p → IsRisen area runs new p → fold after_entry (env_of (listed area runs)) (entries_of (drop at area)) ≡ goal → fold after_entry (env_of (listed area new)) (entries_of (drop (p.end + 1) area)) ≡ goal
+pub risen_left : (area : List ℕ) (runs new : List Run) (at : ℕ) (last : List ℕ) (p : Extent) (goal : Environment) → AreInOrder area runs → IsNextExtent area at last p → IsRisen area runs new p → fold after_entry (env_of (listed area runs)) (entries_of (drop at area)) ≡ goal → fold after_entry (env_of (listed area new)) (entries_of (drop (p.end + 1) area)) ≡ goal
 risen_left area runs new at last p goal l next r e =
     let from_start : fold after_entry (env_of (listed area runs)) (entries_of (drop p.start area)) ≡ goal = ap (λ n. fold after_entry (env_of (listed area runs)) (entries_of (drop n area))) next.start ∙ e in
     piece_read area p.start p.end (env_of (listed area runs)) (env_of (listed area new)) goal next.piece from_start
     (ap env_of r.is_put ∙ env_put (pair_of area (Loaded p)).0 (pair_of area (Loaded p)).1 (listed area runs) l.sorted ∙ sym (next.entry (env_of (listed area runs))))
 
 -- the '=' that was found in a piece
-pub span_marked : (area : List ℕ) (s e k : ℕ) → IsPiece area s e → IsFirstByte (is_byte 61) (slice_range area s e) (Some k) → get_or area (s + k) 0 ≡ 61
-span_marked area s e k p f =
+pub extent_equals : (area : List ℕ) (s e k : ℕ) → IsPiece area s e → IsFirstByte (is_byte 61) (slice_range area s e) (Some k) → get_or area (s + k) 0 ≡ 61
+extent_equals area s e k p f =
     let within : k < length (slice_range area s e) = f.0.high in
     let short : k < e - s = omega (arith, length-take (e - s) (drop s area)) in
     sym (get_or-take (e - s) (drop s area) k 0 short ∙ get_or-drop s area k 0) ∙ eqb-true _ _ f.1
 
-pub next_place_is : (area : List ℕ) (s k e : ℕ) (last : List ℕ) (p : Span) → p.start ≡ s → p.middle ≡ s + k → p.end ≡ e → IsPiece area s e → IsFirstByte (is_byte 61) (slice_range area s e) (Some k) → (s + k + 1 ≢ e) → bytes_cmp (take k (slice_range area s e)) last ≡ Greater → IsNextSpan area s last p
+pub next_place_is : (area : List ℕ) (s k e : ℕ) (last : List ℕ) (p : Extent) → p.start ≡ s → p.middle ≡ s + k → p.end ≡ e → IsPiece area s e → IsFirstByte (is_byte 61) (slice_range area s e) (Some k) → (s + k + 1 ≢ e) → bytes_cmp (take k (slice_range area s e)) last ≡ Greater → IsNextExtent area s last p
 next_place_is area s k e last p a b c piece f m g =
     let n : k ≢ 0 = not_empty (slice_range area s e) last k g in
     let within : k < length (slice_range area s e) = f.0.high in
@@ -76,7 +76,7 @@ next_place_is area s k e last p a b c piece f m g =
     record {
       start = a;
       piece = subst (λ x. IsPiece area x p.end) (sym a) (subst (IsPiece area s) (sym c) piece);
-      span = record { ordered = omega arith; inside = omega arith; within = omega arith; marked = ap (λ x. get_or area x 0) b ∙ span_marked area s e k piece f };
+      extent = record { ordered = omega arith; inside = omega arith; within = omega arith; equals = ap (λ x. get_or area x 0) b ∙ extent_equals area s e k piece f };
       formed = subst (λ x. IsVariable (slice_range area x p.middle, slice_range area (p.middle + 1) p.end)) (sym a)
           (subst (λ x. IsVariable (slice_range area s x, slice_range area (x + 1) p.end)) (sym b)
           (subst (λ x. IsVariable (slice_range area s (s + k), slice_range area (s + k + 1) x)) (sym c) (place_formed area s e k piece f n more)));

@@ -1,10 +1,9 @@
--- Marks, a bit for each of 32 bytes.
-use Rattle.std.proofs.Common.{◌≡◌, ◌≢◌, ◌↔◌, ◌+◌, ◌-◌, Some, Greater, take-take, drop, length-drop, ℕ, zero, suc, ◌%◌, ◌^◌, ◌<◌, ◌≤◌, List, [], ◌∷◌, Bool, true, false, not, cond, eqb, length, take, get_or, replicate, refl, sym, ap, ◌∙◌, arith, length-take-le, get_or-take, eqb-true, ⊎_elim}
+-- Matches, a bit for each of 32 bytes.
+use Rattle.std.proofs.Common.{◌≡◌, ◌≢◌, ◌↔◌, ◌+◌, ◌-◌, Some, Greater, take-take, ℕ, zero, suc, ◌%◌, ◌^◌, ◌<◌, ◌≤◌, List, [], ◌∷◌, Bool, true, false, not, cond, eqb, length, take, get_or, replicate, refl, sym, ap, ◌∙◌, arith, length-take-le, get_or-take, eqb-true, ⊎_elim}
 use Rattle.std.specs.Int.{bit_at}
 use Rattle.std.specs.Simd.Lanes.{zip2, mask_l}
 use Rattle.std.proofs.lemmas.Simd.{length-zip2, get_or-zip2, get_or-replicate, bit_mask_l, mask_l-mod}
 use Rattle.std.proofs.lemmas.Bool.{cases_lt, eqb-false}
-use Rattle.std.proofs.lemmas.List.{take_all}
 use Rattle.memchr.specs.Find.{IsFirstByte, is_byte}
 use Rattle.envimg_core.specs.Environment.{bytes_cmp}
 use Rattle.envvars_store.specs.Order.{IsShared}
@@ -22,12 +21,12 @@ tells x b false e = (λ h. absurd (omega arith), λ h. absurd (eqb-false x b e h
 clear : (k : ℕ) (P : Type 0) (m : ℕ) → 32 ≤ k → m ≡ 0 → (m ≡ 1) ↔ ((k < 32) × P)
 clear k P m h z = (λ e. absurd (omega arith), λ p. absurd (omega (arith, p.0)))
 
-abbrev pub Marked : List ℕ → ℕ → ℕ → ℕ → Type 0
-Marked xs b m k = (bit_at m k ≡ 1) ↔ ((k < 32) × (get_or xs k 0 ≡ b))
+abbrev pub IsMatch : List ℕ → ℕ → ℕ → ℕ → Type 0
+IsMatch xs b m k = (bit_at m k ≡ 1) ↔ ((k < 32) × (get_or xs k 0 ≡ b))
 
 -- the bits of a comparison with one byte
-pub marked : (xs : List ℕ) (b k : ℕ) → 32 ≤ length xs → Marked xs b (mask_l (zip2 eqb (take 32 xs) (replicate 32 b)) % 2 ^ 64) k
-marked xs b k h =
+pub matched : (xs : List ℕ) (b k : ℕ) → 32 ≤ length xs → IsMatch xs b (mask_l (zip2 eqb (take 32 xs) (replicate 32 b)) % 2 ^ 64) k
+matched xs b k h =
     let long : length (take 32 xs) ≡ 32 = length-take-le 32 xs h in
     let ms = zip2 eqb (take 32 xs) (replicate 32 b) in
     let many : length ms ≡ 32 = length-zip2 eqb (take 32 xs) (replicate 32 b) long ∙ long in
@@ -97,9 +96,6 @@ pub own_front : (n : ℕ) (xs : List ℕ) → take n xs ≡ take (length (take n
 own_front zero xs = refl
 own_front (suc n) [] = refl
 own_front (suc n) (x ∷ xs) = ap (λ r. x ∷ r) (own_front n xs)
-
-pub range_rest : (n : ℕ) (xs : List ℕ) → take (length xs - n) (drop n xs) ≡ drop n xs
-range_rest n xs = take_all _ _ (omega (arith, length-drop n xs))
 
 pub not_false : (b : Bool) → not b ≡ false → b ≡ true
 not_false true e = refl

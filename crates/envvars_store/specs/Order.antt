@@ -40,4 +40,5 @@ pub record IsShared (xs ys : List ℕ) (n : ℕ) : Type 0 where
 
 -- four bytes of a text as one number, the first of them the highest
 abbrev pub four_at : List ℕ → ℕ → ℕ
-four_at xs i = from_be_bytes w32 (slice_index xs i ∷ slice_index xs (i + 1) ∷ slice_index xs (i + 2) ∷ slice_index xs (i + 3) ∷ [])
+four_at xs i =
+    from_be_bytes w32 (slice_index xs i ∷ slice_index xs (i + 1) ∷ slice_index xs (i + 2) ∷ slice_index xs (i + 3) ∷ [])

@@ -49,15 +49,16 @@ IsFilled r = 0 < vec_len r
 abbrev pub HoldsVariable : List ℕ → Variable → Type 0
 HoldsVariable area s = IsVariable (pair_of area s)
 
--- what holds of the runs over an area: no run is empty, each span lies in the area, and the variables stand in the order of their names, each of its form
+-- what holds of the runs over an area: no run is empty, each extent lies in the area, and the variables stand in the
+-- order of their names, each of its form
 pub record AreInOrder (area : List ℕ) (runs : List Run) : Type 0 where
   pub filled : All IsFilled runs
   pub lies : All (LiesIn area) (flat runs)
   pub sorted : T (is_sorted bytes_cmp (listed area runs))
   pub formed : All (HoldsVariable area) (flat runs)
 
--- what holds of runs of texts alone: they are in order over no area, and the count is that of their variables
-pub record AreTexts (runs : List Run) (count : ℕ) : Type 0 where
+-- what holds of runs of owned variables alone: they are in order over no area, and the count is their number
+pub record AreOwned (runs : List Run) (count : ℕ) : Type 0 where
   pub in_order : AreInOrder [] runs
   pub counted : count ≡ length (listed [] runs)
 
@@ -68,11 +69,12 @@ pub record IsRunFor (name area : List ℕ) (runs : List Run) (r : ℕ) : Type 0 
   pub after : StartsAfter name (listed area (drop (suc r) runs))
 
 -- the variable at the position has the name
-pub record StandsAt (name area : List ℕ) (runs : List Run) (s : Position) : Type 0 where
+pub record IsPositionOf (name area : List ℕ) (runs : List Run) (s : Position) : Type 0 where
   pub run : s.run < length runs
   pub index : s.index < length (variables_at runs s.run)
   pub before : AllBefore name (pairs area (front runs s))
-  pub equal : (x : Variable) → x ≡ slice_index_or (variables_at runs s.run) s.index x → bytes_cmp name (pair_of area x).0 ≡ Equal
+  pub equal : (x : Variable) →
+      x ≡ slice_index_or (variables_at runs s.run) s.index x → bytes_cmp name (pair_of area x).0 ≡ Equal
 
 -- no variable has the name, and the position is where one would stand
 pub record BelongsAt (name area : List ℕ) (runs : List Run) (s : Position) : Type 0 where

@@ -4,7 +4,7 @@ ghost use Rattle.std.specs.FinMap.Entries.{is_sorted};
 ghost use Rattle.envimg_core.specs.Environment.{bytes_cmp};
 ghost use Rattle.envvars_store.specs.Laying.{LiesIn};
 ghost use Rattle.envvars_store.specs.Order.{IsFound, IsGap, AllBefore, StartsAfter};
-ghost use Rattle.envvars_store.specs.Runs.{pairs, listed, variables_at, front, rest, AreInOrder, IsRunFor, StandsAt, BelongsAt};
+ghost use Rattle.envvars_store.specs.Runs.{pairs, listed, variables_at, front, rest, AreInOrder, IsRunFor, IsPositionOf, BelongsAt};
 
 use crate::comparing::order;
 use crate::runs::{Position, Run};
@@ -14,7 +14,7 @@ use std::cmp::Ordering;
 /// Where the variable with the name stands, or the position where one would stand.
 pub(crate) fn locate(area: &[u8], runs: &[Run], name: &[u8]) -> Result<Position, Position>
     requires { AreInOrder area.now runs.now }
-    ensures { MatchResult result (StandsAt name.now area.now runs.now) (BelongsAt name.now area.now runs.now) }
+    ensures { MatchResult result (IsPositionOf name.now area.now runs.now) (BelongsAt name.now area.now runs.now) }
 {
     match run_of(area, runs, name) {
         None => Err(Position { run: 0, index: 0 }),
@@ -33,7 +33,7 @@ pub(crate) fn locate_near(
     hint: Position,
 ) -> Result<Position, Position>
     requires { AreInOrder area.now runs.now }
-    ensures { MatchResult result (StandsAt name.now area.now runs.now) (BelongsAt name.now area.now runs.now) }
+    ensures { MatchResult result (IsPositionOf name.now area.now runs.now) (BelongsAt name.now area.now runs.now) }
 {
     if stands_at(area, runs, name, hint) {
         return Ok(hint);
@@ -47,7 +47,7 @@ pub(crate) fn locate_near(
 /// Whether the variable at a position has the name.
 fn stands_at(area: &[u8], runs: &[Run], name: &[u8], at: Position) -> bool
     requires { AreInOrder area.now runs.now }
-    ensures { IsTrue result → StandsAt name.now area.now runs.now at }
+    ensures { IsTrue result → IsPositionOf name.now area.now runs.now at }
 {
     if at.run >= runs.len() {
         return false;
@@ -127,7 +127,8 @@ fn ends_behind(area: &[u8], runs: &[Run], name: &[u8], run: usize) -> bool
 /// The last run whose first variable doesn't come after the name.
 fn run_of(area: &[u8], runs: &[Run], name: &[u8]) -> Option<usize>
     requires { AreInOrder area.now runs.now }
-    ensures { MatchOption result (StartsAfter name.now (listed area.now runs.now)) (IsRunFor name.now area.now runs.now) }
+    ensures { MatchOption result (StartsAfter name.now (listed area.now runs.now))
+        (IsRunFor name.now area.now runs.now) }
 {
     let mut low = 0;
     let mut high = runs.len();
@@ -147,7 +148,8 @@ fn run_of(area: &[u8], runs: &[Run], name: &[u8]) -> Option<usize>
 fn index_of(area: &[u8], variables: &[Variable], name: &[u8]) -> Result<usize, usize>
     requires lies { All (LiesIn area.now) variables.now }
     requires sorted { T (is_sorted bytes_cmp (pairs area.now variables.now)) }
-    ensures { MatchResult result (IsFound name.now (pairs area.now variables.now)) (IsGap name.now (pairs area.now variables.now)) }
+    ensures { MatchResult result (IsFound name.now (pairs area.now variables.now))
+        (IsGap name.now (pairs area.now variables.now)) }
 {
     let mut low = 0;
     let mut high = variables.len();

@@ -1,9 +1,10 @@
 //! The variables of a data area.
 ghost use Rattle.std.specs.Prelude.{◌≡◌, ◌+◌, ◌<◌, ◌≤◌, ◌^◌, length, fold, filter, IfOk, IfSome, OnOk, MatchOption, take, drop, false, [], ◌∷◌, All, slice_range};
+ghost use Rattle.envimg_core.specs.Bytes.{greatest_size};
 ghost use Rattle.envimg_core.specs.Pieces.{entries_of, vars_of, entry_of, has_name, after_entry};
 ghost use Rattle.std.specs.FinMap as env;
-ghost use Rattle.envvars_store.specs.Pieces.{IsPiece, IsNextSpan};
-ghost use Rattle.envvars_store.specs.Laying.{IsSpan};
+ghost use Rattle.envvars_store.specs.Pieces.{IsPiece, IsNextExtent};
+ghost use Rattle.envvars_store.specs.Laying.{IsExtent};
 ghost use Rattle.envvars_store.specs.Runs.{listed, AreInOrder};
 ghost use Rattle.envimg_core.specs.Environment.{is_equals};
 
@@ -11,9 +12,10 @@ use crate::changing::{forget, set};
 use crate::comparing::rising_end;
 use crate::copying::copied;
 use crate::runs::{Run, add, end_of, run_of_one};
-use crate::scanning::{near, rises};
+use crate::scanning::{LOOK, near, rises};
 use crate::store::Variables;
-use crate::variable::{Span, Variable};
+use crate::variable::{Extent, Variable};
+use envimg_core::{END, EQUALS};
 use memchr::memchr;
 use std::alloc::{AllocError, Global};
 
@@ -21,7 +23,7 @@ impl Variables {
     /// The variables of a data area: the last of its entries for a name decides.
     /// The area is at most 1,048,576 bytes long.
     pub fn load(alloc: Global, area: &[u8]) -> Result<Variables, AllocError>
-        requires { length area.now ≤ 1048576 }
+        requires { length area.now ≤ greatest_size }
         ensures { IfOk result (λ v. v ≡ vars_of (entries_of area.now)) }
     {
         let area = copied(alloc, area)?;
@@ -30,9 +32,10 @@ impl Variables {
     }
 }
 
-/// The variables of an area as spans of it: as far as its names rise without a search, and from there on entry by entry.
+/// The variables of an area as extents of it: as far as its names rise without a search, and from there on entry by
+/// entry.
 fn loaded(alloc: Global, area: &[u8]) -> Result<Vec<Run>, AllocError>
-    requires { length area.now ≤ 1048576 }
+    requires { length area.now ≤ greatest_size }
     ensures in_order { IfOk result (λ runs. AreInOrder area.now runs.items) }
     ensures variables { IfOk result (λ runs.
         env.from_sorted (listed area.now runs.items) ≡ vars_of (entries_of area.now)) }
@@ -50,45 +53,46 @@ fn loaded(alloc: Global, area: &[u8]) -> Result<Vec<Run>, AllocError>
     }
 }
 
-/// Takes the entries up to the first whose name doesn't come after the last one, or that has no name or value, and answers where that one begins.
+/// Takes the entries up to the first whose name doesn't come after the last one, or that has no name or value, and
+/// answers where that one begins.
 fn rising(alloc: Global, area: &[u8], runs: &mut Vec<Run>) -> Result<usize, AllocError>
     requires empty { runs.old.items ≡ [] }
-    requires size { length area.now ≤ 1048576 }
+    requires size { length area.now ≤ greatest_size }
     ensures within { IfOk result (λ at. at ≤ length area.now) }
     ensures in_order { OnOk result (AreInOrder area.now runs.new.items) }
     ensures left { IfOk result (λ at. fold after_entry (env.from_sorted (listed area.now runs.new.items))
         (entries_of (drop at area.now)) ≡ vars_of (entries_of area.now)) }
 {
-    let Some(first) = next_span(area, 0, 0, &[]) else {
+    let Some(first) = next_extent(area, 0, 0, &[]) else {
         return Ok(0);
     };
     let mut run = run_of_one(alloc, Variable::Loaded(first))?;
     let mut last = first;
     'walk: loop {
-        match span_behind(area, last) {
+        match extent_behind(area, last) {
             None => {
                 runs.push(run)?;
                 return Ok(last.end as usize + 1);
             }
-            Some(span) => {
-                add(alloc, runs, &mut run, Variable::Loaded(span))?;
-                last = span;
+            Some(extent) => {
+                add(alloc, runs, &mut run, Variable::Loaded(extent))?;
+                last = extent;
             }
         }
     }
 }
 
-/// The span of the entry behind another, if it has a value and its name comes after the other's.
+/// The extent of the entry behind another, if it has a value and its name comes after the other's.
 #[inline(always)]
-fn span_behind(area: &[u8], last: Span) -> Option<Span>
-    requires span { IsSpan area.now last }
+fn extent_behind(area: &[u8], last: Extent) -> Option<Extent>
+    requires extent { IsExtent area.now last }
     requires ends { last.end < length area.now }
-    requires size { length area.now ≤ 1048576 }
+    requires size { length area.now ≤ greatest_size }
     requires plain { All (λ b. is_equals b ≡ false) (slice_range area.now last.start last.middle) }
-    ensures { IfSome result (IsNextSpan area.now (last.end + 1) (slice_range area.now last.start last.middle)) }
+    ensures { IfSome result (IsNextExtent area.now (last.end + 1) (slice_range area.now last.start last.middle)) }
 {
     let from = last.start as usize;
-    next_span(
+    next_extent(
         area,
         last.end as usize + 1,
         from,
@@ -96,41 +100,42 @@ fn span_behind(area: &[u8], last: Span) -> Option<Span>
     )
 }
 
-/// The span of the entry that begins at an index, if it has a value and its name comes after another, which stands before it.
+/// The extent of the entry that begins at an index, if it has a value and its name comes after another, which stands
+/// before it.
 #[inline(always)]
-fn next_span(area: &[u8], at: usize, from: usize, last: &[u8]) -> Option<Span>
+fn next_extent(area: &[u8], at: usize, from: usize, last: &[u8]) -> Option<Extent>
     requires within { at ≤ length area.now }
-    requires size { length area.now ≤ 1048576 }
+    requires size { length area.now ≤ greatest_size }
     requires last { All (λ b. is_equals b ≡ false) last.now }
     requires earlier { from ≤ at }
     requires front { last.now ≡ take (length last.now) (drop from area.now) }
-    ensures { IfSome result (IsNextSpan area.now at last.now) }
+    ensures { IfSome result (IsNextExtent area.now at last.now) }
 {
-    match near_span(area, at, from, last) {
-        Some(span) => Some(span),
-        None => far_span(area, at, last),
+    match near_extent(area, at, from, last) {
+        Some(extent) => Some(extent),
+        None => far_extent(area, at, last),
     }
 }
 
-/// The same, where the entry ends among the next 32 bytes.
+/// The same, where the entry ends among the next `LOOK` bytes.
 #[inline(always)]
-fn near_span(area: &[u8], at: usize, from: usize, last: &[u8]) -> Option<Span>
+fn near_extent(area: &[u8], at: usize, from: usize, last: &[u8]) -> Option<Extent>
     requires within { at ≤ length area.now }
-    requires size { length area.now ≤ 1048576 }
+    requires size { length area.now ≤ greatest_size }
     requires earlier { from ≤ at }
     requires front { last.now ≡ take (length last.now) (drop from area.now) }
-    ensures { IfSome result (IsNextSpan area.now at last.now) }
+    ensures { IfSome result (IsNextExtent area.now at last.now) }
 {
-    if area.len() - at < 32 {
+    if area.len() - at < LOOK {
         return None;
     }
     let text = &area[at..];
-    let end = near(0, text)?;
-    let middle = near(b'=', text)?;
+    let end = near(END, text)?;
+    let middle = near(EQUALS, text)?;
     if end <= middle + 1 || !rises(text, middle, &area[from..], last.len()) {
         return None;
     }
-    Some(Span {
+    Some(Extent {
         start: at as u32,
         middle: (at + middle) as u32,
         end: (at + end) as u32,
@@ -139,18 +144,18 @@ fn near_span(area: &[u8], at: usize, from: usize, last: &[u8]) -> Option<Span>
 
 /// The same, wherever the entry ends.
 #[inline(never)]
-fn far_span(area: &[u8], at: usize, last: &[u8]) -> Option<Span>
+fn far_extent(area: &[u8], at: usize, last: &[u8]) -> Option<Extent>
     requires within { at ≤ length area.now }
-    requires size { length area.now ≤ 1048576 }
+    requires size { length area.now ≤ greatest_size }
     requires last { All (λ b. is_equals b ≡ false) last.now }
-    ensures { IfSome result (IsNextSpan area.now at last.now) }
+    ensures { IfSome result (IsNextExtent area.now at last.now) }
 {
     let end = piece_end(area, at)?;
     let middle = at + rising_end(&area[at..end], last)?;
     if middle + 1 == end {
         return None;
     }
-    Some(Span {
+    Some(Extent {
         start: at as u32,
         middle: middle as u32,
         end: end as u32,
@@ -162,7 +167,7 @@ fn piece_end(area: &[u8], at: usize) -> Option<usize>
     requires { at ≤ length area.now }
     ensures { MatchOption result (entries_of (drop at area.now) ≡ []) (IsPiece area.now at) }
 {
-    match memchr(0, &area[at..]) {
+    match memchr(END, &area[at..]) {
         None => None,
         Some(0) => None,
         Some(length) => Some(at + length),
@@ -179,26 +184,26 @@ fn read_entry(
 ) -> Result<(), AllocError>
     requires in_order { AreInOrder area.now runs.old.items }
     requires piece { IsPiece area.now start end }
-    requires size { length area.now ≤ 1048576 }
+    requires size { length area.now ≤ greatest_size }
     ensures in_order { AreInOrder area.now runs.new.items }
     ensures ok { OnOk result (env.from_sorted (listed area.now runs.new.items)
         ≡ fold after_entry (env.from_sorted (listed area.now runs.old.items))
         (filter has_name (entry_of (slice_range area.now start end) ∷ []))) }
 {
     let piece = &area[start..end];
-    match memchr(b'=', piece) {
+    match memchr(EQUALS, piece) {
         None => forget(area, runs, piece, end_of(runs)),
         Some(0) => {}
         Some(length) if length + 1 == piece.len() => {
             forget(area, runs, &piece[..length], end_of(runs))
         }
         Some(length) => {
-            let span = Span {
+            let extent = Extent {
                 start: start as u32,
                 middle: (start + length) as u32,
                 end: end as u32,
             };
-            set(alloc, area, runs, Variable::Loaded(span), end_of(runs))?;
+            set(alloc, area, runs, Variable::Loaded(extent), end_of(runs))?;
         }
     }
     Ok(())

@@ -2,7 +2,7 @@
 ghost use Rattle.std.specs.Prelude.{◌≡◌, true, IsTrue, OnOk};
 ghost use Rattle.std.specs.FinMap as env;
 ghost use Rattle.envimg_core.specs.Environment.{Environment};
-ghost use Rattle.envvars_store.specs.Names.{AreNamesOf};
+ghost use Rattle.envvars_store.specs.NumberedNames.{AreNamesOf};
 
 use std::alloc::{AllocError, Global};
 
@@ -18,17 +18,17 @@ pub(crate) struct Range {
 
 /// Names one behind another. The first has the number 0, and none changes its number.
 #[derive(Drop)]
-pub(crate) struct Names {
+pub(crate) struct NumberedNames {
     bytes: Vec<u8>,
     ranges: Vec<Range>,
 }
 
-impl Names {
+impl NumberedNames {
     /// No names. It takes no memory.
-    pub(crate) fn new(alloc: Global) -> Names
+    pub(crate) fn new(alloc: Global) -> NumberedNames
         ensures { (m : Environment) → AreNamesOf m result }
     {
-        Names {
+        NumberedNames {
             bytes: Vec::new(alloc),
             ranges: Vec::new(alloc),
         }
@@ -64,7 +64,8 @@ impl Names {
 
     /// Gives a name the next number, where there is room for it.
     pub(crate) fn add(&mut self, name: &[u8])
-        ensures { (m : Environment) → AreNamesOf m self.old → env.contains_key m name.now ≡ true → AreNamesOf m self.new }
+        ensures { (m : Environment) →
+            AreNamesOf m self.old → env.contains_key m name.now ≡ true → AreNamesOf m self.new }
     {
         let Ok(start) = u32::try_from(self.bytes.len()) else {
             return;

@@ -33,7 +33,8 @@ pub(crate) fn end_of(runs: &[Run]) -> Position {
     }
 }
 
-/// Puts a variable behind those of a run that stands behind all others and not yet among them; a full one goes there first.
+/// Puts a variable behind those of a run that stands behind all others and not yet among them; a full one goes there
+/// first.
 #[inline(always)]
 pub(crate) fn add(
     alloc: Global,
@@ -42,7 +43,8 @@ pub(crate) fn add(
     variable: Variable,
 ) -> Result<(), AllocError>
     requires { All IsFilled (runs.old.items ++ run.old ∷ []) }
-    ensures ok { OnOk result (flat (runs.new.items ++ run.new ∷ []) ≡ flat (runs.old.items ++ run.old ∷ []) ++ variable ∷ []) }
+    ensures ok { OnOk result (flat (runs.new.items ++ run.new ∷ [])
+        ≡ flat (runs.old.items ++ run.old ∷ []) ++ variable ∷ []) }
     ensures filled { OnOk result (All IsFilled (runs.new.items ++ run.new ∷ [])) }
 {
     if run.len() < MOST {

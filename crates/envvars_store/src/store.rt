@@ -1,14 +1,14 @@
 //! The variables in the order of their names.
 ghost use Rattle.std.specs.Prelude.{◌≡◌, ◌↔◌, map, All, IsTrue, IsOk, IsSome, OnOk, OnErr, IfErr, IfSome, option_map};
 ghost use Rattle.std.specs.FinMap as env;
-ghost use Rattle.envimg_core.specs.Environment.{bytes_cmp, is_name, is_value, IsVariable, joined};
+ghost use Rattle.envimg_core.specs.Environment.{bytes_cmp, is_name, is_value, IsVariable, entry_text};
 ghost use Rattle.envvars_store.specs.Runs.{listed, AreInOrder};
 
 use crate::changing::{forget, set};
 use crate::finding::locate;
 use crate::iterating::{Iter, Lines};
 use crate::naming::NO_NUMBER;
-use crate::owned_text::Text;
+use crate::owned_variable::OwnedVariable;
 use crate::runs::{Position, Run, replace_at};
 use crate::variable::Variable;
 use std::alloc::{AllocError, Global};
@@ -17,7 +17,7 @@ use std::marker::Model;
 /// The variables of an environment: a finite map from names to values.
 ///
 /// One copy of the loaded area, which never changes, and the variables in the order of their names:
-/// each is a span of the area, or, once it was written, a text of its own.
+/// each is an extent of the area, or, once it was written, owned.
 #[derive(Drop)]
 pub struct Variables {
     pub(crate) area: Vec<u8>,
@@ -44,50 +44,18 @@ impl Model for Variables {
 #[derive(Clone, Copy)]
 pub struct Hint {
     pub(crate) position: Position,
-    // The number that the name has, or gets, among texts.
+    // The number that the name has, or gets, among owned variables.
     pub(crate) number: u32,
 }
 
 impl Hint {
-    /// The same position, with the number that a look-up of the name found among texts. A write keeps it with the variable.
+    /// The same position, with the number that a look-up of the name found among owned variables. A write keeps it with
+    /// the variable.
     pub fn numbered_as(self, other: Hint) -> Hint {
         Hint {
             position: self.position,
             number: other.number,
         }
-    }
-}
-
-/// The value of a name among variables, if it has one, and where it was found or would stand.
-#[inline(always)]
-pub(crate) fn find_among<'a>(
-    area: &'a [u8],
-    runs: &'a [Run],
-    name: &[u8],
-) -> (Option<&'a [u8]>, Hint)
-    requires { AreInOrder area.now runs.now }
-    ensures value { option_map (λ v. v.now) result.0 ≡ env.get (env.from_sorted {R = bytes_cmp} (listed area.now runs.now)) name.now }
-    ensures formed { IfSome result.0 (λ v. IsVariable (name.now, v.now)) }
-{
-    match locate(area, runs, name) {
-        Ok(at) => {
-            let variable = &runs[at.run][at.index];
-            let number = variable.number();
-            (
-                Some(variable.value(area)),
-                Hint {
-                    position: at,
-                    number,
-                },
-            )
-        }
-        Err(position) => (
-            None,
-            Hint {
-                position,
-                number: NO_NUMBER,
-            },
-        ),
     }
 }
 
@@ -129,12 +97,12 @@ impl Variables {
         ensures err { OnErr result (self.new ≡ self.old) }
     {
         let alloc = *self.area.allocator();
-        let text = Text::new(alloc, name, value)?.numbered(hint.number);
+        let variable = OwnedVariable::new(alloc, name, value)?.numbered(hint.number);
         set(
             alloc,
             &self.area,
             &mut self.runs,
-            Variable::Written(text),
+            Variable::Written(variable),
             hint.position,
         )
     }
@@ -148,19 +116,19 @@ impl Variables {
     }
 
     /// Puts a variable in the place of the one that has its name, which takes no memory.
-    /// Where none has it, the text comes back and nothing has changed.
-    pub fn replace(&mut self, text: Text) -> Result<(), Text>
-        ensures present { IsOk result ↔ IsSome (env.get self.old text.0) }
-        ensures ok { OnOk result (self.new ≡ env.insert self.old text.0 text.1) }
+    /// Where none has it, the variable that was given comes back and nothing has changed.
+    pub fn replace(&mut self, variable: OwnedVariable) -> Result<(), OwnedVariable>
+        ensures present { IsOk result ↔ IsSome (env.get self.old variable.0) }
+        ensures ok { OnOk result (self.new ≡ env.insert self.old variable.0 variable.1) }
         ensures err { OnErr result (self.new ≡ self.old) }
-        ensures back { IfErr result (λ t. t ≡ text) }
+        ensures back { IfErr result (λ t. t ≡ variable) }
     {
-        match locate(&self.area, &self.runs, text.name()) {
+        match locate(&self.area, &self.runs, variable.name()) {
             Ok(at) => {
-                replace_at(&mut self.runs, at, Variable::Written(text));
+                replace_at(&mut self.runs, at, Variable::Written(variable));
                 Ok(())
             }
-            Err(_) => Err(text),
+            Err(_) => Err(variable),
         }
     }
 
@@ -174,9 +142,43 @@ impl Variables {
 
     /// Each variable as one text `name=value`, in ascending order of the names' bytes.
     pub fn lines(&self) -> Lines<'_>
-        ensures entries { result ≡ map joined (env.entries self.now) }
+        ensures entries { result ≡ map entry_text (env.entries self.now) }
         ensures formed { All IsVariable (env.entries self.now) }
     {
         Lines::new(&self.area, &self.runs)
+    }
+}
+
+/// The value of a name among variables, if it has one, and where it was found or would stand.
+#[inline(always)]
+pub(crate) fn find_among<'a>(
+    area: &'a [u8],
+    runs: &'a [Run],
+    name: &[u8],
+) -> (Option<&'a [u8]>, Hint)
+    requires { AreInOrder area.now runs.now }
+    ensures value { option_map (λ v. v.now) result.0
+        ≡ env.get (env.from_sorted {R = bytes_cmp} (listed area.now runs.now)) name.now }
+    ensures formed { IfSome result.0 (λ v. IsVariable (name.now, v.now)) }
+{
+    match locate(area, runs, name) {
+        Ok(at) => {
+            let variable = &runs[at.run][at.index];
+            let number = variable.number();
+            (
+                Some(variable.value(area)),
+                Hint {
+                    position: at,
+                    number,
+                },
+            )
+        }
+        Err(position) => (
+            None,
+            Hint {
+                position,
+                number: NO_NUMBER,
+            },
+        ),
     }
 }

@@ -1,15 +1,16 @@
-//! One variable: a span of the loaded area, or a text of its own.
+//! One variable: an extent of the loaded area, or owned.
 ghost use Rattle.std.specs.Prelude.{◌≡◌, IfOk};
 ghost use Rattle.envvars_store.specs.Laying.{pair_of, LiesIn};
-ghost use Rattle.envimg_core.specs.Environment.{joined};
+ghost use Rattle.envimg_core.specs.Environment.{entry_text};
 
 use crate::naming::NO_NUMBER;
-use crate::owned_text::Text;
+use crate::owned_variable::OwnedVariable;
 use std::alloc::{AllocError, Global};
 
-/// Where a variable lies in the area: its name begins at `start`, the `=` stands at `middle`, the value ends before `end`.
+/// Where a variable lies in the area: its name begins at `start`, the `=` stands at `middle`, the value ends before
+/// `end`.
 #[derive(Clone, Copy)]
-pub(crate) struct Span {
+pub(crate) struct Extent {
     pub(crate) start: u32,
     pub(crate) middle: u32,
     pub(crate) end: u32,
@@ -19,9 +20,9 @@ pub(crate) struct Span {
 #[derive(Drop)]
 pub(crate) enum Variable {
     /// As it was loaded.
-    Loaded(Span),
+    Loaded(Extent),
     /// As it was written.
-    Written(Text),
+    Written(OwnedVariable),
 }
 
 impl Variable {
@@ -31,8 +32,8 @@ impl Variable {
         ensures { result.now ≡ (pair_of area.now self.now).0 }
     {
         match self {
-            Variable::Loaded(span) => &area[span.start as usize..span.middle as usize],
-            Variable::Written(text) => text.name(),
+            Variable::Loaded(extent) => &area[extent.start as usize..extent.middle as usize],
+            Variable::Written(owned) => owned.name(),
         }
     }
 
@@ -42,8 +43,8 @@ impl Variable {
         ensures { result.now ≡ (pair_of area.now self.now).1 }
     {
         match self {
-            Variable::Loaded(span) => &area[span.middle as usize + 1..span.end as usize],
-            Variable::Written(text) => text.value(),
+            Variable::Loaded(extent) => &area[extent.middle as usize + 1..extent.end as usize],
+            Variable::Written(owned) => owned.value(),
         }
     }
 
@@ -51,28 +52,28 @@ impl Variable {
     pub(crate) fn number(&self) -> u32 {
         match self {
             Variable::Loaded(_) => NO_NUMBER,
-            Variable::Written(text) => text.number(),
+            Variable::Written(owned) => owned.number(),
         }
     }
 
     /// Name, `=` and value in one piece.
     pub(crate) fn line<'a>(&'a self, area: &'a [u8]) -> &'a [u8]
         requires { LiesIn area.now self.now }
-        ensures { result.now ≡ joined (pair_of area.now self.now) }
+        ensures { result.now ≡ entry_text (pair_of area.now self.now) }
     {
         match self {
-            Variable::Loaded(span) => &area[span.start as usize..span.end as usize],
-            Variable::Written(text) => text.line(),
+            Variable::Loaded(extent) => &area[extent.start as usize..extent.end as usize],
+            Variable::Written(owned) => owned.line(),
         }
     }
 
-    /// The same variable; a text gets memory of its own.
+    /// The same variable; an owned one gets memory of its own.
     pub(crate) fn try_clone(&self, alloc: Global) -> Result<Variable, AllocError>
         ensures { IfOk result (λ s. s ≡ self.now) }
     {
         match self {
-            Variable::Loaded(span) => Ok(Variable::Loaded(*span)),
-            Variable::Written(text) => Ok(Variable::Written(text.try_clone(alloc)?)),
+            Variable::Loaded(extent) => Ok(Variable::Loaded(*extent)),
+            Variable::Written(owned) => Ok(Variable::Written(owned.try_clone(alloc)?)),
         }
     }
 }

@@ -1,25 +1,23 @@
 -- What a subcommand does, put together, and its status.
-use Rattle.std.proofs.Common.{◌≡◌, ◌≤◌, ℕ, zero, suc, Bool, true, false, List, [], ◌∷◌, Option, Some, None, inl, inr, refl, arith}
+use Rattle.std.proofs.Common.{◌≤◌, ℕ, zero, suc, Bool, true, false, List, [], ◌∷◌, Option, Some, None, inl, inr, refl, arith}
 use Rattle.std.specs.Prelude.{◌==◌, if◌then◌else◌, length}
 use Rattle.env_session.specs.Requests.{refusal_in}
 use Rattle.env_session.specs.Session.{Held, written}
 use Rattle.envimg_core.specs.Environment.{Environment}
 use Rattle.envimg_core.specs.Pieces.{Entry}
 use Rattle.envvars_core.specs.declared.refusals.Refusal.{Refusal}
-use Rattle.fw_command.proofs.SayLemmas.{front_said, said_then}
 use Rattle.fw_command.specs.Acting.{Acts, Closes, DoesJob, IsOpening, Scene, Uses, UsesTool}
-use Rattle.fw_command.specs.Saying.{SaysOnly, Stops}
 use Rattle.fw_command.specs.Calls.{Call, Job, Task, Tool, Tries}
 use Rattle.fw_command.specs.Opening.{warning}
 use Rattle.fw_tools.specs.Exporting.{export_texts, status_for}
 use Rattle.fw_tools.specs.Printing.{complaint, named, one_name, printed, status_of}
 use Rattle.fw_tools.specs.Setting.{Changing, Effect, Ends, count_status, script_effect, unless_refused}
-use Rattle.fw_command.specs.Talking.{Leaves, Reports, is_kept, text_for}
+use Rattle.fw_command.specs.Talking.{ClosesDryRun, Reports, is_kept, text_for}
 use Rattle.fw_session.specs.declared.ending.SessionEnding.{SessionEnding}
 use Rattle.fw_tools.specs.Streams.{AppendsFront, Streams, Writers}
 use Rattle.fw_tools.specs.Tool.{Printed, Texts}
-use Rattle.fw_tools.specs.declared.ending.StreamFault.{StreamFault}
-use Rattle.fw_tools.specs.declared.ending.StreamFault.TheVariants.{Read, Write, Memory}
+use Rattle.fw_tools.specs.declared.ending.ToolFault.{ToolFault}
+use Rattle.fw_tools.specs.declared.ending.ToolFault.TheVariants.{Read, Write, Memory}
 use Rattle.fw_tools.specs.declared.ending.ToolEnd.{ToolEnd}
 
 -- a session was opened, with a warning or none, and worked on
@@ -35,13 +33,13 @@ pub used_tool : (task : Task) (session : Held) (old : Writers) (after : Scene) (
 used_tool task session old after end errors status acts closes = inr (after, end, acts, refl, closes)
 
 -- each status is 0 or 1
-printed_small : (fault : Option StreamFault) (old new : Writers) (texts : Texts) (status : ℕ) → texts.status ≤ 1 → Printed fault old new texts status → status ≤ 1
+printed_small : (fault : Option ToolFault) (old new : Writers) (texts : Texts) (status : ℕ) → texts.status ≤ 1 → Printed fault old new texts status → status ≤ 1
 printed_small None old new texts status small p = omega (arith, p.1, small)
 printed_small (Some Read) old new texts status small p = omega (arith, p.1)
 printed_small (Some Write) old new texts status small p = omega (arith, p.1)
 printed_small (Some Memory) old new texts status small p = omega (arith, p.1)
 
-ends_small : (fault : Option StreamFault) (old new : Changing) (effect : Effect) (writes : List Entry) (status : ℕ) → effect.status ≤ 1 → Ends fault old new effect writes status → status ≤ 1
+ends_small : (fault : Option ToolFault) (old new : Changing) (effect : Effect) (writes : List Entry) (status : ℕ) → effect.status ≤ 1 → Ends fault old new effect writes status → status ≤ 1
 ends_small None old new effect writes status small p = omega (arith, p.1, small)
 ends_small (Some Read) old new effect writes status small p = absurd p
 ends_small (Some Write) old new effect writes status small p = omega (arith, p.1)
@@ -95,7 +93,7 @@ reports_small : (text : Option (List ℕ)) (old new : Option (List ℕ)) (status
 reports_small None old new status (same, is) = omega (arith, is)
 reports_small (Some text) old new status (said, is) = omega (arith, is)
 
-leaves_small : (kept : Bool) (end : SessionEnding) (old new : Option (List ℕ)) (status : ℕ) → Leaves kept end old new status → status ≤ 1
+leaves_small : (kept : Bool) (end : SessionEnding) (old new : Option (List ℕ)) (status : ℕ) → ClosesDryRun kept end old new status → status ≤ 1
 leaves_small true end old new status (inl (said, is)) = omega (arith, is)
 leaves_small true end old new status (inr reports) = reports_small (text_for end) old new status reports
 leaves_small false end old new status reports = reports_small (text_for end) old new status reports
@@ -103,7 +101,7 @@ leaves_small false end old new status reports = reports_small (text_for end) old
 job_small : (job : Job) (session : Held) (old new : Streams) (status : ℕ) → DoesJob job session old new status → status ≤ 1
 job_small (Tool task) session old new status (unread, uses) = tool_small task session _ _ status uses
 job_small (Tries run) session old new status (inl stopped) = omega (arith, stopped.1.1)
-job_small (Tries run) session old new status (inr (stubs, stand, tries)) = leaves_small (is_kept run.write tries.0) tries.0 _ _ status tries.5
+job_small (Tries run) session old new status (inr (stand_ins, stand, tries)) = leaves_small (is_kept run.write tries.0) tries.0 _ _ status tries.5
 
 pub uses_small : (call : Call) (old new : Streams) (status : ℕ) → Uses call old new status → status ≤ 1
 uses_small call old new status (inl stopped) = omega (arith, stopped.1.1)

@@ -3,11 +3,11 @@ use Rattle.std.proofs.Common.{ℕ}
 use Rattle.std.specs.Prelude.{◌≢◌}
 use Rattle.clap.specs.declared.error.kind.ErrorKind.{ErrorKind}
 use Rattle.clap.specs.declared.error.kind.ErrorKind.TheVariants.{DisplayHelp, DisplayVersion, InvalidValue, UnknownArgument, InvalidSubcommand, NoEquals, ValueValidation, TooManyValues, TooFewValues, WrongNumberOfValues, ArgumentConflict, MissingRequiredArgument, MissingSubcommand, DisplayHelpOnMissingArgumentOrSubcommand, Io, Format, OutOfMemory}
-use Rattle.fw_command.specs.Running.{Answers, Helps}
+use Rattle.fw_command.specs.Running.{RepliesTo, Helps}
 use Rattle.fw_tools.specs.Streams.{Writers}
 
 -- what doesn't go to standard error is the help or the version
-pub helped : (kind : ErrorKind) (old new : Writers) (status : ℕ) → ((kind ≢ DisplayHelp) × (kind ≢ DisplayVersion) → ⊥) → Helps old new status → Answers kind old new status
+pub helped : (kind : ErrorKind) (old new : Writers) (status : ℕ) → ((kind ≢ DisplayHelp) × (kind ≢ DisplayVersion) → ⊥) → Helps old new status → RepliesTo kind old new status
 helped DisplayHelp old new status is h = h
 helped DisplayVersion old new status is h = h
 helped InvalidValue old new status is h = absurd (is ((λ e. cc), (λ e. cc)))

@@ -6,3 +6,4 @@ mod SayLemmas
 mod TalkLemmas
 mod WordLemmas
 pub mod Rows
+pub mod SameTexts

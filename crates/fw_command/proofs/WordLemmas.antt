@@ -20,7 +20,7 @@ use Rattle.clap.specs.Words.{is_simple_and_free, subcommand_rows_of}
 use Rattle.fw_command.specs.Acting.{Called}
 use Rattle.fw_command.specs.Calls.{Call, call_of}
 use Rattle.fw_command.specs.Running.{Does, Runs, ShowsAndSays}
-use Rattle.fw_tools.specs.Streams.{Streams, writers_of}
+use Rattle.fw_tools.specs.Streams.{Streams}
 
 pub source_found : (f : Found) (id : Text) → option_and_then (λ a. a.source) (matched_of f id) ≡ source_in id (rows_of f)
 source_found f id = of_entry (find (λ e. bytes_eq e.0.now id) f.entries.items) ∙ sym (ap (option_and_then (λ r. r.source)) (find_row f.entries.items id))

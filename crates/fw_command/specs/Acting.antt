@@ -8,10 +8,10 @@ use Rattle.envvars_core.specs.Variables.{Contents}
 use Rattle.clap.specs.Words.{Text}
 use Rattle.fw_command.specs.Calls.{Call, Job, Tool, Tries, Task}
 use Rattle.fw_command.specs.Opening.{warning}
-use Rattle.fw_command.specs.Saying.{Says, SaysSome, SaysOnly, Stops}
+use Rattle.fw_command.specs.Saying.{Says, SaysSome, Stops}
 use Rattle.fw_tools.specs.Exporting.{export_texts}
 use Rattle.fw_tools.specs.Printing.{printed}
-use Rattle.fw_tools.specs.Setting.{Changes, Changing, Effect, import_effect, joined, script_effect, set_effect}
+use Rattle.fw_tools.specs.Setting.{Changes, Changing, Effect, import_effect, spaced, script_effect, set_effect}
 use Rattle.fw_command.specs.Talking.{TriesOver}
 use Rattle.fw_tools.specs.Streams.{AppendsFront, Streams, Writers, writers_of}
 use Rattle.fw_tools.specs.Tool.{Printed, Texts}
@@ -36,19 +36,20 @@ ChangesAll old new effect writes end = (new.writers.output ≡ old.writers.outpu
 -- a task done; a file that it reads has some entries
 abbrev pub Acts : Task → Scene → Scene → ToolEnd → Type 0
 Acts (Task.Print names value_only) old new end = PrintsAll old new (printed old.session.now.env names value_only) end
-Acts (Task.Set name words) old new end = ChangesAll old new (set_effect old.session name (joined words)) ((name, Some (joined words)) ∷ []) end
+Acts (Task.Set name words) old new end = ChangesAll old new (set_effect old.session name (spaced words)) ((name, Some (spaced words)) ∷ []) end
 Acts (Task.SetScript path) old new end = (entries : List Entry) × ChangesAll old new (script_effect old.session entries) entries end
 Acts (Task.Import path) old new end = (entries : List Entry) × ChangesAll old new (import_effect old.session entries) entries end
 Acts Task.Export old new end = PrintsAll old new (export_texts old.session.now.env) end
 
--- what stopped a tool is said, if anything did; or some text of a file that can't be written
+-- what stopped a tool is said, if anything did; or some text, which may be empty, of a file that can't be written
 abbrev pub Closes : ToolEnd → Option (List ℕ) → Option (List ℕ) → ℕ → Type 0
 Closes end old new status = (SaysSome old new × (status ≡ 1)) ⊎ (Says end.fault old new × (status ≡ end.status))
 
 -- a session just opened over some copies in this byte order, with some defaults
 abbrev pub IsOpening : Order → Held → Type 0
 IsOpening order session =
-    (shape : Shape) × (first : List ℕ) × (second : Option (List ℕ)) × (defaults : Contents) × (shape.order ≡ order) × (session ≡ opened shape first second defaults)
+    (shape : Shape) × (first : List ℕ) × (second : Option (List ℕ)) × (defaults : Contents)
+    × (shape.order ≡ order) × (session ≡ opened shape first second defaults)
 
 -- a task is done over a session, and the copies are written back; or its file can't be used
 abbrev pub UsesTool : Task → Held → Writers → Writers → ℕ → Type 0

@@ -1,10 +1,8 @@
 -- What the words of a subcommand ask for (docs/tools.md, "Subcommands over files").
-use Rattle.std.specs.Prelude.{Bool, true, false, List, [], ◌∷◌, ◌++◌, Option, Some, None, Result, Ok, Err, unwrap_or, option_map, codes, map, if◌then◌else◌}
+use Rattle.std.specs.Prelude.{Bool, List, [], ◌∷◌, ◌++◌, Option, Some, None, Result, Ok, Err, unwrap_or, option_map, codes, map, if◌then◌else◌}
 use Rattle.std.specs.Borrow.{Bor}
 use Rattle.std.specs.Str.{bytes_eq}
-use Rattle.clap.specs.Words.{Row, Text, all_of, first_of}
-use Rattle.clap.specs.declared.parser.matches.ValueSource.{ValueSource}
-use Rattle.clap.specs.declared.parser.matches.ValueSource.TheVariants.{CommandLine}
+use Rattle.clap.specs.Words.{Row, Text, first_of}
 use Rattle.envimg_core.specs.declared.order.Order.{Order}
 use Rattle.fw_command.specs.DryRuns.{DryRun, dry_run_of, dry_run_view}
 use Rattle.fw_command.specs.Values.{all_values, first_or, is_given}

@@ -1,4 +1,4 @@
--- Copies in devices (docs/tools.md, "Devices").
+-- Copies in devices (docs/tools.md, "Subcommands over files").
 use Rattle.std.specs.Prelude.{ℕ, ◌+◌, Bool, ◌&&◌, nat_lt, List, [], ◌∷◌, Option, Some, None, Vec, if◌then◌else◌, option_map}
 use Rattle.std.specs.Str.{bytes_eq}
 use Rattle.std.specs.declared.alloc.Global.{Global}

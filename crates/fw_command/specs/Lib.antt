@@ -1,11 +1,13 @@
+-- What the public calls promise.
 pub mod Acting
 pub mod Calls
-pub mod Copies
 pub mod DryRuns
 pub mod Opening
 pub mod Running
 pub mod Saying
 pub mod Talking
 pub mod Values
-pub mod WordFaults
 pub mod Words
+-- What the steps of the code do: no promise speaks of these.
+pub mod Copies
+pub mod WordFaults

@@ -4,6 +4,10 @@ use Rattle.envimg_core.specs.declared.choice.Choice.{Choice}
 use Rattle.envimg_core.specs.declared.choice.Choice.TheVariants.{First, Second, Neither}
 use Rattle.fw_command.specs.declared.copies.ReadCopy.{ReadCopy}
 
+-- the most bytes of a file that is read whole
+abbrev pub file_limit : ℕ
+file_limit = 16777216
+
 -- the bytes of a second copy
 abbrev pub second_bytes : Option ReadCopy → Option (List ℕ)
 second_bytes copy = option_map (λ c. c.bytes.items) copy

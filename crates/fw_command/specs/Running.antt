@@ -14,7 +14,7 @@ use Rattle.fw_command.specs.Calls.{call_of}
 use Rattle.fw_command.specs.Saying.{Says, message_of}
 use Rattle.fw_command.specs.Words.{called_by, faults, order_of}
 use Rattle.fw_tools.specs.declared.ending.ToolEnd.{ToolEnd}
-use Rattle.fw_tools.specs.declared.ending.StreamFault.TheVariants.{Write, Memory}
+use Rattle.fw_tools.specs.declared.ending.ToolFault.TheVariants.{Write, Memory}
 
 -- the text on standard error where the words can't be had
 abbrev pub message_without_words : io_error.ErrorKind → List ℕ
@@ -42,22 +42,24 @@ abbrev pub Complains : Writers → Writers → ℕ → Type 0
 Complains old new status = (text : List ℕ) × (new.output ≡ old.output) × AppendsFront old.errors new.errors text × (status ≡ 1)
 
 -- what is printed for words of which clap says this
-abbrev pub Answers : ErrorKind → Writers → Writers → ℕ → Type 0
-Answers DisplayHelp = Helps
-Answers DisplayVersion = Helps
-Answers OutOfMemory = LacksMemory
-Answers kind = Complains
+abbrev pub RepliesTo : ErrorKind → Writers → Writers → ℕ → Type 0
+RepliesTo DisplayHelp = Helps
+RepliesTo DisplayVersion = Helps
+RepliesTo OutOfMemory = LacksMemory
+RepliesTo kind = Complains
 
 -- the image on standard input is shown, and what stopped that is said
 abbrev pub ShowsAndSays : Order → Streams → Streams → ℕ → Type 0
 ShowsAndSays order old new status =
-    (end : ToolEnd) × (between : Option (List ℕ)) × Shows order old (record new { errors = between }) end × Says end.fault between new.errors × (status ≡ end.status)
+    (end : ToolEnd) × (between : Option (List ℕ)) × Shows order old (record new { errors = between }) end
+    × Says end.fault between new.errors × (status ≡ end.status)
 
 -- words with something wrong are answered, and so is want of memory, with nothing read
-abbrev pub AnswersWords : List Text → Streams → Streams → ℕ → Type 0
-AnswersWords words old new status =
+abbrev pub RepliesToWords : List Text → Streams → Streams → ℕ → Type 0
+RepliesToWords words old new status =
     (new.input ≡ old.input)
-    × (LacksMemory (writers_of old) (writers_of new) status ⊎ ((kind : ErrorKind) × IsAmong kind (faults words) × Answers kind (writers_of old) (writers_of new) status))
+    × (LacksMemory (writers_of old) (writers_of new) status
+    ⊎ ((kind : ErrorKind) × IsAmong kind (faults words) × RepliesTo kind (writers_of old) (writers_of new) status))
 
 -- what is done for words with nothing wrong: a subcommand is called, or the image on standard input is shown in the byte order that they choose
 abbrev pub Does : Order → Option (Text × List Row) → Streams → Streams → ℕ → Type 0
@@ -66,4 +68,4 @@ Does order None old new status = ShowsAndSays order old new status
 
 -- a whole run
 abbrev pub Runs : List Text → Streams → Streams → ℕ → Type 0
-Runs words old new status = ((faults words ≡ []) × Does (order_of words) (called_by words) old new status) ⊎ AnswersWords words old new status
+Runs words old new status = ((faults words ≡ []) × Does (order_of words) (called_by words) old new status) ⊎ RepliesToWords words old new status

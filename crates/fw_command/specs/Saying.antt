@@ -2,17 +2,17 @@
 use Rattle.std.specs.Prelude.{◌≡◌, ℕ, List, [], ◌∷◌, ◌++◌, Option, Some, None, codes}
 use Rattle.std.specs.Io.KnownBytes.{Appends}
 use Rattle.fw_tools.specs.Streams.{AppendsFront, Writers}
-use Rattle.fw_tools.specs.declared.ending.StreamFault.{StreamFault}
-use Rattle.fw_tools.specs.declared.ending.StreamFault.TheVariants.{Read, Write, Memory}
+use Rattle.fw_tools.specs.declared.ending.ToolFault.{ToolFault}
+use Rattle.fw_tools.specs.declared.ending.ToolFault.TheVariants.{Read, Write, Memory}
 
 -- the text on standard error for what stopped a tool
-abbrev pub message_of : StreamFault → List ℕ
+abbrev pub message_of : ToolFault → List ℕ
 message_of Read = codes "fwenv: cannot read standard input" ++ 10 ∷ []
 message_of Write = codes "fwenv: cannot write standard output" ++ 10 ∷ []
 message_of Memory = codes "## Error: out of memory" ++ 10 ∷ []
 
 -- it is said as far as standard error takes it
-abbrev pub Says : Option StreamFault → Option (List ℕ) → Option (List ℕ) → Type 0
+abbrev pub Says : Option ToolFault → Option (List ℕ) → Option (List ℕ) → Type 0
 Says None err err' = err' ≡ err
 Says (Some fault) err err' = AppendsFront err err' (message_of fault)
 

@@ -1,9 +1,9 @@
 -- What a dry run over standard input and output does (docs/dry-runs.md).
-use Rattle.std.specs.Prelude.{◌≡◌, ◌⊎◌, ℕ, Bool, true, false, List, [], ◌∷◌, ◌++◌, Option, Some, None, Ok, codes, if◌then◌else◌}
+use Rattle.std.specs.Prelude.{◌≡◌, ◌⊎◌, ℕ, Bool, true, false, List, [], ◌∷◌, ◌++◌, Option, Some, None, Ok, codes}
 use Rattle.std.specs.FinMap as names
 use Rattle.clap.specs.Words.{Text}
 use Rattle.env_session.specs.Session.{Held}
-use Rattle.hush_commands.specs.Stubs.{Statuses, stubs_of}
+use Rattle.hush_commands.specs.StandIns.{Statuses, stand_ins_of}
 use Rattle.hush_run.specs.Runs.{rules}
 use Rattle.fw_session.specs.Ends.{Ends}
 use Rattle.fw_session.specs.Replies.{NamedSession}
@@ -13,12 +13,12 @@ use Rattle.fw_session.specs.declared.ending.SessionEnding.TheVariants as ending
 use Rattle.fw_command.specs.DryRuns.{DryRun}
 use Rattle.fw_command.specs.Saying.{SaysSome, Stops, message_of}
 use Rattle.fw_tools.specs.Streams.{AppendsFront, Streams, writers_of}
-use Rattle.fw_tools.specs.declared.ending.StreamFault.TheVariants.{Read, Write, Memory}
+use Rattle.fw_tools.specs.declared.ending.ToolFault.TheVariants.{Read, Write, Memory}
 
 -- the stand-ins are those of some text, or there are none
-abbrev pub StandsIn : Option Text → Statuses → Type 0
-StandsIn None stubs = stubs ≡ names.empty
-StandsIn (Some path) stubs = (text : List ℕ) × (stubs_of text ≡ Ok stubs)
+abbrev pub AreStandInsOf : Option Text → Statuses → Type 0
+AreStandInsOf None stand_ins = stand_ins ≡ names.empty
+AreStandInsOf (Some path) stand_ins = (text : List ℕ) × (stand_ins_of text ≡ Ok stand_ins)
 
 -- the copies are written back where that was asked for and the whole input was handled
 abbrev pub is_kept : Bool → SessionEnding → Bool
@@ -39,19 +39,19 @@ Reports None old new status = (new ≡ old) × (status ≡ 0)
 Reports (Some text) old new status = AppendsFront old new text × (status ≡ 1)
 
 -- where copies are written back, one of them may be one that can't be
-abbrev pub Leaves : Bool → SessionEnding → Option (List ℕ) → Option (List ℕ) → ℕ → Type 0
-Leaves true end old new status = (SaysSome old new × (status ≡ 1)) ⊎ Reports (text_for end) old new status
-Leaves false end old new status = Reports (text_for end) old new status
+abbrev pub ClosesDryRun : Bool → SessionEnding → Option (List ℕ) → Option (List ℕ) → ℕ → Type 0
+ClosesDryRun true end old new status = (SaysSome old new × (status ≡ 1)) ⊎ Reports (text_for end) old new status
+ClosesDryRun false end old new status = Reports (text_for end) old new status
 
 -- standard input is answered over a session, with these stand-ins
 abbrev pub TriesWith : DryRun → Statuses → Held → Streams → Streams → ℕ → Type 0
-TriesWith run stubs session old new status =
+TriesWith run stand_ins session old new status =
     (end : SessionEnding) × (read : ℕ) × (written : ℕ) × (after : NamedSession)
-    × Ends end (rules stubs run.limits) (unnamed session) old.input new.input old.output new.output read written after
-    × Leaves (is_kept run.write end) end old.errors new.errors status
+    × Ends end (rules stand_ins run.limits) (unnamed session) old.input new.input old.output new.output read written after
+    × ClosesDryRun (is_kept run.write end) end old.errors new.errors status
 
 -- or before that the stand-ins' file can't be used, or memory runs out
 abbrev pub TriesOver : DryRun → Held → Streams → Streams → ℕ → Type 0
 TriesOver run session old new status =
     ((new.input ≡ old.input) × Stops (writers_of old) (writers_of new) status)
-    ⊎ ((stubs : Statuses) × StandsIn run.stubs stubs × TriesWith run stubs session old new status)
+    ⊎ ((stand_ins : Statuses) × AreStandInsOf run.stand_ins stand_ins × TriesWith run stand_ins session old new status)

@@ -61,18 +61,43 @@ export = tool (codes "export")
 abbrev pub write : Rule
 write = record (flag (codes "write")) { long = Some (codes "write") }
 
-abbrev pub stubs : Rule
-stubs = record (one (codes "stubs")) { long = Some (codes "stubs") }
+abbrev pub stand_ins : Rule
+stand_ins = record (one (codes "stubs")) { long = Some (codes "stubs") }
 
 abbrev pub number : (id usual : Text) → Rule
 number id usual = record (one id) { long = Some id; defaults = usual ∷ [] }
 
+-- the limits of a block where the words don't say: steps, starts inside one another, bytes of a word, bytes of the text
+abbrev pub usual_steps : Text
+usual_steps = codes "100000"
+
+abbrev pub usual_depth : Text
+usual_depth = codes "8"
+
+abbrev pub usual_word : Text
+usual_word = codes "4096"
+
+abbrev pub usual_output : Text
+usual_output = codes "1048576"
+
+-- the four options that say them
+abbrev pub with_steps : App → App
+with_steps app = with_rule app (number (codes "steps") usual_steps)
+
+abbrev pub with_depth : App → App
+with_depth app = with_rule app (number (codes "depth") usual_depth)
+
+abbrev pub with_word : App → App
+with_word app = with_rule app (number (codes "word") usual_word)
+
+abbrev pub with_output : App → App
+with_output app = with_rule app (number (codes "output") usual_output)
+
 abbrev pub limited : App → App
-limited app =
-    with_rule (with_rule (with_rule (with_rule app (number (codes "steps") (codes "100000"))) (number (codes "depth") (codes "8"))) (number (codes "word") (codes "4096"))) (number (codes "output") (codes "1048576"))
+limited app = with_output (with_word (with_depth (with_steps app)))
 
 abbrev pub session : App
-session = limited (with_rule (with_rule (tool (codes "session")) write) stubs)
+session = limited (with_rule (with_rule (tool (codes "session")) write) stand_ins)
 
 -- the command
 abbrev pub fwenv : App

@@ -5,7 +5,7 @@ ghost use Rattle.fw_command.specs.Acting.{Acts, Closes, DoesJob, Uses, UsesTool}
 ghost use Rattle.fw_command.specs.Calls.{call_view, job_view, task_view, texts};
 ghost use Rattle.fw_command.specs.Saying.{SaysOnly, SaysSome};
 ghost use Rattle.fw_tools.specs.Printing.{printed};
-ghost use Rattle.fw_tools.specs.Setting.{Changes, import_effect, joined, script_effect, set_effect};
+ghost use Rattle.fw_tools.specs.Setting.{Changes, import_effect, spaced, script_effect, set_effect};
 ghost use Rattle.fw_tools.specs.Tool.{Printed};
 
 use crate::calls::{Call, Job, Task};
@@ -152,8 +152,8 @@ fn set<E: Write>(
     ensures { MatchOption result (SaysSome (E.contents errors.old) (E.contents errors.new))
         (λ end. Changes (record { session = session.old; errors = E.contents errors.old })
         (record { session = session.new; errors = E.contents errors.new })
-        (set_effect session.old name.now (joined (texts words.entry)))
-        ((name.now, Some (joined (texts words.entry))) ∷ []) end) }
+        (set_effect session.old name.now (spaced (texts words.entry)))
+        ((name.now, Some (spaced (texts words.entry))) ∷ []) end) }
 {
     let words = bytes_or_say(alloc, words, errors)?;
     Some(setenv(alloc, session, name.as_bytes(), &words, errors))

@@ -81,6 +81,20 @@ pub(crate) fn read_call<'m, 'w>(
     }
 }
 
+/// The first value of an argument.
+pub(crate) fn first<'w>(found: &ArgMatches<'w>, id: &str) -> Option<&'w str>
+    ensures { option_copied result ≡ first_of id.now (rows_of (found_of found.now)) }
+{
+    found.get_str(id)
+}
+
+/// The first value of an argument, or another text where it has none.
+pub(crate) fn first_or<'w>(found: &ArgMatches<'w>, id: &str, other: &'w str) -> &'w str
+    ensures { result.now ≡ first_or other.now id.now (rows_of (found_of found.now)) }
+{
+    found.get_str(id).unwrap_or(other)
+}
+
 /// What the words of the subcommand `name` ask to be done over its session.
 fn read_job<'m, 'w>(name: &str, found: &'m ArgMatches<'w>) -> Result<Job<'m, 'w>, WordFault<'w>>
     ensures { word_seen job_view result ≡ job_of name.now (rows_of (found_of found.now)) }
@@ -156,20 +170,6 @@ fn values<'m, 'w>(found: &'m ArgMatches<'w>, id: &str) -> Option<&'m [&'w str]>
     ensures { option_map (λ s. map (λ v. v.now) s.now) result ≡ all_of id.now (rows_of (found_of found.now)) }
 {
     found.get_strs(id)
-}
-
-/// The first value of an argument.
-pub(crate) fn first<'w>(found: &ArgMatches<'w>, id: &str) -> Option<&'w str>
-    ensures { option_copied result ≡ first_of id.now (rows_of (found_of found.now)) }
-{
-    found.get_str(id)
-}
-
-/// The first value of an argument, or another text where it has none.
-pub(crate) fn first_or<'w>(found: &ArgMatches<'w>, id: &str, other: &'w str) -> &'w str
-    ensures { result.now ≡ first_or other.now id.now (rows_of (found_of found.now)) }
-{
-    found.get_str(id).unwrap_or(other)
 }
 
 /// Big-endian where one of two places chooses it.

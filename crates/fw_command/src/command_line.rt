@@ -14,7 +14,8 @@ use std::convert::AsStr;
 
 /// What the program does, in one line.
 const ABOUT: &str =
-    "Prints the variables of the U-Boot environment image on standard input, a line NAME=VALUE each, or by a command reads and writes those of a board, or tries its boot scripts";
+    "Prints the variables of the U-Boot environment image on standard input, a line NAME=VALUE each, or by a command \
+     reads and writes those of a board, or tries its boot scripts";
 
 /// An example for the end of the help.
 const EXAMPLE: &str =
@@ -64,6 +65,47 @@ pub(crate) fn is_given(matches: &ArgMatches<'_>, id: &str) -> bool
     is_from_words(matches.value_source(id))
 }
 
+/// The flag for images of big-endian boards.
+pub(crate) fn big_endian<'a>(alloc: Global) -> Arg<'a>
+    ensures rule { rule_of result ≡ words.big_endian }
+    ensures local { result.global ≡ false }
+{
+    flag(alloc, BIG_ENDIAN)
+        .long(BIG_ENDIAN)
+        .help(BIG_ENDIAN_HELP)
+}
+
+/// An argument that takes no value: it is there or not.
+pub(crate) fn flag<'a>(alloc: Global, id: &'a str) -> Arg<'a>
+    ensures rule { rule_of result ≡ words.flag id.entry.now }
+    ensures local { result.global ≡ false }
+{
+    Arg::new(alloc, id).action(ArgAction::SetTrue)
+}
+
+/// `-c FILE`, which all subcommands have.
+pub(crate) fn config<'a>(alloc: Global) -> Arg<'a>
+    ensures rule { rule_of result ≡ words.config }
+    ensures local { result.global ≡ false }
+{
+    Arg::new(alloc, "config")
+        .short('c')
+        .value_name("FILE")
+        .help("The configuration that names the copies")
+        .default_value(CONFIG)
+}
+
+/// `--default FILE`, which all subcommands have.
+pub(crate) fn default<'a>(alloc: Global) -> Arg<'a>
+    ensures rule { rule_of result ≡ words.default }
+    ensures local { result.global ≡ false }
+{
+    Arg::new(alloc, "default")
+        .long("default")
+        .value_name("FILE")
+        .help("The default environment, a text as for import; without it that is empty")
+}
+
 /// Whether a value comes from the words.
 fn is_from_words(source: Option<ValueSource>) -> bool
     ensures { result ≡ given_by source }
@@ -95,53 +137,12 @@ fn top<'a>(alloc: Global) -> Result<Command<'a>, AllocError>
         .arg(big_endian(alloc))
 }
 
-/// The flag for images of big-endian boards.
-pub(crate) fn big_endian<'a>(alloc: Global) -> Arg<'a>
-    ensures rule { rule_of result ≡ words.big_endian }
-    ensures local { result.global ≡ false }
-{
-    flag(alloc, BIG_ENDIAN)
-        .long(BIG_ENDIAN)
-        .help(BIG_ENDIAN_HELP)
-}
-
-/// An argument that takes no value: it is there or not.
-pub(crate) fn flag<'a>(alloc: Global, id: &'a str) -> Arg<'a>
-    ensures rule { rule_of result ≡ words.flag id.entry.now }
-    ensures local { result.global ≡ false }
-{
-    Arg::new(alloc, id).action(ArgAction::SetTrue)
-}
-
 /// An argument that takes any number of values.
 fn any_number<'a>(alloc: Global, id: &'a str, name: &'a str) -> Arg<'a>
     ensures rule { rule_of result ≡ words.any_number id.entry.now }
     ensures local { result.global ≡ false }
 {
     Arg::new(alloc, id).value_name(name).num_args(0..)
-}
-
-/// `-c FILE`, which all subcommands have.
-pub(crate) fn config<'a>(alloc: Global) -> Arg<'a>
-    ensures rule { rule_of result ≡ words.config }
-    ensures local { result.global ≡ false }
-{
-    Arg::new(alloc, "config")
-        .short('c')
-        .value_name("FILE")
-        .help("The configuration that names the copies")
-        .default_value(CONFIG)
-}
-
-/// `--default FILE`, which all subcommands have.
-pub(crate) fn default<'a>(alloc: Global) -> Arg<'a>
-    ensures rule { rule_of result ≡ words.default }
-    ensures local { result.global ≡ false }
-{
-    Arg::new(alloc, "default")
-        .long("default")
-        .value_name("FILE")
-        .help("The default environment, a text as for import; without it that is empty")
 }
 
 /// `printenv`

@@ -50,33 +50,6 @@ pub(crate) fn read_copy<X: Files + AllocGlobal>(
     }
 }
 
-/// Whether the path names a pipe, which has no place to seek to; to open one may take until somebody opens its other end.
-fn is_pipe<X: Files>(rt: &X, path: &str) -> bool {
-    matches!(kind_of(rt, path), Some(kind) if kind.is_fifo())
-}
-
-/// Whether the path names a character device, as raw flash is. That has to be erased before it is written, which nothing
-/// here does: bytes written over others would come out as both at once.
-fn is_raw<X: Files>(rt: &X, path: &str) -> bool {
-    matches!(kind_of(rt, path), Some(kind) if kind.is_char_device())
-}
-
-/// What kind of file a path names, if that can be told.
-fn kind_of<X: Files>(rt: &X, path: &str) -> Option<FileType> {
-    match fs::metadata(rt, path) {
-        Ok(metadata) => Some(metadata.file_type()),
-        Err(_) => None,
-    }
-}
-
-/// The fault of a read that gave less than the copy.
-fn short_or_unreadable(kind: ErrorKind) -> FileFault {
-    match kind {
-        ErrorKind::UnexpectedEof => FileFault::TooShort,
-        _ => FileFault::CannotRead,
-    }
-}
-
 /// Writes a copy over its place, and flushes it to storage. The device keeps its length: one that is too short by now is
 /// not written, and neither is a pipe or a character device.
 pub(crate) fn write_copy<X: Files>(
@@ -105,13 +78,6 @@ pub(crate) fn write_copy<X: Files>(
     Ok(())
 }
 
-/// Whether so many bytes from `start` on lie inside a device of this length.
-fn lies_inside(start: u64, count: usize, length: u64) -> bool
-    ensures { result ≡ nat_le (start + count) length }
-{
-    start <= length && count as u64 <= length - start
-}
-
 /// Whether two copies of this size share a byte of one device.
 pub(crate) fn share_a_byte(first: u64, second: u64, size: u32) -> bool
     ensures { result ≡ share_a_byte first second size }
@@ -129,4 +95,38 @@ pub(crate) fn to_write<'a>(old: &[u8], new: &'a [u8]) -> Option<&'a [u8]>
     ensures { option_copied result ≡ to_write old.now new.now }
 {
     if old == new { None } else { Some(new) }
+}
+
+/// Whether the path names a pipe, which has no place to seek to; to open one may take until somebody opens its other end.
+fn is_pipe<X: Files>(rt: &X, path: &str) -> bool {
+    matches!(kind_of(rt, path), Some(kind) if kind.is_fifo())
+}
+
+/// Whether the path names a character device, as raw flash is. That has to be erased before it is written, which nothing
+/// here does: bytes written over others would come out as both at once.
+fn is_raw<X: Files>(rt: &X, path: &str) -> bool {
+    matches!(kind_of(rt, path), Some(kind) if kind.is_char_device())
+}
+
+/// What kind of file a path names, if that can be told.
+fn kind_of<X: Files>(rt: &X, path: &str) -> Option<FileType> {
+    match fs::metadata(rt, path) {
+        Ok(metadata) => Some(metadata.file_type()),
+        Err(_) => None,
+    }
+}
+
+/// The fault of a read that gave less than the copy.
+fn short_or_unreadable(kind: ErrorKind) -> FileFault {
+    match kind {
+        ErrorKind::UnexpectedEof => FileFault::TooShort,
+        _ => FileFault::CannotRead,
+    }
+}
+
+/// Whether so many bytes from `start` on lie inside a device of this length.
+fn lies_inside(start: u64, count: usize, length: u64) -> bool
+    ensures { result ≡ nat_le (start + count) length }
+{
+    start <= length && count as u64 <= length - start
 }

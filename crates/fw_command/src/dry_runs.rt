@@ -11,7 +11,7 @@ use crate::numbers::read_number;
 use crate::session_words::{DEPTH, OUTPUT, STEPS, WORD};
 use crate::word_faults::WordFault;
 use clap::ArgMatches;
-use hush_run::Limits;
+use hush_run::{Limits, MOST_DEPTH, MOST_OUTPUT, MOST_STEPS, MOST_WORD};
 
 /// A dry run: `session [--write] [--stubs FILE] [--steps N] [--depth N] [--word N] [--output N]`.
 #[derive(Clone, Copy, Debug)]
@@ -19,7 +19,7 @@ pub(crate) struct DryRun<'w> {
     /// Whether the copies are written back.
     pub(crate) write: bool,
     /// The path of the stand-ins, if there are any.
-    pub(crate) stubs: Option<&'w str>,
+    pub(crate) stand_ins: Option<&'w str>,
     /// How far each block may go.
     pub(crate) limits: Limits,
 }
@@ -31,7 +31,7 @@ pub(crate) fn read_dry_run<'w>(found: &ArgMatches<'w>) -> Result<DryRun<'w>, Wor
     match read_limits(found) {
         Ok(limits) => Ok(DryRun {
             write: is_given(found, "write"),
-            stubs: first(found, "stubs"),
+            stand_ins: first(found, "stubs"),
             limits,
         }),
         Err(fault) => Err(fault),
@@ -42,10 +42,10 @@ pub(crate) fn read_dry_run<'w>(found: &ArgMatches<'w>) -> Result<DryRun<'w>, Wor
 fn read_limits<'w>(found: &ArgMatches<'w>) -> Result<Limits, WordFault<'w>>
     ensures { word_seen (λ l. l) result ≡ limits_of (rows_of (found_of found.now)) }
 {
-    let steps = number(found, "steps", STEPS, 1_000_000, BAD_STEPS)?;
-    let depth = number(found, "depth", DEPTH, 16, BAD_DEPTH)?;
-    let word = number(found, "word", WORD, 65_536, BAD_WORD)?;
-    let output = number(found, "output", OUTPUT, 16_777_216, BAD_OUTPUT)?;
+    let steps = number(found, "steps", STEPS, MOST_STEPS, BAD_STEPS)?;
+    let depth = number(found, "depth", DEPTH, MOST_DEPTH, BAD_DEPTH)?;
+    let word = number(found, "word", WORD, MOST_WORD, BAD_WORD)?;
+    let output = number(found, "output", OUTPUT, MOST_OUTPUT, BAD_OUTPUT)?;
     match Limits::new(steps, depth, word, output) {
         Some(limits) => Ok(limits),
         None => unreachable!(),

@@ -4,17 +4,18 @@ ghost use Rattle.std.specs.Result.{result_ok};
 ghost use Rattle.fw_command.specs.Saying.{SaysSome};
 ghost use Rattle.envcfg_core.specs.Import.{import_of};
 ghost use Rattle.envcfg_core.specs.SetScript.{set_script_of};
-ghost use Rattle.fw_command.specs.Talking.{StandsIn};
-ghost use Rattle.hush_commands.specs.Stubs.{stubs_of};
+ghost use Rattle.fw_command.specs.Opening.{file_limit};
+ghost use Rattle.fw_command.specs.Talking.{AreStandInsOf};
+ghost use Rattle.hush_commands.specs.StandIns.{stand_ins_of};
 
 use crate::messages::{
     CANNOT_READ_FILE, CANNOT_WRITE_FILE, COLON, FWENV, IN_LINE, NEWLINE, OUT_OF_MEMORY, TOO_SHORT,
 };
 use envcfg_core::{ConfigFault, ImportText, ScriptText, TextFault};
 use envvars_core::Refusal;
-use fw_tools::StreamFault;
+use fw_tools::ToolFault;
 use fw_tools::streams::{read_up_to, say, write_decimal, write_text, write_three, write_two};
-use hush_run::{StubFault, Stubs};
+use hush_run::{StandInFault, StandIns};
 use std::alloc::Global;
 use std::fs::OpenOptions;
 use std::io::Write;
@@ -39,14 +40,14 @@ pub(crate) enum FileFault {
     /// It is a text for import or a set script that is refused.
     Text(TextFault),
     /// It is a stand-in file that is refused.
-    Stubs(StubFault),
+    StandIns(StandInFault),
     /// It is a default environment, and the entry in this line is refused.
     Default(usize, Refusal),
 }
 
 /// Reads a whole file of at most 16,777,216 bytes.
 pub(crate) fn read_file<X: Files + AllocGlobal>(rt: &X, path: &str) -> Result<Vec<u8>, FileFault>
-    ensures { IfOk result (λ bytes. length bytes.items ≤ 16777216) }
+    ensures { IfOk result (λ bytes. length bytes.items ≤ file_limit) }
 {
     let Ok(mut file) = OpenOptions::new().read(true).open(rt, path) else {
         return Err(FileFault::CannotRead);
@@ -59,7 +60,7 @@ pub(crate) fn read_file<X: Files + AllocGlobal>(rt: &X, path: &str) -> Result<Ve
                 Err(FileFault::CannotRead)
             }
         }
-        Err(StreamFault::Memory) => Err(FileFault::Memory),
+        Err(ToolFault::Memory) => Err(FileFault::Memory),
         Err(_) => Err(FileFault::CannotRead),
     }
 }
@@ -86,42 +87,15 @@ pub(crate) fn script_from(text: &[u8]) -> Result<ScriptText<'_>, FileFault>
 }
 
 /// Reads a stand-in file; without one there are no stand-ins.
-pub(crate) fn read_stubs<X: Files + AllocGlobal>(
+pub(crate) fn read_stand_ins<X: Files + AllocGlobal>(
     rt: &X,
     path: Option<&str>,
-) -> Result<Stubs, FileFault>
-    ensures { IfOk result (StandsIn (option_map (λ p. p.now) path.entry)) }
+) -> Result<StandIns, FileFault>
+    ensures { IfOk result (AreStandInsOf (option_map (λ p. p.now) path.entry)) }
 {
     match path {
-        None => stubs_from(rt.alloc(), b""),
-        Some(path) => read_stub_file(rt, path),
-    }
-}
-
-/// Reads the stand-ins in a file.
-fn read_stub_file<X: Files + AllocGlobal>(rt: &X, path: &str) -> Result<Stubs, FileFault>
-    ensures { IfOk result (StandsIn (Some path.now)) }
-{
-    let text = read_file(rt, path)?;
-    stubs_from(rt.alloc(), &text)
-}
-
-/// The stand-ins in a text.
-fn stubs_from(alloc: Global, text: &[u8]) -> Result<Stubs, FileFault>
-    ensures { IfOk result (λ stubs. stubs_of text.now ≡ Ok stubs) }
-{
-    match Stubs::parse(alloc, text) {
-        Ok(stubs) => Ok(stubs),
-        Err(StubFault::Memory) => Err(FileFault::Memory),
-        Err(fault) => Err(FileFault::Stubs(fault)),
-    }
-}
-
-/// The fault of a file whose text is refused.
-fn text_fault(fault: TextFault) -> FileFault {
-    match fault {
-        TextFault::Memory => FileFault::Memory,
-        refused => FileFault::Text(refused),
+        None => stand_ins_from(rt.alloc(), b""),
+        Some(path) => read_stand_in_file(rt, path),
     }
 }
 
@@ -161,11 +135,38 @@ pub(crate) fn say_fault<E: Write>(alloc: Global, errors: &mut E, path: &str, fau
             Ok(name) => say_refused(errors, path, name.as_bytes()),
             Err(_) => say(errors, OUT_OF_MEMORY),
         },
-        FileFault::Stubs(refused) => match refused.to_string(alloc) {
+        FileFault::StandIns(refused) => match refused.to_string(alloc) {
             Ok(name) => say_refused(errors, path, name.as_bytes()),
             Err(_) => say(errors, OUT_OF_MEMORY),
         },
         FileFault::Default(line, refusal) => say_line(errors, path, name_of(refusal), line),
+    }
+}
+
+/// Reads the stand-ins in a file.
+fn read_stand_in_file<X: Files + AllocGlobal>(rt: &X, path: &str) -> Result<StandIns, FileFault>
+    ensures { IfOk result (AreStandInsOf (Some path.now)) }
+{
+    let text = read_file(rt, path)?;
+    stand_ins_from(rt.alloc(), &text)
+}
+
+/// The stand-ins in a text.
+fn stand_ins_from(alloc: Global, text: &[u8]) -> Result<StandIns, FileFault>
+    ensures { IfOk result (λ stand_ins. stand_ins_of text.now ≡ Ok stand_ins) }
+{
+    match StandIns::parse(alloc, text) {
+        Ok(stand_ins) => Ok(stand_ins),
+        Err(StandInFault::Memory) => Err(FileFault::Memory),
+        Err(fault) => Err(FileFault::StandIns(fault)),
+    }
+}
+
+/// The fault of a file whose text is refused.
+fn text_fault(fault: TextFault) -> FileFault {
+    match fault {
+        TextFault::Memory => FileFault::Memory,
+        refused => FileFault::Text(refused),
     }
 }
 

@@ -40,12 +40,15 @@ pub(crate) const COPIES_OVERLAP: &[u8] = b"fwenv: copies overlap\n";
 /// Standard error where neither copy is good.
 pub(crate) const BAD_CRC_DEFAULT: &[u8] = b"Warning: Bad CRC, using default environment\n";
 
-/// Standard error where `setenv` has a name and a script, or neither.
+/// Standard error where `setenv` has a name and a script.
 pub(crate) const NAME_AND_SCRIPT: &[u8] =
-    b"error: the argument '-s <FILE>' cannot be used with '[NAME]'\n\nUsage: fwenv setenv [OPTIONS] [NAME] [WORDS]...\n\nFor more information, try '--help'.\n";
+    b"error: the argument '-s <FILE>' cannot be used with '[NAME]'\n\n\
+      Usage: fwenv setenv [OPTIONS] [NAME] [WORDS]...\n\nFor more information, try '--help'.\n";
 
+/// Standard error where `setenv` has neither a name nor a script.
 pub(crate) const NO_NAME: &[u8] =
-    b"error: the following required arguments were not provided:\n  <NAME|-s <FILE>>\n\nUsage: fwenv setenv [OPTIONS] [NAME] [WORDS]...\n\nFor more information, try '--help'.\n";
+    b"error: the following required arguments were not provided:\n  <NAME|-s <FILE>>\n\n\
+      Usage: fwenv setenv [OPTIONS] [NAME] [WORDS]...\n\nFor more information, try '--help'.\n";
 
 /// Standard error where the input of a session is longer than it may be.
 pub(crate) const TOO_LONG: &[u8] = b"fwenv: input too long\n";

@@ -63,6 +63,31 @@ pub(crate) fn read_source<X: Files + AllocGlobal, E: Write>(
     })
 }
 
+/// The session over these copies, with the default environment of a text, or an empty one. Where neither copy is good
+/// that is said on `errors`, before a fault of the text.
+pub(crate) fn open<X: Files + AllocGlobal, E: Write>(
+    rt: &X,
+    source: &Source,
+    default: Option<&str>,
+    errors: &mut E,
+) -> Option<Session>
+    ensures { MatchOption result (SaysSome (E.contents errors.old) (E.contents errors.new))
+        (λ session. IsOpening source.now.geometry.order session × AppendsFront (E.contents errors.old)
+        (E.contents errors.new) (warning session.now.current)) }
+{
+    match session_over(rt, source, default) {
+        Ok(session) => {
+            warn(session.current(), errors);
+            Some(session)
+        }
+        Err(fault) => {
+            warn(current_of(source), errors);
+            say_fault(rt.alloc(), errors, default.unwrap_or(""), fault);
+            None
+        }
+    }
+}
+
 /// Reads the configuration.
 fn read_config<X: Files + AllocGlobal>(rt: &X, path: &str) -> Result<Config, FileFault> {
     let text = read_file(rt, path)?;
@@ -101,31 +126,6 @@ fn overlap(config: &Config, first: &ReadCopy, second: &Option<ReadCopy>) -> bool
                 && share_a_byte(first.start, second.start, config.size)
         }
         _ => false,
-    }
-}
-
-/// The session over these copies, with the default environment of a text, or an empty one. Where neither copy is good
-/// that is said on `errors`, before a fault of the text.
-pub(crate) fn open<X: Files + AllocGlobal, E: Write>(
-    rt: &X,
-    source: &Source,
-    default: Option<&str>,
-    errors: &mut E,
-) -> Option<Session>
-    ensures { MatchOption result (SaysSome (E.contents errors.old) (E.contents errors.new))
-        (λ session. IsOpening source.now.geometry.order session × AppendsFront (E.contents errors.old)
-        (E.contents errors.new) (warning session.now.current)) }
-{
-    match session_over(rt, source, default) {
-        Ok(session) => {
-            warn(session.current(), errors);
-            Some(session)
-        }
-        Err(fault) => {
-            warn(current_of(source), errors);
-            say_fault(rt.alloc(), errors, default.unwrap_or(""), fault);
-            None
-        }
     }
 }
 

@@ -1,7 +1,7 @@
 //! The program over its words and streams.
 ghost use Rattle.std.specs.Prelude.{◌≡◌, ◌⊎◌, ◌≤◌, map};
 ghost use Rattle.clap.specs.Words.{kind_of, subcommand_rows_of};
-ghost use Rattle.fw_command.specs.Running.{Answers, Does, LacksMemory, Runs, ShowsAndSays, message_without_words};
+ghost use Rattle.fw_command.specs.Running.{RepliesTo, Does, LacksMemory, Runs, ShowsAndSays, message_without_words};
 ghost use Rattle.fw_command.specs.Saying.{Says};
 ghost use Rattle.fw_tools.specs.Streams.{AppendsFront};
 ghost use Rattle.fw_command.specs.Words.{order_in};
@@ -15,7 +15,7 @@ use clap::error::ErrorKind;
 use clap::{ArgMatches, Error};
 use envimg_core::Order;
 use fw_tools::streams::{say, write_text};
-use fw_tools::{StreamFault, ToolEnd, show};
+use fw_tools::{ToolEnd, ToolFault, show};
 use std::alloc::Global;
 use std::convert::AsStr;
 use std::io::{self, Read, Write};
@@ -56,6 +56,36 @@ pub fn program<X: Files + AllocGlobal, S: AsStr, R: Read, W: Write, E: Write>(
         Err(error) => print_error(alloc, &error, output, errors),
         Ok(matches) => act_on(rt, &matches, input, output, errors),
     }
+}
+
+/// Says on `errors` why the words of the command line could not be had, and answers the exit status, 1.
+pub fn words_failed<E: Write>(error: &io::Error, errors: &mut E) -> u8
+    ensures status { result ≡ 1 }
+    ensures said { AppendsFront (E.contents errors.old) (E.contents errors.new) (message_without_words (error_kind error.now)) }
+{
+    let text = match error.kind() {
+        io::ErrorKind::OutOfMemory => OUT_OF_MEMORY,
+        io::ErrorKind::InvalidData => NOT_UTF8,
+        _ => NO_WORDS,
+    };
+    say(errors, text);
+    1
+}
+
+/// Says on `errors` which fault stopped a tool, if one did, and answers the exit status.
+pub(crate) fn report<E: Write>(end: ToolEnd, errors: &mut E) -> u8
+    ensures status { result ≡ end.status }
+    ensures said { Says end.fault (E.contents errors.old) (E.contents errors.new) }
+{
+    if let Some(fault) = end.fault {
+        let text = match fault {
+            ToolFault::Read => CANNOT_READ,
+            ToolFault::Write => CANNOT_WRITE,
+            ToolFault::Memory => OUT_OF_MEMORY,
+        };
+        say(errors, text);
+    }
+    end.status
 }
 
 /// Does what words with nothing wrong ask for.
@@ -104,20 +134,6 @@ fn show_input<R: Read, W: Write, E: Write>(
     report(end, errors)
 }
 
-/// Says on `errors` why the words of the command line could not be had, and answers the exit status, 1.
-pub fn words_failed<E: Write>(error: &io::Error, errors: &mut E) -> u8
-    ensures status { result ≡ 1 }
-    ensures said { AppendsFront (E.contents errors.old) (E.contents errors.new) (message_without_words (error_kind error.now)) }
-{
-    let text = match error.kind() {
-        io::ErrorKind::OutOfMemory => OUT_OF_MEMORY,
-        io::ErrorKind::InvalidData => NOT_UTF8,
-        _ => NO_WORDS,
-    };
-    say(errors, text);
-    1
-}
-
 /// Prints the help on `output`, or what is wrong with the words on `errors`.
 fn print_error<W: Write, E: Write>(
     alloc: Global,
@@ -127,38 +143,22 @@ fn print_error<W: Write, E: Write>(
 ) -> u8
     ensures status { result ≤ 1 }
     ensures answers { LacksMemory (record { output = W.contents output.old; errors = E.contents errors.old })
-        (record { output = W.contents output.new; errors = E.contents errors.new }) result ⊎ Answers (kind_of error.now)
+        (record { output = W.contents output.new; errors = E.contents errors.new }) result ⊎ RepliesTo (kind_of error.now)
         (record { output = W.contents output.old; errors = E.contents errors.old })
         (record { output = W.contents output.new; errors = E.contents errors.new }) result }
 {
     let Ok(text) = error.to_string(alloc) else {
-        return report(ToolEnd::stopped(StreamFault::Memory), errors);
+        return report(ToolEnd::stopped(ToolFault::Memory), errors);
     };
     if error.kind() == ErrorKind::OutOfMemory {
-        return report(ToolEnd::stopped(StreamFault::Memory), errors);
+        return report(ToolEnd::stopped(ToolFault::Memory), errors);
     }
     if error.use_stderr() {
         say(errors, text.as_bytes());
         return 1;
     }
     if !write_text(output, text.as_bytes()) {
-        return report(ToolEnd::stopped(StreamFault::Write), errors);
+        return report(ToolEnd::stopped(ToolFault::Write), errors);
     }
     0
-}
-
-/// Says on `errors` which fault stopped a tool, if one did, and answers the exit status.
-pub(crate) fn report<E: Write>(end: ToolEnd, errors: &mut E) -> u8
-    ensures status { result ≡ end.status }
-    ensures said { Says end.fault (E.contents errors.old) (E.contents errors.new) }
-{
-    if let Some(fault) = end.fault {
-        let text = match fault {
-            StreamFault::Read => CANNOT_READ,
-            StreamFault::Write => CANNOT_WRITE,
-            StreamFault::Memory => OUT_OF_MEMORY,
-        };
-        say(errors, text);
-    }
-    end.status
 }

@@ -34,7 +34,7 @@ pub(crate) fn session<'a>(alloc: Global) -> Result<Command<'a>, AllocError>
         .arg(default(alloc))?
         .arg(big_endian(alloc))?
         .arg(write(alloc))?
-        .arg(stubs(alloc))?
+        .arg(stand_ins(alloc))?
         .arg(number(alloc, "steps", STEPS, steps))?
         .arg(number(alloc, "depth", DEPTH, depth))?
         .arg(number(alloc, "word", WORD, word))?
@@ -43,8 +43,8 @@ pub(crate) fn session<'a>(alloc: Global) -> Result<Command<'a>, AllocError>
 }
 
 /// `--stubs FILE`
-fn stubs<'a>(alloc: Global) -> Arg<'a>
-    ensures rule { rule_of result ≡ words.stubs }
+fn stand_ins<'a>(alloc: Global) -> Arg<'a>
+    ensures rule { rule_of result ≡ words.stand_ins }
     ensures local { result.global ≡ false }
 {
     Arg::new(alloc, "stubs")

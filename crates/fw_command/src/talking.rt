@@ -1,11 +1,11 @@
 //! `session`: a dry run over standard input and output.
 ghost use Rattle.std.specs.Prelude.{◌≡◌, option_map, unwrap_or};
 ghost use Rattle.fw_command.specs.DryRuns.{dry_run_view};
-ghost use Rattle.fw_command.specs.Talking.{Leaves, Reports, TriesOver, is_kept, text_for};
+ghost use Rattle.fw_command.specs.Talking.{ClosesDryRun, Reports, TriesOver, is_kept, text_for};
 
 use crate::closing::write_back;
 use crate::dry_runs::DryRun;
-use crate::files::{read_stubs, value_or_say};
+use crate::files::{read_stand_ins, value_or_say};
 use crate::messages::{CANNOT_READ, CANNOT_WRITE, OUT_OF_MEMORY, TOO_LONG};
 use crate::opening::Source;
 use env_session::Session;
@@ -29,13 +29,13 @@ pub(crate) fn talk<X: Files + AllocGlobal, R: Read, W: Write, E: Write>(
         (record { input = R.remaining input.new; output = W.contents output.new; errors = E.contents errors.new })
         (unwrap_or result 1) }
 {
-    let stubs = value_or_say(
+    let stand_ins = value_or_say(
         rt.alloc(),
         errors,
-        run.stubs.unwrap_or(""),
-        read_stubs(rt, run.stubs),
+        run.stand_ins.unwrap_or(""),
+        read_stand_ins(rt, run.stand_ins),
     )?;
-    let end = session(rt.alloc(), opened, &stubs, &run.limits, input, output);
+    let end = session(rt.alloc(), opened, &stand_ins, &run.limits, input, output);
     Some(leave(rt, source, run.write, end, errors))
 }
 
@@ -48,7 +48,7 @@ fn leave<X: Files + AllocGlobal, E: Write>(
     end: SessionEnd,
     errors: &mut E,
 ) -> u8
-    ensures { Leaves (is_kept write end.ending) end.ending (E.contents errors.old) (E.contents errors.new) result }
+    ensures { ClosesDryRun (is_kept write end.ending) end.ending (E.contents errors.old) (E.contents errors.new) result }
 {
     let ending = end.ending;
     if !is_kept(write, ending) {

@@ -11,15 +11,15 @@ use Rattle.hush_run.specs.Runs.{Runs, RunsBy, Shows, reason_of, ending_of}
 use Rattle.fw_session.specs.Input.{Block}
 use Rattle.fw_session.specs.Streams.{Writes}
 use Rattle.fw_session.specs.NamedSessions.{named_session}
-use Rattle.fw_session.specs.Replies.{NamedSession, Through, Refused, Stopped, reply, MayStand, said, tried, stopped_run, run_reply, ending_line, RunStops}
-use Rattle.fw_session.specs.Hearing.{Answered}
+use Rattle.fw_session.specs.Replies.{NamedSession, Through, Refused, Stopped, reply, MayStand, with_newline, tried, stopped_run, run_reply, ending_line, RunStops}
+use Rattle.fw_session.specs.Handling.{ItemAnswered}
 
-pub no_room : (rules : Rules) (t : NamedSession) (text : List ℕ) (out out' : Option (List ℕ)) (n n' : ℕ) (ok : Bool) → Writes out out' n n' (said (codes "[Memory]")) ok → Answered rules t (Block text) out out' n n' t ok
+pub no_room : (rules : Rules) (t : NamedSession) (text : List ℕ) (out out' : Option (List ℕ)) (n n' : ℕ) (ok : Bool) → Writes out out' n n' (with_newline (codes "[Memory]")) ok → ItemAnswered rules t (Block text) out out' n n' t ok
 unfolding reply MayStand
 no_room rules t text out out' n n' ok w = record { note = Refused; may = tt; wrote = w; session = refl }
 
 pub no_script : (rules : Rules) (t : NamedSession) (text : List ℕ) (out out' : Option (List ℕ)) (n n' : ℕ) (ok : Bool) → read text ≡ None →
-    Writes out out' n n' (said (codes "[Syntax]")) ok → Answered rules t (Block text) out out' n n' t ok
+    Writes out out' n n' (with_newline (codes "[Syntax]")) ok → ItemAnswered rules t (Block text) out out' n n' t ok
 unfolding reply MayStand
 no_script rules t text out out' n n' ok e w = record {
   note = Through;
@@ -37,7 +37,7 @@ shown e s t now o x =
 
 ran_through : (rules : Rules) (e : Ending) (tree : Option Chains) (h h' : Held) (names : List (Option (List ℕ))) (text : List ℕ) (o : Outcome) (out out' : Option (List ℕ)) (n n' : ℕ) (ok : Bool) → read text ≡ Some tree →
     ending_of (meaning rules tree h).0 ≡ e → Shows (meaning rules tree h).1 h' o → Writes out out' n n' (o.text.items ++ ending_line e o.status o.steps) ok →
-    Answered rules (named_session h names) (Block text) out out' n n' (named_session h' names) ok
+    ItemAnswered rules (named_session h names) (Block text) out out' n n' (named_session h' names) ok
 unfolding reply MayStand
 ran_through rules e tree h h' names text o out out' n n' ok is told shows w =
     let t = named_session h names in
@@ -54,7 +54,7 @@ ran_through rules e tree h h' names text o out out' n n' ok is told shows w =
 
 ran_stopped : (rules : Rules) (tree : Option Chains) (h h' : Held) (names : List (Option (List ℕ))) (text : List ℕ) (o : Outcome) (out out' : Option (List ℕ)) (n n' : ℕ) (ok : Bool) → read text ≡ Some tree →
     RunsBy None rules tree h h' o → Writes out out' n n' (o.text.items ++ ending_line Memory o.status o.steps) ok →
-    Answered rules (named_session h names) (Block text) out out' n n' (named_session h' names) ok
+    ItemAnswered rules (named_session h names) (Block text) out out' n n' (named_session h' names) ok
 unfolding reply MayStand
 ran_stopped rules tree h h' names text o out out' n n' ok e r w =
     let t = named_session h names in
@@ -71,7 +71,7 @@ ran_stopped rules tree h h' names text o out out' n n' ok e r w =
 
 ran_by : (e : Ending) (rules : Rules) (tree : Option Chains) (h h' : Held) (names : List (Option (List ℕ))) (text : List ℕ) (o : Outcome) (out out' : Option (List ℕ)) (n n' : ℕ) (ok : Bool) → read text ≡ Some tree →
     RunsBy (reason_of e) rules tree h h' o → Writes out out' n n' (o.text.items ++ ending_line e o.status o.steps) ok →
-    Answered rules (named_session h names) (Block text) out out' n n' (named_session h' names) ok
+    ItemAnswered rules (named_session h names) (Block text) out out' n n' (named_session h' names) ok
 ran_by Finished rules tree h h' names text o out out' n n' ok is r w = ran_through rules Finished tree h h' names text o out out' n n' ok is (ap ending_of r.0) r.1 w
 ran_by Exited rules tree h h' names text o out out' n n' ok is r w = ran_through rules Exited tree h h' names text o out out' n n' ok is (ap ending_of r.0) r.1 w
 ran_by Steps rules tree h h' names text o out out' n n' ok is r w = ran_through rules Steps tree h h' names text o out out' n n' ok is (ap ending_of r.0) r.1 w
@@ -82,6 +82,6 @@ ran_by Memory rules tree h h' names text o out out' n n' ok is r w = ran_stopped
 
 pub block_ran : (rules : Rules) (tree : Option Chains) (h h' : Held) (names : List (Option (List ℕ))) (text source : List ℕ) (o : Outcome) (out out' : Option (List ℕ)) (n n' : ℕ) (ok : Bool) → read source ≡ Some tree → source ≡ text →
     Runs rules tree h h' o → Writes out out' n n' (o.text.items ++ ending_line o.ending o.status o.steps) ok →
-    Answered rules (named_session h names) (Block text) out out' n n' (named_session h' names) ok
+    ItemAnswered rules (named_session h names) (Block text) out out' n n' (named_session h' names) ok
 block_ran rules tree h h' names text source o out out' n n' ok e same r w =
     ran_by o.ending rules tree h h' names text o out out' n n' ok (sym (ap read same) ∙ e) r w

@@ -5,7 +5,7 @@ use Rattle.std.proofs.lemmas.Bool.{ne_eqb, eq-eqb}
 use Rattle.std.proofs.Common.{◌≡◌, ℕ, zero, suc, ◌<◌, ◌≤◌, ◌==◌, ◌++◌, ◌&&◌, ◌||◌, not, if◌then◌else◌, get_or, List, [], ◌∷◌, length, take, drop, true, false, refl, sym, ap, subst, ◌∙◌, arith, append_assoc, append-nil}
 use Rattle.std.specs.List.{list_any}
 use Rattle.fw_session.specs.Input.{Item, Block, Dot, onto, lines_of, is_dot_line, joined, items_in, items_of, is_ended, is_whole, to_last_dot}
-use Rattle.fw_session.specs.Hearing.{block_items, before, IsPlain, no_newline, IsPending, IsLine, EndWhole}
+use Rattle.fw_session.specs.Handling.{block_items, before, IsPlain, no_newline, IsPending, IsLine, EndWhole}
 
 line_cut : (line xs : List ℕ) → no_newline line ≡ true → lines_of (line ++ 10 ∷ xs) ≡ (line ++ 10 ∷ []) ∷ lines_of xs
 line_cut [] xs e = refl

@@ -8,16 +8,16 @@ use Rattle.std.proofs.KnownBytes.{Consumes-nil, Consumes-trans, Consumes-kept}
 use Rattle.hush_run.specs.Meaning.{Rules}
 use Rattle.fw_session.specs.Replies.{NamedSession}
 use Rattle.fw_session.specs.NamedSessions.{names_of, named_session, session_of}
-use Rattle.fw_session.specs.Ends.{Ends}
-use Rattle.fw_session.specs.Hearing.{Heard, HeardBroke, IsPending}
+use Rattle.fw_session.specs.Ends.{Ends, input_limit}
+use Rattle.fw_session.specs.Handling.{Handled, HandledUntilCut, IsPending}
 use Rattle.std.proofs.lemmas.List.{take-append-le, length-take-le}
 use Rattle.std.proofs.Common.{Err}
 use Rattle.fw_session.specs.declared.ending.Stop.{Stop}
-use Rattle.fw_session.specs.Talks.{Hears, Reading, HearsAll, HearsSome, Finishes}
+use Rattle.fw_session.specs.Talks.{HandlesPiece, Reading, HandlesAll, HandlesSome, Finishes}
 use Rattle.fw_session.specs.declared.talking.Talk.{Talk}
 use Rattle.fw_session.specs.declared.ending.SessionEnding.{SessionEnding}
 use Rattle.fw_session.specs.declared.ending.SessionEnding.TheVariants.{Done, ReadFault, TooLong, WriteFault, Memory}
-use Rattle.fw_session.proofs.HearLemmas.{heard_none, heard_then, heard_broke, said_whole, broke_whole, said_all, broke_all}
+use Rattle.fw_session.proofs.HandlingLemmas.{handled_none, handled_then, handled_cut_short, answered_whole, cut_short_whole, answered_all, cut_short_all}
 
 ends_as : (e e' : SessionEnding) (rules : Rules) (h h' h'' : NamedSession) (i i' o o' : Option (List ℕ)) (r r' w w' : ℕ) → h'' ≡ h' → e' ≡ e → r' ≡ r → w' ≡ w → Ends e rules h i i' o o' r w h' → Ends e' rules h i i' o o' r' w' h''
 ends_as e e' rules h h' h'' i i' o o' r r' w w' a b c d x =
@@ -39,32 +39,32 @@ finishes_as e e' rules h bytes talk now o o' n w' a b d x =
           (subst (λ v. Finishes rules h bytes o o' n v (named_session now names) e) (sym d) (subst (λ v. Finishes rules h bytes o o' n talk.written (named_session v names) e) (sym a) x)),
     )
 
-pub reading_more : (rules : Rules) (h : NamedSession) (i i' i'' o o' o'' : Option (List ℕ)) (read count : ℕ) (piece : List ℕ) (old new : Talk) → Reading rules h i i' o o' read old → Consumes i' i'' piece → length piece ≡ count → read + count ≤ 16777216 →
-    HearsAll rules piece old new o' o'' → Reading rules h i i'' o o'' (read + count) new
+pub reading_more : (rules : Rules) (h : NamedSession) (i i' i'' o o' o'' : Option (List ℕ)) (read count : ℕ) (piece : List ℕ) (old new : Talk) → Reading rules h i i' o o' read old → Consumes i' i'' piece → length piece ≡ count → read + count ≤ input_limit →
+    HandlesAll rules piece old new o' o'' → Reading rules h i i'' o o'' (read + count) new
 reading_more rules h i i' i'' o o' o'' read count piece old new r gave is room s = record {
   bytes = r.bytes ++ piece;
   read_is = omega (arith, r.read_is, length-append r.bytes piece);
   bounded = omega (arith, r.read_is, length-append r.bytes piece);
   consumed = Consumes-trans i i' i'' r.bytes piece r.consumed gave;
   pending = s.0;
-  heard = heard_then rules [] old.bytes.items new.bytes.items r.bytes piece h (session_of old) (session_of new) o o' o'' 0 old.written new.written r.heard s.1;
+  handled = handled_then rules [] old.bytes.items new.bytes.items r.bytes piece h (session_of old) (session_of new) o o' o'' 0 old.written new.written r.handled s.1;
 }
 
 pub read_failed : (rules : Rules) (h : NamedSession) (i i' i'' o o' : Option (List ℕ)) (read : ℕ) (talk : Talk) → Reading rules h i i' o o' read talk → Keeps i' i'' → Ends ReadFault rules h i i'' o o' read talk.written (session_of talk)
 read_failed rules h i i' i'' o o' read talk r k = (
   r.bytes,
   (Consumes-kept i i' i'' r.bytes r.consumed k, r.read_is, r.bounded),
-  said_whole rules r.bytes talk.bytes.items talk.start h (session_of talk) o o' 0 talk.written r.pending r.heard,
+  answered_whole rules r.bytes talk.bytes.items talk.start h (session_of talk) o o' 0 talk.written r.pending r.handled,
 )
 
-pub too_long : (rules : Rules) (h : NamedSession) (i i' i'' o o' : Option (List ℕ)) (read more : ℕ) (talk : Talk) → Reading rules h i i' o o' read talk → 16777216 ≤ read → Consumes i' i'' (more ∷ []) → Ends TooLong rules h i i'' o o' read talk.written (session_of talk)
+pub too_long : (rules : Rules) (h : NamedSession) (i i' i'' o o' : Option (List ℕ)) (read more : ℕ) (talk : Talk) → Reading rules h i i' o o' read talk → input_limit ≤ read → Consumes i' i'' (more ∷ []) → Ends TooLong rules h i i'' o o' read talk.written (session_of talk)
 too_long rules h i i' i'' o o' read more talk r full gave = (
   r.bytes,
   more,
   Consumes-trans i i' i'' r.bytes (more ∷ []) r.consumed gave,
   r.read_is,
   omega (arith, r.read_is, r.bounded, full),
-  said_whole rules r.bytes talk.bytes.items talk.start h (session_of talk) o o' 0 talk.written r.pending r.heard,
+  answered_whole rules r.bytes talk.bytes.items talk.start h (session_of talk) o o' 0 talk.written r.pending r.handled,
 )
 
 pub at_end : (rules : Rules) (h h' : NamedSession) (i i' i'' o o' o'' : Option (List ℕ)) (read read' w' : ℕ) (e : SessionEnding) (talk : Talk) → Reading rules h i i' o o' read talk → Consumes i' i'' [] → IsAtEnd i'' → read' ≡ read →
@@ -73,19 +73,19 @@ at_end rules h h' i i' i'' o o' o'' read read' w' Done talk r gave end is f = (
   r.bytes,
   (subst (λ b. Consumes i i'' b) (append-nil r.bytes) (Consumes-trans i i' i'' r.bytes [] r.consumed gave), is ∙ r.read_is, r.bounded),
   end,
-  said_all rules r.bytes talk.bytes.items h (session_of talk) h' o o' o'' 0 talk.written w' r.heard f,
+  answered_all rules r.bytes talk.bytes.items h (session_of talk) h' o o' o'' 0 talk.written w' r.handled f,
 )
 at_end rules h h' i i' i'' o o' o'' read read' w' WriteFault talk r gave end is f = (
   r.bytes,
   (subst (λ b. Consumes i i'' b) (append-nil r.bytes) (Consumes-trans i i' i'' r.bytes [] r.consumed gave), is ∙ r.read_is, r.bounded),
-  inr (end, broke_all rules r.bytes talk.bytes.items h (session_of talk) h' o o' o'' 0 talk.written w' r.heard f),
+  inr (end, cut_short_all rules r.bytes talk.bytes.items h (session_of talk) h' o o' o'' 0 talk.written w' r.handled f),
 )
 at_end rules h h' i i' i'' o o' o'' read read' w' ReadFault talk r gave end is f = absurd f
 at_end rules h h' i i' i'' o o' o'' read read' w' TooLong talk r gave end is f = absurd f
 at_end rules h h' i i' i'' o o' o'' read read' w' Memory talk r gave end is f = absurd f
 
-pub write_failed : (rules : Rules) (h : NamedSession) (i i' i'' o o' o'' : Option (List ℕ)) (read count : ℕ) (piece : List ℕ) (old new : Talk) → Reading rules h i i' o o' read old → Consumes i' i'' piece → length piece ≡ count → read + count ≤ 16777216 →
-    (front : List ℕ) × (rest : List ℕ) × (piece ≡ front ++ rest) × HeardBroke rules old.bytes.items front (session_of old) (session_of new) o' o'' old.written new.written → Ends WriteFault rules h i i'' o o'' (read + count) new.written (session_of new)
+pub write_failed : (rules : Rules) (h : NamedSession) (i i' i'' o o' o'' : Option (List ℕ)) (read count : ℕ) (piece : List ℕ) (old new : Talk) → Reading rules h i i' o o' read old → Consumes i' i'' piece → length piece ≡ count → read + count ≤ input_limit →
+    (front : List ℕ) × (rest : List ℕ) × (piece ≡ front ++ rest) × HandledUntilCut rules old.bytes.items front (session_of old) (session_of new) o' o'' old.written new.written → Ends WriteFault rules h i i'' o o'' (read + count) new.written (session_of new)
 write_failed rules h i i' i'' o o' o'' read count piece old new r gave is room s = (
   r.bytes ++ piece,
   (Consumes-trans i i' i'' r.bytes piece r.consumed gave, omega (arith, r.read_is, length-append r.bytes piece), omega (arith, r.read_is, length-append r.bytes piece)),
@@ -93,13 +93,13 @@ write_failed rules h i i' i'' o o' o'' read count piece old new r gave is room s
     r.bytes ++ s.0,
     s.1,
     ap (λ v. r.bytes ++ v) s.2 ∙ sym (append_assoc r.bytes s.0 s.1),
-    broke_whole rules (r.bytes ++ s.0) h (session_of new) o o'' 0 new.written
-        (heard_broke rules [] old.bytes.items r.bytes s.0 h (session_of old) (session_of new) o o' o'' 0 old.written new.written r.heard s.3),
+    cut_short_whole rules (r.bytes ++ s.0) h (session_of new) o o'' 0 new.written
+        (handled_cut_short rules [] old.bytes.items r.bytes s.0 h (session_of old) (session_of new) o o' o'' 0 old.written new.written r.handled s.3),
   ),
 )
 
-pub no_room : (rules : Rules) (h : NamedSession) (i i' i'' o o' o'' : Option (List ℕ)) (read count : ℕ) (piece : List ℕ) (old new : Talk) → Reading rules h i i' o o' read old → Consumes i' i'' piece → length piece ≡ count → read + count ≤ 16777216 →
-    (front : List ℕ) × (rest : List ℕ) × (piece ≡ front ++ rest) × HearsSome rules front old new o' o'' → Ends Memory rules h i i'' o o'' (read + count) new.written (session_of new)
+pub no_room : (rules : Rules) (h : NamedSession) (i i' i'' o o' o'' : Option (List ℕ)) (read count : ℕ) (piece : List ℕ) (old new : Talk) → Reading rules h i i' o o' read old → Consumes i' i'' piece → length piece ≡ count → read + count ≤ input_limit →
+    (front : List ℕ) × (rest : List ℕ) × (piece ≡ front ++ rest) × HandlesSome rules front old new o' o'' → Ends Memory rules h i i'' o o'' (read + count) new.written (session_of new)
 no_room rules h i i' i'' o o' o'' read count piece old new r gave is room s = (
   r.bytes ++ piece,
   (Consumes-trans i i' i'' r.bytes piece r.consumed gave, omega (arith, r.read_is, length-append r.bytes piece), omega (arith, r.read_is, length-append r.bytes piece)),
@@ -107,8 +107,8 @@ no_room rules h i i' i'' o o' o'' read count piece old new r gave is room s = (
     r.bytes ++ s.0,
     s.1,
     ap (λ v. r.bytes ++ v) s.2 ∙ sym (append_assoc r.bytes s.0 s.1),
-    said_whole rules (r.bytes ++ s.0) s.3.0 s.3.1 h (session_of new) o o'' 0 new.written s.3.2
-        (heard_then rules [] old.bytes.items s.3.0 r.bytes s.0 h (session_of old) (session_of new) o o' o'' 0 old.written new.written r.heard s.3.3),
+    answered_whole rules (r.bytes ++ s.0) s.3.0 s.3.1 h (session_of new) o o'' 0 new.written s.3.2
+        (handled_then rules [] old.bytes.items s.3.0 r.bytes s.0 h (session_of old) (session_of new) o o' o'' 0 old.written new.written r.handled s.3.3),
   ),
 )
 
@@ -119,9 +119,9 @@ reading_none rules h i o talk e z s w = record {
   bounded = omega arith;
   consumed = Consumes-nil i;
   pending = subst (λ b. IsPending b talk.start) (sym e) (subst (λ k. IsPending [] k) (sym z) pending_none);
-  heard =
-      subst (λ b. Heard rules [] [] b h (session_of talk) o o 0 talk.written) (sym e)
-      (subst (λ v. Heard rules [] [] [] h v o o 0 talk.written) (sym s) (subst (λ v. Heard rules [] [] [] h h o o 0 v) (sym w) (heard_none rules [] h o 0)));
+  handled =
+      subst (λ b. Handled rules [] [] b h (session_of talk) o o 0 talk.written) (sym e)
+      (subst (λ v. Handled rules [] [] [] h v o o 0 talk.written) (sym s) (subst (λ v. Handled rules [] [] [] h h o o 0 v) (sym w) (handled_none rules [] h o 0)));
 }
 
 nothing_read : (i i' : Option (List ℕ)) (n : ℕ) (buf : List ℕ) → n ≡ 0 → Consumes i i' (take n buf) → Consumes i i' []
@@ -140,7 +140,7 @@ one_read i i' (suc n) [] not le one c = absurd (omega arith)
 one_read i i' (suc zero) (b ∷ bs) not le one c = (b, c)
 one_read i i' (suc (suc n)) (b ∷ bs) not le one c = absurd (omega arith)
 
-pub one_too_many : (rules : Rules) (h : NamedSession) (i i' i'' o o' : Option (List ℕ)) (read n : ℕ) (buf : List ℕ) (talk : Talk) → Reading rules h i i' o o' read talk → 16777216 ≤ read → (n ≡ 0 → ⊥) → n ≤ length buf → length buf ≡ 1 →
+pub one_too_many : (rules : Rules) (h : NamedSession) (i i' i'' o o' : Option (List ℕ)) (read n : ℕ) (buf : List ℕ) (talk : Talk) → Reading rules h i i' o o' read talk → input_limit ≤ read → (n ≡ 0 → ⊥) → n ≤ length buf → length buf ≡ 1 →
     Consumes i' i'' (take n buf) → Ends TooLong rules h i i'' o o' read talk.written (session_of talk)
 one_too_many rules h i i' i'' o o' read n buf talk r full not le one c = let m = one_read i' i'' n buf not le one c in too_long rules h i i' i'' o o' read m.0 talk r full m.1
 
@@ -151,10 +151,10 @@ gave_piece a b count buf rest le c = subst (λ v. Consumes a b v) (sym (take-app
 pub piece_long : (count : ℕ) (buf rest : List ℕ) → count ≤ length buf → length (take count (buf ++ rest)) ≡ count
 piece_long count buf rest le = ap length (take-append-le count buf rest le) ∙ length-take-le count buf le
 
-pub stopped_by_write : (rules : Rules) (piece : List ℕ) (old new : Talk) (o o' : Option (List ℕ)) (stop : Stop) → stop ≡ Stop.Write → Hears rules piece old new o o' (Err stop) →
-    (front : List ℕ) × (rest : List ℕ) × (piece ≡ front ++ rest) × HeardBroke rules old.bytes.items front (session_of old) (session_of new) o o' old.written new.written
-stopped_by_write rules piece old new o o' stop e s = subst (λ v. Hears rules piece old new o o' (Err v)) e s
+pub stopped_by_write : (rules : Rules) (piece : List ℕ) (old new : Talk) (o o' : Option (List ℕ)) (stop : Stop) → stop ≡ Stop.Write → HandlesPiece rules piece old new o o' (Err stop) →
+    (front : List ℕ) × (rest : List ℕ) × (piece ≡ front ++ rest) × HandledUntilCut rules old.bytes.items front (session_of old) (session_of new) o o' old.written new.written
+stopped_by_write rules piece old new o o' stop e s = subst (λ v. HandlesPiece rules piece old new o o' (Err v)) e s
 
-pub stopped_by_memory : (rules : Rules) (piece : List ℕ) (old new : Talk) (o o' : Option (List ℕ)) (stop : Stop) → stop ≡ Stop.Memory → Hears rules piece old new o o' (Err stop) →
-    (front : List ℕ) × (rest : List ℕ) × (piece ≡ front ++ rest) × HearsSome rules front old new o o'
-stopped_by_memory rules piece old new o o' stop e s = subst (λ v. Hears rules piece old new o o' (Err v)) e s
+pub stopped_by_memory : (rules : Rules) (piece : List ℕ) (old new : Talk) (o o' : Option (List ℕ)) (stop : Stop) → stop ≡ Stop.Memory → HandlesPiece rules piece old new o o' (Err stop) →
+    (front : List ℕ) × (rest : List ℕ) × (piece ≡ front ++ rest) × HandlesSome rules front old new o o'
+stopped_by_memory rules piece old new o o' stop e s = subst (λ v. HandlesPiece rules piece old new o o' (Err v)) e s

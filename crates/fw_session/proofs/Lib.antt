@@ -1,10 +1,10 @@
+mod AnswerLemmas
 mod BlockLemmas
 mod CutLemmas
 mod EndLemmas
-mod HearLemmas
+mod HandlingLemmas
 mod MarkLemmas
 mod NameLemmas
 mod RequestLemmas
-mod SaysLemmas
 mod SessionRows
 mod StreamLemmas

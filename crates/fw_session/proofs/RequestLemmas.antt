@@ -6,66 +6,67 @@ use Rattle.std.specs.FinMap as env
 use Rattle.std.proofs.lemmas.List.{take_more}
 use Rattle.std.proofs.Common.{append_assoc}
 use Rattle.envimg_core.specs.Environment.{Environment, Pair}
-use Rattle.env_session.specs.Session.{Held, undone, IsStopped, UndoesTo, saved, side_of, last_saved}
+use Rattle.env_session.specs.Session.{Held, undone, IsStoppedUndo, UndoesTo, saved, side_of, last_saved}
 use Rattle.env_session.specs.declared.faults.UndoFault.{UndoFault}
 use Rattle.env_session.specs.declared.faults.UndoFault.TheVariants.{Memory}
 use Rattle.env_session.specs.declared.stored.Side.{Side}
+use Rattle.hush_commands.specs.Listing.{line_of}
 use Rattle.hush_commands.specs.Saving.{saved_line}
-use Rattle.fw_session.proofs.StreamLemmas.{writes_none, writes_then, writes_broke}
+use Rattle.fw_session.proofs.StreamLemmas.{writes_none, writes_then, writes_cut_short}
 use Rattle.fw_session.specs.Requests.{request_view}
 use Rattle.fw_session.specs.Streams.{Writes}
 use Rattle.fw_session.specs.NamedSessions.{named_session, MarksNamed}
-use Rattle.fw_session.specs.Replies.{NamedSession, Through, Refused, Stopped, Request, Undo, Save, Print, Mark, UndoTo, Unknown, said, listing, line_of, standing, last_named, trimmed, onto_trimmed, is_end_blank, request_in, request_of}
-use Rattle.fw_session.specs.Hearing.{Obeyed, Undid}
+use Rattle.fw_session.specs.Replies.{NamedSession, Through, Refused, Stopped, Request, Undo, Save, Print, Mark, UndoTo, Unknown, with_newline, listing, standing, last_named, trimmed, onto_trimmed, is_end_blank, request_in, request_of}
+use Rattle.fw_session.specs.Handling.{RequestAnswered, UndoAnswered}
 use Rattle.fw_session.specs.declared.requests.Request as code
 
 -- an undo to a mark that stands
-pub undo_done : (h h' : Held) (names : List (Option (List ℕ))) (k : ℕ) (out out' : Option (List ℕ)) (n n' : ℕ) (ok : Bool) → h' ≡ undone k h → Writes out out' n n' (said (codes "[Undone]")) ok →
-    Undid (named_session h names) (Some k) out out' n n' (named_session h' names) ok
+pub undo_done : (h h' : Held) (names : List (Option (List ℕ))) (k : ℕ) (out out' : Option (List ℕ)) (n n' : ℕ) (ok : Bool) → h' ≡ undone k h → Writes out out' n n' (with_newline (codes "[Undone]")) ok →
+    UndoAnswered (named_session h names) (Some k) out out' n n' (named_session h' names) ok
 undo_done h h' names k out out' n n' ok e w = record { note = Through; may = tt; wrote = w; session = ap (λ v. named_session v names) e }
 
-pub undo_stopped : (h h' : Held) (names : List (Option (List ℕ))) (k j : ℕ) (out out' : Option (List ℕ)) (n n' : ℕ) (ok : Bool) → IsStopped k h h' j → Writes out out' n n' (said (codes "[Memory]")) ok →
-    Undid (named_session h names) (Some k) out out' n n' (named_session h' names) ok
+pub undo_stopped : (h h' : Held) (names : List (Option (List ℕ))) (k j : ℕ) (out out' : Option (List ℕ)) (n n' : ℕ) (ok : Bool) → IsStoppedUndo k h h' j → Writes out out' n n' (with_newline (codes "[Memory]")) ok →
+    UndoAnswered (named_session h names) (Some k) out out' n n' (named_session h' names) ok
 undo_stopped h h' names k j out out' n n' ok s w =
-    record { note = Stopped j; may = subst (λ v. IsStopped k h v j) s.left s; wrote = w; session = ap (λ v. named_session v names) s.left }
+    record { note = Stopped j; may = subst (λ v. IsStoppedUndo k h v j) s.left s; wrote = w; session = ap (λ v. named_session v names) s.left }
 
-pub undo_refused : (k : ℕ) (h h' : Held) (fault : UndoFault) → fault ≡ Memory → UndoesTo k h h' (Err fault) → (j : ℕ) × IsStopped k h h' j
+pub undo_refused : (k : ℕ) (h h' : Held) (fault : UndoFault) → fault ≡ Memory → UndoesTo k h h' (Err fault) → (j : ℕ) × IsStoppedUndo k h h' j
 undo_refused k h h' fault e u = subst (λ f. UndoesTo k h h' (Err f)) e u
 
-pub undo_obeyed : (t t' : NamedSession) (out out' : Option (List ℕ)) (n n' : ℕ) (ok : Bool) → Undid t (Some 0) out out' n n' t' ok → Obeyed t Undo out out' n n' t' ok
+pub undo_obeyed : (t t' : NamedSession) (out out' : Option (List ℕ)) (n n' : ℕ) (ok : Bool) → UndoAnswered t (Some 0) out out' n n' t' ok → RequestAnswered t Undo out out' n n' t' ok
 undo_obeyed t t' out out' n n' ok u = record { note = u.note; may = u.may; wrote = u.wrote; session = u.session }
 
-undo_to_obeyed : (t t' : NamedSession) (name : List ℕ) (found : Option ℕ) (out out' : Option (List ℕ)) (n n' : ℕ) (ok : Bool) → found ≡ last_named name (standing t) → Undid t found out out' n n' t' ok → Obeyed t (UndoTo name) out out' n n' t' ok
+undo_to_obeyed : (t t' : NamedSession) (name : List ℕ) (found : Option ℕ) (out out' : Option (List ℕ)) (n n' : ℕ) (ok : Bool) → found ≡ last_named name (standing t) → UndoAnswered t found out out' n n' t' ok → RequestAnswered t (UndoTo name) out out' n n' t' ok
 undo_to_obeyed t t' name found out out' n n' ok e u =
-    let v : Undid t (last_named name (standing t)) out out' n n' t' ok = subst (λ f. Undid t f out out' n n' t' ok) e u in
+    let v : UndoAnswered t (last_named name (standing t)) out out' n n' t' ok = subst (λ f. UndoAnswered t f out out' n n' t' ok) e u in
     record { note = v.note; may = v.may; wrote = v.wrote; session = v.session }
 
-pub found_obeyed : (t t' : NamedSession) (name : List ℕ) (k : ℕ) (marks : List (Option (List ℕ))) (out out' : Option (List ℕ)) (n n' : ℕ) (ok : Bool) → marks ≡ standing t → Some k ≡ last_named name marks → Undid t (Some k) out out' n n' t' ok →
-    Obeyed t (UndoTo name) out out' n n' t' ok
+pub found_obeyed : (t t' : NamedSession) (name : List ℕ) (k : ℕ) (marks : List (Option (List ℕ))) (out out' : Option (List ℕ)) (n n' : ℕ) (ok : Bool) → marks ≡ standing t → Some k ≡ last_named name marks → UndoAnswered t (Some k) out out' n n' t' ok →
+    RequestAnswered t (UndoTo name) out out' n n' t' ok
 found_obeyed t t' name k marks out out' n n' ok s e u = undo_to_obeyed t t' name (Some k) out out' n n' ok (e ∙ ap (last_named name) s) u
 
-pub gone_obeyed : (t : NamedSession) (name : List ℕ) (marks : List (Option (List ℕ))) (out out' : Option (List ℕ)) (n n' : ℕ) (ok : Bool) → marks ≡ standing t → None ≡ last_named name marks → Writes out out' n n' (said (codes "[Gone]")) ok →
-    Obeyed t (UndoTo name) out out' n n' t ok
+pub gone_obeyed : (t : NamedSession) (name : List ℕ) (marks : List (Option (List ℕ))) (out out' : Option (List ℕ)) (n n' : ℕ) (ok : Bool) → marks ≡ standing t → None ≡ last_named name marks → Writes out out' n n' (with_newline (codes "[Gone]")) ok →
+    RequestAnswered t (UndoTo name) out out' n n' t ok
 gone_obeyed t name marks out out' n n' ok s e w =
-    let u : Undid t None out out' n n' t ok = record { note = Through; may = tt; wrote = w; session = refl } in
+    let u : UndoAnswered t None out out' n n' t ok = record { note = Through; may = tt; wrote = w; session = refl } in
     undo_to_obeyed t t name None out out' n n' ok (e ∙ ap (last_named name) s) u
 
 pub save_done : (h h' : Held) (names : List (Option (List ℕ))) (side : Side) (out out' : Option (List ℕ)) (n n' : ℕ) (ok : Bool) → side ≡ side_of h → h' ≡ saved h → Writes out out' n n' (saved_line side) ok →
-    Obeyed (named_session h names) Save out out' n n' (named_session h' names) ok
+    RequestAnswered (named_session h names) Save out out' n n' (named_session h' names) ok
 save_done h h' names side out out' n n' ok which e w =
     record { note = Through; may = tt; wrote = subst (λ s. Writes out out' n n' (saved_line s) ok) which w; session = ap (λ v. named_session v names) e }
 
-pub save_refused : (h h' : Held) (names : List (Option (List ℕ))) (out out' : Option (List ℕ)) (n n' : ℕ) (ok : Bool) → h' ≡ h → last_saved (side_of h) h.marks ≡ false → Writes out out' n n' (said (codes "[Memory]")) ok →
-    Obeyed (named_session h names) Save out out' n n' (named_session h' names) ok
+pub save_refused : (h h' : Held) (names : List (Option (List ℕ))) (out out' : Option (List ℕ)) (n n' : ℕ) (ok : Bool) → h' ≡ h → last_saved (side_of h) h.marks ≡ false → Writes out out' n n' (with_newline (codes "[Memory]")) ok →
+    RequestAnswered (named_session h names) Save out out' n n' (named_session h' names) ok
 save_refused h h' names out out' n n' ok e may w = record { note = Refused; may = may; wrote = w; session = ap (λ v. named_session v names) e }
 
-pub print_done : (t : NamedSession) (out out' : Option (List ℕ)) (n n' : ℕ) (ok : Bool) → Writes out out' n n' (listing t.held.now.env) ok → Obeyed t Print out out' n n' t ok
+pub print_done : (t : NamedSession) (out out' : Option (List ℕ)) (n n' : ℕ) (ok : Bool) → Writes out out' n n' (listing t.held.now.env) ok → RequestAnswered t Print out out' n n' t ok
 print_done t out out' n n' ok w = record { note = Through; may = tt; wrote = w; session = refl }
 
-pub unknown_told : (t : NamedSession) (out out' : Option (List ℕ)) (n n' : ℕ) (ok : Bool) → Writes out out' n n' (said (codes "[Unknown]")) ok → Obeyed t Unknown out out' n n' t ok
+pub unknown_told : (t : NamedSession) (out out' : Option (List ℕ)) (n n' : ℕ) (ok : Bool) → Writes out out' n n' (with_newline (codes "[Unknown]")) ok → RequestAnswered t Unknown out out' n n' t ok
 unknown_told t out out' n n' ok w = record { note = Through; may = tt; wrote = w; session = refl }
 
-pub mark_made : (t t' : NamedSession) (name : List ℕ) (made : Bool) (out out' : Option (List ℕ)) (n n' : ℕ) (ok : Bool) → MarksNamed t name t' made → made ≡ true → Writes out out' n n' (said (codes "[Marked]")) ok → Obeyed t (Mark name) out out' n n' t' ok
+pub mark_made : (t t' : NamedSession) (name : List ℕ) (made : Bool) (out out' : Option (List ℕ)) (n n' : ℕ) (ok : Bool) → MarksNamed t name t' made → made ≡ true → Writes out out' n n' (with_newline (codes "[Marked]")) ok → RequestAnswered t (Mark name) out out' n n' t' ok
 mark_made t t' name false out out' n n' ok m e w = absurd (cc)
 mark_made t t' name true out out' n n' ok m e w =
     let room : (nat_lt 64 (length t.held.marks)) ≡ false = m.0 in
@@ -76,7 +77,7 @@ mark_made t t' name true out out' n n' ok m e w =
       session = rw room m.1;
     }
 
-pub mark_full : (t t' : NamedSession) (name : List ℕ) (made : Bool) (out out' : Option (List ℕ)) (n n' : ℕ) (ok : Bool) → MarksNamed t name t' made → made ≡ false → Writes out out' n n' (said (codes "[Full]")) ok → Obeyed t (Mark name) out out' n n' t' ok
+pub mark_full : (t t' : NamedSession) (name : List ℕ) (made : Bool) (out out' : Option (List ℕ)) (n n' : ℕ) (ok : Bool) → MarksNamed t name t' made → made ≡ false → Writes out out' n n' (with_newline (codes "[Full]")) ok → RequestAnswered t (Mark name) out out' n n' t' ok
 mark_full t t' name true out out' n n' ok m e w = absurd (cc)
 mark_full t t' name false out out' n n' ok m e w =
     let full : (nat_lt 64 (length t.held.marks)) ≡ true = m.0 in
@@ -88,12 +89,14 @@ mark_full t t' name false out out' n n' ok m e w =
     }
 
 -- what a dot line asks for
-pub obeyed_as : (t t' : NamedSession) (a a' : Request) (out out' : Option (List ℕ)) (n n' : ℕ) (ok : Bool) → a' ≡ a → Obeyed t a out out' n n' t' ok → Obeyed t a' out out' n n' t' ok
-obeyed_as t t' a a' out out' n n' ok e o = subst (λ v. Obeyed t v out out' n n' t' ok) (sym e) o
+pub obeyed_as : (t t' : NamedSession) (a a' : Request) (out out' : Option (List ℕ)) (n n' : ℕ) (ok : Bool) → a' ≡ a → RequestAnswered t a out out' n n' t' ok → RequestAnswered t a' out out' n n' t' ok
+obeyed_as t t' a a' out out' n n' ok e o = subst (λ v. RequestAnswered t v out out' n n' t' ok) (sym e) o
 
 lines_joined : (ps : List Pair) → flat_map (λ x. x ++ 10 ∷ []) (map (λ p. p.0 ++ 61 ∷ p.1) ps) ≡ flat_map line_of ps
 lines_joined [] = refl
-lines_joined (p ∷ ps) = ap (λ t. line_of p ++ t) (lines_joined ps)
+lines_joined (p ∷ ps) =
+    ap (λ t. t ++ flat_map (λ x. x ++ 10 ∷ []) (map (λ p. p.0 ++ 61 ∷ p.1) ps)) (append_assoc p.0 (61 ∷ p.1) (10 ∷ []))
+    ∙ ap (λ t. line_of p ++ t) (lines_joined ps)
 
 pub lines_init : (vars vars' : Environment) (lines : List (List ℕ)) (out : Option (List ℕ)) (n : ℕ) → vars' ≡ vars → lines ≡ map (λ p. p.0 ++ 61 ∷ p.1) (env.entries vars') →
     (front : List ℕ) × (listing vars ≡ front ++ flat_map (λ x. x ++ 10 ∷ []) lines) × Writes out out n n front true
@@ -113,13 +116,13 @@ lines_more all line lines lines' out out' out'' n n' n'' was is w = (
   writes_then out out' out'' n n' n'' was.0 (line ++ 10 ∷ []) true was.2 w,
 )
 
-pub lines_broke : (all line : List ℕ) (lines lines' : List (List ℕ)) (out out' out'' : Option (List ℕ)) (n n' n'' : ℕ) →
+pub lines_cut_short : (all line : List ℕ) (lines lines' : List (List ℕ)) (out out' out'' : Option (List ℕ)) (n n' n'' : ℕ) →
     (front : List ℕ) × (all ≡ front ++ flat_map (λ x. x ++ 10 ∷ []) lines) × Writes out out' n n' front true → lines ≡ line ∷ lines' → Writes out' out'' n' n'' (line ++ 10 ∷ []) false →
     Writes out out'' n n'' all false
-lines_broke all line lines lines' out out' out'' n n' n'' was is w =
+lines_cut_short all line lines lines' out out' out'' n n' n'' was is w =
     subst (λ t. Writes out out'' n n'' t false)
     (append_assoc was.0 (line ++ 10 ∷ []) (flat_map (λ x. x ++ 10 ∷ []) lines') ∙ sym (was.1 ∙ ap (λ t. was.0 ++ flat_map (λ x. x ++ 10 ∷ []) t) is))
-    (writes_broke out out'' n n'' (was.0 ++ (line ++ 10 ∷ [])) (flat_map (λ x. x ++ 10 ∷ []) lines') (writes_then out out' out'' n n' n'' was.0 (line ++ 10 ∷ []) false was.2 w))
+    (writes_cut_short out out'' n n'' (was.0 ++ (line ++ 10 ∷ [])) (flat_map (λ x. x ++ 10 ∷ []) lines') (writes_then out out' out'' n n' n'' was.0 (line ++ 10 ∷ []) false was.2 w))
 
 -- the last byte of a line
 trimmed_snoc : (xs : List ℕ) (b : ℕ) → is_end_blank b ≡ true → trimmed (xs ++ b ∷ []) ≡ trimmed xs

@@ -27,8 +27,8 @@ writes_then out out' out'' n n' n'' a b false p q = (
 )
 
 -- the first text broke off
-pub writes_broke : (out out' : Option (List ℕ)) (n n' : ℕ) (a b : List ℕ) → Writes out out' n n' a false → Writes out out' n n' (a ++ b) false
-writes_broke out out' n n' a b p = (p.0, p.1 ++ b, ap (λ x. x ++ b) p.2 ∙ append_assoc p.0 p.1 b, omega (arith, p.3, length-append p.1 b), p.4, p.5)
+pub writes_cut_short : (out out' : Option (List ℕ)) (n n' : ℕ) (a b : List ℕ) → Writes out out' n n' a false → Writes out out' n n' (a ++ b) false
+writes_cut_short out out' n n' a b p = (p.0, p.1 ++ b, ap (λ x. x ++ b) p.2 ∙ append_assoc p.0 p.1 b, omega (arith, p.3, length-append p.1 b), p.4, p.5)
 
 -- the writer took n bytes of the rest
 pub front_grows : (a b c : Option (List ℕ)) (k k' k'' : ℕ) (text rest : List ℕ) (n : ℕ) →
@@ -57,7 +57,7 @@ writes_two out out' out'' n n' n'' a a' b b' ok ea eb p q =
 pub writes_one : (out out' : Option (List ℕ)) (n n' : ℕ) (a a' b : List ℕ) (ok : Bool) → ok ≡ false → a' ≡ a → Writes out out' n n' a' ok → Writes out out' n n' (a ++ b) ok
 writes_one out out' n n' a a' b ok not ea p =
     subst (λ v. Writes out out' n n' (a ++ b) v) (sym not)
-    (subst (λ v. Writes out out' n n' (v ++ b) false) ea (writes_broke out out' n n' a' b (subst (λ v. Writes out out' n n' a' v) not p)))
+    (subst (λ v. Writes out out' n n' (v ++ b) false) ea (writes_cut_short out out' n n' a' b (subst (λ v. Writes out out' n n' a' v) not p)))
 
 -- a count that began at 0
 pub count_is : (n : ℕ) (text : List ℕ) → Counts 0 n text → n ≡ counted (length text)

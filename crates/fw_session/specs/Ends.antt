@@ -9,7 +9,8 @@ use Rattle.fw_session.specs.declared.ending.SessionEnding.{SessionEnding}
 use Rattle.fw_session.specs.declared.ending.SessionEnding.TheVariants.{Done, ReadFault, TooLong, WriteFault, Memory}
 
 -- for some notes, all these items were answered
-pub record Said (rules : Rules) (h : NamedSession) (items : List Item) (out : Option (List ℕ)) (out' : Option (List ℕ)) (n : ℕ) (n' : ℕ) (h' : NamedSession) : Type 0 where
+pub record AllAnswered (rules : Rules) (h : NamedSession) (items : List Item) (out out' : Option (List ℕ)) (n n' : ℕ)
+    (h' : NamedSession) : Type 0 where
   pub notes : List Note
   pub stand : AllStand rules h items notes
   pub text : Appends out out' (replies rules h items notes).text
@@ -17,7 +18,8 @@ pub record Said (rules : Rules) (h : NamedSession) (items : List Item) (out : Op
   pub session : h' ≡ (replies rules h items notes).session
 
 -- some were answered, and of the next one's text a front went out and no more; it was done, and nothing after it was begun
-pub record Broke (rules : Rules) (h : NamedSession) (items : List Item) (out : Option (List ℕ)) (out' : Option (List ℕ)) (n : ℕ) (n' : ℕ) (h' : NamedSession) : Type 0 where
+pub record CutShort (rules : Rules) (h : NamedSession) (items : List Item) (out out' : Option (List ℕ)) (n n' : ℕ)
+    (h' : NamedSession) : Type 0 where
   pub before : List Item
   pub item : Item
   pub after : List Item
@@ -34,9 +36,10 @@ pub record Broke (rules : Rules) (h : NamedSession) (items : List Item) (out : O
   pub count : Counts n n' ((replies rules h before notes).text ++ front)
   pub session : h' ≡ (reply rules (replies rules h before notes).session item note).session
 
-abbrev pub Says : Rules → NamedSession → List Item → Option (List ℕ) → Option (List ℕ) → ℕ → ℕ → NamedSession → Bool → Type 0
-Says rules h items out out' n n' h' true = Said rules h items out out' n n' h'
-Says rules h items out out' n n' h' false = Broke rules h items out out' n n' h'
+abbrev pub AnsweredOrCut : Rules → NamedSession → List Item → Option (List ℕ) → Option (List ℕ) → ℕ → ℕ →
+    NamedSession → Bool → Type 0
+AnsweredOrCut rules h items out out' n n' h' true = AllAnswered rules h items out out' n n' h'
+AnsweredOrCut rules h items out out' n n' h' false = CutShort rules h items out out' n n' h'
 
 -- the most bytes that are handled
 abbrev pub input_limit : ℕ
@@ -46,18 +49,19 @@ abbrev pub IsRead : Option (List ℕ) → Option (List ℕ) → List ℕ → ℕ
 IsRead input input' bytes read = Consumes input input' bytes × (read ≡ length bytes) × (length bytes ≤ input_limit)
 
 -- a whole call
-abbrev pub Ends : SessionEnding → Rules → NamedSession → Option (List ℕ) → Option (List ℕ) → Option (List ℕ) → Option (List ℕ) → ℕ → ℕ → NamedSession → Type 0
+abbrev pub Ends : SessionEnding → Rules → NamedSession → Option (List ℕ) → Option (List ℕ) → Option (List ℕ) →
+    Option (List ℕ) → ℕ → ℕ → NamedSession → Type 0
 Ends Done rules h input input' out out' read written h' =
-    (bytes : List ℕ) × IsRead input input' bytes read × IsAtEnd input' × Said rules h (items_of bytes) out out' 0 written h'
+    (bytes : List ℕ) × IsRead input input' bytes read × IsAtEnd input' × AllAnswered rules h (items_of bytes) out out' 0 written h'
 Ends ReadFault rules h input input' out out' read written h' =
-    (bytes : List ℕ) × IsRead input input' bytes read × Said rules h (to_last_dot (items_of bytes)) out out' 0 written h'
+    (bytes : List ℕ) × IsRead input input' bytes read × AllAnswered rules h (to_last_dot (items_of bytes)) out out' 0 written h'
 Ends TooLong rules h input input' out out' read written h' =
     (bytes : List ℕ) × (more : ℕ) × Consumes input input' (bytes ++ more ∷ []) × (read ≡ length bytes) × (length bytes ≡ input_limit)
-    × Said rules h (to_last_dot (items_of bytes)) out out' 0 written h'
+    × AllAnswered rules h (to_last_dot (items_of bytes)) out out' 0 written h'
 Ends WriteFault rules h input input' out out' read written h' =
     (bytes : List ℕ) × IsRead input input' bytes read
-    × (((front : List ℕ) × (rest : List ℕ) × (bytes ≡ front ++ rest) × Broke rules h (to_last_dot (items_of front)) out out' 0 written h')
-    ⊎ (IsAtEnd input' × Broke rules h (items_of bytes) out out' 0 written h'))
+    × (((front : List ℕ) × (rest : List ℕ) × (bytes ≡ front ++ rest) × CutShort rules h (to_last_dot (items_of front)) out out' 0 written h')
+    ⊎ (IsAtEnd input' × CutShort rules h (items_of bytes) out out' 0 written h'))
 Ends Memory rules h input input' out out' read written h' =
     (bytes : List ℕ) × IsRead input input' bytes read
-    × ((front : List ℕ) × (rest : List ℕ) × (bytes ≡ front ++ rest) × Said rules h (to_last_dot (items_of front)) out out' 0 written h')
+    × ((front : List ℕ) × (rest : List ℕ) × (bytes ≡ front ++ rest) × AllAnswered rules h (to_last_dot (items_of front)) out out' 0 written h')

@@ -3,10 +3,11 @@ use Rattle.std.specs.Prelude.{◌≡◌, ℕ, suc, ◌≤◌, ◌==◌, ◌||◌
 use Rattle.std.specs.List.{flat_map, list_any}
 use Rattle.std.specs.Str.{bytes_eq}
 use Rattle.std.specs.FinMap as env
-use Rattle.envimg_core.specs.Environment.{Environment, Pair}
-use Rattle.env_session.specs.Session.{Held, saved, side_of, marked, undone, undone_above, IsStopped, last_saved}
+use Rattle.envimg_core.specs.Environment.{Environment}
+use Rattle.env_session.specs.Session.{Held, most_marks, saved, side_of, marked, undone, undone_above, IsStoppedUndo, last_saved}
 use Rattle.hush_syntax.specs.Grammar.{Chains}
 use Rattle.hush_syntax.specs.Reading.{read}
+use Rattle.hush_commands.specs.Listing.{line_of}
 use Rattle.hush_commands.specs.Saving.{saved_line}
 use Rattle.hush_run.specs.declared.ending.Ending.{Ending}
 use Rattle.hush_run.specs.declared.ending.Ending.TheVariants as ending
@@ -111,19 +112,16 @@ standing t = take (length t.held.marks) t.names
 abbrev pub with_held : Held → NamedSession → NamedSession
 with_held h t = record { held = h; names = t.names }
 
-abbrev pub said : List ℕ → List ℕ
-said text = text ++ 10 ∷ []
+abbrev pub with_newline : List ℕ → List ℕ
+with_newline text = text ++ 10 ∷ []
 
 abbrev pub told : List ℕ → NamedSession → Reply
-told text t = record { text = said text; session = t }
+told text t = record { text = with_newline text; session = t }
 
 abbrev pub no_memory : NamedSession → Reply
 no_memory t = told (codes "[Memory]") t
 
 -- `name=value` and a newline for each variable, in order of names
-abbrev pub line_of : Pair → List ℕ
-line_of p = p.0 ++ 61 ∷ p.1 ++ 10 ∷ []
-
 unfoldable pub listing : Environment → List ℕ
 listing vars = flat_map line_of (env.entries vars)
 
@@ -172,7 +170,7 @@ save_reply t (Stopped n) = no_memory t
 
 abbrev pub mark_reply : NamedSession → List ℕ → Reply
 mark_reply t name =
-    if nat_lt 64 (length t.held.marks) then told (codes "[Full]") t
+    if nat_lt most_marks (length t.held.marks) then told (codes "[Full]") t
     else told (codes "[Marked]") (record { held = marked t.held; names = standing t ++ Some name ∷ [] })
 
 abbrev pub request_reply : NamedSession → Request → Note → Reply
@@ -193,17 +191,20 @@ NoNote Through = Unit {0}
 NoNote Refused = ⊥
 NoNote (Stopped n) = ⊥
 
+-- an undo is never refused as a whole: where memory runs out it has stopped above a mark
 abbrev pub UndoNote : Option ℕ → Held → Note → Type 0
 UndoNote found h Through = Unit {0}
 UndoNote found h Refused = ⊥
 UndoNote None h (Stopped j) = ⊥
-UndoNote (Some k) h (Stopped j) = IsStopped k h (undone_above j h) j
+UndoNote (Some k) h (Stopped j) = IsStoppedUndo k h (undone_above j h) j
 
+-- a save is refused only where the copy that it writes was not kept yet
 abbrev pub SaveNote : Held → Note → Type 0
 SaveNote h Through = Unit {0}
 SaveNote h Refused = last_saved (side_of h) h.marks ≡ false
 SaveNote h (Stopped n) = ⊥
 
+-- what memory may do to a dot line
 abbrev pub RequestNote : NamedSession → Request → Note → Type 0
 RequestNote t Undo note = UndoNote (Some 0) t.held note
 RequestNote t Save note = SaveNote t.held note

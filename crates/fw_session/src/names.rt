@@ -21,16 +21,6 @@ pub(crate) fn last_named(names: &[Option<Name>], name: &[u8]) -> Option<usize>
     found
 }
 
-/// Whether a mark has that name.
-fn has_name(given: &Option<Name>, name: &[u8]) -> bool
-    ensures { result ≡ has_name name.now (option_map (λ v. v.items) given.now) }
-{
-    match given {
-        Some(other) => name == other.as_slice(),
-        None => false,
-    }
-}
-
 /// The name behind `.mark` or `.undo`: one or more blanks, and then 1 to 32 bytes that are no blanks.
 pub(crate) fn name_in(rest: &[u8]) -> Option<Name>
     ensures { option_map (λ v. v.items) result ≡ name_in rest.now }
@@ -43,6 +33,16 @@ pub(crate) fn name_in(rest: &[u8]) -> Option<Name>
         Some(copied(name))
     } else {
         None
+    }
+}
+
+/// Whether a mark has that name.
+fn has_name(given: &Option<Name>, name: &[u8]) -> bool
+    ensures { result ≡ has_name name.now (option_map (λ v. v.items) given.now) }
+{
+    match given {
+        Some(other) => name == other.as_slice(),
+        None => false,
     }
 }
 

@@ -1,7 +1,7 @@
 //! Dot lines: what each asks for is done, and what it has to say written.
 ghost use Rattle.std.specs.Prelude.{◌≡◌, ◌<◌, ◌++◌, [], ◌∷◌, Some, length};
 ghost use Rattle.fw_session.specs.Replies.{listing};
-ghost use Rattle.fw_session.specs.Hearing.{Obeyed, Undid};
+ghost use Rattle.fw_session.specs.Handling.{RequestAnswered, UndoAnswered};
 ghost use Rattle.fw_session.specs.Requests.{request_view};
 ghost use Rattle.fw_session.specs.Streams.{Writes};
 ghost use Rattle.fw_session.specs.NamedSessions.{named_session, names_of};
@@ -21,7 +21,7 @@ pub(crate) fn obey<W: Write>(
     output: &mut W,
     written: &mut u64,
 ) -> bool
-    ensures { Obeyed (named_session session.old (names_of names.old.items)) (request_view request) (W.contents output.old)
+    ensures { RequestAnswered (named_session session.old (names_of names.old.items)) (request_view request) (W.contents output.old)
         (W.contents output.new) written.old written.new (named_session session.new (names_of names.new.items)) result }
 {
     match request {
@@ -60,7 +60,7 @@ fn undo<W: Write>(
     written: &mut u64,
 ) -> bool
     requires { found < length session.old.marks }
-    ensures { Undid (named_session session.old (names_of names.now.items)) (Some found) (W.contents output.old)
+    ensures { UndoAnswered (named_session session.old (names_of names.now.items)) (Some found) (W.contents output.old)
         (W.contents output.new) written.old written.new (named_session session.new (names_of names.now.items)) result }
 {
     // Does nothing: it tells the prover that there are at most 65 marks.

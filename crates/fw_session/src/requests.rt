@@ -8,11 +8,17 @@ use crate::names::{Name, name_in};
 /// What a dot line asks for.
 #[derive(Drop)]
 pub(crate) enum Request {
+    /// `.undo`
     Undo,
+    /// `.save`
     Save,
+    /// `.print`
     Print,
+    /// `.mark NAME`
     Mark(Name),
+    /// `.undo NAME`
     UndoTo(Name),
+    /// Any other.
     Unknown,
 }
 

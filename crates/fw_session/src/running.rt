@@ -2,7 +2,7 @@
 ghost use Rattle.std.specs.Prelude.{◌≡◌, ℕ, List, Option, ◌+◌, ◌≤◌, ◌++◌, [], length};
 ghost use Rattle.fw_session.specs.Input.{Block};
 ghost use Rattle.fw_session.specs.Replies.{ending_name, ending_line};
-ghost use Rattle.fw_session.specs.Hearing.{Answered};
+ghost use Rattle.fw_session.specs.Handling.{ItemAnswered};
 ghost use Rattle.fw_session.specs.Streams.{Writes};
 ghost use Rattle.fw_session.specs.NamedSessions.{named_session};
 ghost use Rattle.hush_run.specs.Runs.{rules};
@@ -10,7 +10,7 @@ ghost use Rattle.hush_run.specs.Runs.{rules};
 use crate::streams::write_text;
 use arrayvec::ArrayVec;
 use env_session::Session;
-use hush_run::{Ending, Limits, Outcome, Stubs, run};
+use hush_run::{Ending, Limits, Outcome, StandIns, run};
 use hush_syntax::{FaultKind, Script};
 use itoa::Buffer;
 use std::alloc::Global;
@@ -20,19 +20,19 @@ use std::io::Write;
 pub(crate) fn run_block<W: Write>(
     alloc: Global,
     session: &mut Session,
-    stubs: &Stubs,
+    stand_ins: &StandIns,
     limits: &Limits,
     block: Vec<u8>,
     output: &mut W,
     written: &mut u64,
 ) -> bool
-    ensures { (names : List (Option (List ℕ))) → Answered (rules stubs.now limits.now) (named_session session.old names)
+    ensures { (names : List (Option (List ℕ))) → ItemAnswered (rules stand_ins.now limits.now) (named_session session.old names)
         (Block block.items) (W.contents output.old) (W.contents output.new) written.old written.new
         (named_session session.new names) result }
 {
     match Script::parse(alloc, block) {
         Ok(script) => {
-            let outcome = run(alloc, session, &script, stubs, limits);
+            let outcome = run(alloc, session, &script, stand_ins, limits);
             write_outcome(&outcome, output, written)
         }
         Err(fault) => match fault.kind {

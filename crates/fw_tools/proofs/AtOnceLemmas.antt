@@ -8,8 +8,8 @@ use Rattle.fw_tools.specs.Exporting.{status_for}
 use Rattle.fw_tools.specs.Printing.{complaint, is_absent, message_for, message_if_absent, named, one_name, printed, status_of}
 use Rattle.fw_tools.specs.Streams.{Writers}
 use Rattle.fw_tools.specs.Tool.{Printed, Texts, Writes, WritesPart}
-use Rattle.fw_tools.specs.declared.ending.StreamFault.{StreamFault}
-use Rattle.fw_tools.specs.declared.ending.StreamFault.TheVariants.{Write}
+use Rattle.fw_tools.specs.declared.ending.ToolFault.{ToolFault}
+use Rattle.fw_tools.specs.declared.ending.ToolFault.TheVariants.{Write}
 
 -- the status is that of the messages
 step : (n : List ℕ) (v : Option (List ℕ)) (b : Bool) (ms : List ℕ) → status_of b ≡ status_for ms → status_of (is_none v || b) ≡ status_for (message_if_absent n v ++ ms)
@@ -31,7 +31,7 @@ printed_status env (n ∷ ns) false = named_status env (n ∷ ns)
 printed_status env names true = by_test env names (length names == 1)
 
 -- what was written of the texts is what the tool prints
-pub ended : (fault : Option StreamFault) (status : ℕ) (old new : Writers) (texts : Texts) →
+pub ended : (fault : Option ToolFault) (status : ℕ) (old new : Writers) (texts : Texts) →
     MatchOption fault (Writes old new texts × (status ≡ texts.status)) (λ f. (f ≡ Write) × WritesPart old new texts × (status ≡ 1)) → Printed fault old new texts status
 ended None status old new texts p = p
 ended (Some f) status old new texts p = subst (λ x. Printed (Some x) old new texts status) (sym p.0) (p.1, p.2)
@@ -40,7 +40,7 @@ same_texts : (texts : Texts) (output errors : List ℕ) (status : ℕ) → outpu
     (record { output = output; errors = errors; status = status_for errors }) ≡ texts
 same_texts texts output errors status o e s = λ i. record { output = o i; errors = e i; status = (ap status_for e ∙ sym s) i }
 
-pub at_once : (fault : Option StreamFault) (status : ℕ) (old new : Writers) (texts : Texts) (output errors : List ℕ) →
+pub at_once : (fault : Option ToolFault) (status : ℕ) (old new : Writers) (texts : Texts) (output errors : List ℕ) →
     output ≡ texts.output → errors ≡ texts.errors → texts.status ≡ status_for texts.errors →
     MatchOption fault (Writes old new (record { output = output; errors = errors; status = status_for errors }) × (status ≡ status_for errors))
     (λ f. (f ≡ Write) × WritesPart old new (record { output = output; errors = errors; status = status_for errors }) × (status ≡ 1)) →
@@ -49,7 +49,7 @@ at_once fault status old new texts output errors o e s p =
     subst (λ t. Printed fault old new t status) (same_texts texts output errors status o e s)
     (ended fault status old new (record { output = output; errors = errors; status = status_for errors }) p)
 
-pub made_first : (fault made : Option StreamFault) (made_status status : ℕ) (old new : Writers) (texts : Texts) (x y text messages text' messages' : List ℕ) →
+pub made_first : (fault made : Option ToolFault) (made_status status : ℕ) (old new : Writers) (texts : Texts) (x y text messages text' messages' : List ℕ) →
     made ≡ None →
     MatchOption made (Writes (record { output = Some x; errors = Some y }) (record { output = Some text; errors = Some messages }) texts × (made_status ≡ texts.status))
     (λ f. (f ≡ Write) × WritesPart (record { output = Some x; errors = Some y }) (record { output = Some text; errors = Some messages }) texts × (made_status ≡ 1)) →

@@ -9,7 +9,7 @@ use Rattle.envvars_core.specs.Refusals.{refusal, after, given, first_refusal, ha
 use Rattle.envvars_core.specs.Attributes.{attributes}
 use Rattle.envvars_core.specs.declared.refusals.Refusal.{Refusal}
 use Rattle.envvars_core.specs.declared.refusals.Refusal.TheVariants.{BadForm, BadType, NoCreate, NoDelete, NoOverwrite, Full, Memory}
-use Rattle.fw_tools.specs.Defaults.{written, entry_refusal, refused_or, RanOut, AnswersRefusal}
+use Rattle.fw_tools.specs.Defaults.{written, entry_refusal, refused_or, RanOut, RefusesDefaults}
 use Rattle.std.specs.Prelude.{slice_get, IfSome, IfNone, IsOkUnless, Bool, false, ◌&&◌, is_none, nat_lt}
 
 -- a forced write asks no default environment
@@ -92,7 +92,7 @@ never_memory room m e h =
     refused_early (is_name e.name && holds_no_zero e.value) (is_none (env.get m e.name) && is_none (given e.value))
     (has_type_if_some (attributes m e.name).kind (given e.value)) (nat_lt room (used (after m e.name e.value))) h
 
-answered : (room : ℕ) (es : List Entry) (line : ℕ) (r : Refusal) → (r ≡ Memory → ⊥) → written room env.empty es ≡ Err (line, r) → AnswersRefusal room es line r
+answered : (room : ℕ) (es : List Entry) (line : ℕ) (r : Refusal) → (r ≡ Memory → ⊥) → written room env.empty es ≡ Err (line, r) → RefusesDefaults room es line r
 answered room es line Memory never e = absurd (never refl)
 answered room es line BadForm never e = e
 answered room es line BadType never e = e
@@ -106,14 +106,14 @@ same_error r s e = cc
 
 -- what writing an entry answered: the clauses of write_entry, at the room of the variables
 pub stopped_at : (room of : ℕ) (all rest : List Entry) (e : Entry) (m : Environment) (r : Refusal) → of ≡ room → IsWritten room all (e ∷ rest) m →
-    IfSome (entry_refusal of m e) (λ s. ◌≡◌ {A = Result (Unit {0}) Refusal} (Err r) (Err s)) → IfNone (entry_refusal of m e) (IsOkUnless {T = Unit {0}} (Err r) Memory) → AnswersRefusal room all e.line r
+    IfSome (entry_refusal of m e) (λ s. ◌≡◌ {A = Result (Unit {0}) Refusal} (Err r) (Err s)) → IfNone (entry_refusal of m e) (IsOkUnless {T = Unit {0}} (Err r) Memory) → RefusesDefaults room all e.line r
 stopped_at room of all rest e m r is w some none =
     by_refusal (entry_refusal room m e) refl
     (subst (λ (k : ℕ). IfSome (entry_refusal k m e) (λ s. ◌≡◌ {A = Result (Unit {0}) Refusal} (Err r) (Err s))) is some)
     (subst (λ (k : ℕ). IfNone (entry_refusal k m e) (IsOkUnless {T = Unit {0}} (Err r) Memory)) is none)
   where
-    by_refusal : (o : Option Refusal) → entry_refusal room m e ≡ o → IfSome o (λ s. ◌≡◌ {A = Result (Unit {0}) Refusal} (Err r) (Err s)) → IfNone o (IsOkUnless {T = Unit {0}} (Err r) Memory) → AnswersRefusal room all e.line r
-    by_refusal None k p q = subst (AnswersRefusal room all e.line) (sym q) (ran_out room all rest e m w k)
+    by_refusal : (o : Option Refusal) → entry_refusal room m e ≡ o → IfSome o (λ s. ◌≡◌ {A = Result (Unit {0}) Refusal} (Err r) (Err s)) → IfNone o (IsOkUnless {T = Unit {0}} (Err r) Memory) → RefusesDefaults room all e.line r
+    by_refusal None k p q = subst (RefusesDefaults room all e.line) (sym q) (ran_out room all rest e m w k)
     by_refusal (Some s) k p q =
         let same : s ≡ r = sym (same_error r s p) in
         answered room all e.line r (λ out. never_memory room m e (k ∙ ap (λ x. Some x) (same ∙ out))) (refused_at room all rest e m s w k ∙ ap (λ x. Err (e.line, x)) same)

@@ -15,8 +15,8 @@ use Rattle.fw_tools.specs.Streams.{AppendsPart}
 use Rattle.fw_tools.specs.Tool.{PrintsText}
 use Rattle.fw_tools.specs.Setting.{Effect, Ends, Changes, silent, refused_by, unless_refused, set_effect, script_effect}
 use Rattle.fw_tools.specs.declared.ending.ToolEnd.{ToolEnd}
-use Rattle.fw_tools.specs.declared.ending.StreamFault.{StreamFault}
-use Rattle.fw_tools.specs.declared.ending.StreamFault.TheVariants.{Write, Memory}
+use Rattle.fw_tools.specs.declared.ending.ToolFault.{ToolFault}
+use Rattle.fw_tools.specs.declared.ending.ToolFault.TheVariants.{Write, Memory}
 
 pub none_written : (h : Held) (es : List Entry) → h ≡ (imported h (take 0 es)).0
 unfolding imported
@@ -37,7 +37,7 @@ pub text_ends : (end : ToolEnd) (a b : Option (List ℕ)) (old new : Held) (effe
     Changes (record { session = old; errors = a }) (record { session = new; errors = b }) effect es end
 text_ends end a b old new effect es is p = by_fault end.fault p
   where
-    by_fault : (f : Option StreamFault) → MatchOption f (Appends a b effect.text × (end.status ≡ effect.status)) (λ fault. (fault ≡ Write) × AppendsPart a b effect.text × (end.status ≡ 1)) →
+    by_fault : (f : Option ToolFault) → MatchOption f (Appends a b effect.text × (end.status ≡ effect.status)) (λ fault. (fault ≡ Write) × AppendsPart a b effect.text × (end.status ≡ 1)) →
         Ends f (record { session = old; errors = a }) (record { session = new; errors = b }) effect es end.status
     by_fault None h = (h.0, h.1, is)
     by_fault (Some f) h = subst (λ x. Ends (Some x) (record { session = old; errors = a }) (record { session = new; errors = b }) effect es end.status) (sym h.0) (h.1, h.2, is)
@@ -49,7 +49,7 @@ pub silent_ends : (end : ToolEnd) (a : Option (List ℕ)) (old mid new : Held) (
 silent_ends end a old mid new effect es k so_far is p =
     subst (λ d. Ends end.fault (record { session = old; errors = a }) (record { session = new; errors = a }) d es end.status) (sym is) (by_fault end.fault p)
   where
-    by_fault : (f : Option StreamFault) → MatchOption f ((new ≡ saved mid) × (end.status ≡ 0)) (λ fault. (fault ≡ Memory) × (new ≡ mid) × (end.status ≡ 1)) →
+    by_fault : (f : Option ToolFault) → MatchOption f ((new ≡ saved mid) × (end.status ≡ 0)) (λ fault. (fault ≡ Memory) × (new ≡ mid) × (end.status ≡ 1)) →
         Ends f (record { session = old; errors = a }) (record { session = new; errors = a }) (silent (saved mid)) es end.status
     by_fault None h = (Appends-nil a, h.1, h.0)
     by_fault (Some f) h = subst (λ x. Ends (Some x) (record { session = old; errors = a }) (record { session = new; errors = a }) (silent (saved mid)) es end.status) (sym h.0) (Keeps-refl a, h.2, (k, h.1 ∙ so_far))

@@ -13,20 +13,20 @@ use Rattle.fw_tools.specs.Streams.{AppendsPart}
 use Rattle.fw_tools.specs.Tool.{Printed, PrintsText, Lists}
 use Rattle.fw_tools.proofs.WriteLemmas.{nothing}
 use Rattle.fw_tools.specs.declared.ending.ToolEnd.{ToolEnd}
-use Rattle.fw_tools.specs.declared.ending.StreamFault.{StreamFault}
-use Rattle.fw_tools.specs.declared.ending.StreamFault.TheVariants.{Write, Memory}
+use Rattle.fw_tools.specs.declared.ending.ToolFault.{ToolFault}
+use Rattle.fw_tools.specs.declared.ending.ToolFault.TheVariants.{Write, Memory}
 
-listed : (f : Option StreamFault) (s : ℕ) (w w' e : Option (List ℕ)) (text : List ℕ) →
+listed : (f : Option ToolFault) (s : ℕ) (w w' e : Option (List ℕ)) (text : List ℕ) →
     MatchOption f (Appends w w' text × (s ≡ 0)) (λ fault. (fault ≡ Write) × AppendsPart w w' text × (s ≡ 1)) ⊎ ((f ≡ Some Memory) × Keeps w w' × (s ≡ 1)) →
     Printed f (record { output = w; errors = e }) (record { output = w'; errors = e }) (record { output = text; errors = []; status = 0 }) s
 listed None s w w' e text (inl p) = ((p.0, Appends-nil e), p.1)
-listed None s w w' e text (inr q) = absurd (let bad : ◌≡◌ {A = Option StreamFault} None (Some Memory) = q.0 in cc)
+listed None s w w' e text (inr q) = absurd (let bad : ◌≡◌ {A = Option ToolFault} None (Some Memory) = q.0 in cc)
 listed (Some fault) s w w' e text (inl p) =
     subst (λ x. Printed (Some x) (record { output = w; errors = e }) (record { output = w'; errors = e }) (record { output = text; errors = []; status = 0 }) s) (sym p.0) (inl (p.1, nothing e), p.2)
 listed (Some fault) s w w' e text (inr q) =
     subst (λ x. Printed x (record { output = w; errors = e }) (record { output = w'; errors = e }) (record { output = text; errors = []; status = 0 }) s) (sym q.0) ((q.1, Keeps-refl e), q.2)
 
-complained : (f : Option StreamFault) (s : ℕ) (w e e' : Option (List ℕ)) (text : List ℕ) →
+complained : (f : Option ToolFault) (s : ℕ) (w e e' : Option (List ℕ)) (text : List ℕ) →
     MatchOption f (Appends e e' text × (s ≡ 1)) (λ fault. (fault ≡ Write) × AppendsPart e e' text × (s ≡ 1)) →
     Printed f (record { output = w; errors = e }) (record { output = w; errors = e' }) (record { output = []; errors = text; status = 1 }) s
 complained None s w e e' text p = ((Appends-nil w, p.0), p.1)

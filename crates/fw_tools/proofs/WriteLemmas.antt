@@ -6,8 +6,8 @@ use Rattle.std.specs.Io.KnownBytes.{Appends}
 use Rattle.fw_tools.specs.Streams.{AppendsFront, AppendsPart, Writers}
 use Rattle.fw_tools.specs.Tool.{Texts, Writes, WritesPart, Printed, Prints, PrintsText}
 use Rattle.fw_tools.specs.declared.ending.ToolEnd.{ToolEnd}
-use Rattle.fw_tools.specs.declared.ending.StreamFault.{StreamFault}
-use Rattle.fw_tools.specs.declared.ending.StreamFault.TheVariants.{Write}
+use Rattle.fw_tools.specs.declared.ending.ToolFault.{ToolFault}
+use Rattle.fw_tools.specs.declared.ending.ToolFault.TheVariants.{Write}
 
 pub nothing : (a : Option (List ℕ)) → AppendsFront a a []
 nothing a = ([], [], refl, Appends-nil a)
@@ -48,7 +48,7 @@ stopped_prints end a b texts is p =
 pub errors_print : (end : ToolEnd) (o a b : Option (List ℕ)) (text : List ℕ) → PrintsText a b text 1 end → Prints (record { output = o; errors = a }) (record { output = o; errors = b }) (record { output = []; errors = text; status = 1 }) end
 errors_print end o a b text p = by_fault end.fault p
   where
-    by_fault : (f : Option StreamFault) → MatchOption f (Appends a b text × (end.status ≡ 1)) (λ fault. (fault ≡ Write) × AppendsPart a b text × (end.status ≡ 1)) →
+    by_fault : (f : Option ToolFault) → MatchOption f (Appends a b text × (end.status ≡ 1)) (λ fault. (fault ≡ Write) × AppendsPart a b text × (end.status ≡ 1)) →
         MatchOption f (Writes (record { output = o; errors = a }) (record { output = o; errors = b }) (record { output = []; errors = text; status = 1 }) × (end.status ≡ 1))
         (λ fault. (fault ≡ Write) × WritesPart (record { output = o; errors = a }) (record { output = o; errors = b }) (record { output = []; errors = text; status = 1 }) × (end.status ≡ 1))
     by_fault None h = ((Appends-nil o, h.0), h.1)
@@ -57,7 +57,7 @@ errors_print end o a b text p = by_fault end.fault p
 pub output_prints : (end : ToolEnd) (e a b : Option (List ℕ)) (text : List ℕ) → PrintsText a b text 0 end → Prints (record { output = a; errors = e }) (record { output = b; errors = e }) (record { output = text; errors = []; status = 0 }) end
 output_prints end e a b text p = by_fault end.fault p
   where
-    by_fault : (f : Option StreamFault) → MatchOption f (Appends a b text × (end.status ≡ 0)) (λ fault. (fault ≡ Write) × AppendsPart a b text × (end.status ≡ 1)) →
+    by_fault : (f : Option ToolFault) → MatchOption f (Appends a b text × (end.status ≡ 0)) (λ fault. (fault ≡ Write) × AppendsPart a b text × (end.status ≡ 1)) →
         MatchOption f (Writes (record { output = a; errors = e }) (record { output = b; errors = e }) (record { output = text; errors = []; status = 0 }) × (end.status ≡ 0))
         (λ fault. (fault ≡ Write) × WritesPart (record { output = a; errors = e }) (record { output = b; errors = e }) (record { output = text; errors = []; status = 0 }) × (end.status ≡ 1))
     by_fault None h = ((h.0, Appends-nil e), h.1)
@@ -67,7 +67,7 @@ output_prints end e a b text p = by_fault end.fault p
 pub prints_printed : (end : ToolEnd) (a b : Writers) (texts : Texts) → Prints a b texts end → Printed end.fault a b texts end.status
 prints_printed end a b texts p = by_fault end.fault p
   where
-    by_fault : (f : Option StreamFault) → MatchOption f (Writes a b texts × (end.status ≡ texts.status)) (λ fault. (fault ≡ Write) × WritesPart a b texts × (end.status ≡ 1)) → Printed f a b texts end.status
+    by_fault : (f : Option ToolFault) → MatchOption f (Writes a b texts × (end.status ≡ texts.status)) (λ fault. (fault ≡ Write) × WritesPart a b texts × (end.status ≡ 1)) → Printed f a b texts end.status
     by_fault None h = h
     by_fault (Some f) h = subst (λ x. Printed (Some x) a b texts end.status) (sym h.0) (h.1, h.2)
 

@@ -64,4 +64,5 @@ of_name value_only env name = record { output = line_for value_only env name; er
 
 abbrev pub PrintsName : Writers → Writers → Bool → Environment → List ℕ → Option Bool → Type 0
 PrintsName old new value_only env name absent =
-    MatchOption absent (WritesPart old new (of_name value_only env name)) (λ missing. Writes old new (of_name value_only env name) × (missing ≡ is_absent env name))
+    MatchOption absent (WritesPart old new (of_name value_only env name))
+    (λ missing. Writes old new (of_name value_only env name) × (missing ≡ is_absent env name))

@@ -10,8 +10,8 @@ use Rattle.envvars_core.specs.declared.refusals.Refusal.{Refusal}
 use Rattle.fw_tools.specs.Messages.{refusal_text}
 use Rattle.fw_tools.specs.Streams.{AppendsPart}
 use Rattle.fw_tools.specs.declared.ending.ToolEnd.{ToolEnd}
-use Rattle.fw_tools.specs.declared.ending.StreamFault.{StreamFault}
-use Rattle.fw_tools.specs.declared.ending.StreamFault.TheVariants.{Read, Write, Memory}
+use Rattle.fw_tools.specs.declared.ending.ToolFault.{ToolFault}
+use Rattle.fw_tools.specs.declared.ending.ToolFault.TheVariants.{Read, Write, Memory}
 
 -- what a tool does: its text on standard error, its status, and the session afterwards
 pub record Effect : Type 0 where
@@ -41,14 +41,14 @@ unless_refused (Some r) name h rest = refused_by r name h
 abbrev pub pair_in : Entries.Entry → Entry
 pair_in e = (e.name, e.value)
 
--- the words joined by one space
+-- words each behind a space, and words joined by one
+abbrev pub behind_spaces : List (List ℕ) → List ℕ
+behind_spaces [] = []
+behind_spaces (w ∷ ws) = 32 ∷ w ++ behind_spaces ws
+
 abbrev pub spaced : List (List ℕ) → List ℕ
 spaced [] = []
-spaced (w ∷ ws) = 32 ∷ w ++ spaced ws
-
-abbrev pub joined : List (List ℕ) → List ℕ
-joined [] = []
-joined (w ∷ ws) = w ++ spaced ws
+spaced (w ∷ ws) = w ++ behind_spaces ws
 
 -- an unforced write of a value, and a save; an empty value deletes
 abbrev pub set_effect : Held → List ℕ → List ℕ → Effect
@@ -78,11 +78,12 @@ abbrev pub import_effect : Held → List Entry → Effect
 import_effect h es = record { text = count_text (imported h es).1; status = count_status (imported h es).1; session = saved (imported h es).0 }
 
 -- how a tool that changes a session ends. Where memory ran out nothing was printed, no copy has changed, and some first of its writes stand
-abbrev pub Ends : Option StreamFault → Changing → Changing → Effect → List Entry → ℕ → Type 0
+abbrev pub Ends : Option ToolFault → Changing → Changing → Effect → List Entry → ℕ → Type 0
 Ends None old new effect writes status = Appends old.errors new.errors effect.text × (status ≡ effect.status) × (new.session ≡ effect.session)
 Ends (Some Write) old new effect writes status = AppendsPart old.errors new.errors effect.text × (status ≡ 1) × (new.session ≡ effect.session)
 Ends (Some Read) old new effect writes status = ⊥
-Ends (Some Memory) old new effect writes status = Keeps old.errors new.errors × (status ≡ 1) × ((k : ℕ) × (new.session ≡ (imported old.session (take k writes)).0))
+Ends (Some Memory) old new effect writes status =
+    Keeps old.errors new.errors × (status ≡ 1) × ((k : ℕ) × (new.session ≡ (imported old.session (take k writes)).0))
 
 abbrev pub Changes : Changing → Changing → Effect → List Entry → ToolEnd → Type 0
 Changes old new effect writes end = Ends end.fault old new effect writes end.status

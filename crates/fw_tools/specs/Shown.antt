@@ -2,7 +2,7 @@
 use Rattle.std.specs.Prelude.{ℕ, ◌&&◌, nat_le, if◌then◌else◌, List, [], ◌∷◌, ◌++◌, length, drop, codes}
 use Rattle.std.specs.List.{flat_map}
 use Rattle.std.specs.FinMap.{entries}
-use Rattle.envimg_core.specs.Environment.{Environment, Pair, joined}
+use Rattle.envimg_core.specs.Environment.{Environment, Pair, entry_text}
 use Rattle.envimg_core.specs.Pieces.{entries_of, vars_of}
 use Rattle.envimg_core.specs.State.{state_of}
 use Rattle.envimg_core.specs.declared.geometry.Layout.TheVariants.{Single}
@@ -15,7 +15,7 @@ use Rattle.fw_tools.specs.declared.ending.ToolEnd.{ToolEnd}
 
 -- name=value and a newline
 abbrev pub line_of : Pair → List ℕ
-line_of p = joined p ++ 10 ∷ []
+line_of p = entry_text p ++ 10 ∷ []
 
 -- a line for each variable, in ascending order of the names' bytes
 abbrev pub listing : Environment → List ℕ
@@ -24,7 +24,9 @@ listing env = flat_map line_of (entries env)
 -- the state of all the bytes as one single image of this byte order; a length that is no size is a bad length
 abbrev pub state_shown : Order → List ℕ → CopyState
 state_shown order bytes =
-    if nat_le 8 (length bytes) && nat_le (length bytes) 1048576 then state_of (record { layout = Single; size = length bytes; order = order }) bytes else BadLength
+    if nat_le 8 (length bytes) && nat_le (length bytes) 1048576
+    then state_of (record { layout = Single; size = length bytes; order = order }) bytes
+    else BadLength
 
 abbrev pub bad_image : List ℕ → Texts
 bad_image kind = record { output = []; errors = codes "## Error: bad image: " ++ kind ++ 10 ∷ []; status = 1 }

@@ -3,8 +3,8 @@ use Rattle.std.specs.Prelude.{◌≡◌, ◌⊎◌, ℕ, List, Option, Some, Non
 use Rattle.std.specs.Io.KnownBytes.{Appends, Keeps}
 use Rattle.fw_tools.specs.Streams.{AppendsFront, AppendsPart, Gave, GaveAll, Writers}
 use Rattle.fw_tools.specs.declared.ending.ToolEnd.{ToolEnd}
-use Rattle.fw_tools.specs.declared.ending.StreamFault.{StreamFault}
-use Rattle.fw_tools.specs.declared.ending.StreamFault.TheVariants.{Read, Write, Memory}
+use Rattle.fw_tools.specs.declared.ending.ToolFault.{ToolFault}
+use Rattle.fw_tools.specs.declared.ending.ToolFault.TheVariants.{Read, Write, Memory}
 
 -- what a tool prints on standard output and standard error, and its status
 pub record Texts : Type 0 where
@@ -13,7 +13,7 @@ pub record Texts : Type 0 where
   pub status : ℕ
 
 -- what was read: all, or some of it where reading or memory failed
-abbrev pub Took : Option StreamFault → Option (List ℕ) → Option (List ℕ) → ℕ → List ℕ → Type 0
+abbrev pub Took : Option ToolFault → Option (List ℕ) → Option (List ℕ) → ℕ → List ℕ → Type 0
 Took None = GaveAll
 Took (Some Write) = GaveAll
 Took (Some Read) = Gave
@@ -34,7 +34,7 @@ abbrev pub WritesNothing : Writers → Writers → Type 0
 WritesNothing old new = Keeps old.output new.output × Keeps old.errors new.errors
 
 -- what was written: both texts; less than that where writing failed; nothing where reading or memory failed
-abbrev pub Printed : Option StreamFault → Writers → Writers → Texts → ℕ → Type 0
+abbrev pub Printed : Option ToolFault → Writers → Writers → Texts → ℕ → Type 0
 Printed None old new texts status = Writes old new texts × (status ≡ texts.status)
 Printed (Some Write) old new texts status = WritesPart old new texts × (status ≡ 1)
 Printed (Some Read) old new texts status = WritesNothing old new × (status ≡ 1)
@@ -46,7 +46,7 @@ Prints old new texts end =
     MatchOption end.fault (Writes old new texts × (end.status ≡ texts.status)) (λ fault. (fault ≡ Write) × WritesPart old new texts × (end.status ≡ 1))
 
 -- a fault that comes before anything is written
-abbrev pub IsEarly : StreamFault → Type 0
+abbrev pub IsEarly : ToolFault → Type 0
 IsEarly Read = Unit {0}
 IsEarly Memory = Unit {0}
 IsEarly Write = ⊥

@@ -6,7 +6,7 @@ ghost use Rattle.fw_tools.specs.Setting.{count_status, count_text};
 ghost use Rattle.fw_tools.specs.Streams.{AppendsPart};
 ghost use Rattle.fw_tools.specs.Tool.{PrintsText};
 
-use crate::ending::{StreamFault, ToolEnd};
+use crate::ending::{ToolEnd, ToolFault};
 use crate::messages::{ENTRIES_REFUSED, ERROR};
 use crate::streams::{write_decimal, write_text};
 use std::io::Write;
@@ -21,7 +21,7 @@ pub(crate) fn print_count<E: Write>(errors: &mut E, refused: usize) -> ToolEnd
     if write_count(errors, refused) {
         ToolEnd::done(1)
     } else {
-        ToolEnd::stopped(StreamFault::Write)
+        ToolEnd::stopped(ToolFault::Write)
     }
 }
 

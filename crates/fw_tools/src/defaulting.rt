@@ -1,9 +1,10 @@
 //! The default environment, from the entries of a text.
-ghost use Rattle.std.specs.Prelude.{◌≡◌, ◌≤◌, IfNone, IfSome, IsOkUnless, OnOk, map, option_copied};
+ghost use Rattle.std.specs.Prelude.{◌≡◌, ◌≤◌, IfNone, IfSome, IsOkUnless, OnOk, map};
 ghost use Rattle.envcfg_core.specs.Entries.{entry_view};
 ghost use Rattle.envvars_core.specs.Refusals.{after};
-ghost use Rattle.fw_tools.specs.Defaults.{Answers, AnswersRead, entry_refusal};
+ghost use Rattle.fw_tools.specs.Defaults.{GivesDefaults, GivesDefaultsRead, entry_refusal};
 
+use crate::text_entries::value_of;
 use envcfg_core::{ImportText, TextEntry};
 use envvars_core::{Refusal, Vars};
 use std::alloc::Global;
@@ -16,7 +17,7 @@ use std::alloc::Global;
 /// The line and the refusal of the first entry that is refused; `Memory` only where a growth was refused.
 pub fn defaults(alloc: Global, room: u32, entries: &[TextEntry]) -> Result<Vars, (usize, Refusal)>
     requires { 1 ≤ room }
-    ensures { Answers room (map entry_view entries.now) result }
+    ensures { GivesDefaults room (map entry_view entries.now) result }
 {
     let none = Vars::empty(alloc, room);
     let mut vars = Vars::empty(alloc, room);
@@ -42,7 +43,7 @@ pub fn default_text(
     text: ImportText<'_>,
 ) -> Result<Vars, (usize, Refusal)>
     requires { 1 ≤ room }
-    ensures { AnswersRead room text.entry result }
+    ensures { GivesDefaultsRead room text.entry result }
 {
     let none = Vars::empty(alloc, room);
     let mut vars = Vars::empty(alloc, room);
@@ -70,15 +71,5 @@ fn write_entry(vars: &mut Vars, entry: &TextEntry, none: &Vars) -> Result<(), Re
     match vars.write(&entry.name, value_of(entry), true, none) {
         Ok(_was) => Ok(()),
         Err(refusal) => Err(refusal),
-    }
-}
-
-/// The entry's value, if it has one.
-fn value_of(entry: &TextEntry) -> Option<&[u8]>
-    ensures { option_copied result ≡ (entry_view entry.now).value }
-{
-    match &entry.value {
-        Some(value) => Some(value),
-        None => None,
     }
 }

@@ -7,7 +7,7 @@ ghost use Rattle.fw_tools.specs.Exporting.{export_message, export_text, export_t
 ghost use Rattle.fw_tools.specs.Messages.{about};
 ghost use Rattle.fw_tools.specs.Tool.{Printed, Prints};
 
-use crate::ending::{StreamFault, ToolEnd};
+use crate::ending::{ToolEnd, ToolFault};
 use crate::messages::{CANNOT_EXPORT, QUOTE};
 use crate::streams::write_text;
 use env_session::Session;
@@ -29,7 +29,7 @@ pub fn export<W: Write, E: Write>(
         result.status }
 {
     match export_all(alloc, session.vars()) {
-        Err(_) => ToolEnd::stopped(StreamFault::Memory),
+        Err(_) => ToolEnd::stopped(ToolFault::Memory),
         Ok((text, messages)) => print_both(&text, &messages, output, errors),
     }
 }
@@ -46,13 +46,13 @@ pub(crate) fn print_both<W: Write, E: Write>(
         (record { output = text.now; errors = messages.now; status = status_for messages.now }) result }
 {
     if !write_text(output, text) {
-        return ToolEnd::stopped(StreamFault::Write);
+        return ToolEnd::stopped(ToolFault::Write);
     }
     if messages.is_empty() {
         return ToolEnd::done(0);
     }
     if !write_text(errors, messages) {
-        return ToolEnd::stopped(StreamFault::Write);
+        return ToolEnd::stopped(ToolFault::Write);
     }
     ToolEnd::done(1)
 }

@@ -2,7 +2,7 @@
 //! session and print, what the program shows of an image, and the default environment of a text. docs/tools.md states the
 //! rules.
 //!
-//! To read in this order: ending, streams, messages, saying; showing; printing, exporting; counting, setting; defaulting.
+//! To read in this order: ending, streams, messages, saying; showing; printing, exporting; text_entries, counting, setting; defaulting.
 #![tactic(auto)]
 
 mod counting;
@@ -15,9 +15,10 @@ mod saying;
 mod setting;
 mod showing;
 pub mod streams;
+mod text_entries;
 
 pub use defaulting::{default_text, defaults};
-pub use ending::{StreamFault, ToolEnd};
+pub use ending::{ToolEnd, ToolFault};
 pub use exporting::export;
 pub use printing::{print_at_once, printenv};
 pub use setting::{import, import_text, script_text, set_script, setenv};

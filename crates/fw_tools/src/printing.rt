@@ -4,7 +4,7 @@ ghost use Rattle.fw_tools.specs.Printing.{PrintsName, named, printed};
 ghost use Rattle.fw_tools.specs.Shown.{listing};
 ghost use Rattle.fw_tools.specs.Tool.{Printed, Prints, PrintsText};
 
-use crate::ending::{StreamFault, ToolEnd};
+use crate::ending::{ToolEnd, ToolFault};
 use crate::exporting::print_both;
 use crate::messages::{ERROR_QUOTE, NOT_DEFINED, ONE_NAME};
 use crate::saying::{print_text, status_of, write_line};
@@ -60,7 +60,7 @@ pub fn print_at_once<W: Write, E: Write>(
     let mut text = Vec::new(alloc);
     let mut messages = Vec::new(alloc);
     match printenv(session, names, value_only, &mut text, &mut messages).fault {
-        Some(_) => ToolEnd::stopped(StreamFault::Memory),
+        Some(_) => ToolEnd::stopped(ToolFault::Memory),
         None => print_both(&text, &messages, output, errors),
     }
 }
@@ -71,7 +71,7 @@ fn print_all<W: Write>(vars: &Vars, output: &mut W) -> ToolEnd
 {
     for line in vars.lines() {
         if !write_two(output, line, b"\n") {
-            return ToolEnd::stopped(StreamFault::Write);
+            return ToolEnd::stopped(ToolFault::Write);
         }
     }
     ToolEnd::done(0)
@@ -92,7 +92,7 @@ fn print_named<W: Write, E: Write>(
     let mut absent = false;
     for name in names {
         match print_name(vars, name, value_only, output, errors) {
-            None => return ToolEnd::stopped(StreamFault::Write),
+            None => return ToolEnd::stopped(ToolFault::Write),
             Some(missing) => absent = either(absent, missing),
         }
     }

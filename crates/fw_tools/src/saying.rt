@@ -5,7 +5,7 @@ ghost use Rattle.fw_tools.specs.Printing.{line_or_value, status_of};
 ghost use Rattle.fw_tools.specs.Streams.{AppendsPart};
 ghost use Rattle.fw_tools.specs.Tool.{PrintsText};
 
-use crate::ending::{StreamFault, ToolEnd};
+use crate::ending::{ToolEnd, ToolFault};
 use crate::streams::{write_text, write_three, write_two};
 use std::io::Write;
 
@@ -16,7 +16,7 @@ pub(crate) fn print_text<W: Write>(writer: &mut W, text: &[u8], status: u8) -> T
     if write_text(writer, text) {
         ToolEnd::done(status)
     } else {
-        ToolEnd::stopped(StreamFault::Write)
+        ToolEnd::stopped(ToolFault::Write)
     }
 }
 

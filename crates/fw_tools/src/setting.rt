@@ -3,13 +3,14 @@ ghost use Rattle.std.specs.Prelude.{◌≡◌, ◌<◌, ◌≤◌, ◌^◌, ℕ,
 ghost use Rattle.env_session.specs.Requests.{entry_in, imported, refusal_in, write_done};
 ghost use Rattle.env_session.specs.Session.{bytes_of, saved};
 ghost use Rattle.fw_tools.specs.Messages.{refusal_front, refusal_text};
-ghost use Rattle.fw_tools.specs.Setting.{Changes, import_effect, joined, pair_in, stopped_by, script_effect, set_effect};
+ghost use Rattle.fw_tools.specs.Setting.{Changes, import_effect, spaced, pair_in, stopped_by, script_effect, set_effect};
 ghost use Rattle.fw_tools.specs.Tool.{PrintsText};
 
 use crate::counting::print_count;
-use crate::ending::{StreamFault, ToolEnd};
+use crate::ending::{ToolEnd, ToolFault};
 use crate::messages::{BAD_FORM, BAD_TYPE, FULL, NO_CREATE, NO_DELETE, NO_OVERWRITE, QUOTE};
 use crate::streams::write_three;
+use crate::text_entries::value_of;
 use env_session::{ImportEnding, Session};
 use envcfg_core::{ImportText, ScriptText, TextEntry};
 use envvars_core::{Memory, Refusal};
@@ -30,11 +31,11 @@ pub fn setenv<E: Write>(
 ) -> ToolEnd
     ensures { Changes (record { session = session.old; errors = E.contents errors.old })
         (record { session = session.new; errors = E.contents errors.new })
-        (set_effect session.old name.now (joined (map (λ w. w.now) words.now)))
-        ((name.now, Some (joined (map (λ w. w.now) words.now))) ∷ []) result }
+        (set_effect session.old name.now (spaced (map (λ w. w.now) words.now)))
+        ((name.now, Some (spaced (map (λ w. w.now) words.now))) ∷ []) result }
 {
     match join(alloc, words) {
-        Err(_) => ToolEnd::stopped(StreamFault::Memory),
+        Err(_) => ToolEnd::stopped(ToolFault::Memory),
         Ok(value) => set_value(session, name, &value, errors),
     }
 }
@@ -51,7 +52,7 @@ pub fn set_script<E: Write>(session: &mut Session, entries: &[TextEntry], errors
 {
     for entry in entries {
         match write_entry(session, entry) {
-            Err(_) => return ToolEnd::stopped(StreamFault::Memory),
+            Err(_) => return ToolEnd::stopped(ToolFault::Memory),
             Ok(Some(refusal)) => return print_refusal(errors, refusal, &entry.name),
             Ok(None) => {}
         }
@@ -70,9 +71,9 @@ pub fn import<E: Write>(session: &mut Session, entries: &[TextEntry], errors: &m
 {
     let report = session.import(entries);
     match report.ending {
-        ImportEnding::Memory => ToolEnd::stopped(StreamFault::Memory),
+        ImportEnding::Memory => ToolEnd::stopped(ToolFault::Memory),
         ImportEnding::Done => match session.save() {
-            Err(_) => ToolEnd::stopped(StreamFault::Memory),
+            Err(_) => ToolEnd::stopped(ToolFault::Memory),
             Ok(_side) => print_count(errors, report.refused),
         },
     }
@@ -90,11 +91,32 @@ pub fn script_text<E: Write>(
         (script_effect session.old (map pair_in script.entry)) (map pair_in script.entry) result }
 {
     let Ok(stopped) = write_entries(alloc, session, script) else {
-        return ToolEnd::stopped(StreamFault::Memory);
+        return ToolEnd::stopped(ToolFault::Memory);
     };
     match stopped {
         None => save(session),
         Some((entry, refusal)) => print_refusal(errors, refusal, &entry.name),
+    }
+}
+
+/// As `import`, of a text whose entries are read one by one, so that it takes no memory for all of them.
+pub fn import_text<E: Write>(
+    alloc: Global,
+    session: &mut Session,
+    text: ImportText<'_>,
+    errors: &mut E,
+) -> ToolEnd
+    requires few { length text < 2 ^ 64 }
+    ensures { Changes (record { session = session.old; errors = E.contents errors.old })
+        (record { session = session.new; errors = E.contents errors.new })
+        (import_effect session.old (map pair_in text.entry)) (map pair_in text.entry) result }
+{
+    match import_entries(alloc, session, text) {
+        Err(Memory) => ToolEnd::stopped(ToolFault::Memory),
+        Ok(refused) => match session.save() {
+            Err(_) => ToolEnd::stopped(ToolFault::Memory),
+            Ok(_side) => print_count(errors, refused),
+        },
     }
 }
 
@@ -122,27 +144,6 @@ fn write_entries(
             Ok(Some(refusal)) => return Ok(Some((entry, refusal))),
             Ok(None) => continue 'entries,
         }
-    }
-}
-
-/// As `import`, of a text whose entries are read one by one, so that it takes no memory for all of them.
-pub fn import_text<E: Write>(
-    alloc: Global,
-    session: &mut Session,
-    text: ImportText<'_>,
-    errors: &mut E,
-) -> ToolEnd
-    requires few { length text < 2 ^ 64 }
-    ensures { Changes (record { session = session.old; errors = E.contents errors.old })
-        (record { session = session.new; errors = E.contents errors.new })
-        (import_effect session.old (map pair_in text.entry)) (map pair_in text.entry) result }
-{
-    match import_entries(alloc, session, text) {
-        Err(Memory) => ToolEnd::stopped(StreamFault::Memory),
-        Ok(refused) => match session.save() {
-            Err(_) => ToolEnd::stopped(StreamFault::Memory),
-            Ok(_side) => print_count(errors, refused),
-        },
     }
 }
 
@@ -187,7 +188,7 @@ fn set_value<E: Write>(session: &mut Session, name: &[u8], value: &[u8], errors:
         ((name.now, Some value.now) ∷ []) result }
 {
     match write(session, name, Some(value)) {
-        Err(_) => ToolEnd::stopped(StreamFault::Memory),
+        Err(_) => ToolEnd::stopped(ToolFault::Memory),
         Ok(Some(refusal)) => print_refusal(errors, refusal, name),
         Ok(None) => save(session),
     }
@@ -222,27 +223,17 @@ fn write_entry(session: &mut Session, entry: &TextEntry) -> Result<Option<Refusa
 /// Saves, and prints nothing.
 fn save(session: &mut Session) -> ToolEnd
     ensures { MatchOption result.fault ((session.new ≡ saved session.old) × (result.status ≡ 0))
-        (λ fault. (fault ≡ StreamFault.Memory) × (session.new ≡ session.old) × (result.status ≡ 1)) }
+        (λ fault. (fault ≡ ToolFault.Memory) × (session.new ≡ session.old) × (result.status ≡ 1)) }
 {
     match session.save() {
-        Err(_) => ToolEnd::stopped(StreamFault::Memory),
+        Err(_) => ToolEnd::stopped(ToolFault::Memory),
         Ok(_side) => ToolEnd::done(0),
-    }
-}
-
-/// The entry's value, if it has one.
-fn value_of(entry: &TextEntry) -> Option<&[u8]>
-    ensures { option_copied result ≡ bytes_of entry.now.value }
-{
-    match &entry.value {
-        Some(value) => Some(value),
-        None => None,
     }
 }
 
 /// The words joined by one space.
 fn join(alloc: Global, words: &[&[u8]]) -> Result<Vec<u8>, Memory>
-    ensures { IfOk result (λ text. text.items ≡ joined (map (λ w. w.now) words.now)) }
+    ensures { IfOk result (λ text. text.items ≡ spaced (map (λ w. w.now) words.now)) }
 {
     let mut text = Vec::new(alloc);
     let Some((first, others)) = words.split_first() else {
@@ -263,7 +254,7 @@ fn print_refusal<E: Write>(errors: &mut E, refusal: Refusal, name: &[u8]) -> Too
     if write_three(errors, front_of(refusal), name, QUOTE) {
         ToolEnd::done(1)
     } else {
-        ToolEnd::stopped(StreamFault::Write)
+        ToolEnd::stopped(ToolFault::Write)
     }
 }
 

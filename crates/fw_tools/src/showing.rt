@@ -4,7 +4,7 @@ ghost use Rattle.envimg_core.specs.Pieces.{entries_of, is_terminated, vars_of};
 ghost use Rattle.fw_tools.specs.Shown.{Shows, listing, shown, state_shown};
 ghost use Rattle.fw_tools.specs.Tool.{Printed, Lists};
 
-use crate::ending::{StreamFault, ToolEnd};
+use crate::ending::{ToolEnd, ToolFault};
 use crate::messages::{BAD_CHECKSUM, BAD_LENGTH, UNTERMINATED};
 use crate::saying::print_text;
 use crate::streams::read_up_to;
@@ -19,8 +19,9 @@ const READ_LIMIT: usize = 1_048_577;
 /// The checksum before the data area of a single image, in bytes.
 const HEAD: usize = 4;
 
-/// Reads one single image whose checksum stands in this byte order and prints its variables, a line `name=value` for each, in ascending order of the names' bytes,
-/// names that begin with `.` among them. A bad image prints `## Error: bad image: KIND` on `errors`, status 1.
+/// Reads one single image whose checksum stands in this byte order and prints its variables, a line `name=value` for each,
+/// in ascending order of the names' bytes, names that begin with `.` among them. A bad image prints
+/// `## Error: bad image: KIND` on `errors`, status 1.
 ///
 /// Reads at most 1,048,577 bytes, the whole of the reader where it has no more. docs/tools.md has the texts.
 pub fn show<R: Read, W: Write, E: Write>(
@@ -52,7 +53,7 @@ fn show_bytes<W: Write, E: Write>(
     ensures printed { Printed result.fault (record { output = W.contents output.old; errors = E.contents errors.old })
         (record { output = W.contents output.new; errors = E.contents errors.new }) (shown order bytes.now)
         result.status }
-    ensures late { result.fault ≢ Some StreamFault.Read }
+    ensures late { result.fault ≢ Some ToolFault.Read }
 {
     match image_state(order, bytes) {
         CopyState::Good(_) => list(alloc, &bytes[HEAD..], output),
@@ -82,7 +83,7 @@ fn list<W: Write>(alloc: Global, area: &[u8], output: &mut W) -> ToolEnd
     ensures { Lists (W.contents output.old) (W.contents output.new) (listing (vars_of (entries_of area.now))) result }
 {
     match lines_of(alloc, area) {
-        Err(_) => ToolEnd::stopped(StreamFault::Memory),
+        Err(_) => ToolEnd::stopped(ToolFault::Memory),
         Ok(text) => print_text(output, &text, 0),
     }
 }

@@ -5,7 +5,7 @@ ghost use Rattle.std.specs.Io.KnownBytes.{Appends};
 ghost use Rattle.fw_tools.specs.Streams.{AppendsFront, AppendsPart, Gave, GaveAll};
 ghost use Rattle.fw_tools.specs.Tool.{IsEarly};
 
-use crate::ending::StreamFault;
+use crate::ending::ToolFault;
 use std::alloc::Global;
 use std::io::{Read, Write};
 
@@ -17,7 +17,7 @@ pub fn read_up_to<R: Read>(
     alloc: Global,
     reader: &mut R,
     limit: usize,
-) -> Result<Vec<u8>, StreamFault>
+) -> Result<Vec<u8>, ToolFault>
     ensures { MatchResult result (λ bytes. GaveAll (R.remaining reader.old) (R.remaining reader.new) limit bytes.items)
         (λ fault. IsEarly fault
         × ((bytes : List ℕ) × Gave (R.remaining reader.old) (R.remaining reader.new) limit bytes)) }
@@ -27,11 +27,11 @@ pub fn read_up_to<R: Read>(
     while bytes.len() < limit {
         let most = (limit - bytes.len()).min(BLOCK);
         match reader.read(&mut block[..most]) {
-            Err(_) => return Err(StreamFault::Read),
+            Err(_) => return Err(ToolFault::Read),
             Ok(0) => return Ok(bytes),
             Ok(count) => {
                 if bytes.extend_from_slice(&block[..count]).is_err() {
-                    return Err(StreamFault::Memory);
+                    return Err(ToolFault::Memory);
                 }
             }
         }

@@ -7,7 +7,7 @@ use Rattle.hush_calc.specs.declared.comparison.Comparison.TheVariants.{Same, Dif
 use Rattle.hush_calc.specs.declared.comparison.Opening.TheVariants.{Word}
 use Rattle.hush_calc.specs.declared.comparison.Joint.{Joint}
 use Rattle.hush_calc.specs.declared.comparison.Joint.TheVariants.{And, Or}
-use Rattle.hush_calc.specs.Test.{spelling, comparison_of, holds, joint_of, joined, signed, from_term, from_operand, from_joint, expression_of}
+use Rattle.hush_calc.specs.Test.{spelling, comparison_of, holds, joint_of, joint_value, signed, from_term, from_operand, from_joint, expression_of}
 use Rattle.hush_calc.specs.Expressions.{Term, Expression, Filled, Empty, Compared, Plain, Negated, First, Joined, term_words, joint_word, words_of, term_value, value, IsTerm, IsExpression}
 use Rattle.hush_calc.proofs.TermLemmas.{term-cons}
 
@@ -47,8 +47,8 @@ expression-read (First t) rest is = term-read t (λ b. b) false rest is
 expression-read (Joined e j t) rest is =
     ap expression_of (append_assoc (words_of e) (joint_word j ∷ term_words t) rest)
     ∙ expression-read e (joint_word j ∷ (term_words t ++ rest)) is.0
-    ∙ ap (λ (o : Option Joint). option_and_then (λ x. from_term (λ b. joined x (value e) b) false (term_words t ++ rest)) o) (joint-spelled j)
-    ∙ term-read t (λ b. joined j (value e) b) false rest is.1
+    ∙ ap (λ (o : Option Joint). option_and_then (λ x. from_term (λ b. joint_value x (value e) b) false (term_words t ++ rest)) o) (joint-spelled j)
+    ∙ term-read t (λ b. joint_value j (value e) b) false rest is.1
 
 pub expressions-read : (e : Expression) → IsExpression e → expression_of (words_of e) ≡ Some (value e)
 expressions-read e is = ap expression_of (sym (append-nil (words_of e))) ∙ expression-read e [] is

@@ -3,7 +3,7 @@ use Rattle.std.proofs.Common.{◌≡◌, ℕ, Bool, not, List, ◌∷◌, Option
 use Rattle.hush_calc.specs.declared.comparison.Opening.{Opening}
 use Rattle.hush_calc.specs.declared.comparison.Opening.TheVariants.{Not, Filled, Empty, Word}
 use Rattle.hush_calc.specs.Test.{opening_of, signed, is_empty, from_term, from_operand, from_comparison}
-use Rattle.hush_calc.specs.Reading.{Reads}
+use Rattle.hush_calc.specs.TestSteps.{Reads}
 
 -- what stands behind a term's first word, by what that word is
 abbrev behind_opening : (Bool → Bool) → Bool → List ℕ → List (List ℕ) → Opening → Option Bool

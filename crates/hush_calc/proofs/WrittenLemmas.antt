@@ -10,7 +10,7 @@ use Rattle.hush_calc.specs.declared.comparison.Comparison.{Comparison}
 use Rattle.hush_calc.specs.declared.comparison.Opening.TheVariants.{Not, Filled, Empty, Word}
 use Rattle.hush_calc.specs.declared.comparison.Joint.{Joint}
 use Rattle.hush_calc.specs.declared.comparison.Joint.TheVariants.{And, Or}
-use Rattle.hush_calc.specs.Test.{spelling, comparisons, comparison_of, holds, opening_of, joint_of, joined, is_empty, signed, from_term, from_comparison, from_operand, from_joint, expression_of}
+use Rattle.hush_calc.specs.Test.{spelling, comparisons, comparison_of, holds, opening_of, joint_of, joint_value, is_empty, signed, from_term, from_comparison, from_operand, from_joint, expression_of}
 use Rattle.hush_calc.specs.Expressions as tree
 use Rattle.hush_calc.specs.Expressions.{Term, Expression, term_words, joint_word, words_of, term_value, value, IsTerm, IsExpression, IsWritten}
 use Rattle.hush_calc.proofs.TermLemmas.{term-cons}
@@ -160,9 +160,9 @@ joints-found n [] e v small is h = record {
 }
 joints-found zero (w ∷ ws) e v small is h = absurd (omega arith)
 joints-found (suc n) (w ∷ ws) e v small is h =
-    option_and_then_some (λ j. from_term (λ b. joined j (value e) b) false ws) (joint_of w) v h
+    option_and_then_some (λ j. from_term (λ b. joint_value j (value e) b) false ws) (joint_of w) v h
     (λ j spelled g.
-    let found : TermFound (λ b. joined j (value e) b) false ws v = term-found ws (λ b. joined j (value e) b) false v g in
+    let found : TermFound (λ b. joint_value j (value e) b) false ws v = term-found ws (λ b. joint_value j (value e) b) false v g in
     along (words_of (tree.Joined e j found.term) ++ found.rest) (words_of e ++ w ∷ ws) v
     (written-more e j found.term w ws found.rest (joint-is w j spelled) found.front)
     (joints-found n found.rest (tree.Joined e j found.term) v (shorter-rest (term_words found.term) found.rest ws n found.front (omega arith)) (is, found.is) found.goes_on))

@@ -4,13 +4,15 @@ use Rattle.hush_calc.specs.declared.comparison.Comparison.{Comparison}
 use Rattle.hush_calc.specs.declared.comparison.Opening.TheVariants.{Word}
 use Rattle.hush_calc.specs.declared.comparison.Joint.{Joint}
 use Rattle.hush_calc.specs.declared.comparison.Joint.TheVariants.{And, Or}
-use Rattle.hush_calc.specs.Test.{spelling, holds, opening_of, joined, is_empty}
+use Rattle.hush_calc.specs.Test.{spelling, holds, opening_of, joint_value, is_empty}
 
+-- `-n s`, `-z s`, or a comparison of two words
 pub data Primary : Type 0 where
   Filled : List ℕ → Primary
   Empty : List ℕ → Primary
   Compared : List ℕ → Comparison → List ℕ → Primary
 
+-- a primary, or `!` before a term
 pub data Term : Type 0 where
   Plain : Primary → Term
   Negated : Term → Term
@@ -48,7 +50,7 @@ term_value (Negated term) = not (term_value term)
 
 abbrev pub value : Expression → Bool
 value (First term) = term_value term
-value (Joined expression joint term) = joined joint (value expression) (term_value term)
+value (Joined expression joint term) = joint_value joint (value expression) (term_value term)
 
 -- a comparison doesn't begin with `!`, `-n` or `-z`
 abbrev pub IsPrimary : Primary → Type 0

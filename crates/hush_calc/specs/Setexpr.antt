@@ -1,10 +1,12 @@
 -- The command `setexpr` (docs/commands.md, "setexpr").
-use Rattle.std.specs.Prelude.{ℕ, ◌+◌, ◌-◌, ◌*◌, ◌/◌, ◌%◌, ◌==◌, ◌&&◌, ◌||◌, Bool, not, bit_and, bit_or, bit_xor, List, [], ◌∷◌, codes, find, slice_index, Option, Some, None, Result, Ok, Err, if◌then◌else◌}
+use Rattle.std.specs.Prelude.{ℕ, ◌+◌, ◌-◌, ◌*◌, ◌/◌, ◌%◌, ◌==◌, ◌&&◌, ◌||◌, Bool, not, bit_and, bit_or, bit_xor, List, [], ◌∷◌, codes, find, Option, Some, None, Result, Ok, Err, if◌then◌else◌}
 use Rattle.std.specs.Str.{bytes_eq}
 use Rattle.hush_calc.specs.declared.operator.Operator.{Operator}
 use Rattle.hush_calc.specs.declared.operator.Operator.TheVariants.{And, Or, Xor, Add, Subtract, Multiply, Divide, Remainder}
+use Rattle.hush_calc.specs.declared.calculation.Calculated.{Calculated}
 use Rattle.hush_calc.specs.declared.calculation.SetexprFault.{SetexprFault}
 use Rattle.hush_calc.specs.declared.calculation.SetexprFault.TheVariants.{WrongUse, DivisionByZero}
+use Rattle.text_parts.specs.Bytes.{begins_with}
 use Rattle.hush_calc.specs.Numbers.{modulus, value_of}
 use Rattle.hush_calc.specs.Hexadecimal.{hexadecimal}
 
@@ -36,9 +38,13 @@ computed Multiply m n = Some ((m * n) % modulus)
 computed Divide m n = if n == 0 then None else Some (m / n)
 computed Remainder m n = if n == 0 then None else Some (m % n)
 
--- a word that names memory by `*` is no value here
+-- `*`, which names memory
+abbrev pub star : ℕ
+star = 42
+
+-- a word that names memory is no value here
 abbrev pub is_value : List ℕ → Bool
-is_value word = not (slice_index word 0 == 42)
+is_value word = not (begins_with star word)
 
 -- nor are the names of the forms that work on texts, where the first value stands
 abbrev pub is_first_value : List ℕ → Bool
@@ -47,6 +53,10 @@ is_first_value word = is_value word && not (bytes_eq (codes "sub") word || bytes
 -- the name and the text that are to be written, or why none are
 abbrev pub Answer : Type 0
 Answer = Result (List ℕ × List ℕ) SetexprFault
+
+abbrev pub answer_view : Result Calculated SetexprFault → Answer
+answer_view (Ok calculated) = Ok (calculated.name.now, calculated.value)
+answer_view (Err fault) = Err fault
 
 -- a value that is there is written as text
 abbrev pub written : List ℕ → Option ℕ → Answer

@@ -55,9 +55,10 @@ opening_of word =
 abbrev pub joint_of : List ℕ → Option Joint
 joint_of word = if bytes_eq (codes "-a") word then Some And else if bytes_eq (codes "-o") word then Some Or else None
 
-abbrev pub joined : Joint → Bool → Bool → Bool
-joined And left right = left && right
-joined Or left right = left || right
+-- what a joint makes of the values at its sides
+abbrev pub joint_value : Joint → Bool → Bool → Bool
+joint_value And left right = left && right
+joint_value Or left right = left || right
 
 abbrev pub is_empty : List ℕ → Bool
 is_empty word = length word == 0
@@ -93,7 +94,7 @@ abbrev mutual
   -- the end, or a joint and a further term
   pub from_joint : (value : Bool) → List (List ℕ) → Option Bool
   from_joint value [] = Some value
-  from_joint value (w ∷ ws) = option_and_then (λ joint. from_term (λ b. joined joint value b) false ws) (joint_of w)
+  from_joint value (w ∷ ws) = option_and_then (λ joint. from_term (λ b. joint_value joint value b) false ws) (joint_of w)
 
 -- the value of an expression, none where the words aren't one
 abbrev pub expression_of : List (List ℕ) → Option Bool

@@ -1,12 +1,12 @@
 //! The command `setexpr` (docs/commands.md, "setexpr").
 ghost use Rattle.std.specs.Prelude.{◌≡◌, [], ◌∷◌};
-ghost use Rattle.hush_calc.specs.Setexpr.{is_first_value, is_value, setexpr_of};
-ghost use Rattle.hush_calc.specs.Answers.{answer_view};
+ghost use Rattle.hush_calc.specs.Setexpr.{answer_view, is_first_value, is_value, setexpr_of};
 
 use crate::comparison::is_text;
 use crate::numbers::value_of;
 use crate::operator::Operator;
 use crate::{Fields, Hexadecimal};
+use text_parts::begins_with_byte;
 
 /// What `setexpr` writes.
 #[derive(Drop)]
@@ -90,7 +90,7 @@ fn two_values<'a>(
 fn is_value(word: &[u8]) -> bool
     ensures { result ≡ is_value word.now }
 {
-    word.first() != Some(&b'*')
+    !begins_with_byte(b'*', word)
 }
 
 /// Whether a word is a value, and not one of the forms that work on texts.

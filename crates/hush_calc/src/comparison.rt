@@ -35,23 +35,6 @@ impl Comparison {
         Comparison::GreaterOrEqual,
     ];
 
-    fn text(self) -> &'static [u8]
-        ensures { result.now ≡ spelling self }
-    {
-        match self {
-            Comparison::Same => b"=",
-            Comparison::Differs => b"!=",
-            Comparison::Before => b"<",
-            Comparison::After => b">",
-            Comparison::Equal => b"-eq",
-            Comparison::NotEqual => b"-ne",
-            Comparison::Less => b"-lt",
-            Comparison::LessOrEqual => b"-le",
-            Comparison::Greater => b"-gt",
-            Comparison::GreaterOrEqual => b"-ge",
-        }
-    }
-
     /// The comparison that a word is.
     pub(crate) fn of(word: &[u8]) -> Option<Comparison>
         ensures { result ≡ comparison_of word.now }
@@ -77,6 +60,23 @@ impl Comparison {
             Comparison::LessOrEqual => integer_of(left) <= integer_of(right),
             Comparison::Greater => integer_of(left) > integer_of(right),
             Comparison::GreaterOrEqual => integer_of(left) >= integer_of(right),
+        }
+    }
+
+    fn text(self) -> &'static [u8]
+        ensures { result.now ≡ spelling self }
+    {
+        match self {
+            Comparison::Same => b"=",
+            Comparison::Differs => b"!=",
+            Comparison::Before => b"<",
+            Comparison::After => b">",
+            Comparison::Equal => b"-eq",
+            Comparison::NotEqual => b"-ne",
+            Comparison::Less => b"-lt",
+            Comparison::LessOrEqual => b"-le",
+            Comparison::Greater => b"-gt",
+            Comparison::GreaterOrEqual => b"-ge",
         }
     }
 }
@@ -122,7 +122,7 @@ pub(crate) enum Joint {
 }
 
 impl Joint {
-    ghost use Rattle.hush_calc.specs.Test.{joint_of, joined};
+    ghost use Rattle.hush_calc.specs.Test.{joint_of, joint_value};
 
     pub(crate) fn of(word: &[u8]) -> Option<Joint>
         ensures { result ≡ joint_of word.now }
@@ -136,8 +136,9 @@ impl Joint {
         }
     }
 
-    pub(crate) fn joined(self, left: bool, right: bool) -> bool
-        ensures { result ≡ joined self left right }
+    /// What it makes of the values at its sides.
+    pub(crate) fn value(self, left: bool, right: bool) -> bool
+        ensures { result ≡ joint_value self left right }
     {
         match self {
             Joint::And => left && right,

@@ -1,7 +1,7 @@
 //! The command `test` (docs/commands.md, "test").
 ghost use Rattle.std.specs.Prelude.{◌≡◌, ◌≤◌, ◌<◌, not, false, length, option_map};
 ghost use Rattle.hush_calc.specs.Test.{expression_of, from_comparison, from_operand, from_term, is_empty, signed, test_of};
-ghost use Rattle.hush_calc.specs.Reading.{Reads};
+ghost use Rattle.hush_calc.specs.TestSteps.{Reads};
 
 use crate::Fields;
 use crate::comparison::{Comparison, Joint, Opening};
@@ -27,7 +27,7 @@ fn read_expression(words: Fields<'_>) -> Option<bool>
     while let Some(word) = rest.next() {
         let joint = Joint::of(word)?;
         let term = read_term(&mut rest)?;
-        value = joint.joined(value, term);
+        value = joint.value(value, term);
     }
     Some(value)
 }

@@ -1,6 +1,6 @@
 //! The text of a value.
 ghost use Rattle.std.specs.Prelude.{◌≡◌, ◌<◌, ◌≤◌, ℕ, List, drop};
-ghost use Rattle.hush_calc.specs.Hexadecimal.{digit_of, hexadecimal};
+ghost use Rattle.hush_calc.specs.Hexadecimal.{digit_of, hexadecimal, most_digits};
 
 use std::marker::Model;
 
@@ -19,7 +19,7 @@ impl Model for Hexadecimal {
 
     ghost view = { λ a. drop a.start a.digits };
 
-    ghost invariant = { λ a. a.start ≤ 16 };
+    ghost invariant = { λ a. a.start ≤ most_digits };
 }
 
 impl Hexadecimal {

@@ -1,6 +1,5 @@
 //! The operators of `setexpr` (docs/commands.md, "setexpr").
 ghost use Rattle.std.specs.Prelude.{◌≡◌, ◌<◌};
-ghost use Rattle.hush_calc.specs.Numbers.{modulus};
 
 use crate::comparison::is_text;
 
@@ -31,21 +30,6 @@ impl Operator {
         Operator::Remainder,
     ];
 
-    fn text(self) -> &'static [u8]
-        ensures { result.now ≡ spelling self }
-    {
-        match self {
-            Operator::And => b"&",
-            Operator::Or => b"|",
-            Operator::Xor => b"^",
-            Operator::Add => b"+",
-            Operator::Subtract => b"-",
-            Operator::Multiply => b"*",
-            Operator::Divide => b"/",
-            Operator::Remainder => b"%",
-        }
-    }
-
     /// The operator that a word is.
     pub(crate) fn of(word: &[u8]) -> Option<Operator>
         ensures { result ≡ operator_of word.now }
@@ -69,6 +53,21 @@ impl Operator {
             Operator::Multiply => Some(left.wrapping_mul(right)),
             Operator::Divide => left.checked_div(right),
             Operator::Remainder => left.checked_rem(right),
+        }
+    }
+
+    fn text(self) -> &'static [u8]
+        ensures { result.now ≡ spelling self }
+    {
+        match self {
+            Operator::And => b"&",
+            Operator::Or => b"|",
+            Operator::Xor => b"^",
+            Operator::Add => b"+",
+            Operator::Subtract => b"-",
+            Operator::Multiply => b"*",
+            Operator::Divide => b"/",
+            Operator::Remainder => b"%",
         }
     }
 }

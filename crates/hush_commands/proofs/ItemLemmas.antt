@@ -1,20 +1,18 @@
 -- Items, and the fields that they make.
-use Rattle.std.proofs.Common.{◌≡◌, ℕ, zero, suc, ◌+◌, ◌-◌, ◌<◌, ◌≤◌, Bool, true, false, eqb, not, ◌&&◌, ◌||◌, List, [], ◌∷◌, ◌++◌, map, filter, take, drop, length, get_or, take-append-drop, Option, Some, None, refl, sym, ap, ◌∙◌, append_assoc, append-nil, arith, length-drop, subst}
+use Rattle.std.proofs.Common.{◌≡◌, ℕ, zero, suc, ◌+◌, ◌-◌, ◌<◌, ◌≤◌, Bool, true, false, eqb, not, ◌&&◌, ◌||◌, List, [], ◌∷◌, ◌++◌, map, filter, take, drop, length, get_or, Option, Some, None, refl, sym, ap, ◌∙◌, append_assoc, append-nil, arith, length-drop, subst}
 use Rattle.std.specs.Prelude.{if◌then◌else◌}
 use Rattle.std.proofs.lemmas.Bool.{false_from_ne_true, eqb-true}
 use Rattle.std.proofs.lemmas.Grind.{flat_map-append, fold-append}
 use Rattle.std.proofs.lemmas.List.{map-append, take_rest}
 use Rattle.memchr.specs.Find.{IsFirstByte, is_byte3}
 use Rattle.hush_words.specs.Words.Atom.{Plain, Quoted}
-use Rattle.hush_words.specs.Parts.{part_atoms, span_bytes, atoms_of}
+use Rattle.hush_words.specs.Parts.{part_atoms, span_bytes}
 use Rattle.hush_words.specs.declared.parts.Span.{Span}
 use Rattle.hush_words.specs.declared.parts.Part.{Part}
 use Rattle.hush_words.specs.declared.parts.Part.TheVariants as part
 use Rattle.hush_commands.specs.Expansion.{Known, value_in, atom_items, Item, Byte, Split, Mark, splits, substituted, items_of, item_bytes, bytes_of, onto_first, cut, is_there, fields, size}
-use Rattle.hush_commands.specs.Buffers.{Made, whole, opened, closed, with_bytes, ended, with_items, joined, kept, Adds, CutsAtBlank, with_item}
+use Rattle.hush_commands.specs.Buffers.{Made, whole, opened, closed, with_bytes, ended, with_items, joined, kept, AddsItems, CutsAtBlank, with_item}
 use Rattle.std.specs.Prelude.{Ok, Err, Result, decimal}
-use Rattle.std.proofs.Common.{add-one}
-use Rattle.std.proofs.Math.Seq.{take-suc}
 use Rattle.hush_words.specs.Words.{Atom}
 use Rattle.hush_commands.specs.declared.expansion_fault.ExpansionFault.{ExpansionFault}
 use Rattle.hush_commands.specs.declared.expansion_fault.ExpansionFault.TheVariants.{Word, Memory}
@@ -176,14 +174,14 @@ cut-behind m now after text front back cuts e f =
 pub bytes-over : (bs : List ℕ) (left : ℕ) → left < length bs → left < size (map Byte bs)
 bytes-over bs left h = omega (arith, h, size-bytes bs)
 
-pub bytes-within : (bs : List ℕ) (left : ℕ) (a b : Made) → length bs ≤ left → b ≡ with_items a (map Byte bs) → Adds (map Byte bs) left a b (Ok (left - length bs))
+pub bytes-within : (bs : List ℕ) (left : ℕ) (a b : Made) → length bs ≤ left → b ≡ with_items a (map Byte bs) → AddsItems (map Byte bs) left a b (Ok (left - length bs))
 bytes-within bs left a b h e = (omega (arith, h, size-bytes bs), e)
 
 pub text-over : (quoted : Bool) (bs : List ℕ) (left : ℕ) → quoted ≡ false → left < length bs → left < size (substituted quoted bs)
 text-over true bs left q h = cc
 text-over false bs left q h = omega (arith, h, size-substituted bs)
 
-pub text-within : (quoted : Bool) (bs : List ℕ) (left : ℕ) (a b : Made) → quoted ≡ false → length bs ≤ left → b ≡ with_items a (substituted false bs) → Adds (substituted quoted bs) left a b (Ok (left - length bs))
+pub text-within : (quoted : Bool) (bs : List ℕ) (left : ℕ) (a b : Made) → quoted ≡ false → length bs ≤ left → b ≡ with_items a (substituted false bs) → AddsItems (substituted quoted bs) left a b (Ok (left - length bs))
 text-within true bs left a b q h e = absurd (cc)
 text-within false bs left a b q h e = (omega (arith, h, size-substituted bs), e)
 
@@ -207,43 +205,37 @@ pub status-part : (uncut quoted : Bool) (known : Known) (source : List ℕ) (p :
 status-part uncut quoted known source p digits e f =
     ap (substituted (uncut || quoted)) f ∙ sym (kept-substituted uncut quoted (decimal known.status)) ∙ ap (part_items uncut known source) (sym e)
 
--- parts one after the other
-abbrev pub parts_items : Bool → Known → List ℕ → List Part → List Item
-parts_items uncut known source ps = kept uncut (items_of known (atoms_of source ps))
+-- the items of a part, and those behind it
+rest-items : (uncut : Bool) (known : Known) (source : List ℕ) (p : Part) (atoms rest : List Atom) → atoms ≡ part_atoms source p ++ rest → kept uncut (items_of known atoms) ≡ part_items uncut known source p ++ kept uncut (items_of known rest)
+rest-items uncut known source p atoms rest e =
+    ap (λ (xs : List Atom). kept uncut (items_of known xs)) e
+    ∙ ap (kept uncut) (flat_map-append (atom_items known) (part_atoms source p) rest)
+    ∙ kept-append uncut (items_of known (part_atoms source p)) (items_of known rest)
 
-parts-append : (uncut : Bool) (known : Known) (source : List ℕ) (ps qs : List Part) → parts_items uncut known source (ps ++ qs) ≡ parts_items uncut known source ps ++ parts_items uncut known source qs
-parts-append uncut known source ps qs =
-    ap (λ (xs : List Atom). kept uncut (items_of known xs)) (flat_map-append (part_atoms source) ps qs)
-    ∙ ap (kept uncut) (flat_map-append (atom_items known) (atoms_of source ps) (atoms_of source qs))
-    ∙ kept-append uncut (items_of known (atoms_of source ps)) (items_of known (atoms_of source qs))
+pub next-part : (uncut : Bool) (known : Known) (source : List ℕ) (p : Part) (atoms rest : List Atom) (done whole : List Item) → atoms ≡ part_atoms source p ++ rest → done ++ kept uncut (items_of known atoms) ≡ whole → (done ++ part_items uncut known source p) ++ kept uncut (items_of known rest) ≡ whole
+next-part uncut known source p atoms rest done whole e read =
+    append_assoc done (part_items uncut known source p) (kept uncut (items_of known rest))
+    ∙ ap (λ (xs : List Item). done ++ xs) (sym (rest-items uncut known source p atoms rest e)) ∙ read
 
-one-part : (uncut : Bool) (known : Known) (source : List ℕ) (p : Part) → parts_items uncut known source (p ∷ []) ≡ part_items uncut known source p
-one-part uncut known source p = ap (λ (xs : List Atom). kept uncut (items_of known xs)) (append-nil (part_atoms source p))
-
-pub next-part : (uncut : Bool) (known : Known) (source : List ℕ) (ps : List Part) (i : ℕ) (d : Part) → i < length ps → parts_items uncut known source (take (i + 1) ps) ≡ parts_items uncut known source (take i ps) ++ part_items uncut known source (get_or ps i d)
-next-part uncut known source ps i d h =
-    ap (λ (k : ℕ). parts_items uncut known source (take k ps)) (add-one i)
-    ∙ ap (parts_items uncut known source) (take-suc ps i d h)
-    ∙ parts-append uncut known source (take i ps) (get_or ps i d ∷ [])
-    ∙ ap (λ (xs : List Item). parts_items uncut known source (take i ps) ++ xs) (one-part uncut known source (get_or ps i d))
+pub no-part : (uncut : Bool) (known : Known) (atoms : List Atom) (done whole : List Item) → atoms ≡ [] → done ++ kept uncut (items_of known atoms) ≡ whole → done ≡ whole
+no-part true known atoms done whole e read = sym (append-nil done) ∙ ap (λ (xs : List Atom). done ++ kept true (items_of known xs)) (sym e) ∙ read
+no-part false known atoms done whole e read = sym (append-nil done) ∙ ap (λ (xs : List Atom). done ++ kept false (items_of known xs)) (sym e) ∙ read
 
 -- what was added, and what is added behind it
-pub adds-then : (xs ys : List Item) (left mid : ℕ) (a b c : Made) (r : Result ℕ ExpansionFault) → Adds xs left a b (Ok mid) → Adds ys mid b c r → Adds (xs ++ ys) left a c r
+pub adds-then : (xs ys : List Item) (left mid : ℕ) (a b c : Made) (r : Result ℕ ExpansionFault) → AddsItems xs left a b (Ok mid) → AddsItems ys mid b c r → AddsItems (xs ++ ys) left a c r
 adds-then xs ys left mid a b c (Ok rest) f g =
     (omega (arith, f.0, g.0, size-append xs ys), g.1 ∙ ap (λ (m : Made). with_items m ys) f.1 ∙ sym (fold-append with_item a xs ys))
 adds-then xs ys left mid a b c (Err Word) f g = omega (arith, f.0, g, size-append xs ys)
 adds-then xs ys left mid a b c (Err Memory) f g = tt
 
 -- what is too much already
-pub adds-front : (xs ys : List Item) (left : ℕ) (a b : Made) (f : ExpansionFault) → Adds xs left a b (Err f) → Adds (xs ++ ys) left a b (Err f)
+pub adds-front : (xs ys : List Item) (left : ℕ) (a b : Made) (f : ExpansionFault) → AddsItems xs left a b (Err f) → AddsItems (xs ++ ys) left a b (Err f)
 adds-front xs ys left a b Word h = omega (arith, h, size-append xs ys)
 adds-front xs ys left a b Memory h = tt
 
-pub adds-front-parts : (uncut : Bool) (known : Known) (source : List ℕ) (ps : List Part) (n left : ℕ) (a b : Made) (f : ExpansionFault) → Adds (parts_items uncut known source (take n ps)) left a b (Err f) → Adds (parts_items uncut known source ps) left a b (Err f)
-adds-front-parts uncut known source ps n left a b f h =
-    subst (λ (is : List Item). Adds is left a b (Err f)) (sym (parts-append uncut known source (take n ps) (drop n ps)) ∙ ap (parts_items uncut known source) (take-append-drop n ps))
-    (adds-front (parts_items uncut known source (take n ps)) (parts_items uncut known source (drop n ps)) left a b f h)
+pub adds-nothing : (left : ℕ) (a : Made) → AddsItems [] left a a (Ok left)
+adds-nothing left a = (omega arith, refl)
 
-pub adds-none : (uncut : Bool) (left : ℕ) (a : Made) → Adds (kept uncut []) left a a (Ok left)
-adds-none true left a = (omega arith, refl)
-adds-none false left a = (omega arith, refl)
+pub part-refused : (xs ys zs whole : List Item) (left mid : ℕ) (a b c : Made) (f : ExpansionFault) → AddsItems xs left a b (Ok mid) → AddsItems ys mid b c (Err f) → (xs ++ ys) ++ zs ≡ whole → AddsItems whole left a c (Err f)
+part-refused xs ys zs whole left mid a b c f g h e =
+    subst (λ (is : List Item). AddsItems is left a c (Err f)) e (adds-front (xs ++ ys) zs left a c f (adds-then xs ys left mid a b c (Err f) g h))

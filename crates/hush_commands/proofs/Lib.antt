@@ -1,6 +1,6 @@
-pub mod CutLemmas
+pub mod BlankLemmas
 pub mod EntryLemmas
-pub mod StubLemmas
+pub mod StandInLemmas
 pub mod Rows
 pub mod ItemLemmas
 pub mod BufferLemmas

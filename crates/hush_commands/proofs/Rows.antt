@@ -1,16 +1,15 @@
 -- Worked examples of docs/runs.md, which the checker computes from the definitions.
 use Rattle.std.proofs.Common.{◌≡◌, ℕ, true, false, List, [], ◌∷◌, ◌++◌, None, Some, Ok, Err, refl}
 use Rattle.std.specs.Prelude.{codes, map}
-use Rattle.hush_commands.specs.declared.stub_line.StubFault.TheVariants.{Line, Builtin}
+use Rattle.hush_commands.specs.declared.stand_in_line.StandInFault.TheVariants.{Line, Builtin}
 use Rattle.hush_commands.specs.Builtins.{builtin_of}
-use Rattle.hush_commands.specs.Lines.{numbered_lines, words_of}
 use Rattle.hush_commands.specs.Statuses.{status_of}
 use Rattle.std.specs.Fmt.{digits}
+use Rattle.text_parts.specs.Lines.{numbered_lines}
 use Rattle.std.specs.FinMap.{empty}
 use Rattle.hush_words.specs.Words.Atom.{Plain, Quoted, Status, Mark as MarkAtom}
-use Rattle.hush_words.specs.Parts.{written}
 use Rattle.hush_commands.specs.Expansion.{Known, Byte, Split, Mark, substituted, bytes_of, fields, size, expanded, expanded_value}
-use Rattle.hush_commands.specs.StubLines.{Stub, StubLine, line_outcome}
+use Rattle.hush_commands.specs.StandInLines.{StandIn, StandInLine, read_line, words_of}
 
 statuses : map status_of (codes "0" ∷ codes "255" ∷ codes "000255" ∷ codes "256" ∷ codes "1x" ∷ codes "-1" ∷ [] ∷ [])
     ≡ Some 0 ∷ Some 255 ∷ Some 255 ∷ None ∷ None ∷ None ∷ None ∷ []
@@ -26,22 +25,22 @@ lines : numbered_lines (codes "a\n\nb\n") ≡ (1, codes "a") ∷ (2, []) ∷ (3,
 lines = refl
 
 -- what a stand-in line holds
-stub : List ℕ → ℕ → StubLine
-stub name status = let s : Stub = (name, status) in Ok (Some s)
+stand_in : List ℕ → ℕ → StandInLine
+stand_in name status = let s : StandIn = (name, status) in Ok (Some s)
 
-stand_ins : map (line_outcome 3) (codes "mmc" ∷ codes " usb  007 " ∷ codes " # 3" ∷ codes "echo.b" ∷ [])
-    ≡ stub (codes "mmc") 0 ∷ stub (codes "usb") 7 ∷ stub (codes "#") 3 ∷ stub (codes "echo.b") 0 ∷ []
-unfolding stub builtin_of
+stand_ins : map (read_line 3) (codes "mmc" ∷ codes " usb  007 " ∷ codes " # 3" ∷ codes "echo.b" ∷ [])
+    ≡ stand_in (codes "mmc") 0 ∷ stand_in (codes "usb") 7 ∷ stand_in (codes "#") 3 ∷ stand_in (codes "echo.b") 0 ∷ []
+unfolding stand_in builtin_of
 stand_ins = refl
 
-nothing : map (line_outcome 3) ([] ∷ codes " \t" ∷ codes "#mmc 300" ∷ []) ≡ Ok None ∷ Ok None ∷ Ok None ∷ []
+nothing : map (read_line 3) ([] ∷ codes " \t" ∷ codes "#mmc 300" ∷ []) ≡ Ok None ∷ Ok None ∷ Ok None ∷ []
 nothing = refl
 
-other_forms : map (line_outcome 3) (codes "x 256" ∷ codes "x 1 2" ∷ codes "x y" ∷ codes "echo 256" ∷ (codes "#" ++ 0 ∷ []) ∷ [])
+other_forms : map (read_line 3) (codes "x 256" ∷ codes "x 1 2" ∷ codes "x y" ∷ codes "echo 256" ∷ (codes "#" ++ 0 ∷ []) ∷ [])
     ≡ Err (Line 3) ∷ Err (Line 3) ∷ Err (Line 3) ∷ Err (Line 3) ∷ Err (Line 3) ∷ []
 other_forms = refl
 
-names_of_builtins : map (line_outcome 3) (codes "echo 0" ∷ codes "exit" ∷ codes "setexpr.q 1" ∷ codes "env" ∷ codes "true" ∷ [])
+names_of_builtins : map (read_line 3) (codes "echo 0" ∷ codes "exit" ∷ codes "setexpr.q 1" ∷ codes "env" ∷ codes "true" ∷ [])
     ≡ Err (Builtin 3) ∷ Err (Builtin 3) ∷ Err (Builtin 3) ∷ Err (Builtin 3) ∷ Err (Builtin 3) ∷ []
 unfolding builtin_of
 names_of_builtins = refl

@@ -15,14 +15,14 @@ use Rattle.hush_words.specs.declared.parts.Word.{Word as Range}
 use Rattle.hush_commands.specs.declared.expansion_fault.ExpansionFault.{ExpansionFault}
 use Rattle.hush_commands.specs.declared.expansion_fault.ExpansionFault.TheVariants.{Word, Memory}
 use Rattle.hush_commands.specs.Expansion.{Known, items_of, size, fields, fits, word_fields, expanded, expanded_value}
-use Rattle.hush_commands.specs.Buffers.{Made, whole, ended, with_bytes, with_items, kept, Adds, Expands}
+use Rattle.hush_commands.specs.Buffers.{Made, whole, ended, with_bytes, with_items, kept, AddsItems, Expands}
 use Rattle.hush_commands.proofs.ItemLemmas.{fields_made, value_made, size-kept}
 
 -- whether a word is within the limit
-within : (uncut : Bool) (known : Known) (limit : ℕ) (word : List Atom) (rest : ℕ) (a b : Made) → Adds (kept uncut (items_of known word)) limit a b (Ok rest) → fits known limit word ≡ true
+within : (uncut : Bool) (known : Known) (limit : ℕ) (word : List Atom) (rest : ℕ) (a b : Made) → AddsItems (kept uncut (items_of known word)) limit a b (Ok rest) → fits known limit word ≡ true
 within uncut known limit word rest a b h = le-leb (size (items_of known word)) limit (omega (arith, h.0, size-kept uncut (items_of known word)))
 
-pub too_large : (uncut : Bool) (known : Known) (limit : ℕ) (word : List Atom) (a b : Made) → Adds (kept uncut (items_of known word)) limit a b (Err Word) → fits known limit word ≡ false
+pub too_large : (uncut : Bool) (known : Known) (limit : ℕ) (word : List Atom) (a b : Made) → AddsItems (kept uncut (items_of known word)) limit a b (Err Word) → fits known limit word ≡ false
 too_large uncut known limit word a b h =
     elim (leb_tells (size (items_of known word)) limit) [
       | inl (e, le) ↦ absurd (omega (arith, h, le, size-kept uncut (items_of known word)))
@@ -36,7 +36,7 @@ next-word text ws i d h =
     ∙ ap (map (word_atoms text)) (take-suc ws i d h)
     ∙ map-append (word_atoms text) (take i ws) (get_or ws i d ∷ [])
 
-pub made-more : (known : Known) (limit : ℕ) (done : List (List Atom)) (word : List Atom) (rest : ℕ) (a b c : Made) → a ≡ whole (flat_map (word_fields known) done) → Adds (kept false (items_of known word)) limit a b (Ok rest) → c ≡ ended b → c ≡ whole (flat_map (word_fields known) (done ++ word ∷ []))
+pub made-more : (known : Known) (limit : ℕ) (done : List (List Atom)) (word : List Atom) (rest : ℕ) (a b c : Made) → a ≡ whole (flat_map (word_fields known) done) → AddsItems (kept false (items_of known word)) limit a b (Ok rest) → c ≡ ended b → c ≡ whole (flat_map (word_fields known) (done ++ word ∷ []))
 made-more known limit done word rest a b c e h f =
     let is = items_of known word in
     let before = flat_map (word_fields known) done in
@@ -45,7 +45,7 @@ made-more known limit done word rest a b c e h f =
     ∙ ap (λ (xs : List (List ℕ)). whole (before ++ xs)) (sym (append-nil (fields is)))
     ∙ ap whole (sym (flat_map-append (word_fields known) done (word ∷ [])))
 
-pub small-more : (known : Known) (limit : ℕ) (done : List (List Atom)) (word : List Atom) (rest : ℕ) (a b : Made) → list_all (fits known limit) done ≡ true → Adds (kept false (items_of known word)) limit a b (Ok rest) → list_all (fits known limit) (done ++ word ∷ []) ≡ true
+pub small-more : (known : Known) (limit : ℕ) (done : List (List Atom)) (word : List Atom) (rest : ℕ) (a b : Made) → list_all (fits known limit) done ≡ true → AddsItems (kept false (items_of known word)) limit a b (Ok rest) → list_all (fits known limit) (done ++ word ∷ []) ≡ true
 small-more known limit done word rest a b e h =
     list_all-append (fits known limit) done (word ∷ []) ∙ ap (λ (x : Bool). x && list_all (fits known limit) (word ∷ [])) e ∙ ap (λ (x : Bool). x && true) (within false known limit word rest a b h)
 
@@ -69,7 +69,7 @@ all-fit known limit words a e h = ap (option_map whole) (cond-true _ _ _ h) ∙ 
 abbrev alone : List ℕ → List (List ℕ)
 alone v = v ∷ []
 
-pub value-fits : (known : Known) (limit : ℕ) (word : List Atom) (rest : ℕ) (a b c : Made) → a ≡ with_bytes (whole []) [] → Adds (kept true (items_of known word)) limit a b (Ok rest) → c ≡ ended b → option_map whole (option_map (λ v. v ∷ []) (expanded_value known limit word)) ≡ Some c
+pub value-fits : (known : Known) (limit : ℕ) (word : List Atom) (rest : ℕ) (a b c : Made) → a ≡ with_bytes (whole []) [] → AddsItems (kept true (items_of known word)) limit a b (Ok rest) → c ≡ ended b → option_map whole (option_map (λ v. v ∷ []) (expanded_value known limit word)) ≡ Some c
 value-fits known limit word rest a b c e h f =
     let is = items_of known word in
     ap (λ (o : Option (List ℕ)). option_map whole (option_map alone o)) (cond-true _ _ _ (within true known limit word rest a b h))
@@ -79,10 +79,10 @@ pub no-value : (known : Known) (limit : ℕ) (word : List Atom) → fits known l
 no-value known limit word e = ap (λ (o : Option (List ℕ)). option_map alone o) (cond-false _ _ _ e)
 
 -- what a refused word says of them all
-pub word-refused : (known : Known) (limit : ℕ) (text : Written) (ws : List Range) (i : ℕ) (d : Range) (a b : Made) (f : ExpansionFault) → i < length ws → Adds (kept false (items_of known (word_atoms text (get_or ws i d)))) limit a b (Err f) → Expands (expanded known limit (map (word_atoms text) ws)) b (Err f)
+pub word-refused : (known : Known) (limit : ℕ) (text : Written) (ws : List Range) (i : ℕ) (d : Range) (a b : Made) (f : ExpansionFault) → i < length ws → AddsItems (kept false (items_of known (word_atoms text (get_or ws i d)))) limit a b (Err f) → Expands (expanded known limit (map (word_atoms text) ws)) b (Err f)
 word-refused known limit text ws i d a b Word h refused = none-fits known limit text ws i d h (too_large false known limit (word_atoms text (get_or ws i d)) a b refused)
 word-refused known limit text ws i d a b Memory h refused = tt
 
-pub value-refused : (known : Known) (limit : ℕ) (word : List Atom) (a b : Made) (f : ExpansionFault) → Adds (kept true (items_of known word)) limit a b (Err f) → Expands (option_map (λ v. v ∷ []) (expanded_value known limit word)) b (Err f)
+pub value-refused : (known : Known) (limit : ℕ) (word : List Atom) (a b : Made) (f : ExpansionFault) → AddsItems (kept true (items_of known word)) limit a b (Err f) → Expands (option_map (λ v. v ∷ []) (expanded_value known limit word)) b (Err f)
 value-refused known limit word a b Word refused = no-value known limit word (too_large true known limit word a b refused)
 value-refused known limit word a b Memory refused = tt

@@ -70,10 +70,10 @@ pub record CutsAtBlank (text front back : List ℕ) : Type 0 where
   pub shorter : length back < length text
 
 -- items are put behind a buffer, where a word may have so many more: how many it may have then
-abbrev pub Adds : List Item → ℕ → Made → Made → Result ℕ ExpansionFault → Type 0
-Adds is left old new (Ok rest) = (left ≡ size is + rest) × (new ≡ with_items old is)
-Adds is left old new (Err Word) = left < size is
-Adds is left old new (Err Memory) = Unit {0}
+abbrev pub AddsItems : List Item → ℕ → Made → Made → Result ℕ ExpansionFault → Type 0
+AddsItems is left old new (Ok rest) = (left ≡ size is + rest) × (new ≡ with_items old is)
+AddsItems is left old new (Err Word) = left < size is
+AddsItems is left old new (Err Memory) = Unit {0}
 
 -- what an expansion leaves: the fields that are wanted, or why there are none
 abbrev pub Expands : Option (List (List ℕ)) → Made → Result (Unit {0}) ExpansionFault → Type 0

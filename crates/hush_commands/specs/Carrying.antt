@@ -8,7 +8,7 @@ use Rattle.hush_commands.specs.declared.messages.Message.TheVariants as message
 use Rattle.hush_commands.specs.declared.output.PrintFault.{PrintFault}
 use Rattle.hush_commands.specs.declared.output.PrintFault.TheVariants as fault
 use Rattle.hush_commands.specs.declared.writing.Complaint.{Complaint}
-use Rattle.hush_commands.specs.Stubs.{Statuses}
+use Rattle.hush_commands.specs.StandIns.{Statuses}
 use Rattle.hush_commands.specs.Messages.{text_of}
 use Rattle.hush_commands.specs.Output.{Printed, printed, Answer, answer, Answers}
 use Rattle.hush_commands.specs.Commands.{status_if, echo_of, stand_in_of, exists_of, exit_of, run_of, delete_of}
@@ -61,13 +61,13 @@ done_by (command.Unknown, words) name status held = (answer 1 (text_of message.U
 
 -- a simple command without fields has status 0
 abbrev pub done_of : Statuses → List (List ℕ) → (status : ℕ) → Held → Done
-done_of stubs [] status held = quiet 0 held
-done_of stubs (name ∷ words) status held = done_by (command_of stubs name words) name status held
+done_of stand_ins [] status held = quiet 0 held
+done_of stand_ins (name ∷ words) status held = done_by (command_of stand_ins name words) name status held
 
 -- a command did this; or its text doesn't fit, or memory was refused, and the session is as it was
-abbrev pub Leaves : Done → Held → Held → Printed → Printed → Result ℕ PrintFault → Type 0
-Leaves done held after old new (Ok status) = (after ≡ done.1) × Answers done.0 old new (Ok status)
-Leaves done held after old new (Err fault) = (after ≡ held) × Answers done.0 old new (Err fault)
+abbrev pub Attempts : Done → Held → Held → Printed → Printed → Result ℕ PrintFault → Type 0
+Attempts done held after old new (Ok status) = (after ≡ done.1) × Answers done.0 old new (Ok status)
+Attempts done held after old new (Err fault) = (after ≡ held) × Answers done.0 old new (Err fault)
 
 -- a command did this, and its text fits; or it doesn't fit, or memory was refused, and nothing has changed
 abbrev pub Carries : Done → Held → Held → Printed → Printed → Result ℕ PrintFault → Type 0

@@ -1,11 +1,9 @@
+-- What the public calls promise.
 pub mod Limits
 pub mod Builtins
 pub mod Statuses
-pub mod Lines
-pub mod StubLines
-pub mod StubViews
-pub mod Entries
-pub mod Stubs
+pub mod StandInLines
+pub mod StandIns
 pub mod Messages
 pub mod Expansion
 pub mod Scopes
@@ -19,3 +17,6 @@ pub mod Naming
 pub mod Carrying
 pub mod Following
 pub mod Deletion
+-- What the steps of the code do: no promise speaks of these.
+pub mod StandInViews
+pub mod Entries

@@ -11,9 +11,25 @@ pub record Bounds : Type 0 where
 abbrev pub bounds : (steps depth word output : ℕ) → Bounds
 bounds steps depth word output = record { steps = steps; depth = depth; word = word; output = output }
 
--- the largest that may be asked for
+-- the most steps that a run may be given
+abbrev pub most_steps : ℕ
+most_steps = 1000000
+
+-- the most starts of variables that may be given to be inside one another
+abbrev pub most_depth : ℕ
+most_depth = 16
+
+-- the most bytes that may be given for a word
+abbrev pub most_word : ℕ
+most_word = 65536
+
+-- the most bytes that may be given for the text
+abbrev pub most_output : ℕ
+most_output = 16777216
+
+-- each is at most the most that may be given
 pub record AreInRange (b : Bounds) : Type 0 where
-  pub steps : b.steps ≤ 1000000
-  pub depth : b.depth ≤ 16
-  pub word : b.word ≤ 65536
-  pub output : b.output ≤ 16777216
+  pub steps : b.steps ≤ most_steps
+  pub depth : b.depth ≤ most_depth
+  pub word : b.word ≤ most_word
+  pub output : b.output ≤ most_output

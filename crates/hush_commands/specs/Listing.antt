@@ -1,9 +1,10 @@
 -- What `printenv` prints (docs/runs.md, "Commands").
-use Rattle.std.specs.Prelude.{ℕ, ◌==◌, ◌||◌, Bool, true, false, not, if◌then◌else◌, List, [], ◌∷◌, ◌++◌, codes, filter, slice_index, Option, Some, None, is_some, Result, Ok, Err, ◌≡◌}
+use Rattle.std.specs.Prelude.{ℕ, ◌||◌, Bool, true, false, not, if◌then◌else◌, List, [], ◌∷◌, ◌++◌, codes, filter, Option, Some, None, is_some, Result, Ok, Err, ◌≡◌}
 use Rattle.std.specs.List.{flat_map, list_all}
 use Rattle.std.specs.Str.{bytes_eq}
 use Rattle.std.specs.FinMap.{get, entries}
 use Rattle.envimg_core.specs.Environment.{Environment, Pair}
+use Rattle.text_parts.specs.Bytes.{begins_with}
 use Rattle.hush_commands.specs.declared.output.PrintFault.{PrintFault}
 use Rattle.hush_commands.specs.declared.messages.Message.TheVariants.{NotDefined}
 use Rattle.hush_commands.specs.Messages.{text_of}
@@ -14,9 +15,16 @@ use Rattle.hush_commands.specs.Commands.{status_if}
 abbrev pub line_of : Pair → List ℕ
 line_of p = p.0 ++ (codes "=" ++ (p.1 ++ codes "\n"))
 
--- names that begin with `.` are shown only where all are asked for
+abbrev pub dot : ℕ
+dot = 46
+
+-- a name that begins with `.` is hidden
+abbrev pub is_hidden : List ℕ → Bool
+is_hidden name = begins_with dot name
+
+-- hidden names are shown only where all are asked for
 abbrev pub is_shown : (all : Bool) → Pair → Bool
-is_shown all p = all || not (slice_index p.0 0 == 46)
+is_shown all p = all || not (is_hidden p.0)
 
 abbrev pub lines_of : (all : Bool) → List Pair → List ℕ
 lines_of all ps = flat_map line_of (filter (is_shown all) ps)

@@ -7,7 +7,7 @@ use Rattle.hush_commands.specs.declared.builtins.Builtin.TheVariants as builtin
 use Rattle.hush_commands.specs.declared.command.Command.{Command}
 use Rattle.hush_commands.specs.declared.command.Command.TheVariants as command
 use Rattle.hush_commands.specs.Builtins.{builtin_of}
-use Rattle.hush_commands.specs.Stubs.{Statuses}
+use Rattle.hush_commands.specs.StandIns.{Statuses}
 
 -- a command, and the words behind its name
 abbrev pub Named : Type 0
@@ -46,9 +46,9 @@ stand_in_or_unknown None = command.Unknown
 stand_in_or_unknown (Some status) = command.StandIn status
 
 abbrev pub named_by : Option Builtin → Option ℕ → List (List ℕ) → Named
-named_by (Some builtin) stub words = builtin_named builtin words
-named_by None stub words = (stand_in_or_unknown stub, words)
+named_by (Some builtin) stand_in words = builtin_named builtin words
+named_by None stand_in words = (stand_in_or_unknown stand_in, words)
 
 -- builtins come before stand-ins, and stand-ins before unknown commands
 abbrev pub command_of : Statuses → (name : List ℕ) → List (List ℕ) → Named
-command_of stubs name words = named_by (builtin_of name) (names.get stubs name) words
+command_of stand_ins name words = named_by (builtin_of name) (names.get stand_ins name) words

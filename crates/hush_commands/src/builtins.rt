@@ -35,6 +35,17 @@ impl Builtin {
         Builtin::Exit,
     ];
 
+    /// The builtin of a name.
+    #[tactic(auto, unfolding(crate::specs::Builtins::builtin_of))]
+    pub(crate) fn of(name: &[u8]) -> Option<Builtin>
+        ensures { result ≡ builtin_of name.now }
+    {
+        Builtin::ALL
+            .iter()
+            .copied()
+            .find(|builtin| builtin.is_called(name))
+    }
+
     /// Whether a command of this name is it. The suffixes of `setexpr` say how much memory an address reads.
     fn is_called(self, name: &[u8]) -> bool
         ensures { result ≡ is_called self name.now }
@@ -58,17 +69,6 @@ impl Builtin {
             }
             Builtin::Exit => is_text(name, b"exit"),
         }
-    }
-
-    /// The builtin of a name.
-    #[tactic(auto, unfolding(crate::specs::Builtins::builtin_of))]
-    pub(crate) fn of(name: &[u8]) -> Option<Builtin>
-        ensures { result ≡ builtin_of name.now }
-    {
-        Builtin::ALL
-            .iter()
-            .copied()
-            .find(|builtin| builtin.is_called(name))
     }
 }
 

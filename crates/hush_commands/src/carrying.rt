@@ -1,7 +1,7 @@
 //! What a simple command does (docs/runs.md, "Commands").
 ghost use Rattle.std.specs.Prelude.{◌≡◌};
 ghost use Rattle.hush_commands.specs.Output.{Answers};
-ghost use Rattle.hush_commands.specs.Carrying.{saved_by, status_or_wrong, done_of, Leaves, Carries, Tells};
+ghost use Rattle.hush_commands.specs.Carrying.{saved_by, status_or_wrong, done_of, Attempts, Carries, Tells};
 
 use crate::command::Command;
 use crate::commands::{
@@ -11,7 +11,7 @@ use crate::field_buffer::FieldBuffer;
 use crate::listing::print_variables;
 use crate::messages::Message;
 use crate::output::{Output, PrintFault};
-use crate::stubs::Stubs;
+use crate::stand_ins::StandIns;
 use crate::writing::{Complaint, calculate, set};
 use env_session::Session;
 use envvars_core::Memory;
@@ -25,15 +25,15 @@ use std::alloc::Global;
 pub fn carry_out(
     alloc: Global,
     session: &mut Session,
-    stubs: &Stubs,
+    stand_ins: &StandIns,
     fields: &FieldBuffer,
     status: u8,
     output: &mut Output,
 ) -> Result<u8, PrintFault>
-    ensures { Carries (done_of stubs.now fields.now.done status session.old) session.old session.new output.old output.new result }
+    ensures { Carries (done_of stand_ins.now fields.now.done status session.old) session.old session.new output.old output.new result }
 {
     let start = output.text().len();
-    match attempt(alloc, session, stubs, fields, status, output) {
+    match attempt(alloc, session, stand_ins, fields, status, output) {
         Ok(status) => {
             // Does nothing: it tells the prover that what was printed is within the limit.
             let _printed = output.text();
@@ -50,18 +50,18 @@ pub fn carry_out(
 fn attempt(
     alloc: Global,
     session: &mut Session,
-    stubs: &Stubs,
+    stand_ins: &StandIns,
     fields: &FieldBuffer,
     status: u8,
     output: &mut Output,
 ) -> Result<u8, PrintFault>
-    ensures { Leaves (done_of stubs.now fields.now.done status session.old) session.old session.new output.old output.new result }
+    ensures { Attempts (done_of stand_ins.now fields.now.done status session.old) session.old session.new output.old output.new result }
 {
     let mut words = fields.fields();
     let Some(name) = words.next() else {
         return Ok(0);
     };
-    match Command::of(stubs, name, &mut words) {
+    match Command::of(stand_ins, name, &mut words) {
         Command::True => Ok(0),
         Command::False => Ok(1),
         Command::Echo => echo(words, output),
@@ -111,7 +111,7 @@ fn save(
     words: Fields<'_>,
     output: &mut Output,
 ) -> Result<u8, PrintFault>
-    ensures { Leaves (saved_by name.now words.entry session.old) session.old session.new output.old output.new result }
+    ensures { Attempts (saved_by name.now words.entry session.old) session.old session.new output.old output.new result }
 {
     let mut rest = words;
     match rest.next() {

@@ -3,7 +3,7 @@ ghost use Rattle.std.specs.Prelude.{◌≡◌};
 ghost use Rattle.hush_commands.specs.Naming.{env_command, builtin_named, command_of};
 
 use crate::builtins::{Builtin, is_text};
-use crate::stubs::Stubs;
+use crate::stand_ins::StandIns;
 use hush_calc::Fields;
 
 /// A command by its name.
@@ -43,36 +43,15 @@ pub enum Command {
 
 impl Command {
     /// The command of a name, which leaves the words behind it: builtins come first, then stand-ins.
-    pub fn of(stubs: &Stubs, name: &[u8], words: &mut Fields<'_>) -> Command
-        ensures { (result, words.new) ≡ command_of stubs.now name.now words.old }
+    pub fn of(stand_ins: &StandIns, name: &[u8], words: &mut Fields<'_>) -> Command
+        ensures { (result, words.new) ≡ command_of stand_ins.now name.now words.old }
     {
         match Builtin::of(name) {
             Some(builtin) => Command::of_builtin(builtin, words),
-            None => match stubs.status(name) {
+            None => match stand_ins.status(name) {
                 Some(status) => Command::StandIn(status),
                 None => Command::Unknown,
             },
-        }
-    }
-
-    fn of_builtin(builtin: Builtin, words: &mut Fields<'_>) -> Command
-        ensures { (result, words.new) ≡ builtin_named builtin words.old }
-    {
-        match builtin {
-            Builtin::True => Command::True,
-            Builtin::False => Command::False,
-            Builtin::Echo => Command::Echo,
-            Builtin::SetEnv => Command::Set,
-            Builtin::PrintEnv => Command::Print,
-            Builtin::SaveEnv => Command::Save,
-            Builtin::Run => Command::Run,
-            Builtin::Env => match words.next() {
-                Some(word) => Command::of_env(word),
-                None => Command::WrongUse,
-            },
-            Builtin::Test => Command::Test,
-            Builtin::SetExpr => Command::Calculate,
-            Builtin::Exit => Command::Exit,
         }
     }
 
@@ -94,6 +73,28 @@ impl Command {
             Command::Exists
         } else {
             Command::WrongUse
+        }
+    }
+
+    /// The command that a builtin is, with the words behind its name; `env` takes one of them.
+    fn of_builtin(builtin: Builtin, words: &mut Fields<'_>) -> Command
+        ensures { (result, words.new) ≡ builtin_named builtin words.old }
+    {
+        match builtin {
+            Builtin::True => Command::True,
+            Builtin::False => Command::False,
+            Builtin::Echo => Command::Echo,
+            Builtin::SetEnv => Command::Set,
+            Builtin::PrintEnv => Command::Print,
+            Builtin::SaveEnv => Command::Save,
+            Builtin::Run => Command::Run,
+            Builtin::Env => match words.next() {
+                Some(word) => Command::of_env(word),
+                None => Command::WrongUse,
+            },
+            Builtin::Test => Command::Test,
+            Builtin::SetExpr => Command::Calculate,
+            Builtin::Exit => Command::Exit,
         }
     }
 }

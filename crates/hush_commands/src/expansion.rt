@@ -3,7 +3,7 @@ ghost use Rattle.std.specs.Prelude.{◌≡◌, [], ◌∷◌, map, option_map, O
 ghost use Rattle.hush_words.specs.Parts.{part_atoms, word_atoms};
 ghost use Rattle.hush_words.specs.Ranges.{Fits};
 ghost use Rattle.hush_commands.specs.Expansion.{Byte, items_of, substituted, expanded, expanded_value};
-ghost use Rattle.hush_commands.specs.Buffers.{with_items, kept, Adds, CutsAtBlank, Expands};
+ghost use Rattle.hush_commands.specs.Buffers.{with_items, kept, AddsItems, CutsAtBlank, Expands};
 ghost use Rattle.hush_commands.specs.Scopes.{known};
 
 use crate::expansion_fault::ExpansionFault;
@@ -59,11 +59,12 @@ impl FieldBuffer {
         uncut: bool,
         limit: usize,
     ) -> Result<usize, ExpansionFault>
-        ensures { Adds (kept uncut (items_of (known scope.now) (word_atoms scope.now.text.now word))) limit self.old self.new result }
+        ensures { AddsItems (kept uncut (items_of (known scope.now) (word_atoms scope.now.text.now word))) limit self.old self.new result }
     {
         let mut left = limit;
-        for part in scope.text.parts(word) {
-            left = self.add_part(scope, *part, uncut, left)?;
+        let mut parts = scope.text.parts(word);
+        while let Some(part) = parts.next_part() {
+            left = self.add_part(scope, part, uncut, left)?;
         }
         Ok(left)
     }
@@ -77,7 +78,7 @@ impl FieldBuffer {
         left: usize,
     ) -> Result<usize, ExpansionFault>
         requires { Fits scope.now.text.now.source part }
-        ensures { Adds (kept uncut (items_of (known scope.now) (part_atoms scope.now.text.now.source part))) left self.old self.new result }
+        ensures { AddsItems (kept uncut (items_of (known scope.now) (part_atoms scope.now.text.now.source part))) left self.old self.new result }
     {
         match part {
             Part::Plain(span) => self.add_bytes(scope.text.bytes(span), left),
@@ -104,7 +105,7 @@ impl FieldBuffer {
         quoted: bool,
         left: usize,
     ) -> Result<usize, ExpansionFault>
-        ensures { Adds (substituted quoted text.now) left self.old self.new result }
+        ensures { AddsItems (substituted quoted text.now) left self.old self.new result }
     {
         if quoted {
             return self.add_bytes(text, left);
@@ -120,7 +121,7 @@ impl FieldBuffer {
 
     /// Adds bytes.
     fn add_bytes(&mut self, bytes: &[u8], left: usize) -> Result<usize, ExpansionFault>
-        ensures { Adds (map Byte bytes.now) left self.old self.new result }
+        ensures { AddsItems (map Byte bytes.now) left self.old self.new result }
     {
         if bytes.len() > left {
             return Err(ExpansionFault::Word);

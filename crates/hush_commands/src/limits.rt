@@ -4,17 +4,17 @@ ghost use Rattle.hush_commands.specs.Limits.{Bounds, AreInRange};
 
 use std::marker::Model;
 
-/// Most steps that a run may be given.
-const STEPS_MAX: u32 = 1_000_000;
+/// The most steps that a run may be given.
+pub const MOST_STEPS: u32 = 1_000_000;
 
-/// Most starts by `run` that may be inside one another.
-const DEPTH_MAX: u32 = 16;
+/// The most starts of variables by `run` that may be given to a run to be inside one another.
+pub const MOST_DEPTH: u32 = 16;
 
-/// Largest word, in bytes, that a run may be allowed.
-const WORD_MAX: u32 = 65_536;
+/// The most bytes that a run may be given for a word.
+pub const MOST_WORD: u32 = 65_536;
 
-/// Longest text, in bytes, that a run may be allowed.
-const OUTPUT_MAX: u32 = 16_777_216;
+/// The most bytes that a run may be given for the text that it prints.
+pub const MOST_OUTPUT: u32 = 16_777_216;
 
 /// How far a run may go: its steps, starts of variables inside one another, bytes of a word, and bytes of its text.
 #[derive(Clone, Copy, Debug, PartialEq, Eq)]
@@ -38,14 +38,14 @@ impl Model for Limits {
 }
 
 impl Limits {
-    ghost use Rattle.hush_commands.specs.Limits.{bounds};
+    ghost use Rattle.hush_commands.specs.Limits.{bounds, most_steps, most_depth, most_word, most_output};
 
-    /// Limits on the steps, the starts inside one another, the bytes of a word and those of the text: `None` where
-    /// one is above 1,000,000, 16, 65,536 or 16,777,216.
+    /// Limits on the steps, the starts inside one another, the bytes of a word and those of the text: `None` where one
+    /// is above [`MOST_STEPS`], [`MOST_DEPTH`], [`MOST_WORD`] or [`MOST_OUTPUT`].
     pub fn new(steps: u32, depth: u32, word: u32, output: u32) -> Option<Limits>
         ensures { SomeIff result (AreInRange (bounds steps depth word output)) (bounds steps depth word output) }
     {
-        if steps > STEPS_MAX || depth > DEPTH_MAX || word > WORD_MAX || output > OUTPUT_MAX {
+        if steps > MOST_STEPS || depth > MOST_DEPTH || word > MOST_WORD || output > MOST_OUTPUT {
             return None;
         }
         Some(Limits {
@@ -59,7 +59,7 @@ impl Limits {
     /// How many steps are counted at most.
     pub fn steps(&self) -> u32
         ensures value { result ≡ self.now.steps }
-        ensures in_range { result ≤ 1000000 }
+        ensures in_range { result ≤ most_steps }
     {
         self.steps
     }
@@ -67,7 +67,7 @@ impl Limits {
     /// How many starts of variables may be inside one another.
     pub fn depth(&self) -> u32
         ensures value { result ≡ self.now.depth }
-        ensures in_range { result ≤ 16 }
+        ensures in_range { result ≤ most_depth }
     {
         self.depth
     }
@@ -75,7 +75,7 @@ impl Limits {
     /// How many bytes a word has at most.
     pub fn word(&self) -> u32
         ensures value { result ≡ self.now.word }
-        ensures in_range { result ≤ 65536 }
+        ensures in_range { result ≤ most_word }
     {
         self.word
     }
@@ -83,7 +83,7 @@ impl Limits {
     /// How many bytes the text has at most.
     pub fn output(&self) -> u32
         ensures value { result ≡ self.now.output }
-        ensures in_range { result ≤ 16777216 }
+        ensures in_range { result ≤ most_output }
     {
         self.output
     }

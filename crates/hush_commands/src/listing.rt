@@ -10,6 +10,7 @@ use crate::messages::Message;
 use crate::output::{Output, PrintFault};
 use envvars_core::Vars;
 use hush_calc::Fields;
+use text_parts::begins_with_byte;
 
 /// `printenv`: without names prints all variables in order of names, those that begin with `.` only where `-a` is the
 /// first word; with names prints these, and for one that isn't defined a message, with status 1.
@@ -42,7 +43,7 @@ fn print_all(vars: &Vars, all: bool, output: &mut Output) -> Result<(), PrintFau
     ensures { Prints (lines_of all (entries vars.now.env)) output.old output.new result }
 {
     for (name, value) in vars.iter() {
-        if all || name.first() != Some(&b'.') {
+        if all || !begins_with_byte(b'.', name) {
             print_line(name, value, output)?;
         }
     }

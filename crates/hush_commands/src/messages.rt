@@ -35,27 +35,8 @@ pub enum Message {
 }
 
 impl Message {
-    /// What stands before the name, the name, and what stands behind it.
-    fn parts(self, name: &[u8]) -> (&'static [u8], &[u8], &'static [u8])
-        ensures { (result.0.now, result.1.now, result.2.now) ≡ parts_of self name.now }
-    {
-        match self {
-            Message::NotDefined => (b"## Error: \"", name, b"\" not defined\n"),
-            Message::UnknownCommand => (b"Unknown command '", name, b"' - try 'help'\n"),
-            Message::WrongUse => (b"## Error: wrong use of '", name, b"'\n"),
-            Message::BadForm => (b"## Error: bad name or value for \"", name, b"\"\n"),
-            Message::BadType => (b"## Error: type check failure for \"", name, b"\"\n"),
-            Message::NoCreate => (b"## Error: Can't create \"", name, b"\"\n"),
-            Message::NoDelete => (b"## Error: Can't delete \"", name, b"\"\n"),
-            Message::NoOverwrite => (b"## Error: Can't overwrite \"", name, b"\"\n"),
-            Message::Full => (b"## Error: no room for \"", name, b"\"\n"),
-            Message::IsVariable => (b"## Error: \"", name, b"\" is an environment variable\n"),
-            Message::NoScript => (b"## Error: syntax error in \"", name, b"\"\n"),
-            Message::DivisionByZero => (b"## Error: division by zero", b"", b"\n"),
-        }
-    }
-
-    /// Prints the text about a name, given as raw bytes.
+    /// Prints the text about a name, given as raw bytes. Where it can't be printed a front of it may stand; [`Message::tell`]
+    /// leaves nothing.
     pub fn print(self, name: &[u8], output: &mut Output) -> Result<(), PrintFault>
         ensures { Prints (text_of self name.now) output.old output.new result }
     {
@@ -87,5 +68,25 @@ impl Message {
     {
         self.print(name, output)?;
         Ok(1)
+    }
+
+    /// What stands before the name, the name, and what stands behind it.
+    fn parts(self, name: &[u8]) -> (&'static [u8], &[u8], &'static [u8])
+        ensures { (result.0.now, result.1.now, result.2.now) ≡ parts_of self name.now }
+    {
+        match self {
+            Message::NotDefined => (b"## Error: \"", name, b"\" not defined\n"),
+            Message::UnknownCommand => (b"Unknown command '", name, b"' - try 'help'\n"),
+            Message::WrongUse => (b"## Error: wrong use of '", name, b"'\n"),
+            Message::BadForm => (b"## Error: bad name or value for \"", name, b"\"\n"),
+            Message::BadType => (b"## Error: type check failure for \"", name, b"\"\n"),
+            Message::NoCreate => (b"## Error: Can't create \"", name, b"\"\n"),
+            Message::NoDelete => (b"## Error: Can't delete \"", name, b"\"\n"),
+            Message::NoOverwrite => (b"## Error: Can't overwrite \"", name, b"\"\n"),
+            Message::Full => (b"## Error: no room for \"", name, b"\"\n"),
+            Message::IsVariable => (b"## Error: \"", name, b"\" is an environment variable\n"),
+            Message::NoScript => (b"## Error: syntax error in \"", name, b"\"\n"),
+            Message::DivisionByZero => (b"## Error: division by zero", b"", b"\n"),
+        }
     }
 }

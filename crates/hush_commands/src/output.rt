@@ -111,7 +111,7 @@ impl Output {
         match session.save() {
             Ok(side) => {
                 let appended = self.text.extend_from_slice(saved_line(side));
-                // for the proof: room was reserved, so this isn't refused
+                // It tells the prover that room was reserved, so this isn't refused.
                 prove!(appended.is_ok());
                 Ok(())
             }

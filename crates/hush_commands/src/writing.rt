@@ -58,6 +58,24 @@ pub fn calculate<'a>(
     }
 }
 
+/// Writes a text.
+pub(crate) fn write<'a>(
+    session: &mut Session,
+    name: &'a [u8],
+    text: &[u8],
+    force: bool,
+) -> Result<Option<Complaint<'a>>, Memory>
+    ensures { CarriesOut (write_of session.old name.now text.now force) session.old session.new result }
+{
+    match session.write(name, Some(text), force) {
+        Ok(()) => Ok(None),
+        Err(refusal) => match message_of(refusal) {
+            Some(message) => Ok(Some(Complaint { message, name })),
+            None => Err(Memory),
+        },
+    }
+}
+
 /// The complaint about words that a command can't have.
 fn wrong_use(command: &[u8]) -> Complaint<'_>
     ensures message { result.message ≡ Message.WrongUse }
@@ -82,24 +100,6 @@ fn write_words<'a>(
     match joined(alloc, words) {
         Ok(text) => write(session, name, &text, force),
         Err(_) => Err(Memory),
-    }
-}
-
-/// Writes a text.
-pub(crate) fn write<'a>(
-    session: &mut Session,
-    name: &'a [u8],
-    text: &[u8],
-    force: bool,
-) -> Result<Option<Complaint<'a>>, Memory>
-    ensures { CarriesOut (write_of session.old name.now text.now force) session.old session.new result }
-{
-    match session.write(name, Some(text), force) {
-        Ok(()) => Ok(None),
-        Err(refusal) => match message_of(refusal) {
-            Some(message) => Ok(Some(Complaint { message, name })),
-            None => Err(Memory),
-        },
     }
 }
 

@@ -1,8 +1,8 @@
 -- Steps one behind the other.
 use Rattle.std.proofs.Common.{◌≡◌, ℕ, suc, ◌+◌, ◌-◌, ◌≤◌, Bool, true, false, if◌then◌else◌, List, [], ◌∷◌, length, Option, Some, None, Result, Ok, Err, refl, sym, ap, subst, ◌∙◌, arith, is_some, IfOk}
 use Rattle.hush_syntax.specs.declared.nodes.NodeId.{NodeId}
-use Rattle.hush_syntax.specs.Scripts.{Parsed, tree_of, sub_at, RootIs}
-use Rattle.hush_syntax.specs.Nodes.{Sub, OfChains, OfCommand}
+use Rattle.hush_syntax.specs.Scripts.{Parsed, tree_of, subtree_at, RootIs}
+use Rattle.hush_syntax.specs.Nodes.{Subtree, OfChains, OfCommand}
 use Rattle.hush_words.specs.Words.{Atom}
 use Rattle.hush_syntax.specs.Grammar.{Chains, For}
 use Rattle.hush_run.specs.declared.frames.Frame.{Frame}
@@ -12,11 +12,12 @@ use Rattle.hush_run.specs.declared.turns.Due.TheVariants as due
 use Rattle.hush_run.specs.declared.ending.Stop.{Stop}
 use Rattle.hush_run.specs.declared.ending.Stop.TheVariants as stop
 use Rattle.hush_run.specs.Meaning.{Rules, Begin, State, Out, Goes, ◌>>=◌, ◌then◌, with_status, if_ok, in_turn, bindings, deletions, ended, script, chains, start, run_from, within}
-use Rattle.hush_run.specs.Resume.{begin_in, at_in, behind, levels, resume, sub_does, room, at_command, of_for, Leads}
+use Rattle.hush_run.specs.Resume.{begin_in, at_in, behind, levels, resume, subtree_does, room, at_command, of_for, Leads}
 use Rattle.hush_run.specs.Turns.{IsDue, IsPart, due_does, due_room}
-use Rattle.hush_run.specs.Rises.{Leaves}
+use Rattle.hush_run.specs.Rises.{IsLeft}
 use Rattle.hush_run.specs.Steps.{Did, Started}
 use Rattle.hush_run.specs.Advances.{IsReady, Advances, Ran, due_left}
+use Rattle.hush_run.specs.Stacks.{script_frames}
 use Rattle.hush_run.proofs.Parts.{bind_goes, bind_assoc}
 use Rattle.hush_run.proofs.Descends.{stack-frame}
 use Rattle.hush_run.proofs.Halting.{due-halts, chains-halt}
@@ -32,7 +33,7 @@ stopped rules calls after old new depth d s t stop.Memory is part did = (ap (λ 
 
 -- a node
 module _ (rules : Rules) (top : Parsed) (rest : List Parsed) (old new : List Frame) (depth after : ℕ) (id node : NodeId) (s t : State) (ready : IsReady rules (top ∷ rest) old depth (due.Node id)) (le : s.steps ≤ rules.limits.steps) (same : after ≡ depth) (down : Leads top old new id node) where
-  node-goes : (next : Due) → Did rules (λ r begin. sub_does r begin (sub_at top node)) (λ d r begin. due_does r begin (sub_at top) d) s t (Ok next) → IsDue (sub_at top) next → due_room (sub_at top) next ≤ room (sub_at top node) → Advances rules (top ∷ rest) old (due.Node id) s (top ∷ rest) new after t (Ok next)
+  node-goes : (next : Due) → Did rules (λ r begin. subtree_does r begin (subtree_at top node)) (λ d r begin. due_does r begin (subtree_at top) d) s t (Ok next) → IsDue (subtree_at top) next → due_room (subtree_at top) next ≤ room (subtree_at top node) → Advances rules (top ∷ rest) old (due.Node id) s (top ∷ rest) new after t (Ok next)
   node-goes next did is fits =
       let m = down.1 rest ready.stack ready.frames_fit in (
         did.0,
@@ -42,16 +43,16 @@ module _ (rules : Rules) (top : Parsed) (rest : List Parsed) (old new : List Fra
             ∙ ap (λ (o : Out). o >>= resume (within n rules) (top ∷ rest) new) (did.1 n (begin_in (within n rules) (top ∷ rest)) more),
       )
 
-  node-stops : (halt : Stop) → Did rules (λ r begin. sub_does r begin (sub_at top node)) (λ (d : Due) r begin. due_does r begin (sub_at top) d) s t (Err halt) → Advances rules (top ∷ rest) old (due.Node id) s (top ∷ rest) new after t (Err halt)
+  node-stops : (halt : Stop) → Did rules (λ r begin. subtree_does r begin (subtree_at top node)) (λ (d : Due) r begin. due_does r begin (subtree_at top) d) s t (Err halt) → Advances rules (top ∷ rest) old (due.Node id) s (top ∷ rest) new after t (Err halt)
   node-stops (stop.Ended e) did = ap ended (down.2 rules rest s le ∙ ap (λ (o : Out). o >>= resume rules (top ∷ rest) new) (did (begin_in rules (top ∷ rest))))
   node-stops stop.Memory did = (ap (λ (x : State). x.steps) did, halted rules (top ∷ rest) old (due.Node id) s ready.is_due tt ∙ sym did)
 
-pub node_advances : (rules : Rules) (calls : List Parsed) (top : Parsed) (old new : List Frame) (depth after : ℕ) (id node : NodeId) (s t : State) (result : Result Due Stop) → calls ≡ top ∷ behind calls → IsReady rules calls old depth (due.Node id) → s.steps ≤ rules.limits.steps → after ≡ depth → Leads top old new id node → Did rules (λ r begin. sub_does r begin (sub_at top node)) (λ d r begin. due_does r begin (sub_at top) d) s t result → IfOk result (λ (d : Due). IsDue (sub_at top) d × (due_room (sub_at top) d ≤ room (sub_at top node))) → Advances rules calls old (due.Node id) s calls new after t result
+pub node_advances : (rules : Rules) (calls : List Parsed) (top : Parsed) (old new : List Frame) (depth after : ℕ) (id node : NodeId) (s t : State) (result : Result Due Stop) → calls ≡ top ∷ behind calls → IsReady rules calls old depth (due.Node id) → s.steps ≤ rules.limits.steps → after ≡ depth → Leads top old new id node → Did rules (λ r begin. subtree_does r begin (subtree_at top node)) (λ d r begin. due_does r begin (subtree_at top) d) s t result → IfOk result (λ (d : Due). IsDue (subtree_at top) d × (due_room (subtree_at top) d ≤ room (subtree_at top node))) → Advances rules calls old (due.Node id) s calls new after t result
 node_advances rules calls top old new depth after id node s t result is ready le same down did fits =
     subst (λ (cs : List Parsed). Advances rules cs old (due.Node id) s cs new after t result) (sym is)
     (by result (subst (λ (cs : List Parsed). IsReady rules cs old depth (due.Node id)) is ready) did fits)
   where
-    by : (r : Result Due Stop) → IsReady rules (top ∷ behind calls) old depth (due.Node id) → Did rules (λ r begin. sub_does r begin (sub_at top node)) (λ d r begin. due_does r begin (sub_at top) d) s t r → IfOk r (λ (d : Due). IsDue (sub_at top) d × (due_room (sub_at top) d ≤ room (sub_at top node))) → Advances rules (top ∷ behind calls) old (due.Node id) s (top ∷ behind calls) new after t r
+    by : (r : Result Due Stop) → IsReady rules (top ∷ behind calls) old depth (due.Node id) → Did rules (λ r begin. subtree_does r begin (subtree_at top node)) (λ d r begin. due_does r begin (subtree_at top) d) s t r → IfOk r (λ (d : Due). IsDue (subtree_at top) d × (due_room (subtree_at top) d ≤ room (subtree_at top node))) → Advances rules (top ∷ behind calls) old (due.Node id) s (top ∷ behind calls) new after t r
     by (Ok next) now did fits = node-goes rules top (behind calls) old new depth after id node s t now le same down next did fits.0 fits.1
     by (Err halt) now did fits = node-stops rules top (behind calls) old new depth after id node s t now le same down halt did
 
@@ -78,23 +79,23 @@ delete_stops_so rules calls after old new depth force failed name names left s t
     as-unit stop.Memory d = d
 
 -- a binding
-module _ (rules : Rules) (top : Parsed) (rest : List Parsed) (old : List Frame) (depth : ℕ) (node body : NodeId) (name field : List ℕ) (words fields left : List (List ℕ)) (ws : List (List Atom)) (d : Chains) (s t : State) (e : sub_at top node ≡ Some (OfCommand (For name ws d))) (eb : sub_at top body ≡ Some (OfChains d)) (is : fields ≡ field ∷ left) (ready : IsReady rules (top ∷ rest) old depth (due.Binding node fields)) where
+module _ (rules : Rules) (top : Parsed) (rest : List Parsed) (old : List Frame) (depth : ℕ) (node body : NodeId) (name field : List ℕ) (words fields left : List (List ℕ)) (ws : List (List Atom)) (d : Chains) (s t : State) (e : subtree_at top node ≡ Some (OfCommand (For name ws d))) (eb : subtree_at top body ≡ Some (OfChains d)) (is : fields ≡ field ∷ left) (ready : IsReady rules (top ∷ rest) old depth (due.Binding node fields)) where
   -- what is left before it
   first : (r : Rules) → due_left r (top ∷ rest) old (due.Binding node fields) s ≡ (bindings r name (chains r (begin_in r (top ∷ rest)) d) (field ∷ left) s >>= resume r (top ∷ rest) old)
   first r =
-      ap (λ (o : Option Sub). at_command Goes (of_for r (begin_in r (top ∷ rest)) fields) o s >>= resume r (top ∷ rest) old) e
+      ap (λ (o : Option Subtree). at_command Goes (of_for r (begin_in r (top ∷ rest)) fields) o s >>= resume r (top ∷ rest) old) e
       ∙ ap (λ (xs : List (List ℕ)). bindings r name (chains r (begin_in r (top ∷ rest)) d) xs s >>= resume r (top ∷ rest) old) is
 
   pub bound_goes : Did rules (λ r begin. bindings r name (chains r begin d) (field ∷ left)) (λ bound r begin. if bound then (chains r begin d then bindings r name (chains r begin d) left) else Goes) s t (Ok true) → Advances rules (top ∷ rest) old (due.Binding node fields) s (top ∷ rest) (frame.Bindings node left ∷ old) depth t (Ok (due.Node body))
   bound_goes did = (
     did.0,
-    record { stack = stack-frame (top ∷ rest) (frame.Bindings node left) old refl (omega arith) (ap (λ (o : Option Sub). is_some o) e) ready.frames_fit ready.stack; is_due = ap (λ (o : Option Sub). is_some o) eb; some = ready.some; calls_fit = ready.calls_fit; frames_fit = omega (arith, ready.frames_fit, ap room e, ap room eb); same_depth = ready.same_depth },
+    record { stack = stack-frame (top ∷ rest) (frame.Bindings node left) old refl (omega arith) (ap (λ (o : Option Subtree). is_some o) e) ready.frames_fit ready.stack; is_due = ap (λ (o : Option Subtree). is_some o) eb; some = ready.some; calls_fit = ready.calls_fit; frames_fit = omega (arith, ready.frames_fit, ap room e, ap room eb); same_depth = ready.same_depth },
     λ n more.
         first (within n rules)
         ∙ ap (λ (o : Out). o >>= resume (within n rules) (top ∷ rest) old) (did.1 n (begin_in (within n rules) (top ∷ rest)) more)
         ∙ bind_assoc (chains (within n rules) (begin_in (within n rules) (top ∷ rest)) d t) (bindings (within n rules) name (chains (within n rules) (begin_in (within n rules) (top ∷ rest)) d) left) (resume (within n rules) (top ∷ rest) old)
-        ∙ ap (λ (o : Option Sub). chains (within n rules) (begin_in (within n rules) (top ∷ rest)) d t >>= (at_command Goes (of_for (within n rules) (begin_in (within n rules) (top ∷ rest)) left) o then resume (within n rules) (top ∷ rest) old)) (sym e)
-        ∙ ap (λ (o : Option Sub). sub_does (within n rules) (begin_in (within n rules) (top ∷ rest)) o t >>= resume (within n rules) (top ∷ rest) (frame.Bindings node left ∷ old)) (sym eb),
+        ∙ ap (λ (o : Option Subtree). chains (within n rules) (begin_in (within n rules) (top ∷ rest)) d t >>= (at_command Goes (of_for (within n rules) (begin_in (within n rules) (top ∷ rest)) left) o then resume (within n rules) (top ∷ rest) old)) (sym e)
+        ∙ ap (λ (o : Option Subtree). subtree_does (within n rules) (begin_in (within n rules) (top ∷ rest)) o t >>= resume (within n rules) (top ∷ rest) (frame.Bindings node left ∷ old)) (sym eb),
   )
 
   pub bound_not : Did rules (λ r begin. bindings r name (chains r begin d) (field ∷ left)) (λ bound r begin. if bound then (chains r begin d then bindings r name (chains r begin d) left) else Goes) s t (Ok false) → Advances rules (top ∷ rest) old (due.Binding node fields) s (top ∷ rest) old depth t (Ok due.Over)
@@ -129,7 +130,7 @@ module _ (rules : Rules) (calls : List Parsed) (old : List Frame) (depth : ℕ) 
         ∙ ap (λ (c : Bool). (if c then in_turn (begin_in (within n rules) calls) left t else Goes t) >>= resume (within n rules) calls old) b.1,
   )
 
-  ready_on : (p : Parsed) (below : ℕ) (next : Due) → rules.limits.depth + 1 - length calls ≡ suc below → IsDue (sub_at p) next → due_room (sub_at p) next ≤ 195 → IsReady rules (p ∷ calls) (frame.Started left ∷ old) depth next
+  ready_on : (p : Parsed) (below : ℕ) (next : Due) → rules.limits.depth + 1 - length calls ≡ suc below → IsDue (subtree_at p) next → due_room (subtree_at p) next ≤ script_frames → IsReady rules (p ∷ calls) (frame.Started left ∷ old) depth next
   ready_on p below next opens isdue fits = record { stack = (ready.some, tt, ready.frames_fit, ready.stack); is_due = isdue; some = omega arith; calls_fit = omega (arith, opens); frames_fit = omega (arith, ready.frames_fit, fits); same_depth = ready.same_depth }
 
   below_is : (n below : ℕ) (p : Parsed) → rules.limits.depth + 1 - length calls ≡ suc below → levels (within n rules) (p ∷ calls) ≡ below
@@ -152,11 +153,11 @@ module _ (rules : Rules) (calls : List Parsed) (old : List Frame) (depth : ℕ) 
   pub started_root : (p : Parsed) (root : NodeId) → Started rules (rules.limits.depth + 1 - length calls) name s t (Ok (Some p)) → RootIs p (Some root) → Advances rules calls old (due.Start names) s (p ∷ calls) (frame.Started left ∷ old) depth t (Ok (due.Node root))
   started_root p root b r = (
     b.0,
-    ready_on p b.1 (due.Node root) b.2 (ap (λ (o : Option Sub). is_some o) r.1) (omega (arith, ap room r.1, r.3)),
+    ready_on p b.1 (due.Node root) b.2 (ap (λ (o : Option Subtree). is_some o) r.1) (omega (arith, ap room r.1, r.3)),
     λ n le.
         started_left n p le b
         ∙ ap (λ (o : Option Chains). script (within n rules) (begin_in (within n rules) (p ∷ calls)) o t >>= resume (within n rules) (p ∷ calls) (frame.Started left ∷ old)) r.2
-        ∙ ap (λ (o : Option Sub). sub_does (within n rules) (begin_in (within n rules) (p ∷ calls)) o t >>= resume (within n rules) (p ∷ calls) (frame.Started left ∷ old)) (sym r.1),
+        ∙ ap (λ (o : Option Subtree). subtree_does (within n rules) (begin_in (within n rules) (p ∷ calls)) o t >>= resume (within n rules) (p ∷ calls) (frame.Started left ∷ old)) (sym r.1),
   )
 
   pub start_stops : (halt : Stop) → Started rules (rules.limits.depth + 1 - length calls) name s t (Err halt) → Advances rules calls old (due.Start names) s calls old depth t (Err halt)
@@ -164,7 +165,7 @@ module _ (rules : Rules) (calls : List Parsed) (old : List Frame) (depth : ℕ) 
   start_stops stop.Memory b = (ap (λ (x : State). x.steps) b, halted rules calls old (due.Start names) s ready.is_due tt ∙ sym b)
 
 -- what is due where something is over, and its step
-pub rise_then : (rules : Rules) (calls calls1 calls2 : List Parsed) (old frames1 new : List Frame) (status1 depth : ℕ) (due1 : Due) (s t : State) (r : Result Due Stop) → s.steps ≤ rules.limits.steps → Leaves calls old s.status calls1 frames1 status1 due1 → Advances rules calls1 frames1 due1 (with_status status1 s) calls2 new depth t r → Advances rules calls old due.Over s calls2 new depth t r
+pub rise_then : (rules : Rules) (calls calls1 calls2 : List Parsed) (old frames1 new : List Frame) (status1 depth : ℕ) (due1 : Due) (s t : State) (r : Result Due Stop) → s.steps ≤ rules.limits.steps → IsLeft calls old s.status calls1 frames1 status1 due1 → Advances rules calls1 frames1 due1 (with_status status1 s) calls2 new depth t r → Advances rules calls old due.Over s calls2 new depth t r
 rise_then rules calls calls1 calls2 old frames1 new status1 depth due1 s t (Ok d) le l a = (a.0, a.1, λ n h. l.5 (within n rules) s (omega (arith, h)) ∙ a.2 n h)
 rise_then rules calls calls1 calls2 old frames1 new status1 depth due1 s t (Err (stop.Ended e)) le l a = ap ended (l.5 rules s le) ∙ a
 rise_then rules calls calls1 calls2 old frames1 new status1 depth due1 s t (Err stop.Memory) le l a = (a.0, ap (λ (o : Out). (ended o).1) (l.5 (within s.steps rules) s (omega arith)) ∙ a.1)
@@ -185,14 +186,14 @@ pub same_root : (rules : Rules) (p : Parsed) (root : NodeId) (s : State) → Roo
 same_root rules p root s r n le =
     ap (λ (o : Option Chains). script (within n rules) (start (within n rules) rules.limits.depth) o s) r.2
     ∙ ap (λ (k : ℕ). chains (within n rules) (start (within n rules) k) r.0 s) (let e : rules.limits.depth ≡ rules.limits.depth - 0 = omega arith in e)
-    ∙ ap (λ (o : Option Sub). sub_does (within n rules) (begin_in (within n rules) (p ∷ [])) o s) (sym r.1)
-    ∙ sym (bind_goes (sub_does (within n rules) (begin_in (within n rules) (p ∷ [])) (sub_at p root) s))
+    ∙ ap (λ (o : Option Subtree). subtree_does (within n rules) (begin_in (within n rules) (p ∷ [])) o s) (sym r.1)
+    ∙ sym (bind_goes (subtree_does (within n rules) (begin_in (within n rules) (p ∷ [])) (subtree_at p root) s))
 
 pub same_empty : (rules : Rules) (p : Parsed) (s : State) → RootIs p None → Same rules (tree_of p) s (p ∷ []) [] due.Over s
 same_empty rules p s r n le = ap (λ (o : Option Chains). script (within n rules) (start (within n rules) rules.limits.depth) o s) r
 
 pub ready_root : (rules : Rules) (p : Parsed) (root : NodeId) → RootIs p (Some root) → IsReady rules (p ∷ []) [] rules.limits.depth (due.Node root)
-ready_root rules p root r = record { stack = tt; is_due = ap (λ (o : Option Sub). is_some o) r.1; some = omega arith; calls_fit = omega arith; frames_fit = omega (arith, ap room r.1, r.3); same_depth = refl }
+ready_root rules p root r = record { stack = tt; is_due = ap (λ (o : Option Subtree). is_some o) r.1; some = omega arith; calls_fit = omega arith; frames_fit = omega (arith, ap room r.1, r.3); same_depth = refl }
 
 pub ready_empty : (rules : Rules) (p : Parsed) → IsReady rules (p ∷ []) [] rules.limits.depth due.Over
 ready_empty rules p = record { stack = tt; is_due = tt; some = omega arith; calls_fit = omega arith; frames_fit = omega arith; same_depth = refl }

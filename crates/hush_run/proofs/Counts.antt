@@ -9,7 +9,7 @@ use Rattle.hush_commands.specs.declared.follow.Follow.TheVariants as follow
 use Rattle.hush_commands.specs.Following.{follow_of}
 use Rattle.hush_commands.specs.declared.messages.Message.TheVariants.{NotDefined}
 use Rattle.hush_syntax.specs.Reading.{read}
-use Rattle.hush_run.specs.Meaning.{Rules, Begin, State, Out, Goes, Ends, ◌>>=◌, ◌then◌, Effect, Does, Leaves, Stops, done, step, with_status, goes_on, turns, if_ok, in_turn, deletions, follows, simple, bindings, for, joins, has_variable, fields_of, effect, fails, command, otherwise, chain, linked, chains, script, start, looked_up, entered}
+use Rattle.hush_run.specs.Meaning.{Rules, Begin, State, Out, Goes, Ends, ◌>>=◌, ◌then◌, Effect, Does, Exits, Stops, done, step, with_status, goes_on, turns, if_ok, in_turn, deletions, follows, simple, bindings, for, joins, has_variable, fields_of, effect, fails, command, otherwise, chain, linked, chains, script, start, looked_up, entered}
 use Rattle.hush_run.specs.Resume.{looks}
 
 pub within_bind : (low next high : ℕ) (o : Out) (f : State → Out) → Within low high o → ((t : State) → low ≤ t.steps → t.steps ≤ high → Within next high (f t)) → Within next high (o >>= f)
@@ -31,7 +31,7 @@ keeps rules p c s le = within_less _ _ _ (p s) (omega arith) (c s le)
 -- a step
 done-counts : (s : State) (high : ℕ) (e : Effect) → s.steps < high → Within (suc s.steps) high (done s e)
 done-counts s high (Does t) lt = (omega arith, omega (arith, lt))
-done-counts s high (Leaves t) lt = tt
+done-counts s high (Exits t) lt = tt
 done-counts s high (Stops e) lt = tt
 
 step_by : (b : Bool) (s : State) (high : ℕ) (e : Effect) → (b ≡ true → s.steps < high) → Within (suc s.steps) high (if b then done s e else Ends Steps s)
@@ -131,7 +131,7 @@ module _ (rules : Rules) (begin : Begin) (counts : (name : List ℕ) → Counts 
   simple-counts : (fields : Option (List (List ℕ))) → Counts rules (simple rules begin fields)
   simple-counts None s le = step-counts rules _ s le
   simple-counts (Some fields) s le =
-      within_bind (suc s.steps) _ rules.limits.steps _ (follows rules begin (follow_of fields s.status)) (step-counts rules (effect rules.stubs fields) s le)
+      within_bind (suc s.steps) _ rules.limits.steps _ (follows rules begin (follow_of fields s.status)) (step-counts rules (effect rules.stand_ins fields) s le)
       (λ t lo hi. within_less t.steps _ _ (follows rules begin (follow_of fields s.status) t) lo (follows-keep (follow_of fields s.status) t hi))
 
   mutual

@@ -2,30 +2,31 @@
 use Rattle.std.proofs.Common.{◌≡◌, ◌+◌, ◌*◌, ◌≤◌, List, ◌∷◌, length, Some, refl, ◌∙◌, arith, IsSome}
 use Rattle.hush_syntax.specs.declared.nodes.NodeId.{NodeId}
 use Rattle.hush_run.specs.declared.frames.Frame.{Frame}
-use Rattle.hush_syntax.specs.Scripts.{Parsed, sub_at}
+use Rattle.hush_syntax.specs.Scripts.{Parsed, subtree_at}
 use Rattle.hush_run.specs.Meaning.{Rules, ◌then◌}
-use Rattle.hush_run.specs.Resume.{begin_in, sub_does, frame_does, at_in, frame_room, owners, resume, IsFrame, IsStack, FirstPart, Leads, levels}
+use Rattle.hush_run.specs.Resume.{begin_in, subtree_does, frame_does, at_in, frame_room, owners, resume, IsFrame, IsStack, FirstPart, Leads, levels}
+use Rattle.hush_run.specs.Stacks.{script_frames}
 use Rattle.hush_run.proofs.Counts.{start-counts}
 use Rattle.hush_run.proofs.Parts.{onto}
 
-pub leads_here : (script : Parsed) (frames : List Frame) (id : NodeId) → IsSome (sub_at script id) → Leads script frames frames id id
+pub leads_here : (script : Parsed) (frames : List Frame) (id : NodeId) → IsSome (subtree_at script id) → Leads script frames frames id id
 leads_here script frames id known = (known, (λ scripts stack fits. (stack, fits)), λ rules scripts s le. refl)
 
 -- a frame on top, whose scripts are those that run
 pub resume-frame : (rules : Rules) (scripts : List Parsed) (f : Frame) (fs : List Frame) → owners f scripts ≡ scripts → resume rules scripts (f ∷ fs) ≡ (frame_does rules (begin_in rules scripts) (at_in scripts) f then resume rules scripts fs)
 resume-frame rules scripts f fs same = rw same refl
 
-pub stack-frame : (scripts : List Parsed) (f : Frame) (fs : List Frame) → owners f scripts ≡ scripts → 1 ≤ length scripts → IsFrame (at_in scripts) f → length fs + frame_room (at_in scripts) f ≤ 195 * length scripts → IsStack scripts fs → IsStack scripts (f ∷ fs)
+pub stack-frame : (scripts : List Parsed) (f : Frame) (fs : List Frame) → owners f scripts ≡ scripts → 1 ≤ length scripts → IsFrame (at_in scripts) f → length fs + frame_room (at_in scripts) f ≤ script_frames * length scripts → IsStack scripts fs → IsStack scripts (f ∷ fs)
 stack-frame scripts f fs same some is fits stack = rw same (some, is, fits, stack)
 
-pub leads_on : (script : Parsed) (old new : List Frame) (id node part : NodeId) (f : Frame) → Leads script old new id node → FirstPart (sub_at script) node (Some (f, part)) → Leads script old (f ∷ new) id part
+pub leads_on : (script : Parsed) (old new : List Frame) (id node part : NodeId) (f : Frame) → Leads script old new id node → FirstPart (subtree_at script) node (Some (f, part)) → Leads script old (f ∷ new) id part
 leads_on script old new id node part f l p = (
   p.0,
   (λ scripts stack fits. let m = l.1 scripts stack fits in (stack-frame (script ∷ scripts) f new (p.1 (script ∷ scripts)) (omega arith) p.2 (omega (arith, m.1, p.4)) m.0, omega (arith, m.1, p.3))),
   λ rules scripts s le.
       l.2 rules scripts s le
-      ∙ onto (sub_does rules (begin_in rules (script ∷ scripts)) (sub_at script node) s) (sub_does rules (begin_in rules (script ∷ scripts)) (sub_at script part) s)
-      (frame_does rules (begin_in rules (script ∷ scripts)) (sub_at script) f) (resume rules (script ∷ scripts) new) (resume rules (script ∷ scripts) (f ∷ new))
+      ∙ onto (subtree_does rules (begin_in rules (script ∷ scripts)) (subtree_at script node) s) (subtree_does rules (begin_in rules (script ∷ scripts)) (subtree_at script part) s)
+      (frame_does rules (begin_in rules (script ∷ scripts)) (subtree_at script) f) (resume rules (script ∷ scripts) new) (resume rules (script ∷ scripts) (f ∷ new))
       (p.5 rules (begin_in rules (script ∷ scripts)) (start-counts rules (levels rules (script ∷ scripts))) s le)
       (resume-frame rules (script ∷ scripts) f new (p.1 (script ∷ scripts))),
 )

@@ -1,12 +1,12 @@
 -- Where no step is left, what is due stops at once.
 use Rattle.std.proofs.Common.{◌≡◌, ℕ, suc, ◌<◌, ◌≤◌, Bool, true, false, if◌then◌else◌, List, [], ◌∷◌, length, Option, Some, None, ap, arith, is_some}
-use Rattle.hush_syntax.specs.Nodes.{At, Sub, OfChains, OfChain, OfCommand}
+use Rattle.hush_syntax.specs.Nodes.{At, Subtree, OfChains, OfChain, OfCommand}
 use Rattle.hush_syntax.specs.Grammar.{Command, Simple, Assign, If, For, While, Until, Chain, First, Chains, Last, More}
 use Rattle.hush_run.specs.declared.ending.Reason.TheVariants.{Steps}
 use Rattle.hush_run.specs.declared.turns.Due.{Due}
 use Rattle.hush_run.specs.declared.turns.Due.TheVariants as due
 use Rattle.hush_run.specs.Meaning.{Rules, Begin, State, Out, Goes, Ends, ◌>>=◌, ◌then◌, goes_on, with_status, turns, in_turn, deletions, bindings, fields_of, command, chain, chains, start}
-use Rattle.hush_run.specs.Resume.{sub_does, at_command, of_for}
+use Rattle.hush_run.specs.Resume.{subtree_does, at_command, of_for}
 use Rattle.hush_run.specs.Turns.{due_does, IsDue, IsPart, IsForNode}
 use Rattle.hush_run.proofs.StepLemmas.{step_halts, simple_halts, for_halts, bind_halts, delete_halts, start_halts}
 
@@ -49,13 +49,13 @@ in_turn-halts : (rules : Rules) (begin : Begin) (names : List (List ℕ)) → 0 
 in_turn-halts rules begin [] lt h s le = absurd (omega (arith, lt))
 in_turn-halts rules begin (n ∷ ns) lt h s le = then-halts rules (begin n) _ (h n) s le
 
-sub-halts : (rules : Rules) (begin : Begin) (o : Option Sub) → is_some o ≡ true → Halts rules (sub_does rules begin o)
-sub-halts rules begin None h = absurd (let f : false ≡ true = h in cc)
-sub-halts rules begin (Some (OfChains cs)) h = chains-halt rules begin cs
-sub-halts rules begin (Some (OfChain c)) h = chain-halts rules begin c
-sub-halts rules begin (Some (OfCommand c)) h = command-halts rules begin c
+subtree-halts : (rules : Rules) (begin : Begin) (o : Option Subtree) → is_some o ≡ true → Halts rules (subtree_does rules begin o)
+subtree-halts rules begin None h = absurd (let f : false ≡ true = h in cc)
+subtree-halts rules begin (Some (OfChains cs)) h = chains-halt rules begin cs
+subtree-halts rules begin (Some (OfChain c)) h = chain-halts rules begin c
+subtree-halts rules begin (Some (OfCommand c)) h = command-halts rules begin c
 
-for-node-halts : (rules : Rules) (begin : Begin) (fields : List (List ℕ)) (o : Option Sub) → IsForNode o → 0 < length fields → Halts rules (at_command (λ x. Goes x) (of_for rules begin fields) o)
+for-node-halts : (rules : Rules) (begin : Begin) (fields : List (List ℕ)) (o : Option Subtree) → IsForNode o → 0 < length fields → Halts rules (at_command (λ x. Goes x) (of_for rules begin fields) o)
 for-node-halts rules begin fields None f lt = absurd f
 for-node-halts rules begin fields (Some (OfChains cs)) f lt = absurd f
 for-node-halts rules begin fields (Some (OfChain c)) f lt = absurd f
@@ -68,7 +68,7 @@ for-node-halts rules begin fields (Some (OfCommand (Until c d))) f lt = absurd f
 
 pub due-halts : (rules : Rules) (levels : ℕ) (at : At) (d : Due) → IsDue at d → IsPart d → Halts rules (due_does rules (start rules levels) at d)
 due-halts rules levels at due.Over is part = absurd part
-due-halts rules levels at (due.Node node) is part = sub-halts rules (start rules levels) (at node) is
+due-halts rules levels at (due.Node node) is part = subtree-halts rules (start rules levels) (at node) is
 due-halts rules levels at (due.Binding node fields) is part = for-node-halts rules (start rules levels) fields (at node) is.1 is.0
 due-halts rules levels at (due.Start names) is part = in_turn-halts rules (start rules levels) names is (λ name s le. start_halts rules levels name s le)
 due-halts rules levels at (due.Delete force failed names) is part = deletions-halt rules (start rules levels) force failed names is

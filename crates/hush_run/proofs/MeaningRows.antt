@@ -1,5 +1,5 @@
 -- Worked examples of docs/runs.md, "Meaning", which the checker computes from the definitions, from a script's bytes on.
-use Rattle.std.proofs.Common.{◌≡◌, ℕ, List, [], ◌∷◌, codes, refl, Option, Some, None, option_map}
+use Rattle.std.proofs.Common.{◌≡◌, ℕ, List, [], codes, refl, Option, Some, None, option_map}
 use Rattle.std.specs.FinMap.{empty, get, get-empty, get-insert}
 use Rattle.std.specs.Cmp.Lexicographic.{nat_list_cmp_total}
 use Rattle.std.specs.Fmt.{digits}
@@ -12,7 +12,7 @@ use Rattle.hush_syntax.specs.Reading.{command, read}
 use Rattle.hush_commands.specs.Builtins.{builtin_of}
 use Rattle.hush_commands.specs.Expansion.{fields}
 use Rattle.hush_commands.specs.Limits.{bounds}
-use Rattle.hush_commands.specs.Stubs.{Statuses}
+use Rattle.hush_commands.specs.StandIns.{Statuses}
 use Rattle.hush_run.specs.declared.ending.Reason.{Reason}
 use Rattle.hush_run.specs.declared.ending.Reason.TheVariants.{Finished, Exited, Steps, Depth, Word, Output}
 use Rattle.hush_run.specs.Meaning.{Rules, State, step, effect, turns, start, looked_up, meaning}
@@ -26,7 +26,7 @@ told run = (run.0, run.1.status, run.1.steps, run.1.printed.text)
 
 -- limits, and no stand-ins
 abbrev under : (steps depth word output : ℕ) → Rules
-under steps depth word output = record { stubs = (let none : Statuses = empty in none); limits = bounds steps depth word output }
+under steps depth word output = record { stand_ins = (let none : Statuses = empty in none); limits = bounds steps depth word output }
 
 abbrev usual : Rules
 usual = under 1000 4 256 4096

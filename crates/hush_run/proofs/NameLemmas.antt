@@ -1,14 +1,12 @@
 -- The unquoted plain bytes of words.
-use Rattle.std.proofs.Common.{◌≡◌, ℕ, Bool, true, false, List, [], ◌∷◌, ◌++◌, map, Option, Some, None, refl, sym, ap, ◌∙◌, append_assoc, is_some, option_map, unwrap_or, if◌then◌else◌, subst, All}
-use Rattle.std.proofs.lemmas.List.Elements.{All-tail}
-use Rattle.hush_words.specs.Ranges.{Fits}
+use Rattle.std.proofs.Common.{◌≡◌, ℕ, Bool, true, false, List, [], ◌∷◌, ◌++◌, map, Option, Some, None, refl, sym, ap, ◌∙◌, append_assoc, is_some, option_map, unwrap_or, if◌then◌else◌}
 use Rattle.hush_words.specs.Words.{Atom}
 use Rattle.hush_words.specs.Words.Atom.{Plain, Quoted, Value, Status, Mark}
 use Rattle.hush_words.specs.Forms.{name_of, name_from, goes_on}
 use Rattle.hush_words.specs.declared.parts.Part.{Part}
 use Rattle.hush_words.specs.declared.parts.Part.TheVariants as part
 use Rattle.hush_words.specs.declared.parts.Span.{Span}
-use Rattle.hush_words.specs.Parts.{span_bytes, part_atoms, atoms_of}
+use Rattle.hush_words.specs.Parts.{span_bytes, part_atoms}
 use Rattle.hush_run.specs.Names.{plain_bytes}
 
 pub plain-append : (xs ys : List Atom) → plain_bytes (xs ++ ys) ≡ plain_bytes xs ++ plain_bytes ys
@@ -49,30 +47,22 @@ pub name_is : (atoms : List Atom) → is_some (name_of atoms) ≡ true → plain
 unfolding name_of
 name_is atoms h = sym (ap (λ (o : Option (List ℕ)). unwrap_or o []) (named false atoms h))
 
--- the parts behind one
-pub plain_on : (source : List ℕ) (rest behind : List Part) (p : Part) (span : Span) (bytes name more whole : List ℕ) → rest ≡ p ∷ behind → p ≡ part.Plain span → bytes ≡ span_bytes source span → more ≡ name ++ bytes → name ++ plain_bytes (atoms_of source rest) ≡ whole → more ++ plain_bytes (atoms_of source behind) ≡ whole
-plain_on source rest behind p span bytes name more whole e is b m read =
-    ap (λ (xs : List ℕ). xs ++ plain_bytes (atoms_of source behind)) (m ∙ ap (λ (xs : List ℕ). name ++ xs) b)
-    ∙ append_assoc name (span_bytes source span) (plain_bytes (atoms_of source behind))
-    ∙ ap (λ (xs : List ℕ). name ++ (xs ++ plain_bytes (atoms_of source behind))) (sym (plain-plain (span_bytes source span)))
-    ∙ ap (λ (xs : List ℕ). name ++ xs) (sym (plain-append (map Plain (span_bytes source span)) (atoms_of source behind)))
-    ∙ ap (λ (q : Part). name ++ plain_bytes (part_atoms source q ++ atoms_of source behind)) (sym is)
-    ∙ ap (λ (ps : List Part). name ++ plain_bytes (atoms_of source ps)) (sym e)
+-- a part's plain bytes, and what stands behind it
+pub plain_of : (source : List ℕ) (p : Part) (span : Span) (bytes : List ℕ) → p ≡ part.Plain span → bytes ≡ span_bytes source span → bytes ≡ plain_bytes (part_atoms source p)
+plain_of source p span bytes is b =
+    b ∙ sym (plain-plain (span_bytes source span)) ∙ ap (λ (q : Part). plain_bytes (part_atoms source q)) (sym is)
+
+pub none_of : (source : List ℕ) (p : Part) → ((span : Span) → p ≡ part.Plain span → ⊥) → [] ≡ plain_bytes (part_atoms source p)
+none_of source (part.Plain s) h = absurd (h s refl)
+none_of source (part.Quoted s) h = sym (plain-quoted (span_bytes source s))
+none_of source part.Mark h = refl
+none_of source (part.Value s quoted) h = refl
+none_of source (part.Status quoted) h = refl
+
+pub plain_on : (source : List ℕ) (atoms rest : List Atom) (p : Part) (bytes name more whole : List ℕ) → atoms ≡ part_atoms source p ++ rest → bytes ≡ plain_bytes (part_atoms source p) → more ≡ name ++ bytes → name ++ plain_bytes atoms ≡ whole → more ++ plain_bytes rest ≡ whole
+plain_on source atoms rest p bytes name more whole e b m read =
+    ap (λ (xs : List ℕ). xs ++ plain_bytes rest) (m ∙ ap (λ (xs : List ℕ). name ++ xs) b)
+    ∙ append_assoc name (plain_bytes (part_atoms source p)) (plain_bytes rest)
+    ∙ ap (λ (xs : List ℕ). name ++ xs) (sym (plain-append (part_atoms source p) rest))
+    ∙ ap (λ (xs : List Atom). name ++ plain_bytes xs) (sym e)
     ∙ read
-
-none-plain : (source : List ℕ) (p : Part) → ((span : Span) → p ≡ part.Plain span → ⊥) → plain_bytes (part_atoms source p) ≡ []
-none-plain source (part.Plain s) h = absurd (h s refl)
-none-plain source (part.Quoted s) h = plain-quoted (span_bytes source s)
-none-plain source part.Mark h = refl
-none-plain source (part.Value s quoted) h = refl
-none-plain source (part.Status quoted) h = refl
-
-pub other_on : (source : List ℕ) (rest behind : List Part) (p : Part) (name whole : List ℕ) → rest ≡ p ∷ behind → ((span : Span) → p ≡ part.Plain span → ⊥) → name ++ plain_bytes (atoms_of source rest) ≡ whole → name ++ plain_bytes (atoms_of source behind) ≡ whole
-other_on source rest behind p name whole e isnt read =
-    ap (λ (xs : List ℕ). name ++ (xs ++ plain_bytes (atoms_of source behind))) (sym (none-plain source p isnt))
-    ∙ ap (λ (xs : List ℕ). name ++ xs) (sym (plain-append (part_atoms source p) (atoms_of source behind)))
-    ∙ ap (λ (ps : List Part). name ++ plain_bytes (atoms_of source ps)) (sym e)
-    ∙ read
-
-pub fit_on : (source : List ℕ) (rest behind : List Part) (p : Part) → rest ≡ p ∷ behind → All (Fits source) rest → All (Fits source) behind
-fit_on source rest behind p e fit = All-tail (Fits source) p behind (subst (λ (ps : List Part). All (Fits source) ps) e fit)

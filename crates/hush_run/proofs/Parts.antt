@@ -1,13 +1,14 @@
 -- A node is its first part and what its frame does behind that.
-use Rattle.std.proofs.Common.{◌≡◌, ◌==◌, ◌<◌, true, false, List, [], ◌∷◌, length, get_or, Option, Some, None, refl, sym, ap, ◌∙◌, arith, if◌then◌else◌}
+use Rattle.std.proofs.Common.{◌≡◌, ◌==◌, ◌<◌, ◌≤◌, ◌+◌, ◌*◌, true, false, List, [], ◌∷◌, length, get_or, Option, Some, None, refl, sym, ap, ◌∙◌, arith, if◌then◌else◌, IsSome}
 use Rattle.hush_syntax.specs.declared.nodes.NodeId.{NodeId}
 use Rattle.hush_syntax.specs.declared.nodes.Link as link
 use Rattle.hush_syntax.specs.declared.nodes.Branch as branch
 use Rattle.hush_run.specs.declared.frames.Frame.TheVariants as frame
-use Rattle.hush_syntax.specs.Nodes.{At, OfChains, OfChain, OfCommand, AreChains, IsChain, AreBranches}
-use Rattle.hush_syntax.specs.Grammar.{If, While, Until, Branches, Elif, Chain, First, Links, End, Link, Chains, Last, More}
+use Rattle.hush_syntax.specs.Nodes.{At, Subtree, chain_of, OfChains, OfChain, OfCommand, AreChains, IsChain, AreBranches}
+use Rattle.hush_syntax.specs.Grammar.{If, While, Until, Branches, Elif, Chain, First, Links, End, Link, Chains, Last, More, depth_in_chain}
+use Rattle.hush_syntax.specs.Reading.{bind}
 use Rattle.hush_run.specs.Meaning.{Rules, Begin, State, Out, Goes, Ends, ◌>>=◌, ◌then◌, joins, command, chain, linked, chains}
-use Rattle.hush_run.specs.Resume.{chain_list, link_list, run_chains, run_links, tagged, FirstPart}
+use Rattle.hush_run.specs.Resume.{chain_list, link_list, run_chains, run_links, tagged, subtree_does, room, FirstPart}
 use Rattle.hush_run.proofs.Counts.{turns-again, chains-count}
 
 pub bind_goes : (o : Out) → (o >>= Goes) ≡ o
@@ -35,14 +36,36 @@ pub run_links-all : (rules : Rules) (begin : Begin) (ls : Links) (s : State) →
 run_links-all rules begin End s = refl
 run_links-all rules begin (Link o c ls) s = bind_alike (if joins o (s.status == 0) then command rules begin c s else Goes s) _ _ (run_links-all rules begin ls)
 
+-- a member of a list does what its chain does, and needs no more frames
+pub member_does : (o : Option Subtree) (c : Chain) → bind o chain_of ≡ Some c → IsSome o × (room o ≤ 3 * depth_in_chain c + 2) × ((rules : Rules) (begin : Begin) (s : State) → subtree_does rules begin o s ≡ chain rules begin c s)
+member_does None c e = absurd (cc)
+member_does (Some (OfChains cs)) c e = absurd (cc)
+member_does (Some (OfChain d)) c e =
+    let same : d ≡ c = cc in
+    rw same (refl, omega arith, λ rules begin s. refl)
+member_does (Some (OfCommand x)) c e =
+    let same : c ≡ First x End = cc in
+    rw same (refl, omega arith, λ rules begin s. sym (bind_goes (command rules begin x s)))
+
 -- the first parts
 pub list_first : (at : At) (id child : NodeId) (ids : List NodeId) (cs : Chains) → at id ≡ Some (OfChains cs) → AreChains at ids cs → child ≡ get_or ids 0 child → FirstPart at id (Some (frame.List id 1, child))
 list_first at id child [] (Last c) e a is = absurd a
 list_first at id child [] (More c cs) e a is = absurd a
 list_first at id child (i ∷ ids) (Last c) e a is =
-    rw (is, e, a.0) (refl, λ scripts. refl, refl, omega arith, omega arith, λ rules begin counting s le. sym (bind_goes (chain rules begin c s)))
+    let m = member_does (at i) c a.0 in
+    rw (is, e) (m.0, λ scripts. refl, refl, omega (arith, m.1), omega arith, λ rules begin counting s le. sym (bind_goes (chain rules begin c s)) ∙ ap (λ (o : Out). o >>= Goes) (sym (m.2 rules begin s)))
 list_first at id child (i ∷ ids) (More c cs) e a is =
-    rw (is, e, a.0) (refl, λ scripts. refl, refl, omega arith, omega arith, λ rules begin counting s le. bind_alike (chain rules begin c s) _ _ (run_chains-all rules begin cs))
+    let m = member_does (at i) c a.0 in
+    rw (is, e) (
+      m.0,
+      λ scripts. refl,
+      refl,
+      omega (arith, m.1),
+      omega arith,
+      λ rules begin counting s le.
+          bind_alike (chain rules begin c s) _ _ (run_chains-all rules begin cs)
+          ∙ ap (λ (o : Out). o >>= run_chains rules begin (chain_list cs)) (sym (m.2 rules begin s)),
+    )
 
 pub chain_first : (at : At) (id : NodeId) (l : link.Link) (ls : List link.Link) (c : Chain) → at id ≡ Some (OfChain c) → IsChain at ls c → l ≡ get_or ls 0 l → FirstPart at id (Some (frame.Chain id 1, l.command))
 chain_first at id l [] (First c links) e a is = absurd a

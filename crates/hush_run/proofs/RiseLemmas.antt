@@ -7,16 +7,17 @@ use Rattle.hush_run.specs.declared.turns.Turn.{Turn}
 use Rattle.hush_run.specs.Meaning.{Rules, Out, ◌>>=◌, with_status}
 use Rattle.hush_run.specs.Resume.{begin_in, at_in, resume, levels, frame_does, frame_room, owners, behind, IsStack, IsFrame}
 use Rattle.hush_run.specs.declared.frames.Frame.TheVariants as frame
-use Rattle.hush_syntax.specs.Scripts.{Parsed, sub_at}
+use Rattle.hush_syntax.specs.Scripts.{Parsed, subtree_at}
 use Rattle.hush_syntax.specs.Nodes.{At}
 use Rattle.hush_run.specs.Turns.{Turns, Behind, due_does, behind_does, due_room, IsPart}
-use Rattle.hush_run.specs.Rises.{Leaves, IsEnd, with_behind}
+use Rattle.hush_run.specs.Rises.{IsLeft, IsEnd, with_behind}
+use Rattle.hush_run.specs.Stacks.{script_frames}
 use Rattle.hush_run.proofs.Counts.{start-counts}
 use Rattle.hush_run.proofs.Parts.{bind_goes, onto}
 use Rattle.hush_run.proofs.Descends.{resume-frame, stack-frame}
 
-pub leaves_here : (scripts : List Parsed) (frames : List Frame) (status : ℕ) → IsStack scripts frames → 1 ≤ length scripts → length frames ≤ 195 * length scripts → Leaves scripts frames status scripts frames status due.Over
-leaves_here scripts frames status stack some fits = (stack, tt, some, omega arith, omega (arith, fits), λ rules s le. refl)
+pub left_here : (scripts : List Parsed) (frames : List Frame) (status : ℕ) → IsStack scripts frames → 1 ≤ length scripts → length frames ≤ script_frames * length scripts → IsLeft scripts frames status scripts frames status due.Over
+left_here scripts frames status stack some fits = (stack, tt, some, omega arith, omega (arith, fits), λ rules s le. refl)
 
 -- behind what is due
 resume-behind : (rules : Rules) (scripts : List Parsed) (behind : Option Frame) (due : Due) (most : ℕ) (frames : List Frame) (o : Out) → Behind (at_in scripts) most due behind → ((o >>= behind_does rules (begin_in rules scripts) (at_in scripts) behind) >>= resume rules scripts frames) ≡ (o >>= resume rules scripts (with_behind behind frames))
@@ -24,13 +25,13 @@ resume-behind rules scripts None due most frames o b = ap (λ (x : Out). x >>= r
 resume-behind rules scripts (Some f) due most frames o b =
     onto (o >>= frame_does rules (begin_in rules scripts) (at_in scripts) f) o (frame_does rules (begin_in rules scripts) (at_in scripts) f) (resume rules scripts frames) (resume rules scripts (f ∷ frames)) refl (resume-frame rules scripts f frames (b.2 scripts))
 
-stack-behind : (scripts : List Parsed) (behind : Option Frame) (due : Due) (most : ℕ) (frames : List Frame) → Behind (at_in scripts) most due behind → 1 ≤ length scripts → length frames + most ≤ 195 * length scripts → IsStack scripts frames → IsStack scripts (with_behind behind frames) × (length (with_behind behind frames) + due_room (at_in scripts) due ≤ 195 * length scripts)
+stack-behind : (scripts : List Parsed) (behind : Option Frame) (due : Due) (most : ℕ) (frames : List Frame) → Behind (at_in scripts) most due behind → 1 ≤ length scripts → length frames + most ≤ script_frames * length scripts → IsStack scripts frames → IsStack scripts (with_behind behind frames) × (length (with_behind behind frames) + due_room (at_in scripts) due ≤ script_frames * length scripts)
 stack-behind scripts None due most frames b some fits stack = (stack, omega (arith, b, fits))
 stack-behind scripts (Some f) due most frames b some fits stack = (stack-frame scripts f frames (b.2 scripts) some b.1 (omega (arith, b.3, fits)) stack, omega (arith, b.4, fits))
 
-pub leaves_on : (scripts scripts1 scripts2 : List Parsed) (frames frames2 : List Frame) (status status1 : ℕ) (f : Frame) (turn : Turn) → Leaves scripts frames status scripts1 (f ∷ frames2) status1 due.Over → scripts2 ≡ owners f scripts1 → Turns (at_in scripts2) f status1 turn → length scripts2 ≤ length scripts1 → Leaves scripts frames status scripts2 (with_behind turn.behind frames2) turn.status turn.due
-leaves_on scripts scripts1 scripts2 frames frames2 status status1 f turn l own t fewer =
-    let stack = subst (λ (ps : List Parsed). (1 ≤ length ps) × IsFrame (at_in ps) f × (length frames2 + frame_room (at_in ps) f ≤ 195 * length ps) × IsStack ps frames2) (sym own) l.0 in
+pub left_on : (scripts scripts1 scripts2 : List Parsed) (frames frames2 : List Frame) (status status1 : ℕ) (f : Frame) (turn : Turn) → IsLeft scripts frames status scripts1 (f ∷ frames2) status1 due.Over → scripts2 ≡ owners f scripts1 → Turns (at_in scripts2) f status1 turn → length scripts2 ≤ length scripts1 → IsLeft scripts frames status scripts2 (with_behind turn.behind frames2) turn.status turn.due
+left_on scripts scripts1 scripts2 frames frames2 status status1 f turn l own t fewer =
+    let stack = subst (λ (ps : List Parsed). (1 ≤ length ps) × IsFrame (at_in ps) f × (length frames2 + frame_room (at_in ps) f ≤ script_frames * length ps) × IsStack ps frames2) (sym own) l.0 in
     let more = stack-behind scripts2 turn.behind turn.due (frame_room (at_in scripts2) f) frames2 t.1 stack.0 stack.2 stack.3 in (
       more.0,
       t.0,
@@ -54,11 +55,11 @@ owners-fewer (frame.Bindings node fields) scripts = omega arith
 owners-fewer (frame.Started names) [] = omega arith
 owners-fewer (frame.Started names) (p ∷ ps) = omega arith
 
-pub step_up : (scripts scripts1 scripts2 : List Parsed) (frames frames1 frames2 frames3 : List Frame) (status status1 : ℕ) (f : Frame) (turn : Turn) (top : Parsed) → Leaves scripts frames status scripts1 frames1 status1 due.Over → frames1 ≡ f ∷ frames2 → scripts2 ≡ owners f scripts1 → scripts2 ≡ top ∷ behind scripts2 → Turns (sub_at top) f status1 turn → frames3 ≡ with_behind turn.behind frames2 → Leaves scripts frames status scripts2 frames3 turn.status turn.due
+pub step_up : (scripts scripts1 scripts2 : List Parsed) (frames frames1 frames2 frames3 : List Frame) (status status1 : ℕ) (f : Frame) (turn : Turn) (top : Parsed) → IsLeft scripts frames status scripts1 frames1 status1 due.Over → frames1 ≡ f ∷ frames2 → scripts2 ≡ owners f scripts1 → scripts2 ≡ top ∷ behind scripts2 → Turns (subtree_at top) f status1 turn → frames3 ≡ with_behind turn.behind frames2 → IsLeft scripts frames status scripts2 frames3 turn.status turn.due
 step_up scripts scripts1 scripts2 frames frames1 frames2 frames3 status status1 f turn top l popped own is t kept =
-    subst (λ (fs : List Frame). Leaves scripts frames status scripts2 fs turn.status turn.due) (sym kept)
-    (leaves_on scripts scripts1 scripts2 frames frames2 status status1 f turn
-    (subst (λ (fs : List Frame). Leaves scripts frames status scripts1 fs status1 due.Over) popped l)
+    subst (λ (fs : List Frame). IsLeft scripts frames status scripts2 fs turn.status turn.due) (sym kept)
+    (left_on scripts scripts1 scripts2 frames frames2 status status1 f turn
+    (subst (λ (fs : List Frame). IsLeft scripts frames status scripts1 fs status1 due.Over) popped l)
     own
     (subst (λ (ps : List Parsed). Turns (at_in ps) f status1 turn) (sym is) t)
     (subst (λ (ps : List Parsed). length ps ≤ length scripts1) (sym own) (owners-fewer f scripts1)))

@@ -25,7 +25,7 @@ use Rattle.hush_run.specs.declared.ending.Reason.TheVariants.{Finished, Exited, 
 use Rattle.hush_run.specs.declared.ending.Stop.{Stop}
 use Rattle.hush_run.specs.declared.ending.Stop.TheVariants.{Ended, Memory}
 use Rattle.hush_run.specs.Stops.{print_stop}
-use Rattle.hush_run.specs.Meaning.{Rules, Begin, State, Out, Goes, Ends, ◌>>=◌, ◌then◌, Effect, Does, Leaves, Stops, done, step, with_status, carries, fails, leaving, effect, simple, follows, fields_of, for, bindings, assigned, assigned_to, has_variable, known_in, deletions, start, script, entered, within}
+use Rattle.hush_run.specs.Meaning.{Rules, Begin, State, Out, Goes, Ends, ◌>>=◌, ◌then◌, Effect, Does, Exits, Stops, done, step, with_status, carries, fails, exiting, effect, simple, follows, fields_of, for, bindings, assigned, assigned_to, has_variable, known_in, deletions, start, script, entered, within}
 use Rattle.hush_run.specs.Steps.{Meant, Did, Counted, MayStep, FieldsAre, Started, value_of}
 
 -- a state with another count
@@ -51,7 +51,7 @@ unfolding step
 step_stopped rules effect s e lt stops =
     ap (λ (b : Bool). if b then done s (effect s) else Ends Steps s) (lt-ltb s.steps rules.limits.steps lt) ∙ ap (done s) stops
 
-pub step_left : (rules : Rules) (effect : State → Effect) (s u : State) (k : ℕ) → s.steps < rules.limits.steps → effect s ≡ Leaves u → k ≡ suc s.steps → step rules effect s ≡ Ends Exited (record u { steps = k })
+pub step_left : (rules : Rules) (effect : State → Effect) (s u : State) (k : ℕ) → s.steps < rules.limits.steps → effect s ≡ Exits u → k ≡ suc s.steps → step rules effect s ≡ Ends Exited (record u { steps = k })
 unfolding step counting
 step_left rules effect s u k lt leaves is =
     ap (λ (b : Bool). if b then done s (effect s) else Ends Steps s) (lt-ltb s.steps rules.limits.steps lt)
@@ -95,34 +95,34 @@ no_fields rules meant left wanted s made Memory are halts large = refl
 -- simple commands
 pub simple_halts : (rules : Rules) (begin : Begin) (fields : Option (List (List ℕ))) (s : State) → rules.limits.steps ≤ s.steps → simple rules begin fields s ≡ Ends Steps s
 simple_halts rules begin None s le = step_halts rules _ s le
-simple_halts rules begin (Some fields) s le = ap (λ (o : Out). o >>= follows rules begin (follow_of fields s.status)) (step_halts rules (effect rules.stubs fields) s le)
+simple_halts rules begin (Some fields) s le = ap (λ (o : Out). o >>= follows rules begin (follow_of fields s.status)) (step_halts rules (effect rules.stand_ins fields) s le)
 
 pub simple_large : (rules : Rules) (begin : Begin) (fields : Option (List (List ℕ))) (s : State) → s.steps < rules.limits.steps → fields ≡ None → simple rules begin fields s ≡ Ends Word s
 simple_large rules begin None s lt e = step_stopped rules _ s Word lt refl
 simple_large rules begin (Some fields) s lt e = absurd (let f : true ≡ false = ap (λ (o : Option (List (List ℕ))). is_some o) e in cc)
 
-leaving-stops : (f : Follow) (e : Reason) → leaving f (Stops e) ≡ Stops e
-leaving-stops follow.Next e = refl
-leaving-stops follow.End e = refl
-leaving-stops (follow.Starts names) e = refl
-leaving-stops (follow.Deletes force names) e = refl
+exiting-stops : (f : Follow) (e : Reason) → exiting f (Stops e) ≡ Stops e
+exiting-stops follow.Next e = refl
+exiting-stops follow.End e = refl
+exiting-stops (follow.Starts names) e = refl
+exiting-stops (follow.Deletes force names) e = refl
 
-leaving-does : (f : Follow) (t : State) → (f ≡ follow.End → ⊥) → leaving f (Does t) ≡ Does t
-leaving-does follow.Next t h = refl
-leaving-does follow.End t h = absurd (h refl)
-leaving-does (follow.Starts names) t h = refl
-leaving-does (follow.Deletes force names) t h = refl
+exiting-does : (f : Follow) (t : State) → (f ≡ follow.End → ⊥) → exiting f (Does t) ≡ Does t
+exiting-does follow.Next t h = refl
+exiting-does follow.End t h = absurd (h refl)
+exiting-does (follow.Starts names) t h = refl
+exiting-does (follow.Deletes force names) t h = refl
 
 module _ (rules : Rules) (words : List (List Atom)) (s : State) (fields : List (List ℕ)) (lt : s.steps < rules.limits.steps) (are : fields_of rules words s ≡ Some fields) (after : Held) (new : Printed) where
   abbrev pub d : Done
-  d = done_of rules.stubs fields s.status s.held
+  d = done_of rules.stand_ins fields s.status s.held
 
   pub simple_done : (status k : ℕ) (f : Follow) → Carries d s.held after s.printed new (Ok status) → k ≡ suc s.steps → f ≡ follow_of fields s.status → (f ≡ follow.End → ⊥) → Did rules (λ r begin t. simple r begin (fields_of r words t) t) (λ g r begin. follows r begin g) s (record { held = after; locals = s.locals; status = status; printed = new; steps = k }) (Ok f)
   unfolding effect
   simple_done status k f c is isf other =
       rw (c.1, c.2, c.3) (
-      let does : effect rules.stubs fields s ≡ Does (carried d s) = ap (leaving (follow_of fields s.status)) (fits d s c.0) ∙ leaving-does (follow_of fields s.status) (carried d s) (λ e. other (isf ∙ e)) in
-      let did = step_done rules (effect rules.stubs fields) s (carried d s) k lt does is in (
+      let does : effect rules.stand_ins fields s ≡ Does (carried d s) = ap (exiting (follow_of fields s.status)) (fits d s c.0) ∙ exiting-does (follow_of fields s.status) (carried d s) (λ e. other (isf ∙ e)) in
+      let did = step_done rules (effect rules.stand_ins fields) s (carried d s) k lt does is in (
         did.0,
         λ n begin le.
             ap (λ (o : Option (List (List ℕ))). simple (within n rules) begin o s) are
@@ -135,18 +135,18 @@ module _ (rules : Rules) (words : List (List Atom)) (s : State) (fields : List (
   unfolding effect
   simple_left status k c is end begin =
       rw (c.1, c.2, c.3) (
-      let leaves : effect rules.stubs fields s ≡ Leaves (carried d s) = ap (leaving (follow_of fields s.status)) (fits d s c.0) ∙ ap (λ (g : Follow). leaving g (Does (carried d s))) end in
+      let leaves : effect rules.stand_ins fields s ≡ Exits (carried d s) = ap (exiting (follow_of fields s.status)) (fits d s c.0) ∙ ap (λ (g : Follow). exiting g (Does (carried d s))) end in
       ap (λ (o : Option (List (List ℕ))). simple rules begin o s) are
-      ∙ ap (λ (o : Out). o >>= follows rules begin (follow_of fields s.status)) (step_left rules (effect rules.stubs fields) s (carried d s) k lt leaves is)
+      ∙ ap (λ (o : Out). o >>= follows rules begin (follow_of fields s.status)) (step_left rules (effect rules.stand_ins fields) s (carried d s) k lt leaves is)
       )
 
   pub simple_unprinted : (fault : PrintFault) → Carries d s.held after s.printed new (Err fault) → Did rules (λ r begin t. simple r begin (fields_of r words t) t) (λ g r begin. follows r begin g) s (record { held = after; locals = s.locals; status = s.status; printed = new; steps = s.steps }) (Err (print_stop fault))
   unfolding effect
   simple_unprinted print.Output c =
       rw (c.1, c.2) (
-      let stops : effect rules.stubs fields s ≡ Stops Output = ap (leaving (follow_of fields s.status)) (too_long d s c.0) ∙ leaving-stops (follow_of fields s.status) Output in λ begin.
+      let stops : effect rules.stand_ins fields s ≡ Stops Output = ap (exiting (follow_of fields s.status)) (too_long d s c.0) ∙ exiting-stops (follow_of fields s.status) Output in λ begin.
       ap (λ (o : Option (List (List ℕ))). simple rules begin o s) are
-      ∙ ap (λ (o : Out). o >>= follows rules begin (follow_of fields s.status)) (step_stopped rules (effect rules.stubs fields) s Output lt stops)
+      ∙ ap (λ (o : Out). o >>= follows rules begin (follow_of fields s.status)) (step_stopped rules (effect rules.stand_ins fields) s Output lt stops)
       )
   simple_unprinted print.Memory c = rw (c.0, c.1) refl
 

@@ -8,21 +8,22 @@ use Rattle.hush_syntax.specs.declared.nodes.Link as link
 use Rattle.hush_syntax.specs.declared.nodes.Branch as branch
 use Rattle.hush_run.specs.declared.frames.Frame.TheVariants as frame
 use Rattle.hush_run.specs.declared.turns.Due.TheVariants as due
-use Rattle.hush_syntax.specs.Nodes.{At, Sub, OfChains, OfChain, OfCommand, AreChains, AreLinks, IsChain, AreBranches, IsOtherwise}
+use Rattle.hush_syntax.specs.Nodes.{At, Subtree, OfChains, OfChain, OfCommand, chain_of, ChainAt, AreChains, AreLinks, IsChain, AreBranches, IsOtherwise}
 use Rattle.hush_syntax.specs.Grammar.{Command, If, While, Until, Branches, Elif, Else, Fi, Chain, First, Links, End, Link, Chains, Last, More, depth, depth_in_chain, depth_inside, depth_in_links, depth_in_branches}
+use Rattle.hush_syntax.specs.Reading.{bind}
 use Rattle.hush_run.specs.Meaning.{Rules, Begin, State, Out, Goes, ◌>>=◌, ◌then◌, with_status, if_ok, command, otherwise, chains}
-use Rattle.hush_run.specs.Resume.{chain_list, link_list, sub_does, run_chains, run_links, chain_links, tagged, joined, links_in, room, branch_does}
+use Rattle.hush_run.specs.Resume.{chain_list, link_list, subtree_does, run_chains, run_links, chain_links, tagged, joined, links_in, room, branch_does}
 use Rattle.hush_run.specs.Turns.{Turns}
 use Rattle.hush_run.proofs.Counts.{turns-again, chains-count}
-use Rattle.hush_run.proofs.Parts.{bind_goes}
+use Rattle.hush_run.proofs.Parts.{bind_goes, member_does}
 
 -- lists
-at_chain : (at : At) (ids : List NodeId) (cs : Chains) (k : ℕ) (i : NodeId) → AreChains at ids cs → k < length ids → i ≡ get_or ids k i → (c : Chain) × (at i ≡ Some (OfChain c)) × (drop k (chain_list cs) ≡ c ∷ drop (suc k) (chain_list cs)) × (depth_in_chain c ≤ depth_inside cs)
+at_chain : (at : At) (ids : List NodeId) (cs : Chains) (k : ℕ) (i : NodeId) → AreChains at ids cs → k < length ids → i ≡ get_or ids k i → (c : Chain) × ChainAt at c i × (drop k (chain_list cs) ≡ c ∷ drop (suc k) (chain_list cs)) × (depth_in_chain c ≤ depth_inside cs)
 at_chain at [] (Last c) k i a lt is = absurd a
 at_chain at [] (More c cs) k i a lt is = absurd a
-at_chain at (j ∷ js) (Last c) zero i a lt is = (c, ap at is ∙ a.0, refl, omega arith)
+at_chain at (j ∷ js) (Last c) zero i a lt is = (c, ap (λ (n : NodeId). bind (at n) chain_of) is ∙ a.0, refl, omega arith)
 at_chain at (j ∷ js) (Last c) (suc k) i a lt is = absurd (omega (arith, rw a.1 at lt))
-at_chain at (j ∷ js) (More c cs) zero i a lt is = (c, ap at is ∙ a.0, refl, omega arith)
+at_chain at (j ∷ js) (More c cs) zero i a lt is = (c, ap (λ (n : NodeId). bind (at n) chain_of) is ∙ a.0, refl, omega arith)
 at_chain at (j ∷ js) (More c cs) (suc k) i a lt is = let r = at_chain at js cs k i a.1 (omega (arith, lt)) is in (r.0, r.1, r.2, omega (arith, r.3))
 
 chains_end : (at : At) (ids : List NodeId) (cs : Chains) (k : ℕ) → AreChains at ids cs → length ids ≤ k → drop k (chain_list cs) ≡ []
@@ -40,7 +41,14 @@ chains_end at (j ∷ js) (More c cs) (suc k) a le = chains_end at js cs k a.1 (o
 pub list_goes : (at : At) (node i : NodeId) (ids : List NodeId) (cs : Chains) (k status : ℕ) → at node ≡ Some (OfChains cs) → AreChains at ids cs → k < length ids → i ≡ get_or ids k i → Turns at (frame.List node k) status (record { due = due.Node i; behind = Some (frame.List node (k + 1)); status = status })
 list_goes at node i ids cs k status e a lt is =
     let r = at_chain at ids cs k i a lt is in
-    rw (e, r.1, add-one) (refl, (tt, refl, λ scripts. refl, omega arith, omega (arith, r.3)), λ rules begin counting s le. ap (λ (xs : List Chain). run_chains rules begin xs (with_status status s)) r.2)
+    let m = member_does (at i) r.0 r.1 in
+    rw (e, add-one) (
+      m.0,
+      (tt, refl, λ scripts. refl, omega arith, omega (arith, r.3, m.1)),
+      λ rules begin counting s le.
+          ap (λ (xs : List Chain). run_chains rules begin xs (with_status status s)) r.2
+          ∙ ap (λ (o : Out). o >>= run_chains rules begin (drop (suc k) (chain_list cs))) (sym (m.2 rules begin (with_status status s))),
+    )
 
 pub list_ends : (at : At) (node : NodeId) (ids : List NodeId) (cs : Chains) (k status : ℕ) → at node ≡ Some (OfChains cs) → AreChains at ids cs → length ids ≤ k → Turns at (frame.List node k) status (record { due = due.Over; behind = None; status = status })
 list_ends at node ids cs k status e a le =
@@ -251,18 +259,18 @@ pub chain_goes : (at : At) (node : NodeId) (ls : List link.Link) (ch : Chain) (n
 chain_goes at node ls ch next k status l e a lt is does skipped =
     let r = at_chain_link at ls ch k l a lt is in
     let same : (rules : Rules) (begin : Begin) (s : State) → run_links rules begin (drop next (links_in (at node))) (with_status status s) ≡ (command rules begin r.0 (with_status status s) >>= run_links rules begin (drop (suc k) (chain_links ch))) =
-    λ rules begin s. skipped rules begin s ∙ ap (λ (x : List (Option Operator × Command)). run_links rules begin x (with_status status s)) (ap (λ (o : Option Sub). drop k (links_in o)) e ∙ r.2) ∙ ap (λ (t : Bool). (if t then command rules begin r.0 (with_status status s) else Goes (with_status status s)) >>= run_links rules begin (drop (suc k) (chain_links ch))) does in (
-      ap (λ (o : Option Sub). is_some o) r.1,
-      (tt, ap (λ (o : Option Sub). is_some o) e, (λ scripts. refl), omega arith, omega (arith, ap room e, ap room r.1, r.3)),
+    λ rules begin s. skipped rules begin s ∙ ap (λ (x : List (Option Operator × Command)). run_links rules begin x (with_status status s)) (ap (λ (o : Option Subtree). drop k (links_in o)) e ∙ r.2) ∙ ap (λ (t : Bool). (if t then command rules begin r.0 (with_status status s) else Goes (with_status status s)) >>= run_links rules begin (drop (suc k) (chain_links ch))) does in (
+      ap (λ (o : Option Subtree). is_some o) r.1,
+      (tt, ap (λ (o : Option Subtree). is_some o) e, (λ scripts. refl), omega arith, omega (arith, ap room e, ap room r.1, r.3)),
       λ rules begin counting s le.
           same rules begin s
-          ∙ ap (λ (o : Option Sub). sub_does rules begin o (with_status status s) >>= run_links rules begin (drop (suc k) (chain_links ch))) (sym r.1)
-          ∙ ap (λ (x : List (Option Operator × Command)). sub_does rules begin (at l.command) (with_status status s) >>= run_links rules begin x) (sym (ap (λ (o : Option Sub). drop (suc k) (links_in o)) e) ∙ ap (λ (j : ℕ). drop j (links_in (at node))) (sym (add-one k))),
+          ∙ ap (λ (o : Option Subtree). subtree_does rules begin o (with_status status s) >>= run_links rules begin (drop (suc k) (chain_links ch))) (sym r.1)
+          ∙ ap (λ (x : List (Option Operator × Command)). subtree_does rules begin (at l.command) (with_status status s) >>= run_links rules begin x) (sym (ap (λ (o : Option Subtree). drop (suc k) (links_in o)) e) ∙ ap (λ (j : ℕ). drop j (links_in (at node))) (sym (add-one k))),
     )
 
 pub chain_ends : (at : At) (node : NodeId) (ls : List link.Link) (ch : Chain) (next k status : ℕ) → at node ≡ Some (OfChain ch) → IsChain at ls ch → length ls ≤ k → ((rules : Rules) (begin : Begin) (s : State) → run_links rules begin (drop next (links_in (at node))) (with_status status s) ≡ run_links rules begin (drop k (links_in (at node))) (with_status status s)) → Turns at (frame.Chain node next) status (record { due = due.Over; behind = None; status = status })
 chain_ends at node ls ch next k status e a le skipped =
-    (tt, omega arith, λ rules begin counting s le'. skipped rules begin s ∙ ap (λ (x : List (Option Operator × Command)). run_links rules begin x (with_status status s)) (ap (λ (o : Option Sub). drop k (links_in o)) e ∙ chain_links_end ls ch k a le))
+    (tt, omega arith, λ rules begin counting s le'. skipped rules begin s ∙ ap (λ (x : List (Option Operator × Command)). run_links rules begin x (with_status status s)) (ap (λ (o : Option Subtree). drop k (links_in o)) e ∙ chain_links_end ls ch k a le))
   where
     chain_links_end : (ls : List link.Link) (ch : Chain) (k : ℕ) → IsChain at ls ch → length ls ≤ k → drop k (chain_links ch) ≡ []
     chain_links_end [] (First c links) k a le = absurd a

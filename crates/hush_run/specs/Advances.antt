@@ -10,6 +10,7 @@ use Rattle.hush_run.specs.Meaning.{Rules, State, Out, ◌>>=◌, ended, run_from
 use Rattle.hush_run.specs.Resume.{begin_in, at_in, resume, IsStack}
 use Rattle.hush_run.specs.Turns.{due_does, due_room, IsDue}
 use Rattle.hush_run.specs.Steps.{Counted}
+use Rattle.hush_run.specs.Stacks.{script_frames}
 
 -- what is due, and behind it the frames
 abbrev pub due_left : Rules → List Parsed → List Frame → Due → State → Out
@@ -20,14 +21,15 @@ pub record IsReady (rules : Rules) (calls : List Parsed) (frames : List Frame) (
   pub is_due : IsDue (at_in calls) due
   pub some : 1 ≤ length calls
   pub calls_fit : length calls ≤ rules.limits.depth + 1
-  pub frames_fit : length frames + due_room (at_in calls) due ≤ 195 * length calls
+  pub frames_fit : length frames + due_room (at_in calls) due ≤ script_frames * length calls
   pub same_depth : depth ≡ rules.limits.depth
 
 -- a step was done and the rest is the same under each limit on the steps that lets it count; or the run has ended so; or
 -- memory was refused, and the state is that of the run that may count no more steps
 abbrev pub Advances : Rules → List Parsed → List Frame → Due → State → List Parsed → List Frame → ℕ → State → Result Due Stop → Type 0
 Advances rules calls old due s after new depth t (Ok next) =
-    Counted rules s t × IsReady rules after new depth next × ((n : ℕ) → suc s.steps ≤ n → due_left (within n rules) calls old due s ≡ due_left (within n rules) after new next t)
+    Counted rules s t × IsReady rules after new depth next
+    × ((n : ℕ) → suc s.steps ≤ n → due_left (within n rules) calls old due s ≡ due_left (within n rules) after new next t)
 Advances rules calls old due s after new depth t (Err (stop.Ended e)) = ended (due_left rules calls old due s) ≡ (e, t)
 Advances rules calls old due s after new depth t (Err stop.Memory) = (t.steps ≡ s.steps) × ((ended (due_left (within s.steps rules) calls old due s)).1 ≡ t)
 

@@ -1,7 +1,10 @@
-pub mod Stops
+-- What the public calls promise.
 pub mod Meaning
-pub mod Counting
 pub mod Stacks
+pub mod Runs
+-- What the steps of the code do: no promise speaks of these.
+pub mod Stops
+pub mod Counting
 pub mod Calls
 pub mod Resume
 pub mod Turns
@@ -9,4 +12,3 @@ pub mod Rises
 pub mod Steps
 pub mod Names
 pub mod Advances
-pub mod Runs

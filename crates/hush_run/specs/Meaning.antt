@@ -13,7 +13,7 @@ use Rattle.hush_commands.specs.declared.messages.Message.TheVariants.{NotDefined
 use Rattle.hush_commands.specs.declared.follow.Follow.{Follow}
 use Rattle.hush_commands.specs.declared.follow.Follow.TheVariants as follow
 use Rattle.hush_commands.specs.Limits.{Bounds}
-use Rattle.hush_commands.specs.Stubs.{Statuses}
+use Rattle.hush_commands.specs.StandIns.{Statuses}
 use Rattle.hush_commands.specs.Messages.{text_of}
 use Rattle.hush_commands.specs.Output.{Printed, printed, answer}
 use Rattle.hush_commands.specs.Expansion.{Known, expanded, expanded_value}
@@ -25,7 +25,7 @@ use Rattle.hush_run.specs.declared.ending.Reason.TheVariants.{Finished, Exited, 
 
 -- what a run is given: what stands in for hardware, and its limits
 pub record Rules : Type 0 where
-  pub stubs : Statuses
+  pub stand_ins : Statuses
   pub limits : Bounds
 
 -- what a run changes: the session, the local variables, the status, the text, and the steps that are counted
@@ -54,7 +54,7 @@ p then q = λ s. p s >>= q
 -- what a step comes to: it is done, or it is done and ends the run, or the run stops and it isn't done
 pub data Effect : Type 0 where
   Does : State → Effect
-  Leaves : State → Effect
+  Exits : State → Effect
   Stops : Reason → Effect
 
 abbrev pub with_status : ℕ → State → State
@@ -63,7 +63,7 @@ with_status n s = record s { status = n }
 -- a step that is done counts one
 abbrev pub done : State → Effect → Out
 done s (Does t) = Goes (record t { steps = suc s.steps })
-done s (Leaves t) = Ends Exited (record t { steps = suc s.steps })
+done s (Exits t) = Ends Exited (record t { steps = suc s.steps })
 done s (Stops reason) = Ends reason s
 
 -- the limit on steps comes before all else in a step
@@ -94,22 +94,23 @@ abbrev pub has_variable : State → List ℕ → Bool
 has_variable s name = is_some (map.get s.held.now.env name)
 
 -- an `exit` with its words ends the run
-abbrev pub leaving : Follow → Effect → Effect
-leaving follow.Next e = e
-leaving follow.End (Does t) = Leaves t
-leaving follow.End (Leaves t) = Leaves t
-leaving follow.End (Stops reason) = Stops reason
-leaving (follow.Starts names) e = e
-leaving (follow.Deletes force names) e = e
+abbrev pub exiting : Follow → Effect → Effect
+exiting follow.Next e = e
+exiting follow.End (Does t) = Exits t
+exiting follow.End (Exits t) = Exits t
+exiting follow.End (Stops reason) = Stops reason
+exiting (follow.Starts names) e = e
+exiting (follow.Deletes force names) e = e
 
 -- the step of a simple command with these fields
 unfoldable pub effect : Statuses → List (List ℕ) → State → Effect
-effect stubs fields s = leaving (follow_of fields s.status) (carries (done_of stubs fields s.status s.held) s)
+effect stand_ins fields s = exiting (follow_of fields s.status) (carries (done_of stand_ins fields s.status s.held) s)
 
 -- the step of an assignment
 abbrev pub assigned_to : List ℕ → Option (List ℕ) → State → Effect
 assigned_to name None s = Stops Word
-assigned_to name (Some value) s = if has_variable s name then fails IsVariable name s else Does (record s { locals = map.insert s.locals name value; status = 0 })
+assigned_to name (Some value) s =
+    if has_variable s name then fails IsVariable name s else Does (record s { locals = map.insert s.locals name value; status = 0 })
 
 abbrev pub assigned : Rules → List ℕ → List Atom → State → Effect
 assigned rules name value s = assigned_to name (expanded_value (known_in s) rules.limits.word value) s
@@ -146,7 +147,9 @@ in_turn start (name ∷ names) = start name then if_ok (in_turn start names) Goe
 -- the names of `env delete`, a step each; whether an earlier one failed
 abbrev pub deletions : Rules → (force failed : Bool) → List (List ℕ) → State → Out
 deletions rules force failed [] = Goes
-deletions rules force failed (name ∷ names) = λ s. step rules (λ t. carries (deletion_of t.held name force failed) t) s >>= λ t. deletions rules force (not (t.status == 0)) names t
+deletions rules force failed (name ∷ names) =
+    λ s. step rules (λ t. carries (deletion_of t.held name force failed) t) s
+    >>= λ t. deletions rules force (not (t.status == 0)) names t
 
 -- what comes behind a simple command
 abbrev pub follows : Rules → Begin → Follow → State → Out
@@ -158,7 +161,7 @@ follows rules start (follow.Deletes force names) = deletions rules force false n
 -- a simple command with these fields, and what comes behind it
 abbrev pub simple : Rules → Begin → Option (List (List ℕ)) → State → Out
 simple rules start None s = step rules (λ t. Stops Word) s
-simple rules start (Some fields) s = step rules (effect rules.stubs fields) s >>= follows rules start (follow_of fields s.status)
+simple rules start (Some fields) s = step rules (effect rules.stand_ins fields) s >>= follows rules start (follow_of fields s.status)
 
 -- each field is bound to the name, and the body run
 abbrev pub bindings : Rules → List ℕ → (State → Out) → List (List ℕ) → State → Out

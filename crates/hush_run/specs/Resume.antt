@@ -4,17 +4,18 @@ use Rattle.hush_syntax.specs.declared.nodes.NodeId.{NodeId}
 use Rattle.hush_syntax.specs.declared.nodes.Operator.{Operator}
 use Rattle.hush_run.specs.declared.frames.Frame.{Frame}
 use Rattle.hush_run.specs.declared.frames.Frame.TheVariants as frame
-use Rattle.hush_syntax.specs.Scripts.{Parsed, sub_at}
-use Rattle.hush_syntax.specs.Nodes.{At, Sub, OfChains, OfChain, OfCommand}
+use Rattle.hush_syntax.specs.Scripts.{Parsed, subtree_at}
+use Rattle.hush_syntax.specs.Nodes.{At, Subtree, OfChains, OfChain, OfCommand}
 use Rattle.hush_syntax.specs.Grammar.{Command, Simple, Assign, If, For, While, Until, Branches, Elif, Else, Fi, Chain, First, Links, End, Link, Chains, Last, More, depth, depth_in_chain, depth_inside}
 use Rattle.hush_run.specs.Counting.{Counting}
 use Rattle.hush_run.specs.Meaning.{Rules, Begin, State, Out, Goes, ◌>>=◌, ◌then◌, with_status, goes_on, turns, if_ok, in_turn, bindings, joins, command, otherwise, chain, chains, start}
+use Rattle.hush_run.specs.Stacks.{script_frames}
 
-abbrev pub sub_does : Rules → Begin → Option Sub → State → Out
-sub_does rules begin None = Goes
-sub_does rules begin (Some (OfChains cs)) = chains rules begin cs
-sub_does rules begin (Some (OfChain c)) = chain rules begin c
-sub_does rules begin (Some (OfCommand c)) = command rules begin c
+abbrev pub subtree_does : Rules → Begin → Option Subtree → State → Out
+subtree_does rules begin None = Goes
+subtree_does rules begin (Some (OfChains cs)) = chains rules begin cs
+subtree_does rules begin (Some (OfChain c)) = chain rules begin c
+subtree_does rules begin (Some (OfCommand c)) = command rules begin c
 
 -- the members of a list and of a chain
 abbrev pub chain_list : Chains → List Chain
@@ -62,20 +63,20 @@ branch_does rules begin (suc k) (Else d) = Goes
 branch_does rules begin (suc k) Fi = Goes
 
 -- the parts of what a node stands for
-abbrev pub list_in : Option Sub → List Chain
+abbrev pub list_in : Option Subtree → List Chain
 list_in None = []
 list_in (Some (OfChains cs)) = chain_list cs
 list_in (Some (OfChain c)) = []
 list_in (Some (OfCommand c)) = []
 
-abbrev pub links_in : Option Sub → List (Option Operator × Command)
+abbrev pub links_in : Option Subtree → List (Option Operator × Command)
 links_in None = []
 links_in (Some (OfChains cs)) = []
 links_in (Some (OfChain c)) = chain_links c
 links_in (Some (OfCommand c)) = []
 
 -- something of a command
-abbrev pub at_command : {X : Type 0} → X → (Command → X) → Option Sub → X
+abbrev pub at_command : {X : Type 0} → X → (Command → X) → Option Subtree → X
 at_command x f None = x
 at_command x f (Some (OfChains cs)) = x
 at_command x f (Some (OfChain c)) = x
@@ -126,7 +127,7 @@ begin_in rules scripts = start rules (levels rules scripts)
 
 abbrev pub at_in : List Parsed → At
 at_in [] id = None
-at_in (p ∷ ps) id = sub_at p id
+at_in (p ∷ ps) id = subtree_at p id
 
 abbrev pub behind : List Parsed → List Parsed
 behind [] = []
@@ -149,7 +150,7 @@ resume rules scripts (f ∷ fs) =
     frame_does rules (begin_in rules (owners f scripts)) (at_in (owners f scripts)) f then resume rules (owners f scripts) fs
 
 -- how many frames a part may need: three for each level, and for a list three, for a chain two, for a command one
-abbrev pub room : Option Sub → ℕ
+abbrev pub room : Option Subtree → ℕ
 room None = 0
 room (Some (OfChains cs)) = 3 * depth_inside cs + 3
 room (Some (OfChain c)) = 3 * depth_in_chain c + 2
@@ -179,10 +180,12 @@ IsFrame at (frame.Started names) = Unit {0}
 abbrev pub IsStack : List Parsed → List Frame → Type 0
 IsStack scripts [] = Unit {0}
 IsStack scripts (f ∷ fs) =
-    (1 ≤ length (owners f scripts)) × IsFrame (at_in (owners f scripts)) f × (length fs + frame_room (at_in (owners f scripts)) f ≤ 195 * length (owners f scripts)) × IsStack (owners f scripts) fs
+    (1 ≤ length (owners f scripts)) × IsFrame (at_in (owners f scripts)) f
+    × (length fs + frame_room (at_in (owners f scripts)) f ≤ script_frames * length (owners f scripts))
+    × IsStack (owners f scripts) fs
 
 -- a node that is a step: a simple command, an assignment, a `for`
-abbrev pub IsStep : Option Sub → Type 0
+abbrev pub IsStep : Option Subtree → Type 0
 IsStep None = ⊥
 IsStep (Some (OfChains cs)) = ⊥
 IsStep (Some (OfChain c)) = ⊥
@@ -197,19 +200,20 @@ IsStep (Some (OfCommand (Until c d))) = ⊥
 abbrev pub FirstPart : At → NodeId → Option (Frame × NodeId) → Type 0
 FirstPart at id None = IsStep (at id)
 FirstPart at id (Some part) =
-    IsSome (at part.1) × ((scripts : List Parsed) → owners part.0 scripts ≡ scripts) × IsFrame at part.0 × (room (at part.1) < room (at id)) × (frame_room at part.0 ≤ room (at id)) ×
+    IsSome (at part.1) × ((scripts : List Parsed) → owners part.0 scripts ≡ scripts) × IsFrame at part.0
+    × (room (at part.1) < room (at id)) × (frame_room at part.0 ≤ room (at id)) ×
     ((rules : Rules) (begin : Begin) → Counting rules begin → (s : State) → s.steps ≤ rules.limits.steps →
-    sub_does rules begin (at id) s ≡ sub_does rules begin (at part.1) s >>= frame_does rules begin at part.0)
+    subtree_does rules begin (at id) s ≡ subtree_does rules begin (at part.1) s >>= frame_does rules begin at part.0)
 
 -- going down from a node to a step in it leaves all as it is
 abbrev pub Leads : Parsed → List Frame → List Frame → NodeId → NodeId → Type 0
 Leads script old new id step =
-    IsSome (sub_at script step) ×
-    ((scripts : List Parsed) → IsStack (script ∷ scripts) old → length old + room (sub_at script id) ≤ 195 * suc (length scripts) →
-    IsStack (script ∷ scripts) new × (length new + room (sub_at script step) ≤ 195 * suc (length scripts))) ×
+    IsSome (subtree_at script step) ×
+    ((scripts : List Parsed) → IsStack (script ∷ scripts) old → length old + room (subtree_at script id) ≤ script_frames * suc (length scripts) →
+    IsStack (script ∷ scripts) new × (length new + room (subtree_at script step) ≤ script_frames * suc (length scripts))) ×
     ((rules : Rules) (scripts : List Parsed) (s : State) → s.steps ≤ rules.limits.steps →
-    sub_does rules (begin_in rules (script ∷ scripts)) (sub_at script id) s >>= resume rules (script ∷ scripts) old ≡
-    sub_does rules (begin_in rules (script ∷ scripts)) (sub_at script step) s >>= resume rules (script ∷ scripts) new)
+    subtree_does rules (begin_in rules (script ∷ scripts)) (subtree_at script id) s >>= resume rules (script ∷ scripts) old ≡
+    subtree_does rules (begin_in rules (script ∷ scripts)) (subtree_at script step) s >>= resume rules (script ∷ scripts) new)
 
 abbrev pub Descends : Parsed → List Frame → List Frame → NodeId → NodeId → Type 0
-Descends script old new id step = IsStep (sub_at script step) × Leads script old new id step
+Descends script old new id step = IsStep (subtree_at script step) × Leads script old new id step

@@ -7,6 +7,7 @@ use Rattle.hush_syntax.specs.Scripts.{Parsed}
 use Rattle.hush_run.specs.Meaning.{Rules, State, ◌>>=◌, with_status}
 use Rattle.hush_run.specs.Resume.{begin_in, at_in, resume, IsStack}
 use Rattle.hush_run.specs.Turns.{due_does, IsDue, due_room}
+use Rattle.hush_run.specs.Stacks.{script_frames}
 
 -- something is due, or nothing is left
 abbrev pub IsEnd : Due → List Frame → Type 0
@@ -17,15 +18,17 @@ IsEnd (due.Start names) frames = Unit {0}
 IsEnd (due.Delete force failed names) frames = Unit {0}
 
 -- what is left of a run is what is due, and behind it the frames
-abbrev pub Leaves : List Parsed → List Frame → ℕ → List Parsed → List Frame → ℕ → Due → Type 0
-Leaves scripts frames status scripts' frames' status' due =
-    IsStack scripts' frames' × IsDue (at_in scripts') due × (1 ≤ length scripts') × (length scripts' ≤ length scripts) × (length frames' + due_room (at_in scripts') due ≤ 195 * length scripts') ×
+abbrev pub IsLeft : List Parsed → List Frame → ℕ → List Parsed → List Frame → ℕ → Due → Type 0
+IsLeft scripts frames status scripts' frames' status' due =
+    IsStack scripts' frames' × IsDue (at_in scripts') due × (1 ≤ length scripts') × (length scripts' ≤ length scripts)
+    × (length frames' + due_room (at_in scripts') due ≤ script_frames * length scripts') ×
     ((rules : Rules) (s : State) → s.steps ≤ rules.limits.steps →
-    resume rules scripts frames (with_status status s) ≡ (due_does rules (begin_in rules scripts') (at_in scripts') due (with_status status' s) >>= resume rules scripts' frames'))
+    resume rules scripts frames (with_status status s)
+    ≡ (due_does rules (begin_in rules scripts') (at_in scripts') due (with_status status' s) >>= resume rules scripts' frames'))
 
 abbrev pub Rises : List Parsed → List Frame → ℕ → List Parsed → List Frame → ℕ → Due → Type 0
 Rises scripts frames status scripts' frames' status' due =
-    IsEnd due frames' × Leaves scripts frames status scripts' frames' status' due
+    IsEnd due frames' × IsLeft scripts frames status scripts' frames' status' due
 
 abbrev pub with_behind : Option Frame → List Frame → List Frame
 with_behind None frames = frames

@@ -17,7 +17,7 @@ abbrev pub state_of : Held → Progress → State
 state_of held p = record { held = held; locals = p.locals; status = p.status; printed = p.output; steps = p.steps }
 
 abbrev pub rules_of : Given → Rules
-rules_of given = record { stubs = given.stubs.now; limits = given.limits }
+rules_of given = record { stand_ins = given.stand_ins.now; limits = given.limits }
 
 -- one step was counted
 abbrev pub Counted : Rules → State → State → Type 0
@@ -30,7 +30,9 @@ Meant = Rules → Begin → State → Out
 -- a step was done, and what is left of what is meant is this, under each limit on the steps that lets it count; or the
 -- run has ended so; or nothing has changed
 abbrev pub Did : {X : Type 0} → Rules → Meant → (X → Meant) → State → State → Result X Stop → Type 0
-Did rules meant left old new (Ok x) = Counted rules old new × ((n : ℕ) (begin : Begin) → suc old.steps ≤ n → meant (within n rules) begin old ≡ left x (within n rules) begin new)
+Did rules meant left old new (Ok x) =
+    Counted rules old new
+    × ((n : ℕ) (begin : Begin) → suc old.steps ≤ n → meant (within n rules) begin old ≡ left x (within n rules) begin new)
 Did rules meant left old new (Err (Ended e)) = (begin : Begin) → meant rules begin old ≡ Ends e new
 Did rules meant left old new (Err Memory) = new ≡ old
 
@@ -62,7 +64,9 @@ value_of rules word s = option_map (λ v. v ∷ []) (expanded_value (known_in s)
 
 -- a start: nothing was started, or this script is to be run from here, one level deeper
 abbrev pub Started : Rules → (levels : ℕ) → (name : List ℕ) → State → State → Result (Option Parsed) Stop → Type 0
-Started rules levels name old new (Ok None) = Counted rules old new × ((new.status == 0) ≡ false) × ((n : ℕ) → suc old.steps ≤ n → start (within n rules) levels name old ≡ Goes new)
+Started rules levels name old new (Ok None) =
+    Counted rules old new × ((new.status == 0) ≡ false)
+    × ((n : ℕ) → suc old.steps ≤ n → start (within n rules) levels name old ≡ Goes new)
 Started rules levels name old new (Ok (Some p)) =
     Counted rules old new × (below : ℕ) × (levels ≡ suc below) ×
     ((n : ℕ) → suc old.steps ≤ n → start (within n rules) levels name old ≡ script (within n rules) (start (within n rules) below) (tree_of p) new)

@@ -7,16 +7,16 @@ use Rattle.hush_run.specs.declared.turns.Due.{Due}
 use Rattle.hush_run.specs.declared.turns.Due.TheVariants as due
 use Rattle.hush_run.specs.declared.turns.Turn.{Turn}
 use Rattle.hush_syntax.specs.declared.nodes.Branch.{Branch}
-use Rattle.hush_syntax.specs.Nodes.{At, Sub, OfChains, OfChain, OfCommand, AreBranches}
+use Rattle.hush_syntax.specs.Nodes.{At, Subtree, OfChains, OfChain, OfCommand, AreBranches}
 use Rattle.hush_syntax.specs.Scripts.{Parsed}
 use Rattle.hush_syntax.specs.Grammar.{Simple, Assign, If, For, While, Until, Chains, Branches, Elif}
 use Rattle.hush_run.specs.Counting.{Counting}
 use Rattle.hush_run.specs.Meaning.{Rules, Begin, State, Out, Goes, ◌>>=◌, with_status, in_turn, deletions}
-use Rattle.hush_run.specs.Resume.{sub_does, frame_does, room, frame_room, IsFrame, owners}
+use Rattle.hush_run.specs.Resume.{subtree_does, frame_does, room, frame_room, IsFrame, owners}
 
 abbrev pub due_does : Rules → Begin → At → Due → State → Out
 due_does rules begin at due.Over = Goes
-due_does rules begin at (due.Node node) = sub_does rules begin (at node)
+due_does rules begin at (due.Node node) = subtree_does rules begin (at node)
 due_does rules begin at (due.Binding node fields) = frame_does rules begin at (frame.Bindings node fields)
 due_does rules begin at (due.Start names) = in_turn begin names
 due_does rules begin at (due.Delete force failed names) = deletions rules force failed names
@@ -25,7 +25,7 @@ abbrev pub behind_does : Rules → Begin → At → Option Frame → State → O
 behind_does rules begin at None = Goes
 behind_does rules begin at (Some f) = frame_does rules begin at f
 
-abbrev pub IsForNode : Option Sub → Type 0
+abbrev pub IsForNode : Option Subtree → Type 0
 IsForNode None = ⊥
 IsForNode (Some (OfChains cs)) = ⊥
 IsForNode (Some (OfChain c)) = ⊥
@@ -61,7 +61,9 @@ IsPart (due.Delete force failed names) = Unit {0}
 -- the frame that is left behind: there is none where nothing is due
 abbrev pub Behind : At → ℕ → Due → Option Frame → Type 0
 Behind at most due None = due_room at due ≤ most
-Behind at most due (Some f) = IsPart due × IsFrame at f × ((scripts : List Parsed) → owners f scripts ≡ scripts) × (frame_room at f ≤ most) × (suc (due_room at due) ≤ most)
+Behind at most due (Some f) =
+    IsPart due × IsFrame at f × ((scripts : List Parsed) → owners f scripts ≡ scripts)
+    × (frame_room at f ≤ most) × (suc (due_room at due) ≤ most)
 
 abbrev pub SameTurn : At → (Rules → Begin → State → Out) → ℕ → Turn → Type 0
 SameTurn at does status turn =
@@ -75,4 +77,5 @@ Turns at f status turn =
 -- the branches of a node
 abbrev pub BranchesTurn : List Branch → Option NodeId → NodeId → ℕ → ℕ → Turn → Type 0
 BranchesTurn branches last node branch status turn =
-    (at : At) (c d : Chains) (b : Branches) → at node ≡ Some (OfCommand (If c d b)) → AreBranches at branches last (Elif c d b) → Turns at (frame.Branch node branch) status turn
+    (at : At) (c d : Chains) (b : Branches) → at node ≡ Some (OfCommand (If c d b)) →
+    AreBranches at branches last (Elif c d b) → Turns at (frame.Branch node branch) status turn

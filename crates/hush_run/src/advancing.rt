@@ -1,5 +1,6 @@
 //! One step, whatever is due.
 ghost use Rattle.std.specs.Prelude.{◌≡◌, ◌≤◌, ◌+◌, ◌-◌, length};
+ghost use Rattle.hush_commands.specs.Limits.{most_depth};
 ghost use Rattle.hush_run.specs.Advances.{Advances, IsReady};
 ghost use Rattle.hush_run.specs.Rises.{IsEnd};
 ghost use Rattle.hush_run.specs.Steps.{state_of, rules_of};
@@ -27,7 +28,7 @@ pub(crate) fn advance(
     frames: &mut Frames,
     due: Due,
 ) -> Result<Due, Stop>
-    requires depth { given.now.limits.depth ≤ 16 }
+    requires depth { given.now.limits.depth ≤ most_depth }
     requires ready { IsReady (rules_of given.now) calls.old frames.old.frames frames.old.depth due }
     requires steps { progress.old.steps ≤ given.now.limits.steps }
     ensures { Advances (rules_of given.now) calls.old frames.old.frames due (state_of session.old progress.old)
@@ -51,7 +52,7 @@ fn step_due(
     frames: &mut Frames,
     due: Due,
 ) -> Result<Due, Stop>
-    requires depth { given.now.limits.depth ≤ 16 }
+    requires depth { given.now.limits.depth ≤ most_depth }
     requires ready { IsReady (rules_of given.now) calls.old frames.old.frames frames.old.depth due }
     requires end { IsEnd due frames.old.frames }
     requires steps { progress.old.steps ≤ given.now.limits.steps }
@@ -141,7 +142,7 @@ fn start_due(
     frames: &mut Frames,
     names: FieldQueue,
 ) -> Result<Due, Stop>
-    requires depth { given.now.limits.depth ≤ 16 }
+    requires depth { given.now.limits.depth ≤ most_depth }
     requires ready { IsReady (rules_of given.now) calls.old frames.old.frames frames.old.depth (due.Start names) }
     requires steps { progress.old.steps ≤ given.now.limits.steps }
     ensures { Advances (rules_of given.now) calls.old frames.old.frames (due.Start names)

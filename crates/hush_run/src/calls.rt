@@ -1,7 +1,9 @@
 //! The scripts that run: the first, and those that were started inside one another.
 ghost use Rattle.std.specs.Prelude.{◌≡◌, ◌≤◌, [], ◌∷◌, IfOk, length};
+ghost use Rattle.hush_commands.specs.Limits.{most_depth};
 ghost use Rattle.hush_run.specs.Resume.{behind};
 
+use hush_commands::MOST_DEPTH;
 use hush_syntax::Script;
 use std::alloc::{AllocError, Global};
 use std::marker::Model;
@@ -16,24 +18,22 @@ pub(crate) struct Calls<'s> {
 impl<'s> Model for Calls<'s> {
     ghost use Rattle.std.specs.Prelude.{List, vec_capacity, ◌≤◌};
     ghost use Rattle.hush_syntax.specs.Scripts.{Parsed};
+    ghost use Rattle.hush_commands.specs.Limits.{most_depth};
     ghost use Rattle.hush_run.specs.Calls.{calls_of};
 
     ghost Value = { List Parsed };
 
     ghost view = { λ a. calls_of a.first.now a.started.items };
 
-    ghost invariant = { λ a. 16 ≤ vec_capacity a.started };
+    ghost invariant = { λ a. most_depth ≤ vec_capacity a.started };
 }
 
-/// At most so many starts are inside one another, whatever the limits.
-const STARTS_MAX: usize = 16;
-
 impl<'s> Calls<'s> {
-    /// The first alone, and room for those of 16 starts inside one another.
+    /// The first alone, and room for those of the most starts inside one another that limits may give ([`MOST_DEPTH`]).
     pub(crate) fn new(alloc: Global, first: &'s Script) -> Result<Calls<'s>, AllocError>
         ensures { IfOk result (λ calls. calls ≡ first.entry.now ∷ []) }
     {
-        let started = Vec::with_capacity(alloc, STARTS_MAX)?;
+        let started = Vec::with_capacity(alloc, MOST_DEPTH as usize)?;
         Ok(Calls { first, started })
     }
 
@@ -56,11 +56,11 @@ impl<'s> Calls<'s> {
 
     /// One more. It takes no memory.
     pub(crate) fn push(&mut self, script: Script)
-        requires { length self.old ≤ 16 }
+        requires { length self.old ≤ most_depth }
         ensures { self.new ≡ script ∷ self.old }
     {
         let pushed = self.started.push(script);
-        // for the proof: room was reserved, so this isn't refused
+        // It tells the prover that room was reserved, so this isn't refused.
         prove!(pushed.is_ok());
     }
 
@@ -70,7 +70,7 @@ impl<'s> Calls<'s> {
         ensures { self.new ≡ behind self.old }
     {
         let done = self.started.pop();
-        // for the proof: a script that was started is there
+        // It tells the prover that a script that was started is there.
         prove!(done.is_some());
     }
 }

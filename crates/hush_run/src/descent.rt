@@ -1,6 +1,6 @@
 //! Down from a node to the first step in it.
 ghost use Rattle.std.specs.Prelude.{◌≡◌, ◌<◌, ◌+◌, ◌≤◌, IsSome, length};
-ghost use Rattle.hush_syntax.specs.Scripts.{sub_at};
+ghost use Rattle.hush_syntax.specs.Scripts.{subtree_at};
 ghost use Rattle.hush_run.specs.Resume.{FirstPart, Descends, room};
 ghost use Rattle.hush_run.specs.Stacks.{frame_limit};
 
@@ -10,11 +10,11 @@ use hush_syntax::{Node, NodeId, Script};
 
 /// Goes down from a node to the first step in it, and leaves a frame for each part that isn't done with that.
 pub(crate) fn descend(script: &Script, frames: &mut Frames, id: NodeId) -> NodeId
-    requires known { IsSome (sub_at script.now id) }
-    requires room { length frames.old.frames + room (sub_at script.now id) ≤ frame_limit frames.old.depth }
+    requires known { IsSome (subtree_at script.now id) }
+    requires room { length frames.old.frames + room (subtree_at script.now id) ≤ frame_limit frames.old.depth }
     ensures descends { Descends script.now frames.old.frames frames.new.frames id result }
     ensures depth { frames.new.depth ≡ frames.old.depth }
-    ensures height { length frames.new.frames + room (sub_at script.now result) ≤ length frames.old.frames + room (sub_at script.now id) }
+    ensures height { length frames.new.frames + room (subtree_at script.now result) ≤ length frames.old.frames + room (subtree_at script.now id) }
 {
     let mut node = id;
     while let Some((frame, part)) = first_part(script, node) {
@@ -26,8 +26,8 @@ pub(crate) fn descend(script: &Script, frames: &mut Frames, id: NodeId) -> NodeI
 
 /// The first part of a node, and the frame that is left behind for the others; none where the node is a step.
 fn first_part(script: &Script, id: NodeId) -> Option<(Frame, NodeId)>
-    requires { IsSome (sub_at script.now id) }
-    ensures { FirstPart (sub_at script.now) id result }
+    requires { IsSome (subtree_at script.now id) }
+    ensures { FirstPart (subtree_at script.now) id result }
 {
     match script.node(id) {
         Node::List(chains) => Some((Frame::List { node: id, next: 1 }, member(chains, 0))),

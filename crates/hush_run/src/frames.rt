@@ -56,8 +56,12 @@ pub enum Frame {
     },
 }
 
-/// At most so many frames for a script: three for each of 64 levels of nesting, and three.
-const FRAMES: usize = 3 * 64 + 3;
+/// How many levels of nesting a script has at most: `NEST_LIMIT` of hush_syntax, once more. That both are one number is
+/// proved: contracts here speak of its `nest_limit`.
+const NEST_LIMIT: usize = 64;
+
+/// The most frames that one script needs: three for each level of nesting, and three for a list, its chain and its command.
+const SCRIPT_FRAMES: usize = 3 * NEST_LIMIT + 3;
 
 /// Frames, the last one on top, in room that is taken at the start.
 #[derive(Drop)]
@@ -78,18 +82,20 @@ impl Model for Frames {
 }
 
 impl Frames {
+    ghost use Rattle.hush_commands.specs.Limits.{most_depth};
     ghost use Rattle.hush_run.specs.Stacks.{frame_limit};
 
-    /// No frames, and room for those of a script and of `depth` starts inside one another: (`depth` + 1) x 195.
+    /// No frames, and room for those of a script and of `depth` starts inside one another: (depth + 1) x 195, where 195
+    /// is three for each of 64 levels of nesting, and three for a list, its chain and its command.
     ///
     /// # Errors
     ///
     /// The room is refused.
     pub fn new(alloc: Global, depth: u32) -> Result<Frames, AllocError>
-        requires { depth ≤ 16 }
+        requires { depth ≤ most_depth }
         ensures { IfOk result (λ frames. frames ≡ record { frames = []; depth = depth }) }
     {
-        let items = Vec::with_capacity(alloc, (depth as usize + 1) * FRAMES)?;
+        let items = Vec::with_capacity(alloc, (depth as usize + 1) * SCRIPT_FRAMES)?;
         Ok(Frames { items, depth })
     }
 
@@ -99,7 +105,7 @@ impl Frames {
         ensures { self.new ≡ record self.old { frames = frame ∷ self.old.frames } }
     {
         let pushed = self.items.push(frame);
-        // for the proof: room was reserved, so this isn't refused
+        // It tells the prover that room was reserved, so this isn't refused.
         prove!(pushed.is_ok());
     }
 

@@ -1,7 +1,8 @@
 //! Dry runs of boot scripts: a script run over a session under limits, with hardware answered by stand-ins.
 //! docs/runs.md states the rules.
 //!
-//! To read in this order: ending, outcome; progress, machine, advancing; node_step, steps; descent, rising, turns; frames.
+//! To read in this order: ending, outcome; progress, calls, machine, advancing; names, node_step, steps; members, descent, rising,
+//! turns; frames.
 #![tactic(auto)]
 
 mod advancing;
@@ -20,5 +21,7 @@ mod steps;
 mod turns;
 
 pub use ending::Ending;
-pub use hush_commands::{Limits, StubFault, Stubs};
+pub use hush_commands::{
+    Limits, MOST_DEPTH, MOST_OUTPUT, MOST_STEPS, MOST_WORD, StandInFault, StandIns,
+};
 pub use outcome::{Outcome, run};

@@ -2,6 +2,7 @@
 //! them in room that is taken at the start.
 ghost use Rattle.std.specs.Prelude.{◌≡◌, ◌≤◌};
 ghost use Rattle.hush_syntax.specs.Scripts.{tree_of};
+ghost use Rattle.hush_commands.specs.Limits.{most_depth};
 ghost use Rattle.hush_run.specs.Advances.{Ran};
 ghost use Rattle.hush_run.specs.Steps.{state_of, rules_of};
 
@@ -21,7 +22,7 @@ pub(crate) fn run_script(
     progress: &mut Progress,
     script: &Script,
 ) -> Stop
-    requires depth { given.now.limits.depth ≤ 16 }
+    requires depth { given.now.limits.depth ≤ most_depth }
     requires steps { progress.old.steps ≤ given.now.limits.steps }
     ensures { Ran (rules_of given.now) (tree_of script.now) (state_of session.old progress.old) (state_of session.new progress.new) result }
 {

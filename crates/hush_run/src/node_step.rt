@@ -3,9 +3,9 @@ ghost use Rattle.std.specs.Prelude.{◌≡◌, ℕ, List, ◌≤◌, Some, IfOk}
 ghost use Rattle.hush_words.specs.Words.{Atom};
 ghost use Rattle.hush_syntax.specs.Grammar.{For, Chains};
 ghost use Rattle.hush_syntax.specs.Nodes.{At, OfCommand};
-ghost use Rattle.hush_syntax.specs.Scripts.{sub_at};
+ghost use Rattle.hush_syntax.specs.Scripts.{subtree_at};
 ghost use Rattle.hush_run.specs.Meaning.{Rules, Begin, State, follows, bindings, chains};
-ghost use Rattle.hush_run.specs.Resume.{sub_does, room, IsStep};
+ghost use Rattle.hush_run.specs.Resume.{subtree_does, room, IsStep};
 ghost use Rattle.hush_run.specs.Steps.{state_of, rules_of, Did};
 ghost use Rattle.hush_run.specs.Turns.{due_does, due_room, IsDue};
 
@@ -25,11 +25,11 @@ pub(crate) fn node_step(
     script: &Script,
     node: NodeId,
 ) -> Result<Due, Stop>
-    requires { IsStep (sub_at script.now node) }
-    ensures step { Did (rules_of given.now) (λ rules begin. sub_does rules begin (sub_at script.now node))
-        (λ due rules begin. due_does rules begin (sub_at script.now) due) (state_of session.old progress.old)
+    requires { IsStep (subtree_at script.now node) }
+    ensures step { Did (rules_of given.now) (λ rules begin. subtree_does rules begin (subtree_at script.now node))
+        (λ due rules begin. due_does rules begin (subtree_at script.now) due) (state_of session.old progress.old)
         (state_of session.new progress.new) result }
-    ensures due { IfOk result (λ due. IsDue (sub_at script.now) due × (due_room (sub_at script.now) due ≤ room (sub_at script.now node))) }
+    ensures due { IfOk result (λ due. IsDue (subtree_at script.now) due × (due_room (subtree_at script.now) due ≤ room (subtree_at script.now node))) }
 {
     match script.node(node) {
         Node::Simple { words } => {

@@ -6,7 +6,7 @@ use crate::ending::Ending;
 use crate::machine::run_script;
 use crate::progress::{Given, Progress};
 use env_session::Session;
-use hush_commands::{Limits, Stubs};
+use hush_commands::{Limits, StandIns};
 use hush_syntax::Script;
 use std::alloc::Global;
 
@@ -32,17 +32,17 @@ pub fn run(
     alloc: Global,
     session: &mut Session,
     script: &Script,
-    stubs: &Stubs,
+    stand_ins: &StandIns,
     limits: &Limits,
 ) -> Outcome
-    ensures { Runs (rules stubs.now limits.now) (tree_of script.now) session.old session.new result }
+    ensures { Runs (rules stand_ins.now limits.now) (tree_of script.now) session.old session.new result }
 {
     let given = Given {
         alloc,
-        stubs,
+        stand_ins,
         limits: *limits,
     };
-    // Does nothing: it tells the prover that the depth is at most 16.
+    // Does nothing: it tells the prover that the depth is at most MOST_DEPTH.
     let _depth = limits.depth();
     let mut progress = Progress::new(&given);
     let stop = run_script(&given, session, &mut progress, script);

@@ -2,11 +2,12 @@
 ghost use Rattle.std.specs.Prelude.{◌≡◌, ◌<◌, map, IfOk};
 ghost use Rattle.hush_words.specs.Parts.{word_atoms};
 ghost use Rattle.env_session.specs.Session.{Held};
+ghost use Rattle.hush_commands.specs.Limits.{most_steps};
 ghost use Rattle.hush_run.specs.Meaning.{Rules, Goes, step, fails, fields_of, first_state};
 
 use crate::ending::{Reason, Stop};
 use env_session::Session;
-use hush_commands::{FieldBuffer, Limits, Locals, Message, Output, Scope, Stubs};
+use hush_commands::{FieldBuffer, Limits, Locals, Message, Output, Scope, StandIns};
 use hush_syntax::{Text, Word};
 use std::alloc::Global;
 
@@ -14,7 +15,7 @@ use std::alloc::Global;
 #[derive(Clone, Copy)]
 pub(crate) struct Given<'a> {
     pub(crate) alloc: Global,
-    pub(crate) stubs: &'a Stubs,
+    pub(crate) stand_ins: &'a StandIns,
     pub(crate) limits: Limits,
 }
 
@@ -61,7 +62,7 @@ impl Progress {
         ensures fields { FieldsAre (rules_of given.now)
             (fields_of (rules_of given.now) (map (word_atoms text.now) words.now) (state_of session.now self.old))
             (state_of session.now self.old) self.new.fields result }
-        ensures counts { IfOk result (λ u. self.new.steps < 1000000) }
+        ensures counts { IfOk result (λ u. self.new.steps < most_steps) }
     {
         self.may_step(given)?;
         let scope = Scope {
@@ -86,7 +87,7 @@ impl Progress {
         ensures fields { FieldsAre (rules_of given.now)
             (value_of (rules_of given.now) (word_atoms text.now word) (state_of session.now self.old))
             (state_of session.now self.old) self.new.fields result }
-        ensures counts { IfOk result (λ u. self.new.steps < 1000000) }
+        ensures counts { IfOk result (λ u. self.new.steps < most_steps) }
     {
         self.may_step(given)?;
         let scope = Scope {
@@ -129,7 +130,7 @@ impl Progress {
     /// Whether one more step may be counted.
     pub(crate) fn may_step(&self, given: &Given<'_>) -> Result<(), Stop>
         ensures may { MayStep (rules_of given.now) self.now.steps result }
-        ensures counts { IfOk result (λ u. self.now.steps < 1000000) }
+        ensures counts { IfOk result (λ u. self.now.steps < most_steps) }
     {
         if self.steps >= given.limits.steps() {
             return Err(Stop::Ended(Reason::Steps));

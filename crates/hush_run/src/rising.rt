@@ -2,7 +2,7 @@
 ghost use Rattle.std.specs.Prelude.{◌≡◌, ◌≤◌, ◌<◌, ◌*◌, length};
 ghost use Rattle.hush_run.specs.Resume.{IsStack, owners};
 ghost use Rattle.hush_run.specs.Rises.{Rises, with_behind};
-ghost use Rattle.hush_run.specs.Stacks.{frame_limit};
+ghost use Rattle.hush_run.specs.Stacks.{frame_limit, script_frames};
 
 use crate::calls::Calls;
 use crate::frames::{Frame, Frames};
@@ -12,8 +12,8 @@ use crate::turns::{Due, Turn, turn_of};
 pub(crate) fn rise_up(calls: &mut Calls<'_>, frames: &mut Frames, status: &mut u8) -> Due
     requires stack { IsStack calls.old frames.old.frames }
     requires some { 1 ≤ length calls.old }
-    requires fits { length frames.old.frames ≤ 195 * length calls.old }
-    requires limit { 195 * length calls.old ≤ frame_limit frames.old.depth }
+    requires fits { length frames.old.frames ≤ script_frames * length calls.old }
+    requires limit { script_frames * length calls.old ≤ frame_limit frames.old.depth }
     ensures rises { Rises calls.old frames.old.frames status.old calls.new frames.new.frames status.new result }
     ensures depth { frames.new.depth ≡ frames.old.depth }
 {

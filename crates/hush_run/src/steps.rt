@@ -30,7 +30,7 @@ pub(crate) fn simple_step(
     progress.status = carry_out(
         given.alloc,
         session,
-        given.stubs,
+        given.stand_ins,
         &progress.fields,
         status,
         &mut progress.output,

@@ -1,6 +1,6 @@
 //! What a frame comes to where what stood above it is done.
 ghost use Rattle.std.specs.Prelude.{◌≡◌, IsSome};
-ghost use Rattle.hush_syntax.specs.Scripts.{sub_at};
+ghost use Rattle.hush_syntax.specs.Scripts.{subtree_at};
 ghost use Rattle.hush_syntax.specs.Nodes.{At};
 ghost use Rattle.hush_run.specs.Resume.{IsFrame, joined};
 ghost use Rattle.hush_run.specs.Turns.{Turns, BranchesTurn};
@@ -45,8 +45,8 @@ pub(crate) struct Turn {
 
 /// What a frame comes to where the part above it ended with this status. The script is the one that it belongs to.
 pub(crate) fn turn_of(script: &Script, frame: Frame, status: u8) -> Turn
-    requires { IsFrame (sub_at script.now) frame }
-    ensures { Turns (sub_at script.now) frame status result }
+    requires { IsFrame (subtree_at script.now) frame }
+    ensures { Turns (subtree_at script.now) frame status result }
 {
     match frame {
         Frame::List { node, next } => list_turn(script, node, next, status),
@@ -81,8 +81,8 @@ fn goes_to(node: NodeId, behind: Option<Frame>, status: u8) -> Turn
 }
 
 fn list_turn(script: &Script, node: NodeId, next: usize, status: u8) -> Turn
-    requires { IsSome (sub_at script.now node) }
-    ensures { Turns (sub_at script.now) (frame.List node next) status result }
+    requires { IsSome (subtree_at script.now node) }
+    ensures { Turns (subtree_at script.now) (frame.List node next) status result }
 {
     let Node::List(chains) = script.node(node) else {
         return over(status);
@@ -109,8 +109,8 @@ fn is_joined(operator: Option<Operator>, status: u8) -> bool
 }
 
 fn chain_turn(script: &Script, node: NodeId, next: usize, status: u8) -> Turn
-    requires { IsSome (sub_at script.now node) }
-    ensures { Turns (sub_at script.now) (frame.Chain node next) status result }
+    requires { IsSome (subtree_at script.now node) }
+    ensures { Turns (subtree_at script.now) (frame.Chain node next) status result }
 {
     let Node::Chain(links) = script.node(node) else {
         return over(status);
@@ -128,8 +128,8 @@ fn chain_turn(script: &Script, node: NodeId, next: usize, status: u8) -> Turn
 }
 
 fn branch_turn(script: &Script, node: NodeId, branch: usize, status: u8) -> Turn
-    requires { IsSome (sub_at script.now node) }
-    ensures { Turns (sub_at script.now) (frame.Branch node branch) status result }
+    requires { IsSome (subtree_at script.now node) }
+    ensures { Turns (subtree_at script.now) (frame.Branch node branch) status result }
 {
     match script.node(node) {
         Node::If {
@@ -167,8 +167,8 @@ fn branches_turn(
 }
 
 fn condition_turn(script: &Script, node: NodeId, last: u8, status: u8) -> Turn
-    requires { IsSome (sub_at script.now node) }
-    ensures { Turns (sub_at script.now) (frame.Condition node last) status result }
+    requires { IsSome (subtree_at script.now node) }
+    ensures { Turns (subtree_at script.now) (frame.Condition node last) status result }
 {
     match script.node(node) {
         Node::While { body, .. } => {
@@ -190,8 +190,8 @@ fn condition_turn(script: &Script, node: NodeId, last: u8, status: u8) -> Turn
 }
 
 fn body_turn(script: &Script, node: NodeId, status: u8) -> Turn
-    requires { IsSome (sub_at script.now node) }
-    ensures { Turns (sub_at script.now) (frame.Body node) status result }
+    requires { IsSome (subtree_at script.now node) }
+    ensures { Turns (subtree_at script.now) (frame.Body node) status result }
 {
     let behind = Frame::Condition { node, last: status };
     match script.node(node) {
@@ -202,8 +202,8 @@ fn body_turn(script: &Script, node: NodeId, status: u8) -> Turn
 }
 
 fn bindings_turn(script: &Script, node: NodeId, fields: FieldQueue, status: u8) -> Turn
-    requires { IsSome (sub_at script.now node) }
-    ensures { Turns (sub_at script.now) (frame.Bindings node fields) status result }
+    requires { IsSome (subtree_at script.now node) }
+    ensures { Turns (subtree_at script.now) (frame.Bindings node fields) status result }
 {
     if fields.is_empty() {
         return over(status);

@@ -7,7 +7,8 @@ use Rattle.hush_syntax.specs.declared.faults.FaultKind.TheVariants as fault
 use Rattle.hush_syntax.specs.declared.table.Builder.{Builder}
 use Rattle.hush_syntax.specs.Answers.{Refuses}
 use Rattle.hush_syntax.specs.Grammar.{begins}
-use Rattle.hush_syntax.specs.Nodes.{At, Members}
+use Rattle.hush_syntax.specs.Nodes.{At}
+use Rattle.hush_syntax.specs.Stored.{Members}
 use Rattle.hush_syntax.specs.Builders.{waiting, later, Grows}
 use Rattle.hush_syntax.specs.Reading.{is}
 

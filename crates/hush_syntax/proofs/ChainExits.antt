@@ -1,26 +1,28 @@
 -- A chain: its loop over commands, and its node.
-use Rattle.std.proofs.Common.{◌≡◌, ℕ, ◌<◌, List, [], ◌∷◌, ◌++◌, map, length, refl, sym, ◌∙◌, ap, subst, arith, Option, Some, None}
+use Rattle.std.proofs.Common.{◌≡◌, ℕ, ◌+◌, Bool, true, false, not, is_some, if◌then◌else◌, ◌<◌, ◌≤◌, List, [], ◌∷◌, ◌++◌, map, length, refl, sym, ◌∙◌, ap, subst, arith, length-append, Option, Some, None}
 use Rattle.hush_words.specs.Parts.{Written}
 use Rattle.hush_words.specs.Tokens.{Token}
-use Rattle.hush_syntax.specs.declared.table.Block.{Block}
+use Rattle.hush_syntax.specs.declared.stored.Block.{Block}
 use Rattle.hush_syntax.specs.declared.table.Builder.{Builder}
 use Rattle.hush_syntax.specs.declared.nodes.NodeId.{NodeId}
 use Rattle.hush_syntax.specs.declared.nodes.Operator.{Operator}
 use Rattle.hush_syntax.specs.declared.nodes.Link as link
-use Rattle.hush_syntax.specs.declared.table.Stored.TheVariants as node
-use Rattle.hush_syntax.specs.Grammar.{Command, Chain, is_newline}
-use Rattle.hush_syntax.specs.Nodes.{OfChain, built, block_of}
-use Rattle.hush_syntax.specs.Builders.{members_of, followed, add_links, Adds, Put, SettlesLinks, later, ChainAt, CommandAt, LinkAt}
-use Rattle.hush_syntax.specs.Reading.{behind, skip, operator_at, chain, command}
-use Rattle.hush_syntax.specs.Trees.{chain_from}
+use Rattle.hush_syntax.specs.declared.stored.Stored.TheVariants as node
+use Rattle.hush_syntax.specs.Grammar.{Command, Chain, First, End, is_newline}
+use Rattle.hush_syntax.specs.Nodes.{Subtree, OfChain, chain_of, ChainAt}
+use Rattle.hush_syntax.specs.Stored.{built, block_of}
+use Rattle.hush_syntax.specs.Builders.{Waiting, waiting, members_of, followed, add_links, Adds, Put, SettlesLinks, later, CommandAt}
+use Rattle.hush_syntax.specs.Reading.{bind, behind, skip, operator_at, chain, command}
+use Rattle.hush_syntax.proofs.FromMembers.{chain_from}
 use Rattle.hush_syntax.proofs.Shorter.{operator-shorter, skip-shorter, command-shorter}
 use Rattle.hush_syntax.proofs.ChainLoop.{ChainSoFar, chain-starts_with, chain-ends, chain-command_none, chain-goes_on}
-use Rattle.hush_syntax.proofs.Building.{joined, Each, links-up, settled-links, SoFar, Keeps, still-are, so_far-one, so_far-push, puts, grows-both, link-longer, chain-at}
+use Rattle.hush_syntax.proofs.Building.{joined, Each, links-up, settled-links, SoFar, Keeps, still-are, so_far-one, so_far-push, puts, grows-both, link-longer, chain-at, LinkAt}
 use Rattle.hush_syntax.proofs.Calls.{Found}
 
--- how far the loop over a chain's commands has come
-abbrev pub ChainGoes : ℕ → Option (Chain × List Token) → List Token → List (Option Operator × Command) → Type 0
-ChainGoes room found now xs = (first : Command) × (others : List (Operator × Command)) × (xs ≡ (None, first) ∷ map joined others) × ChainSoFar room found xs now
+-- how far the loop over a chain's commands has come; where no operator follows, one stands behind the first
+abbrev pub ChainGoes : ℕ → Option (Chain × List Token) → Option Operator → List Token → List (Option Operator × Command) → Type 0
+ChainGoes room found next now xs =
+    (first : Command) × (others : List (Operator × Command)) × (xs ≡ (None, first) ∷ map joined others) × (next ≡ None → 1 ≤ length others) × ChainSoFar room found xs now
 
 joined-push : (xs : List (Operator × Command)) (o : Operator) (c : Command) → map joined xs ++ (Some o, c) ∷ [] ≡ map joined (xs ++ (o, c) ∷ [])
 joined-push [] o c = refl
@@ -29,48 +31,107 @@ joined-push (x ∷ xs) o c = ap (λ z. joined x ∷ z) (joined-push xs o c)
 keeps-link : Keeps LinkAt
 keeps-link at more e x l h = link-longer at more e x l h
 
+-- what waits is not changed by a command
+pub mark-kept : (old after : Builder) (mark : ℕ) → waiting after ≡ waiting old → mark ≡ length after.links.items → mark ≡ length old.links.items
+mark-kept old after mark same at = at ∙ ap (λ (w : Waiting). length w.links) same
+
+-- an operator that is asked for, and passed where it is there
+abbrev pub after_operator : Option Operator → List Token → List Token
+after_operator next ts = if is_some next then behind ts else ts
+
+none-there : (next : Option Operator) (b : Bool) → is_some next ≡ not b → b ≡ true → next ≡ None
+none-there None b is t = refl
+none-there (Some o) b is t = absurd (let no : true ≡ false = is ∙ ap not t in cc)
+
+one-there : (next : Option Operator) (b : Bool) → is_some next ≡ not b → b ≡ false → next ≡ None → ⊥
+one-there next b is t none = let no : false ≡ true = sym (ap is_some none) ∙ is ∙ ap not t in cc
+
 module _ (text : Written) (room : ℕ) where
-  -- a chain
-  pub chain-smaller : (o : Operator) (now after skipped m : List Token) (c : Command) → Some o ≡ operator_at now → after ≡ behind now → skipped ≡ skip is_newline after → command room skipped ≡ Some (c, m) → length m < length now
-  chain-smaller o now after skipped m c at step newlines read =
-      let gone = operator-shorter now o (sym at) in
-      let shorter = command-shorter room skipped m c read in
-      let fewer = skip-shorter is_newline after in
-      omega (arith, ap length step, ap length newlines)
+  -- the loop, where an operator was asked for behind the last command
+  pub record Joining (found : Option (Chain × List Token)) (old mid : Builder) (next : Option Operator) (now : List Token) : Type 0 where
+    pub before : List Token
+    pub at : next ≡ operator_at before
+    pub passed : now ≡ after_operator next before
+    pub so_far : SoFar (ChainGoes room found next before) LinkAt add_links text old mid
 
-  pub chain-refused : (found : Option (Chain × List Token)) (ls : List (Option Operator × Command)) (o : Operator) (now after skipped : List Token) → ChainSoFar room found ls now → Some o ≡ operator_at now → after ≡ behind now → skipped ≡ skip is_newline after → command room skipped ≡ None → found ≡ None
-  chain-refused found ls o now after skipped so_far at step newlines read =
-      chain-command_none room found ls o now so_far (sym at) (ap (λ x. command room (skip is_newline x)) (sym step) ∙ ap (command room) (sym newlines) ∙ read)
-
-  pub chain-init : (ts m : List Token) (old after new : Builder) (l : link.Link) (id : NodeId) → Found CommandAt text (command room ts) old after m id → l.operator ≡ None → l.command ≡ id →
-      Adds add_links after new l → SoFar (ChainGoes room (chain (command room) ts) m) LinkAt add_links text old new
-  chain-init ts m old after new l id f first same pushed =
-      so_far-one (ChainGoes room (chain (command room) ts) m) LinkAt add_links text old after new (None, f.0) l f.2
-      (λ more. (first, ap (λ x. later text after.table more x) same ∙ f.3 more)) f.4 pushed
-      (f.0, [], refl, chain-starts_with room ts m f.0 f.1)
-
-  pub chain-preserved : (found : Option (Chain × List Token)) (old mid after new : Builder) (l : link.Link) (id : NodeId) (o : Operator) (now behind_it skipped m : List Token) →
-      SoFar (ChainGoes room found now) LinkAt add_links text old mid → Some o ≡ operator_at now → behind_it ≡ behind now → skipped ≡ skip is_newline behind_it →
-      Found CommandAt text (command room skipped) mid after m id → l.operator ≡ Some o → l.command ≡ id → Adds add_links after new l → SoFar (ChainGoes room found m) LinkAt add_links text old new
-  chain-preserved found old mid after new l id o now behind_it skipped m s at step newlines f joins same pushed =
-      so_far-push (ChainGoes room found now) (ChainGoes room found m) LinkAt add_links keeps-link links-up text old mid after new (Some o, f.0) l s f.2
-      (λ more. (joins, ap (λ x. later text after.table more x) same ∙ f.3 more)) f.4 pushed (
-        s.goes.0,
-        s.goes.1 ++ (o, f.0) ∷ [],
-        ap (λ x. x ++ (Some o, f.0) ∷ []) s.goes.2 ∙ ap (λ x. (None, s.goes.0) ∷ x) (joined-push s.goes.1 o f.0),
-        chain-goes_on room found s.xs o f.0 now m s.goes.3 (sym at) (ap (λ x. command room (skip is_newline x)) (sym step) ∙ ap (command room) (sym newlines) ∙ f.1),
+  pub chain-alone : (ts m r : List Token) (old after : Builder) (id : NodeId) (next : Option Operator) (b : Bool) → Found CommandAt text (command room ts) old after m id → next ≡ operator_at m →
+      is_some next ≡ not b → b ≡ true → r ≡ after_operator next m → Found ChainAt text (chain (command room) ts) old after r id
+  chain-alone ts m r old after id next b f at is t passed =
+      let none = none-there next b is t in
+      let kept_left : r ≡ m = passed ∙ ap (λ (n : Option Operator). after_operator n m) none in (
+        First f.0 End,
+        chain-ends room (chain (command room) ts) ((None, f.0) ∷ []) m (chain-starts_with room ts m f.0 f.1) (sym at ∙ none) ∙ ap (λ (x : List Token). let f : Option (Chain × List Token) = Some (First f.0 End, x) in f) (sym kept_left),
+        f.2,
+        λ more. ap (λ (s : Option Subtree). bind s chain_of) (f.3 more),
+        f.4,
       )
 
-  pub chain-built : (found : Option (Chain × List Token)) (old mid settled new : Builder) (b : Block) (id : NodeId) (mark : ℕ) (now r : List Token) → SoFar (ChainGoes room found now) LinkAt add_links text old mid →
-      None ≡ operator_at now → r ≡ now → mark ≡ length old.links.items → SettlesLinks mid settled mark b → Put settled new (node.Chain b) id → Found ChainAt text found old new r id
-  chain-built found old mid settled new b id mark now r s ended kept_left at h p =
+  pub chain-init : (ts m now : List Token) (old after new : Builder) (l : link.Link) (id : NodeId) (next : Option Operator) (b : Bool) → Found CommandAt text (command room ts) old after m id → l.operator ≡ None → l.command ≡ id →
+      Adds add_links after new l → next ≡ operator_at m → is_some next ≡ not b → b ≡ false → now ≡ after_operator next m → Joining (chain (command room) ts) old new next now
+  chain-init ts m now old after new l id next b f first same pushed at is t passed = record {
+    before = m;
+    at = at;
+    passed = passed;
+    so_far = so_far-one (ChainGoes room (chain (command room) ts) next m) LinkAt add_links text old after new (None, f.0) l f.2
+        (λ more. (first, ap (λ x. later text after.table more x) same ∙ f.3 more)) f.4 pushed
+        (f.0, [], refl, (λ none. absurd (one-there next b is t none)), chain-starts_with room ts m f.0 f.1);
+  }
+
+  pub chain-smaller : (now skipped m left : List Token) (c : Command) (next last : Option Operator) (o : Operator) → next ≡ Some o → skipped ≡ skip is_newline now → command room skipped ≡ Some (c, m) →
+      last ≡ operator_at m → left ≡ after_operator last m → length left + (if is_some last then 1 else 0) < length now + (if is_some next then 1 else 0)
+  chain-smaller now skipped m left c next None o is newlines read at passed =
+      let shorter = command-shorter room skipped m c read in
+      let fewer = skip-shorter is_newline now in
+      rw is (omega (arith, shorter, fewer, ap length newlines, ap length passed))
+  chain-smaller now skipped m left c next (Some p) o is newlines read at passed =
+      let shorter = command-shorter room skipped m c read in
+      let fewer = skip-shorter is_newline now in
+      let gone = operator-shorter m p (sym at) in
+      rw is (omega (arith, shorter, fewer, gone, ap length newlines, ap length passed))
+
+  -- where the loop goes on, an operator is passed
+  is-passed : (found : Option (Chain × List Token)) (old mid : Builder) (next : Option Operator) (o : Operator) (now skipped : List Token) → (j : Joining found old mid next now) → next ≡ Some o → skipped ≡ skip is_newline now →
+      command room (skip is_newline (behind j.before)) ≡ command room skipped
+  is-passed found old mid next o now skipped j is newlines =
+      let passed : now ≡ behind j.before = j.passed ∙ ap (λ (n : Option Operator). after_operator n j.before) is in
+      ap (λ x. command room (skip is_newline x)) (sym passed) ∙ ap (command room) (sym newlines)
+
+  pub chain-refused : (found : Option (Chain × List Token)) (old mid : Builder) (next : Option Operator) (o : Operator) (now skipped : List Token) → Joining found old mid next now → next ≡ Some o → skipped ≡ skip is_newline now →
+      command room skipped ≡ None → found ≡ None
+  chain-refused found old mid next o now skipped j is newlines read =
+      chain-command_none room found j.so_far.xs o j.before j.so_far.goes.4 (sym j.at ∙ is) (is-passed found old mid next o now skipped j is newlines ∙ read)
+
+  pub chain-preserved : (found : Option (Chain × List Token)) (old mid after new : Builder) (l : link.Link) (id : NodeId) (next last : Option Operator) (o : Operator) (now skipped m left : List Token) →
+      Joining found old mid next now → next ≡ Some o → skipped ≡ skip is_newline now → Found CommandAt text (command room skipped) mid after m id → l.operator ≡ Some o → l.command ≡ id → Adds add_links after new l →
+      last ≡ operator_at m → left ≡ after_operator last m → Joining found old new last left
+  chain-preserved found old mid after new l id next last o now skipped m left j is newlines f joins same pushed at passed =
+      let s = j.so_far in record {
+        before = m;
+        at = at;
+        passed = passed;
+        so_far = so_far-push (ChainGoes room found next j.before) (ChainGoes room found last m) LinkAt add_links keeps-link links-up text old mid after new (Some o, f.0) l s f.2
+            (λ more. (joins, ap (λ x. later text after.table more x) same ∙ f.3 more)) f.4 pushed (
+              s.goes.0,
+              s.goes.1 ++ (o, f.0) ∷ [],
+              ap (λ x. x ++ (Some o, f.0) ∷ []) s.goes.2 ∙ ap (λ x. (None, s.goes.0) ∷ x) (joined-push s.goes.1 o f.0),
+              (λ none. omega (arith, length-append s.goes.1 ((o, f.0) ∷ []))),
+              chain-goes_on room found s.xs o f.0 j.before m s.goes.4 (sym j.at ∙ is) (is-passed found old mid next o now skipped j is newlines ∙ f.1),
+            );
+      }
+
+  pub chain-built : (found : Option (Chain × List Token)) (old mid settled new : Builder) (b : Block) (id : NodeId) (mark : ℕ) (next : Option Operator) (now : List Token) → Joining found old mid next now → next ≡ None →
+      mark ≡ length old.links.items → SettlesLinks mid settled mark b → Put settled new (node.Chain b) id → Found ChainAt text found old new now id
+  chain-built found old mid settled new b id mark next now j none at h p =
+      let s = j.so_far in
+      let kept_left : now ≡ j.before = j.passed ∙ ap (λ (n : Option Operator). after_operator n j.before) none in
       let k = settled-links old mid settled s.ys mark b s.waits at h in
-      puts OfChain text old settled new (node.Chain b) id (chain_from s.xs) found r
-      (chain-ends room found s.xs now s.goes.3 (sym ended) ∙ ap (λ (x : List Token). let f : Option (Chain × List Token) = Some (chain_from s.xs, x) in f) (sym kept_left))
+      let whole = puts OfChain text old settled new (node.Chain b) id (chain_from s.xs) found now
+      (chain-ends room found s.xs j.before s.goes.4 (sym j.at ∙ none) ∙ ap (λ (x : List Token). let f : Option (Chain × List Token) = Some (chain_from s.xs, x) in f) (sym kept_left))
       (grows-both old.table mid.table settled.table s.grown k.1)
       k.0
       (λ more.
       let all = subst (λ l. Each (LinkAt (later text settled.table more)) s.xs l) (sym (k.2 more)) (still-are LinkAt keeps-link text mid.table settled.table s.xs s.ys k.1 s.are more) in
       subst (λ xs. Each (LinkAt (later text settled.table more)) xs (block_of b (followed (members_of settled.table) more).links) → built (later text settled.table more) text (followed (members_of settled.table) more) (node.Chain b) ≡ Some (OfChain (chain_from xs))) (sym s.goes.2)
-      (λ e. let h = chain-at (later text settled.table more) s.goes.0 s.goes.1 (block_of b (followed (members_of settled.table) more).links) e in rw h) all)
-      p
+      (λ e. let h = chain-at (later text settled.table more) s.goes.0 s.goes.1 (block_of b (followed (members_of settled.table) more).links) (s.goes.3 none) e in rw h) all)
+      p in
+      (whole.0, whole.1, whole.2, (λ more. ap (λ (s : Option Subtree). bind s chain_of) (whole.3 more)), whole.4)

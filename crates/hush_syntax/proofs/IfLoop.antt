@@ -4,11 +4,11 @@ use Rattle.hush_words.specs.Tokens.{Token}
 use Rattle.hush_syntax.specs.declared.keywords.Keyword.TheVariants as keyword
 use Rattle.hush_syntax.specs.Answers.{branch, otherwise}
 use Rattle.hush_syntax.specs.Grammar.{Command, If, Branches, Elif, Else, Fi, Chains, begins}
-use Rattle.hush_syntax.specs.Reading.{Reader, bind, ◌into◌, mapped, behind, is, one, inner, branches_within, branches, compound, command}
-use Rattle.hush_syntax.specs.Trees.{no_command, branches_from, if_from}
+use Rattle.hush_syntax.specs.Reading.{Reader, bind, ◌into◌, mapped, behind, is, one, list, branches_within, branches, compound, command}
+use Rattle.hush_syntax.proofs.FromMembers.{no_command, branches_from, if_from}
 use Rattle.hush_syntax.proofs.Fronts.{by_test}
 use Rattle.hush_syntax.proofs.Readers.{by_option}
-use Rattle.hush_syntax.proofs.Shorter.{behind-begun, empty, Shortens, into-shortens, mapped-shortens, one-shortens, inner-shorter}
+use Rattle.hush_syntax.proofs.Shorter.{behind-begun, empty, Shortens, into-shortens, mapped-shortens, one-shortens, list-shorter}
 
 abbrev pub branches_before : List (Chains × Chains) → Branches → Branches
 branches_before [] rest = rest
@@ -37,14 +37,14 @@ branches_found-push x y bs c d None = refl
 branches_found-push x y bs c d (Some v) = rw (branches_before-push bs c d v.0)
 
 -- a branch in one piece
-branch-joined : {Y : Type 0} (p : Reader Command) (f : Chains → Chains → Branches → Y) (rest : Reader Branches) (ts : List Token) → (inner p into λ c. one (is (codes "then")) into λ _. inner p into λ d. mapped (f c d) rest) ts ≡ (branch p into λ b. mapped (f b.0 b.1) rest) ts
+branch-joined : {Y : Type 0} (p : Reader Command) (f : Chains → Chains → Branches → Y) (rest : Reader Branches) (ts : List Token) → (list p into λ c. one (is (codes "then")) into λ _. list p into λ d. mapped (f c d) rest) ts ≡ (branch p into λ b. mapped (f b.0 b.1) rest) ts
 branch-joined p f rest ts =
-    by_option (inner p ts)
+    by_option (list p ts)
     (λ e. rw e)
     (λ c e.
     by_option (one (is (codes "then")) c.1)
     (λ g. rw (e, g))
-    (λ u g. by_option (inner p u.1) (λ h. rw (e, g, h)) (λ d h. rw (e, g, h))))
+    (λ u g. by_option (list p u.1) (λ h. rw (e, g, h)) (λ d h. rw (e, g, h))))
 
 branches-end : (p : Reader Command) (n : ℕ) (now : List Token) → length now ≤ n → begins (is (codes "elif")) now ≡ false → branches_within p n now ≡ mapped ending (otherwise p) now
 branches-end p zero now short e = let none = empty now short in rw none
@@ -56,9 +56,9 @@ branches-end p (suc n) now short e =
     joined-fi : (ts : List Token) → mapped (λ _. Fi) (one (is (codes "fi"))) ts ≡ mapped ending (mapped (λ _. None) (one (is (codes "fi")))) ts
     joined-fi ts = by_option (one (is (codes "fi")) ts) (λ g. rw g) (λ u g. rw g)
 
-    joined : (ts : List Token) → (inner p into λ d. mapped (λ _. Else d) (one (is (codes "fi")))) ts ≡ mapped ending (inner p into λ d. mapped (λ _. Some d) (one (is (codes "fi")))) ts
+    joined : (ts : List Token) → (list p into λ d. mapped (λ _. Else d) (one (is (codes "fi")))) ts ≡ mapped ending (list p into λ d. mapped (λ _. Some d) (one (is (codes "fi")))) ts
     joined ts =
-        by_option (inner p ts) (λ g. rw g) (λ d g. by_option (one (is (codes "fi")) d.1) (λ h. rw (g, h)) (λ u h. rw (g, h)))
+        by_option (list p ts) (λ g. rw g) (λ d g. by_option (one (is (codes "fi")) d.1) (λ h. rw (g, h)) (λ u h. rw (g, h)))
 
 pub record IfSoFar (room : ℕ) (found : Option (Command × List Token)) (bs : List (Chains × Chains)) (now : List Token) : Type 0 where
   pub condition : Chains
@@ -77,9 +77,9 @@ branches-turn room (suc k) now short e =
 
 pub branch-shorter : (room : ℕ) → Shortens (branch (command room))
 branch-shorter room =
-    into-shortens (inner (command room)) (λ c. one (is (codes "then")) into λ _. mapped (λ d. (c, d)) (inner (command room))) (inner-shorter room)
-    (λ c. into-shortens (one (is (codes "then"))) (λ _. mapped (λ d. (c, d)) (inner (command room))) (one-shortens (is (codes "then")))
-    (λ _. mapped-shortens (λ d. (c, d)) (inner (command room)) (inner-shorter room)))
+    into-shortens (list (command room)) (λ c. one (is (codes "then")) into λ _. mapped (λ d. (c, d)) (list (command room))) (list-shorter room)
+    (λ c. into-shortens (one (is (codes "then"))) (λ _. mapped (λ d. (c, d)) (list (command room))) (one-shortens (is (codes "then")))
+    (λ _. mapped-shortens (λ d. (c, d)) (list (command room)) (list-shorter room)))
 
 module _ (room : ℕ) where
   pub if-starts_with : (ts m : List Token) (c d : Chains) → branch (command room) ts ≡ Some ((c, d), m) → IfSoFar room (compound (command room) keyword.If ts) ((c, d) ∷ []) m
@@ -122,3 +122,9 @@ module _ (room : ℕ) where
   pub if-ends : (found : Option (Command × List Token)) (bs : List (Chains × Chains)) (o : Option Chains) (now r : List Token) → IfSoFar room found bs now → begins (is (codes "elif")) now ≡ false → otherwise (command room) now ≡ Some (o, r) → found ≡ Some (if_from bs o, r)
   if-ends found bs o now r s e f =
       s.same ∙ ap (branches_found ((s.condition, s.body) ∷ s.others)) (branches-end (command room) s.n now s.short e) ∙ rw (f, s.are, branches_before-end s.others o)
+
+-- no branch is read where none is found first
+pub branch-none : (room : ℕ) (ts : List Token) → branch (command room) ts ≡ None → compound (command room) keyword.If ts ≡ None
+branch-none room ts e =
+    branch-joined (command room) If (branches (command room)) ts
+    ∙ ap (λ o. bind o (λ x. mapped (If x.0.0 x.0.1) (branches (command room)) x.1)) e

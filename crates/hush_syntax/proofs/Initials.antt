@@ -8,7 +8,8 @@ use Rattle.hush_words.specs.Forms.{is_plain, first_plain}
 use Rattle.hush_words.specs.Steps.{begins}
 use Rattle.hush_syntax.specs.declared.keywords.Keyword.{Keyword}
 use Rattle.hush_syntax.specs.declared.keywords.Keyword.TheVariants as keyword
-use Rattle.hush_syntax.specs.Keywords.{keyword_of, keyword_from, keywords, spelling}
+use Rattle.hush_syntax.specs.Answers.{keyword_from}
+use Rattle.hush_syntax.specs.Keywords.{keyword_of, keywords, spelling}
 use Rattle.hush_syntax.proofs.Fronts.{by_test}
 
 -- a text that a word is begins with the word's first byte

@@ -1,4 +1,5 @@
 pub mod Fronts
+pub mod FromMembers
 pub mod Forms
 pub mod Readers
 pub mod Initials
@@ -22,3 +23,4 @@ pub mod CommandExits
 pub mod Rows
 pub mod Walks
 pub mod TextRows
+pub mod CursorLemmas

@@ -2,15 +2,16 @@
 use Rattle.std.proofs.Common.{◌≡◌, ℕ, ◌<◌, ◌≤◌, true, false, List, [], ◌∷◌, ◌++◌, length, sym, ◌∙◌, ap, subst, arith, Option, Some, None}
 use Rattle.hush_words.specs.Parts.{Written}
 use Rattle.hush_words.specs.Tokens.{Token}
-use Rattle.hush_syntax.specs.declared.table.Block.{Block}
+use Rattle.hush_syntax.specs.declared.stored.Block.{Block}
 use Rattle.hush_syntax.specs.declared.table.Builder.{Builder}
 use Rattle.hush_syntax.specs.declared.nodes.NodeId.{NodeId}
-use Rattle.hush_syntax.specs.declared.table.Stored.TheVariants as node
+use Rattle.hush_syntax.specs.declared.stored.Stored.TheVariants as node
 use Rattle.hush_syntax.specs.Grammar.{Chain, Chains, is_separator, begins, nest_limit}
-use Rattle.hush_syntax.specs.Nodes.{OfChains, Members, built, block_of, RootAt}
-use Rattle.hush_syntax.specs.Builders.{Waiting, members_of, followed, waiting, add_chains, Adds, Put, SettlesChains, later, Grows, ChainAt, ChainsAt}
-use Rattle.hush_syntax.specs.Reading.{skip, is_end, is, separators, closes, inner, chain, command, script_of}
-use Rattle.hush_syntax.specs.Trees.{chains_from}
+use Rattle.hush_syntax.specs.Nodes.{OfChains, RootAt, ChainAt}
+use Rattle.hush_syntax.specs.Stored.{Members, built, block_of}
+use Rattle.hush_syntax.specs.Builders.{Waiting, members_of, followed, waiting, add_chains, Adds, Put, SettlesChains, later, Grows, ChainsAt}
+use Rattle.hush_syntax.specs.Reading.{skip, is_end, is, separators, closes, list, chain, command, script_of}
+use Rattle.hush_syntax.proofs.FromMembers.{chains_from}
 use Rattle.hush_syntax.proofs.Shorter.{chain-shorter, separators-shorter, skip-begun}
 use Rattle.hush_syntax.proofs.ListLoop.{ListSoFar, list-starts, list-ends, list-goes_on}
 use Rattle.hush_syntax.proofs.ScriptLoop.{script-empty, ScriptSoFar, script-starts, script-ends, script-unseparated, script-goes_on}
@@ -57,11 +58,11 @@ module _ (text : Written) (room : ℕ) where
   abbrev pub ListGoes : Option (Chains × List Token) → List Token → List Chain → Type 0
   ListGoes found now cs = ListSoFar room found cs now
 
-  pub list-init : (ts now : List Token) (t : Builder) → now ≡ skip is_separator ts → SoFar (ListGoes (inner (command room) ts) now) ChainAt add_chains text t t
+  pub list-init : (ts now : List Token) (t : Builder) → now ≡ skip is_separator ts → SoFar (ListGoes (list (command room) ts) now) ChainAt add_chains text t t
   list-init ts now t e = record {
     xs = [];
     ys = [];
-    goes = subst (λ x. ListSoFar room (inner (command room) ts) [] x) (sym e) (list-starts room ts);
+    goes = subst (λ x. ListSoFar room (list (command room) ts) [] x) (sym e) (list-starts room ts);
     grown = grows-none t.table;
     are = λ more. tt;
     waits = sym (chains-none (waiting t));
@@ -73,12 +74,12 @@ module _ (text : Written) (room : ℕ) where
       so_far-push (ListGoes found now) (ListGoes found r) ChainAt add_chains keeps-chain chains-up text old mid after new f.0 id s f.2 f.3 f.4 pushed
       (list-goes_on room found s.xs f.0 now m r s.goes f.1 seps still)
 
-  pub list-built : (found : Option (Chains × List Token)) (old mid after pushed settled new : Builder) (b : Block) (id list : NodeId) (mark : ℕ) (now m r : List Token) → SoFar (ListGoes found now) ChainAt add_chains text old mid →
+  pub list-built : (found : Option (Chains × List Token)) (old mid after pushed settled new : Builder) (b : Block) (id list_id : NodeId) (mark : ℕ) (now m r : List Token) → SoFar (ListGoes found now) ChainAt add_chains text old mid →
       Found ChainAt text (chain (command room) now) mid after m id → separators m ≡ Some (tt, r) → closes r ≡ true → Adds add_chains after pushed id → mark ≡ length old.chains.items →
-      SettlesChains pushed settled mark b → Put settled new (node.List b) list → Found ChainsAt text found old new r list
-  list-built found old mid after pushed settled new b id list mark now m r s f seps closed add at h p =
+      SettlesChains pushed settled mark b → Put settled new (node.List b) list_id → Found ChainsAt text found old new r list_id
+  list-built found old mid after pushed settled new b id list_id mark now m r s f seps closed add at h p =
       let all = list-whole text (ListGoes found now) old mid after pushed settled b id f.0 mark s f.2 f.3 f.4 add at h in
-      puts OfChains text old settled new (node.List b) list (chains_from (s.xs ++ f.0 ∷ [])) found r
+      puts OfChains text old settled new (node.List b) list_id (chains_from (s.xs ++ f.0 ∷ [])) found r
       (list-ends room found s.xs f.0 now m r s.goes f.1 seps closed)
       all.1 all.0 all.2 p
 
@@ -116,12 +117,12 @@ module _ (text : Written) where
   script-refused found old mid new id now m r s f more begun skipped =
       script-unseparated found s.xs f.0 now m s.goes f.1 (ap is_end (sym skipped) ∙ more) begun
 
-  pub script-built : (found : Option (Option Chains)) (old mid after pushed settled new : Builder) (b : Block) (id list : NodeId) (mark : ℕ) (now m r : List Token) → SoFar (ScriptGoes found now) ChainAt add_chains text old mid →
+  pub script-built : (found : Option (Option Chains)) (old mid after pushed settled new : Builder) (b : Block) (id list_id : NodeId) (mark : ℕ) (now m r : List Token) → SoFar (ScriptGoes found now) ChainAt add_chains text old mid →
       Found ChainAt text (chain (command nest_limit) now) mid after m id → is_end r ≡ true → r ≡ skip is_separator m → Adds add_chains after pushed id → mark ≡ length old.chains.items →
-      SettlesChains pushed settled mark b → Put settled new (node.List b) list → (x : Option Chains) × (found ≡ Some x) × ((more : Members) → RootAt (later text new.table more) x (Some list))
-  script-built found old mid after pushed settled new b id list mark now m r s f done skipped add at h p =
+      SettlesChains pushed settled mark b → Put settled new (node.List b) list_id → (x : Option Chains) × (found ≡ Some x) × ((more : Members) → RootAt (later text new.table more) x (Some list_id))
+  script-built found old mid after pushed settled new b id list_id mark now m r s f done skipped add at h p =
       let all = list-whole text (ScriptGoes found now) old mid after pushed settled b id f.0 mark s f.2 f.3 f.4 add at h in (
         Some (chains_from (s.xs ++ f.0 ∷ [])),
         script-ends found s.xs f.0 now m s.goes f.1 (ap is_end (sym skipped) ∙ done),
-        kept text settled new (node.List b) list (OfChains (chains_from (s.xs ++ f.0 ∷ []))) all.2 p,
+        kept text settled new (node.List b) list_id (OfChains (chains_from (s.xs ++ f.0 ∷ []))) all.2 p,
       )

@@ -2,8 +2,8 @@
 use Rattle.std.proofs.Common.{◌≡◌, ℕ, ◌≤◌, true, false, List, [], ◌∷◌, ◌++◌, length, refl, sym, ◌∙◌, ap, arith, le_refl, Option, Some, None, suc, zero, if◌then◌else◌}
 use Rattle.hush_words.specs.Tokens.{Token}
 use Rattle.hush_syntax.specs.Grammar.{Chain, Chains, Last, More, is_separator}
-use Rattle.hush_syntax.specs.Reading.{bind, mapped, skip, separators, closes, chain, inner_within, inner, command}
-use Rattle.hush_syntax.specs.Trees.{chains_from}
+use Rattle.hush_syntax.specs.Reading.{bind, mapped, skip, separators, closes, chain, list_within, list, command}
+use Rattle.hush_syntax.proofs.FromMembers.{chains_from}
 use Rattle.hush_syntax.proofs.Shorter.{empty, chain-empty, chain-shorter, separators-shorter}
 
 -- a list of chains
@@ -32,30 +32,30 @@ list_before-none None = refl
 list_before-none (Some v) = refl
 
 -- one turn of the reader of lists
-inner-turn : (room n : ℕ) (c : Chain) (now m r : List Token) → length now ≤ n → chain (command room) now ≡ Some (c, m) → separators m ≡ Some (tt, r) → (k : ℕ) × (length r ≤ k) × (inner_within (command room) n now ≡ (if closes r then Some (Last c, r) else mapped (More c) (inner_within (command room) k) r))
-inner-turn room zero c now m r short e f =
+list-turn : (room n : ℕ) (c : Chain) (now m r : List Token) → length now ≤ n → chain (command room) now ≡ Some (c, m) → separators m ≡ Some (tt, r) → (k : ℕ) × (length r ≤ k) × (list_within (command room) n now ≡ (if closes r then Some (Last c, r) else mapped (More c) (list_within (command room) k) r))
+list-turn room zero c now m r short e f =
     absurd (let none : ◌≡◌ {A = Option (Chain × List Token)} None (Some (c, m)) = sym (chain-empty room) ∙ ap (chain (command room)) (sym (empty now short)) ∙ e in cc)
-inner-turn room (suc k) c now m r short e f =
+list-turn room (suc k) c now m r short e f =
     (k, omega (arith, chain-shorter room now m c e, separators-shorter m r tt f), rw (e, f))
 
 pub record ListSoFar (room : ℕ) (found : Option (Chains × List Token)) (xs : List Chain) (now : List Token) : Type 0 where
   pub n : ℕ
   pub short : length now ≤ n
-  pub same : found ≡ list_before xs (inner_within (command room) n now)
+  pub same : found ≡ list_before xs (list_within (command room) n now)
 
 module _ (room : ℕ) where
-  pub list-starts : (ts : List Token) → ListSoFar room (inner (command room) ts) [] (skip is_separator ts)
+  pub list-starts : (ts : List Token) → ListSoFar room (list (command room) ts) [] (skip is_separator ts)
   list-starts ts = record {
     n = length (skip is_separator ts);
     short = le_refl (length (skip is_separator ts));
-    same = list_before-none (inner_within (command room) (length (skip is_separator ts)) (skip is_separator ts));
+    same = list_before-none (list_within (command room) (length (skip is_separator ts)) (skip is_separator ts));
   }
 
-  within-none : (n : ℕ) (now : List Token) → chain (command room) now ≡ None → inner_within (command room) n now ≡ None
+  within-none : (n : ℕ) (now : List Token) → chain (command room) now ≡ None → list_within (command room) n now ≡ None
   within-none zero now e = refl
   within-none (suc n) now e = rw e
 
-  within-separators : (n : ℕ) (c : Chain) (now m : List Token) → chain (command room) now ≡ Some (c, m) → separators m ≡ None → inner_within (command room) n now ≡ None
+  within-separators : (n : ℕ) (c : Chain) (now m : List Token) → chain (command room) now ≡ Some (c, m) → separators m ≡ None → list_within (command room) n now ≡ None
   within-separators zero c now m e f = refl
   within-separators (suc n) c now m e f = rw (e, f)
 
@@ -67,14 +67,14 @@ module _ (room : ℕ) where
 
   pub list-ends : (found : Option (Chains × List Token)) (xs : List Chain) (c : Chain) (now m r : List Token) → ListSoFar room found xs now → chain (command room) now ≡ Some (c, m) → separators m ≡ Some (tt, r) → closes r ≡ true → found ≡ Some (chains_from (xs ++ c ∷ []), r)
   list-ends found xs c now m r so_far e f h =
-      let turn = inner-turn room so_far.n c now m r so_far.short e f in
+      let turn = list-turn room so_far.n c now m r so_far.short e f in
       so_far.same ∙ ap (list_before xs) turn.2 ∙ rw (h, chains_before-last xs c)
 
   pub list-goes_on : (found : Option (Chains × List Token)) (xs : List Chain) (c : Chain) (now m r : List Token) → ListSoFar room found xs now → chain (command room) now ≡ Some (c, m) → separators m ≡ Some (tt, r) → closes r ≡ false → ListSoFar room found (xs ++ c ∷ []) r
   list-goes_on found xs c now m r so_far e f h =
-      let turn = inner-turn room so_far.n c now m r so_far.short e f in
+      let turn = list-turn room so_far.n c now m r so_far.short e f in
       record {
         n = turn.0;
         short = turn.1;
-        same = so_far.same ∙ ap (list_before xs) turn.2 ∙ rw h (list_before-push xs c (inner_within (command room) turn.0 r));
+        same = so_far.same ∙ ap (list_before xs) turn.2 ∙ rw h (list_before-push xs c (list_within (command room) turn.0 r));
       }

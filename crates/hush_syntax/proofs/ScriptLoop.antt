@@ -3,7 +3,7 @@ use Rattle.std.proofs.Common.{◌≡◌, ℕ, ◌≤◌, true, false, List, [], 
 use Rattle.hush_words.specs.Tokens.{Token}
 use Rattle.hush_syntax.specs.Grammar.{Chain, Chains, More, is_separator, begins, nest_limit}
 use Rattle.hush_syntax.specs.Reading.{bind, skip, is_end, chain, chains_within, command, script_of}
-use Rattle.hush_syntax.specs.Trees.{chains_from}
+use Rattle.hush_syntax.proofs.FromMembers.{chains_from}
 use Rattle.hush_syntax.proofs.Shorter.{skip-begun, empty, chain-empty, chain-shorter}
 use Rattle.hush_syntax.proofs.ListLoop.{chains_before, chains_before-last, chains_before-push}
 

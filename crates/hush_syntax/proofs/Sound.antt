@@ -7,8 +7,8 @@ use Rattle.hush_words.specs.Tokens.Token.{Word, Newline, Semicolon, AndIf, OrIf}
 use Rattle.hush_syntax.specs.declared.keywords.Keyword.{Keyword}
 use Rattle.hush_syntax.specs.declared.keywords.Keyword.TheVariants as keyword
 use Rattle.hush_syntax.specs.Keywords.{spelling}
-use Rattle.hush_syntax.specs.Grammar.{Command, Simple, Assign, If, For, While, Until, Branches, Elif, Else, Fi, Chain, First, Links, Link, End, Chains, Last, More, ◌then◌, Is, IsName, AreWords, is_newline, is_separator, begins, AnyNewlines, AnySeparators, Separators, operator_token, IsOperator, begins_command, Spells, SpellsBranches, SpellsChain, SpellsLinks, SpellsInner, SpellsChains, SpellsScript, depth, depth_in_branches, depth_in_chain, depth_in_links, depth_inside, script_depth, nest_limit}
-use Rattle.hush_syntax.specs.Reading.{Reader, bind, ◌into◌, mapped, behind, skip, is_end, is_word, is, one, any_newlines, separators, words_at, any_words, name, plain, keyword_at, closes, operator_at, links, chain, inner_within, inner, branches_within, branches, loop_parts, compound, chains_within, command, script_of}
+use Rattle.hush_syntax.specs.Grammar.{Command, Simple, Assign, If, For, While, Until, Branches, Elif, Else, Fi, Chain, First, Links, Link, End, Chains, Last, More, ◌then◌, Is, IsName, AreWords, is_newline, is_separator, begins, AnyNewlines, AnySeparators, Separators, operator_token, IsOperator, begins_command, Spells, SpellsBranches, SpellsChain, SpellsLinks, SpellsList, SpellsChains, SpellsScript, depth, depth_in_branches, depth_in_chain, depth_in_links, depth_inside, script_depth, nest_limit}
+use Rattle.hush_syntax.specs.Reading.{Reader, bind, ◌into◌, mapped, behind, skip, is_end, is_word, is, one, any_newlines, separators, words_at, any_words, name, plain, keyword_at, closes, operator_at, links, chain, list_within, list, branches_within, branches, loop_parts, compound, chains_within, command, script_of}
 use Rattle.hush_syntax.proofs.Fronts.{all-skipped, by_test, skip-splits, words_at-splits, links-stop, links-go, plain-assignment, plain-simple, command-compound, command-plain, command-none}
 use Rattle.hush_syntax.proofs.Forms.{FormsAreTold, begins_is, keyword_at-some, assignment_of-some}
 use Rattle.hush_syntax.proofs.Readers.{by_option, bind-some, same_pair, into-some, mapped-some}
@@ -50,60 +50,60 @@ module _ (told : FormsAreTold) (n : ℕ) (p : Reader Command) (sound : IsSound n
       subst (λ x. Reads (SpellsChain x) ts r × (depth_in_chain x ≤ n)) (sym t.2)
       (reads_then (Spells s.0) (SpellsLinks t.0) ts s.1 r command.0 rest.0, omega (arith, command.1, rest.1))
 
-  pub inner_within-sound : (m : ℕ) (ts r : List Token) (cs : Chains) → inner_within p m ts ≡ Some (cs, r) → Reads (SpellsInner cs) ts r × (depth_inside cs ≤ n)
-  inner_within-sound zero ts r cs e = absurd (let no : ◌≡◌ {A = Option (Chains × List Token)} None (Some (cs, r)) = e in cc)
-  inner_within-sound (suc m) ts r cs e =
-      let s = into-some (chain p) (λ c. separators into λ _. λ r. if closes r then Some (Last c, r) else mapped (More c) (inner_within p m) r) ts r cs e in
-      let t = into-some separators (λ _. λ r. if closes r then Some (Last s.0, r) else mapped (More s.0) (inner_within p m) r) s.1 r cs s.3 in
+  pub list_within-sound : (m : ℕ) (ts r : List Token) (cs : Chains) → list_within p m ts ≡ Some (cs, r) → Reads (SpellsList cs) ts r × (depth_inside cs ≤ n)
+  list_within-sound zero ts r cs e = absurd (let no : ◌≡◌ {A = Option (Chains × List Token)} None (Some (cs, r)) = e in cc)
+  list_within-sound (suc m) ts r cs e =
+      let s = into-some (chain p) (λ c. separators into λ _. λ r. if closes r then Some (Last c, r) else mapped (More c) (list_within p m) r) ts r cs e in
+      let t = into-some separators (λ _. λ r. if closes r then Some (Last s.0, r) else mapped (More s.0) (list_within p m) r) s.1 r cs s.3 in
       let first = chain-sound ts s.1 s.0 s.2 in
       let seps = separators-some s.1 t.1 t.0 t.2 in
       by_test (closes t.1)
       (λ h.
       let same = same_pair (Last s.0) cs t.1 r (rw h at t.3) in
-      subst (λ x. Reads (SpellsInner x) ts r × (depth_inside x ≤ n)) same.0
-      (subst (λ x. Reads (SpellsInner (Last s.0)) ts x) same.1 (reads_then (SpellsChain s.0) Separators ts s.1 t.1 first.0 seps), omega (arith, first.1)))
+      subst (λ x. Reads (SpellsList x) ts r × (depth_inside x ≤ n)) same.0
+      (subst (λ x. Reads (SpellsList (Last s.0)) ts x) same.1 (reads_then (SpellsChain s.0) Separators ts s.1 t.1 first.0 seps), omega (arith, first.1)))
       (λ h.
-      let go : mapped (More s.0) (inner_within p m) t.1 ≡ Some (cs, r) = rw h at t.3 in
-      let u = mapped-some (More s.0) (inner_within p m) t.1 r cs go in
-      let rest = inner_within-sound m t.1 r u.0 u.1 in
-      subst (λ x. Reads (SpellsInner x) ts r × (depth_inside x ≤ n)) (sym u.2)
-      (reads_then (SpellsChain s.0) (Separators then SpellsInner u.0) ts s.1 r first.0 (reads_then Separators (SpellsInner u.0) s.1 t.1 r seps rest.0), omega (arith, first.1, rest.1)))
+      let go : mapped (More s.0) (list_within p m) t.1 ≡ Some (cs, r) = rw h at t.3 in
+      let u = mapped-some (More s.0) (list_within p m) t.1 r cs go in
+      let rest = list_within-sound m t.1 r u.0 u.1 in
+      subst (λ x. Reads (SpellsList x) ts r × (depth_inside x ≤ n)) (sym u.2)
+      (reads_then (SpellsChain s.0) (Separators then SpellsList u.0) ts s.1 r first.0 (reads_then Separators (SpellsList u.0) s.1 t.1 r seps rest.0), omega (arith, first.1, rest.1)))
 
   -- optional separators before a list
-  pub reads_part : (Q : List Token → Type 0) (ts m r : List Token) (cs : Chains) → inner p ts ≡ Some (cs, m) → Reads Q m r → Reads (AnySeparators then SpellsInner cs then Q) ts r × (depth_inside cs ≤ n)
+  pub reads_part : (Q : List Token → Type 0) (ts m r : List Token) (cs : Chains) → list p ts ≡ Some (cs, m) → Reads Q m r → Reads (AnySeparators then SpellsList cs then Q) ts r × (depth_inside cs ≤ n)
   reads_part Q ts m r cs e q =
-      let s = inner_within-sound (length (skip is_separator ts)) (skip is_separator ts) m cs e in
-      (reads_then AnySeparators (SpellsInner cs then Q) ts (skip is_separator ts) r (skip-splits is_separator ts) (reads_then (SpellsInner cs) Q (skip is_separator ts) m r s.0 q), s.1)
+      let s = list_within-sound (length (skip is_separator ts)) (skip is_separator ts) m cs e in
+      (reads_then AnySeparators (SpellsList cs then Q) ts (skip is_separator ts) r (skip-splits is_separator ts) (reads_then (SpellsList cs) Q (skip is_separator ts) m r s.0 q), s.1)
 
   -- one word and what follows it
   reads_word : (text : List ℕ) (Q : List Token → Type 0) (ts m r : List Token) (u : Unit {0}) → one (is text) ts ≡ Some (u, m) → Reads Q m r → Reads (Is text then Q) ts r
   reads_word text Q ts m r u e q = reads_then (Is text) Q ts m r (one-some told text ts m u e) q
 
   -- a last word
-  body-sound : {Y : Type 0} (ts r : List Token) (f : Chains → Y) (y : Y) → (one (is (codes "do")) into λ _. inner p into λ d. mapped (λ _. f d) (one (is (codes "done")))) ts ≡ Some (y, r) → (d : Chains) × (y ≡ f d) × Reads (Is (codes "do") then AnySeparators then SpellsInner d then Is (codes "done")) ts r × (depth_inside d ≤ n)
+  body-sound : {Y : Type 0} (ts r : List Token) (f : Chains → Y) (y : Y) → (one (is (codes "do")) into λ _. list p into λ d. mapped (λ _. f d) (one (is (codes "done")))) ts ≡ Some (y, r) → (d : Chains) × (y ≡ f d) × Reads (Is (codes "do") then AnySeparators then SpellsList d then Is (codes "done")) ts r × (depth_inside d ≤ n)
   body-sound ts r f y e =
-      let s = into-some (one (is (codes "do"))) (λ _. inner p into λ d. mapped (λ _. f d) (one (is (codes "done")))) ts r y e in
-      let t = into-some (inner p) (λ d. mapped (λ _. f d) (one (is (codes "done")))) s.1 r y s.3 in
+      let s = into-some (one (is (codes "do"))) (λ _. list p into λ d. mapped (λ _. f d) (one (is (codes "done")))) ts r y e in
+      let t = into-some (list p) (λ d. mapped (λ _. f d) (one (is (codes "done")))) s.1 r y s.3 in
       let u = mapped-some (λ _. f t.0) (one (is (codes "done"))) t.1 r y t.3 in
       let body = reads_part (Is (codes "done")) s.1 t.1 r t.0 t.2 (one-some told (codes "done") t.1 r u.0 u.1) in
-      (t.0, u.2, reads_word (codes "do") (AnySeparators then SpellsInner t.0 then Is (codes "done")) ts s.1 r s.0 s.2 body.0, body.1)
+      (t.0, u.2, reads_word (codes "do") (AnySeparators then SpellsList t.0 then Is (codes "done")) ts s.1 r s.0 s.2 body.0, body.1)
 
-  loop-sound : (form : Chains → Chains → Command) (ts r : List Token) (y : Command) → loop_parts p form ts ≡ Some (y, r) → (c : Chains) × (d : Chains) × (y ≡ form c d) × Reads (AnySeparators then SpellsInner c then Is (codes "do") then AnySeparators then SpellsInner d then Is (codes "done")) ts r × (depth_inside c ≤ n) × (depth_inside d ≤ n)
+  loop-sound : (form : Chains → Chains → Command) (ts r : List Token) (y : Command) → loop_parts p form ts ≡ Some (y, r) → (c : Chains) × (d : Chains) × (y ≡ form c d) × Reads (AnySeparators then SpellsList c then Is (codes "do") then AnySeparators then SpellsList d then Is (codes "done")) ts r × (depth_inside c ≤ n) × (depth_inside d ≤ n)
   loop-sound form ts r y e =
-      let s = into-some (inner p) (λ c. one (is (codes "do")) into λ _. inner p into λ d. mapped (λ _. form c d) (one (is (codes "done")))) ts r y e in
+      let s = into-some (list p) (λ c. one (is (codes "do")) into λ _. list p into λ d. mapped (λ _. form c d) (one (is (codes "done")))) ts r y e in
       let body = body-sound s.1 r (form s.0) y s.3 in
-      let whole = reads_part (Is (codes "do") then AnySeparators then SpellsInner body.0 then Is (codes "done")) ts s.1 r s.0 s.2 body.2 in
+      let whole = reads_part (Is (codes "do") then AnySeparators then SpellsList body.0 then Is (codes "done")) ts s.1 r s.0 s.2 body.2 in
       (s.0, body.0, body.1, whole.0, whole.1, body.3)
 
-  branch-sound : {Y : Type 0} (rest : Reader Branches) → ((ts r : List Token) (bs : Branches) → rest ts ≡ Some (bs, r) → Reads (SpellsBranches bs) ts r × (depth_in_branches bs ≤ n)) → (f : Chains → Chains → Branches → Y) (ts r : List Token) (y : Y) → (inner p into λ c. one (is (codes "then")) into λ _. inner p into λ d. mapped (f c d) rest) ts ≡ Some (y, r) → (c : Chains) × (d : Chains) × (bs : Branches) × (y ≡ f c d bs) × Reads (AnySeparators then SpellsInner c then Is (codes "then") then AnySeparators then SpellsInner d then SpellsBranches bs) ts r × (max (max (depth_inside c) (depth_inside d)) (depth_in_branches bs) ≤ n)
+  branch-sound : {Y : Type 0} (rest : Reader Branches) → ((ts r : List Token) (bs : Branches) → rest ts ≡ Some (bs, r) → Reads (SpellsBranches bs) ts r × (depth_in_branches bs ≤ n)) → (f : Chains → Chains → Branches → Y) (ts r : List Token) (y : Y) → (list p into λ c. one (is (codes "then")) into λ _. list p into λ d. mapped (f c d) rest) ts ≡ Some (y, r) → (c : Chains) × (d : Chains) × (bs : Branches) × (y ≡ f c d bs) × Reads (AnySeparators then SpellsList c then Is (codes "then") then AnySeparators then SpellsList d then SpellsBranches bs) ts r × (max (max (depth_inside c) (depth_inside d)) (depth_in_branches bs) ≤ n)
   branch-sound rest rest-sound f ts r y e =
-      let s = into-some (inner p) (λ c. one (is (codes "then")) into λ _. inner p into λ d. mapped (f c d) rest) ts r y e in
-      let t = into-some (one (is (codes "then"))) (λ _. inner p into λ d. mapped (f s.0 d) rest) s.1 r y s.3 in
-      let u = into-some (inner p) (λ d. mapped (f s.0 d) rest) t.1 r y t.3 in
+      let s = into-some (list p) (λ c. one (is (codes "then")) into λ _. list p into λ d. mapped (f c d) rest) ts r y e in
+      let t = into-some (one (is (codes "then"))) (λ _. list p into λ d. mapped (f s.0 d) rest) s.1 r y s.3 in
+      let u = into-some (list p) (λ d. mapped (f s.0 d) rest) t.1 r y t.3 in
       let v = mapped-some (f s.0 u.0) rest u.1 r y u.3 in
       let last = rest-sound u.1 r v.0 v.1 in
       let body = reads_part (SpellsBranches v.0) t.1 u.1 r u.0 u.2 last.0 in
-      let whole = reads_part (Is (codes "then") then AnySeparators then SpellsInner u.0 then SpellsBranches v.0) ts s.1 r s.0 s.2 (reads_word (codes "then") (AnySeparators then SpellsInner u.0 then SpellsBranches v.0) s.1 t.1 r t.0 t.2 body.0) in
+      let whole = reads_part (Is (codes "then") then AnySeparators then SpellsList u.0 then SpellsBranches v.0) ts s.1 r s.0 s.2 (reads_word (codes "then") (AnySeparators then SpellsList u.0 then SpellsBranches v.0) s.1 t.1 r t.0 t.2 body.0) in
       (s.0, u.0, v.0, v.2, whole.0, omega (arith, whole.1, body.1, last.1))
 
   branches-sound : (m : ℕ) (ts r : List Token) (bs : Branches) → branches_within p m ts ≡ Some (bs, r) → Reads (SpellsBranches bs) ts r × (depth_in_branches bs ≤ n)
@@ -113,16 +113,16 @@ module _ (told : FormsAreTold) (n : ℕ) (p : Reader Command) (sound : IsSound n
       (λ h.
       let s = branch-sound (branches_within p m) (branches-sound m) Elif (behind ts) r bs (rw h at e) in
       subst (λ x. Reads (SpellsBranches x) ts r × (depth_in_branches x ≤ n)) (sym s.3)
-      (reads_then (Is (codes "elif")) (AnySeparators then SpellsInner s.0 then Is (codes "then") then AnySeparators then SpellsInner s.1 then SpellsBranches s.2) ts (behind ts) r (Word (map Plain (codes "elif")) ∷ [], begins_is told (codes "elif") ts h, refl) s.4, s.5))
+      (reads_then (Is (codes "elif")) (AnySeparators then SpellsList s.0 then Is (codes "then") then AnySeparators then SpellsList s.1 then SpellsBranches s.2) ts (behind ts) r (Word (map Plain (codes "elif")) ∷ [], begins_is told (codes "elif") ts h, refl) s.4, s.5))
       (λ h.
       let e2 = rw h at e in
       by_test (begins (is (codes "else")) ts)
       (λ g.
-      let s = into-some (inner p) (λ d. mapped (λ _. Else d) (one (is (codes "fi")))) (behind ts) r bs (rw g at e2) in
+      let s = into-some (list p) (λ d. mapped (λ _. Else d) (one (is (codes "fi")))) (behind ts) r bs (rw g at e2) in
       let t = mapped-some (λ _. Else s.0) (one (is (codes "fi"))) s.1 r bs s.3 in
       let body = reads_part (Is (codes "fi")) (behind ts) s.1 r s.0 s.2 (one-some told (codes "fi") s.1 r t.0 t.1) in
       subst (λ x. Reads (SpellsBranches x) ts r × (depth_in_branches x ≤ n)) (sym t.2)
-      (reads_then (Is (codes "else")) (AnySeparators then SpellsInner s.0 then Is (codes "fi")) ts (behind ts) r (Word (map Plain (codes "else")) ∷ [], begins_is told (codes "else") ts g, refl) body.0, body.1))
+      (reads_then (Is (codes "else")) (AnySeparators then SpellsList s.0 then Is (codes "fi")) ts (behind ts) r (Word (map Plain (codes "else")) ∷ [], begins_is told (codes "else") ts g, refl) body.0, body.1))
       (λ g.
       let t = mapped-some (λ _. Fi) (one (is (codes "fi"))) ts r bs (rw g at e2) in
       subst (λ x. Reads (SpellsBranches x) ts r × (depth_in_branches x ≤ n)) (sym t.2) (one-some told (codes "fi") ts r t.0 t.1, omega arith)))
@@ -135,15 +135,15 @@ module _ (told : FormsAreTold) (n : ℕ) (p : Reader Command) (sound : IsSound n
   compound-sound keyword.If ts r y k e =
       let s = branch-sound (branches p) (λ ts. branches-sound (length ts) ts) If (behind ts) r y e in
       subst (λ x. Reads (Spells x) ts r × (depth x ≤ suc n)) (sym s.3)
-      (opened keyword.If (AnySeparators then SpellsInner s.0 then Is (codes "then") then AnySeparators then SpellsInner s.1 then SpellsBranches s.2) ts r k s.4, omega (arith, s.5))
+      (opened keyword.If (AnySeparators then SpellsList s.0 then Is (codes "then") then AnySeparators then SpellsList s.1 then SpellsBranches s.2) ts r k s.4, omega (arith, s.5))
   compound-sound keyword.For ts r y k e =
-      let s1 = into-some name (λ v. one (is (codes "in")) into λ _. any_words into λ words. separators into λ _. one (is (codes "do")) into λ _. inner p into λ d. mapped (λ _. For v words d) (one (is (codes "done")))) (behind ts) r y e in
-      let s2 = into-some (one (is (codes "in"))) (λ _. any_words into λ words. separators into λ _. one (is (codes "do")) into λ _. inner p into λ d. mapped (λ _. For s1.0 words d) (one (is (codes "done")))) s1.1 r y s1.3 in
+      let s1 = into-some name (λ v. one (is (codes "in")) into λ _. any_words into λ words. separators into λ _. one (is (codes "do")) into λ _. list p into λ d. mapped (λ _. For v words d) (one (is (codes "done")))) (behind ts) r y e in
+      let s2 = into-some (one (is (codes "in"))) (λ _. any_words into λ words. separators into λ _. one (is (codes "do")) into λ _. list p into λ d. mapped (λ _. For s1.0 words d) (one (is (codes "done")))) s1.1 r y s1.3 in
       let words = words_at s2.1 in
       let left = skip is_word s2.1 in
-      let s3 = into-some separators (λ _. one (is (codes "do")) into λ _. inner p into λ d. mapped (λ _. For s1.0 words d) (one (is (codes "done")))) left r y s2.3 in
+      let s3 = into-some separators (λ _. one (is (codes "do")) into λ _. list p into λ d. mapped (λ _. For s1.0 words d) (one (is (codes "done")))) left r y s2.3 in
       let s4 = body-sound s3.1 r (For s1.0 words) y s3.3 in
-      let Q4 = Is (codes "do") then AnySeparators then SpellsInner s4.0 then Is (codes "done") in
+      let Q4 = Is (codes "do") then AnySeparators then SpellsList s4.0 then Is (codes "done") in
       subst (λ x. Reads (Spells x) ts r × (depth x ≤ suc n)) (sym s4.1) (
         opened keyword.For (IsName s1.0 then Is (codes "in") then AreWords words then Separators then Q4) ts r k
             (reads_then (IsName s1.0) (Is (codes "in") then AreWords words then Separators then Q4) (behind ts) s1.1 r (name-some told (behind ts) s1.1 s1.0 s1.2)
@@ -155,11 +155,11 @@ module _ (told : FormsAreTold) (n : ℕ) (p : Reader Command) (sound : IsSound n
   compound-sound keyword.While ts r y k e =
       let s = loop-sound While (behind ts) r y e in
       subst (λ x. Reads (Spells x) ts r × (depth x ≤ suc n)) (sym s.2)
-      (opened keyword.While (AnySeparators then SpellsInner s.0 then Is (codes "do") then AnySeparators then SpellsInner s.1 then Is (codes "done")) ts r k s.3, omega (arith, s.4, s.5))
+      (opened keyword.While (AnySeparators then SpellsList s.0 then Is (codes "do") then AnySeparators then SpellsList s.1 then Is (codes "done")) ts r k s.3, omega (arith, s.4, s.5))
   compound-sound keyword.Until ts r y k e =
       let s = loop-sound Until (behind ts) r y e in
       subst (λ x. Reads (Spells x) ts r × (depth x ≤ suc n)) (sym s.2)
-      (opened keyword.Until (AnySeparators then SpellsInner s.0 then Is (codes "do") then AnySeparators then SpellsInner s.1 then Is (codes "done")) ts r k s.3, omega (arith, s.4, s.5))
+      (opened keyword.Until (AnySeparators then SpellsList s.0 then Is (codes "do") then AnySeparators then SpellsList s.1 then Is (codes "done")) ts r k s.3, omega (arith, s.4, s.5))
   compound-sound keyword.Then ts r y k e = absurd (let no : ◌≡◌ {A = Option (Command × List Token)} None (Some (y, r)) = e in cc)
   compound-sound keyword.Elif ts r y k e = absurd (let no : ◌≡◌ {A = Option (Command × List Token)} None (Some (y, r)) = e in cc)
   compound-sound keyword.Else ts r y k e = absurd (let no : ◌≡◌ {A = Option (Command × List Token)} None (Some (y, r)) = e in cc)

@@ -1,24 +1,29 @@
 -- The children of a node are nodes of the same table.
-use Rattle.std.proofs.Common.{◌≡◌, List, [], ◌∷◌, Option, Some, refl}
+use Rattle.std.proofs.Common.{◌≡◌, List, [], ◌∷◌, Option, Some, None, refl}
 use Rattle.std.specs.Prelude.{All, IsSome}
 use Rattle.std.proofs.lemmas.List.Elements.{All-nil, All-cons}
 use Rattle.hush_syntax.specs.declared.nodes.NodeId.{NodeId}
 use Rattle.hush_syntax.specs.declared.nodes.Link as link
 use Rattle.hush_syntax.specs.declared.nodes.Branch as branch
 use Rattle.hush_syntax.specs.Grammar.{Chain, Chains, Last, More, First, Links, End, Link, Branches, Elif, Else, Fi}
-use Rattle.hush_syntax.specs.Nodes.{At, Sub, OfChain, OfChains, OfCommand, AreChains, AreLinks, IsChain, AreBranches}
+use Rattle.hush_syntax.specs.Reading.{bind}
+use Rattle.hush_syntax.specs.Nodes.{At, Subtree, chain_of, OfChains, OfCommand, AreChains, AreLinks, IsChain, AreBranches}
 
-pub known : (o : Option Sub) (s : Sub) → o ≡ Some s → IsSome o
+pub known : (o : Option Subtree) (s : Subtree) → o ≡ Some s → IsSome o
 known o s e = rw e refl
+
+known-member : (o : Option Subtree) (c : Chain) → bind o chain_of ≡ Some c → IsSome o
+known-member None c e = absurd (cc)
+known-member (Some s) c e = refl
 
 module _ (at : At) where
   pub chains-known : (ids : List NodeId) (cs : Chains) → AreChains at ids cs → All (λ id. IsSome (at id)) ids
   chains-known [] (Last c) h = absurd h
   chains-known [] (More c cs) h = absurd h
   chains-known (id ∷ ids) (Last c) h =
-      All-cons (λ id. IsSome (at id)) id ids (known (at id) (OfChain c) h.0) (rw h.1 (All-nil (λ id. IsSome (at id))))
+      All-cons (λ id. IsSome (at id)) id ids (known-member (at id) c h.0) (rw h.1 (All-nil (λ id. IsSome (at id))))
   chains-known (id ∷ ids) (More c cs) h =
-      All-cons (λ id. IsSome (at id)) id ids (known (at id) (OfChain c) h.0) (chains-known ids cs h.1)
+      All-cons (λ id. IsSome (at id)) id ids (known-member (at id) c h.0) (chains-known ids cs h.1)
 
   links-known : (ls : List link.Link) (links : Links) → AreLinks at ls links → All (λ (l : link.Link). IsSome (at l.command)) ls
   links-known [] End h = All-nil (λ (l : link.Link). IsSome (at l.command))

@@ -1,22 +1,24 @@
 -- What a function of the parser puts into the tables.
-use Rattle.std.specs.Prelude.{◌≡◌, ℕ, ◌-◌, ◌/◌, length, vec_capacity, take, drop, List, [], ◌∷◌, ◌++◌, Option, Some, None, Result, Ok, Err}
-use Rattle.hush_words.specs.Parts.{Written}
+use Rattle.std.specs.Prelude.{◌≡◌, ℕ, ◌-◌, ◌/◌, length, vec_capacity, take, drop, List, [], ◌∷◌, ◌++◌, Option, Some, None, Result, Ok, Err, ◌≤◌}
+use Rattle.hush_words.specs.Parts.{Written, word_atoms}
 use Rattle.hush_words.specs.Tokens.{Token}
 use Rattle.hush_words.specs.declared.parts.Word.{Word}
 use Rattle.hush_syntax.specs.declared.faults.SyntaxFault.{SyntaxFault}
 use Rattle.hush_syntax.specs.declared.nodes.NodeId.{NodeId}
-use Rattle.hush_syntax.specs.declared.nodes.Operator.{Operator}
 use Rattle.hush_syntax.specs.declared.nodes.Link as link
 use Rattle.hush_syntax.specs.declared.nodes.Branch as branch
-use Rattle.hush_syntax.specs.declared.table.Block.{Block}
-use Rattle.hush_syntax.specs.declared.table.Stored.{Stored}
+use Rattle.hush_syntax.specs.declared.stored.Block.{Block}
+use Rattle.hush_syntax.specs.declared.stored.Stored.{Stored}
+use Rattle.hush_syntax.specs.declared.stored.Stored.TheVariants as stored
 use Rattle.hush_syntax.specs.declared.table.Table.{Table}
 use Rattle.hush_syntax.specs.declared.table.Builder.{Builder}
 use Rattle.hush_syntax.specs.declared.cursor.Tokens.{Tokens}
 use Rattle.hush_syntax.specs.Answers.{Refuses, left_in}
-use Rattle.hush_syntax.specs.Grammar.{Command, Chain, Chains}
+use Rattle.hush_syntax.specs.Grammar.{Command, Simple, Assign, If, For, While, Until, Branches, Elif, Chain, Chains}
 use Rattle.hush_syntax.specs.Reading.{Reader}
-use Rattle.hush_syntax.specs.Nodes.{OfChains, OfChain, OfCommand, At, Members, sub_in, RootAt}
+use Rattle.hush_syntax.specs.Trees.{words_in, name_in}
+use Rattle.hush_syntax.specs.Nodes.{Subtree, OfChains, OfChain, OfCommand, At, AreChains, IsChain, AreBranches, RootAt}
+use Rattle.hush_syntax.specs.Stored.{Members, block_of, subtree_in}
 
 abbrev pub members : List Word → List NodeId → List link.Link → List branch.Branch → Members
 members words chains links branches = record { words = words; chains = chains; links = links; branches = branches }
@@ -30,9 +32,6 @@ followed m n = members (m.words ++ n.words) (m.chains ++ n.chains) (m.links ++ n
 
 abbrev pub none : Members
 none = members [] [] [] []
-
-abbrev pub only_words : List Word → Members
-only_words xs = members xs [] [] []
 
 abbrev pub only_chains : List NodeId → Members
 only_chains xs = members [] xs [] []
@@ -68,11 +67,11 @@ add_branches w xs = waits_of w.chains w.links (w.branches ++ xs)
 abbrev pub IsEmpty : Builder → Type 0
 IsEmpty b = (b.table.nodes.items ≡ []) × (members_of b.table ≡ none) × (waiting b ≡ waits_of [] [] [])
 
--- room for what so many tokens mostly need, before a table grows
+-- room for what so many tokens of ordinary commands need, before a table grows
 abbrev pub HasRoom : ℕ → Builder → Type 0
 HasRoom tokens b =
-    (vec_capacity b.table.nodes ≡ tokens / 2) × (vec_capacity b.table.words ≡ tokens) × (vec_capacity b.table.chains ≡ tokens / 4) ×
-    (vec_capacity b.table.links ≡ tokens / 4) × (vec_capacity b.table.branches ≡ tokens / 32) × (vec_capacity b.chains ≡ tokens / 4)
+    (vec_capacity b.table.nodes ≡ tokens / 3) × (vec_capacity b.table.words ≡ tokens) × (vec_capacity b.table.chains ≡ tokens / 5) ×
+    (vec_capacity b.table.links ≡ tokens / 16) × (vec_capacity b.table.branches ≡ tokens / 32) × (vec_capacity b.chains ≡ tokens / 8)
 
 -- a member waits, and the table stays
 abbrev pub Adds : {X : Type 0} → (Waiting → List X → Waiting) → Builder → Builder → X → Type 0
@@ -87,25 +86,28 @@ Put old new n id =
 -- the members that waited, from the mark on, are in the table, as this block
 abbrev pub SettlesChains : Builder → Builder → ℕ → Block → Type 0
 SettlesChains old new mark block =
-    (block.first ≡ length old.table.chains.items) × (block.len ≡ length old.chains.items - mark) × (new.table.nodes.items ≡ old.table.nodes.items) ×
+    (block.first ≡ length old.table.chains.items) × (block.len ≡ length old.chains.items - mark) ×
+    (new.table.nodes.items ≡ old.table.nodes.items) ×
     (members_of new.table ≡ followed (members_of old.table) (only_chains (drop mark old.chains.items))) ×
     (waiting new ≡ waits_of (take mark old.chains.items) old.links.items old.branches.items)
 
 abbrev pub SettlesLinks : Builder → Builder → ℕ → Block → Type 0
 SettlesLinks old new mark block =
-    (block.first ≡ length old.table.links.items) × (block.len ≡ length old.links.items - mark) × (new.table.nodes.items ≡ old.table.nodes.items) ×
+    (block.first ≡ length old.table.links.items) × (block.len ≡ length old.links.items - mark) ×
+    (new.table.nodes.items ≡ old.table.nodes.items) ×
     (members_of new.table ≡ followed (members_of old.table) (only_links (drop mark old.links.items))) ×
     (waiting new ≡ waits_of old.chains.items (take mark old.links.items) old.branches.items)
 
 abbrev pub SettlesBranches : Builder → Builder → ℕ → Block → Type 0
 SettlesBranches old new mark block =
-    (block.first ≡ length old.table.branches.items) × (block.len ≡ length old.branches.items - mark) × (new.table.nodes.items ≡ old.table.nodes.items) ×
+    (block.first ≡ length old.table.branches.items) × (block.len ≡ length old.branches.items - mark) ×
+    (new.table.nodes.items ≡ old.table.nodes.items) ×
     (members_of new.table ≡ followed (members_of old.table) (only_branches (drop mark old.branches.items))) ×
     (waiting new ≡ waits_of old.chains.items old.links.items (take mark old.branches.items))
 
 -- what the nodes of a table stand for where its members go on with more
 abbrev pub later : Written → Table → Members → At
-later text t more = sub_in text (followed (members_of t) more) t.nodes.items
+later text t more = subtree_in text (followed (members_of t) more) t.nodes.items
 
 -- what stood stands still
 abbrev pub Grows : Table → Table → Type 0
@@ -116,14 +118,8 @@ Grows old new =
 abbrev pub ChainsAt : At → Chains → NodeId → Type 0
 ChainsAt at cs id = at id ≡ Some (OfChains cs)
 
-abbrev pub ChainAt : At → Chain → NodeId → Type 0
-ChainAt at c id = at id ≡ Some (OfChain c)
-
 abbrev pub CommandAt : At → Command → NodeId → Type 0
 CommandAt at c id = at id ≡ Some (OfCommand c)
-
-abbrev pub LinkAt : At → Option Operator × Command → link.Link → Type 0
-LinkAt at x l = (l.operator ≡ x.0) × (at l.command ≡ Some (OfCommand x.1))
 
 abbrev pub BranchAt : At → Chains × Chains → branch.Branch → Type 0
 BranchAt at x b = (at b.condition ≡ Some (OfChains x.0)) × (at b.body ≡ Some (OfChains x.1))
@@ -139,15 +135,50 @@ LoopAt form at x p = (c d : Chains) × (x ≡ form c d) × (at p.0 ≡ Some (OfC
 
 -- what the reader found is what was put behind what stood, with the same tokens left and no member waiting; or it
 -- found nothing
-abbrev pub Builds : {X Y : Type 0} → (At → X → Y → Type 0) → Written → Builder → Builder → Option (X × List Token) → List Token → Result Y SyntaxFault → Type 0
+abbrev pub Builds :
+    {X Y : Type 0} → (At → X → Y → Type 0) → Written → Builder → Builder → Option (X × List Token) → List Token →
+    Result Y SyntaxFault → Type 0
 Builds {X} Is text old new found left (Ok y) =
-    (x : X) × (found ≡ Some (x, left)) × Grows old.table new.table × ((more : Members) → Is (later text new.table more) x y) × (waiting new ≡ waiting old)
+    (x : X) × (found ≡ Some (x, left)) × Grows old.table new.table × ((more : Members) → Is (later text new.table more) x y) ×
+    (waiting new ≡ waiting old)
 Builds Is text old new found left (Err f) = Refuses f.kind (found ≡ None)
 
 -- the same by the reader, which begins at the tokens that were left before and ends at those that are left after
-abbrev pub Parses : {X Y : Type 0} → (At → X → Y → Type 0) → Written → Reader X → Builder → Builder → Tokens → Tokens → Result Y SyntaxFault → Type 0
+abbrev pub Parses :
+    {X Y : Type 0} → (At → X → Y → Type 0) → Written → Reader X → Builder → Builder → Tokens → Tokens → Result Y SyntaxFault → Type 0
 Parses Is text reader old new before after result = Builds Is text old new (reader (left_in text before)) (left_in text after) result
 
 abbrev pub BuildsScript : Written → Builder → Option (Option Chains) → Result (Option NodeId) SyntaxFault → Type 0
 BuildsScript text builder found (Ok root) = (x : Option Chains) × (found ≡ Some x) × ((more : Members) → RootAt (later text builder.table more) x root)
 BuildsScript text builder found (Err f) = Refuses f.kind (found ≡ None)
+
+-- What the tables hold, as the private functions say it.
+
+-- an `if` stands for this; what stands behind `else` is a list, or nothing
+abbrev pub HoldsIf : Members → At → Option Subtree → Block → Option NodeId → Type 0
+HoldsIf members at subtree branches otherwise =
+    (c d : Chains) × (b : Branches) × (subtree ≡ Some (OfCommand (If c d b))) × AreBranches at (block_of branches members.branches) otherwise (Elif c d b)
+
+-- a node as it is stored stands for this, where its children stand for what `at` says; the words of a `for` are its name and
+-- then those behind `in`, those of an assignment its name and its value
+abbrev pub Holds : Written → Members → At → Option Subtree → Stored → Type 0
+Holds text members at subtree (stored.List chains) = (cs : Chains) × (subtree ≡ Some (OfChains cs)) × AreChains at (block_of chains members.chains) cs
+Holds text members at subtree (stored.Chain links) =
+    (c : Chain) × (subtree ≡ Some (OfChain c)) × IsChain at (block_of links members.links) c × (2 ≤ length (block_of links members.links))
+Holds text members at subtree (stored.If branches) = HoldsIf members at subtree branches None
+Holds text members at subtree (stored.IfElse branches otherwise) = HoldsIf members at subtree branches (Some otherwise)
+Holds text members at subtree (stored.For words body) =
+    (n : Word) × (ws : List Word) × (d : Chains) × (block_of words members.words ≡ n ∷ ws) ×
+    (subtree ≡ Some (OfCommand (For (name_in text n) (words_in text ws) d))) × (at body ≡ Some (OfChains d))
+Holds text members at subtree (stored.While condition body) =
+    (c d : Chains) × (subtree ≡ Some (OfCommand (While c d))) × (at condition ≡ Some (OfChains c)) × (at body ≡ Some (OfChains d))
+Holds text members at subtree (stored.Until condition body) =
+    (c d : Chains) × (subtree ≡ Some (OfCommand (Until c d))) × (at condition ≡ Some (OfChains c)) × (at body ≡ Some (OfChains d))
+Holds text members at subtree (stored.Assign sides) =
+    (n v : Word) × (block_of sides members.words ≡ n ∷ v ∷ []) × (subtree ≡ Some (OfCommand (Assign (name_in text n) (word_atoms text v))))
+Holds text members at subtree (stored.Simple words) = subtree ≡ Some (OfCommand (Simple (words_in text (block_of words members.words))))
+
+-- an `if`, with `else` or without
+abbrev pub if_stored : Block → Option NodeId → Stored
+if_stored branches None = stored.If branches
+if_stored branches (Some otherwise) = stored.IfElse branches otherwise

@@ -1,5 +1,5 @@
 -- The faults of a script that its words and the parser's next token give (docs/scripts.md, "Faults").
-use Rattle.std.specs.Prelude.{ℕ, List, [], ◌∷◌, if◌then◌else◌}
+use Rattle.std.specs.Prelude.{ℕ, Option, Some, None, if◌then◌else◌}
 use Rattle.hush_words.specs.declared.faults.Fault.{Fault}
 use Rattle.hush_words.specs.declared.faults.FaultKind as words
 use Rattle.hush_words.specs.declared.faults.FaultKind.TheVariants as word
@@ -23,12 +23,12 @@ abbrev pub word_fault : Fault → SyntaxFault
 word_fault f = record { place = f.place; kind = word_kind f.kind }
 
 -- what is wrong where the next token can't stand, or where there is none and something must still come
-abbrev pub first_fault : List Token → SyntaxFault → SyntaxFault
-first_fault [] end = end
-first_fault (t ∷ ts) end = record { place = t.place; kind = fault.Unexpected }
+abbrev pub first_fault : Option Token → SyntaxFault → SyntaxFault
+first_fault None end = end
+first_fault (Some t) end = record { place = t.place; kind = fault.Unexpected }
 
 abbrev pub fault_at : Tokens → SyntaxFault
-fault_at tokens = first_fault tokens.left.now tokens.end
+fault_at tokens = first_fault tokens.next tokens.end
 
 -- what is wrong where a text of so many bytes ends and something must still come
 abbrev pub missing_at : ℕ → SyntaxFault

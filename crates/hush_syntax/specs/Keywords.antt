@@ -1,8 +1,7 @@
 -- The reserved words (docs/scripts.md, "Grammar").
-use Rattle.std.specs.Prelude.{ℕ, ◌&&◌, Bool, List, [], ◌∷◌, codes, find, Option, is_some}
+use Rattle.std.specs.Prelude.{ℕ, Bool, List, [], ◌∷◌, codes, find, Option, is_some}
 use Rattle.hush_words.specs.Words.{Atom}
 use Rattle.hush_words.specs.Forms.{is_plain}
-use Rattle.hush_words.specs.Steps.{begins}
 use Rattle.hush_syntax.specs.declared.keywords.Keyword.{Keyword}
 use Rattle.hush_syntax.specs.declared.keywords.Keyword.TheVariants.{If, Then, Elif, Else, Fi, For, While, Until, Do, Done}
 
@@ -24,10 +23,6 @@ keywords = If ∷ Then ∷ Elif ∷ Else ∷ Fi ∷ For ∷ While ∷ Until ∷ 
 -- the reserved word that this word would be where a command may begin
 unfoldable pub keyword_of : List Atom → Option Keyword
 keyword_of word = find (λ keyword. is_plain (spelling keyword) word) keywords
-
--- the same among the words that begin with this byte
-abbrev pub keyword_from : ℕ → List Atom → Option Keyword
-keyword_from first word = find (λ keyword. begins first (spelling keyword) && is_plain (spelling keyword) word) keywords
 
 abbrev pub is_reserved : List Atom → Bool
 is_reserved word = is_some (keyword_of word)

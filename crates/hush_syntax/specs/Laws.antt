@@ -11,7 +11,8 @@ OneTree = (text : List ℕ) (script other : Option Chains) → SpellsText script
 -- the script that is read of tokens is exactly the one that they spell
 abbrev pub TreesAreRead : Type 0
 TreesAreRead =
-    (tokens : List Token) (script : Option Chains) → (script_of tokens ≡ Some script) ↔ (SpellsScript script tokens × (script_depth script ≤ nest_limit))
+    (tokens : List Token) (script : Option Chains) →
+    (script_of tokens ≡ Some script) ↔ (SpellsScript script tokens × (script_depth script ≤ nest_limit))
 
 -- the script that is read of a text is exactly the one that it spells
 abbrev pub ScriptsAreRead : Type 0

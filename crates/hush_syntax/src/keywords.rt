@@ -21,7 +21,8 @@ pub(crate) enum Keyword {
 
 impl Keyword {
     ghost use Rattle.hush_words.specs.Steps.{begins};
-    ghost use Rattle.hush_syntax.specs.Keywords.{spelling, keyword_of, keyword_from};
+    ghost use Rattle.hush_syntax.specs.Answers.{keyword_from};
+    ghost use Rattle.hush_syntax.specs.Keywords.{spelling, keyword_of};
     ghost use Rattle.hush_syntax.specs.Reading.{is_closing};
 
     const ALL: [Keyword; 10] = [
@@ -51,16 +52,6 @@ impl Keyword {
             Keyword::Until => b"until",
             Keyword::Do => b"do",
             Keyword::Done => b"done",
-        }
-    }
-
-    /// Whether its text begins with this byte.
-    fn begins_with(self, byte: u8) -> bool
-        ensures { result ≡ begins byte (spelling self) }
-    {
-        match self.text().first() {
-            Some(first) => *first == byte,
-            None => false,
         }
     }
 
@@ -94,6 +85,16 @@ impl Keyword {
             | Keyword::Do
             | Keyword::Done => true,
             Keyword::If | Keyword::For | Keyword::While | Keyword::Until => false,
+        }
+    }
+
+    /// Whether its text begins with this byte.
+    fn begins_with(self, byte: u8) -> bool
+        ensures { result ≡ begins byte (spelling self) }
+    {
+        match self.text().first() {
+            Some(first) => *first == byte,
+            None => false,
         }
     }
 }

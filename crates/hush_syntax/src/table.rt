@@ -1,51 +1,14 @@
 //! The tables that hold a script's nodes.
 
-ghost use Rattle.std.specs.Prelude.{◌≡◌, ◌≤◌, ◌-◌, ◌++◌, length, take, drop, IfOk, IfErr, OnOk};
+ghost use Rattle.std.specs.Prelude.{◌≡◌, ◌≤◌, ◌-◌, ◌++◌, [], ◌∷◌, length, take, drop, IfOk, IfErr, OnOk};
 ghost use Rattle.hush_syntax.specs.declared.faults.FaultKind.TheVariants.{Memory};
 
 use crate::SyntaxFault;
 use crate::cursor::Tokens;
 use crate::nodes::{Branch, Link, NodeId};
-use hush_words::Word;
+use crate::stored::{Block, Stored};
+use hush_words::{Text, Word};
 use std::alloc::{AllocError, Global};
-
-/// Members of a table that stand one behind the other: from this one on, so many.
-#[derive(Clone, Copy, Debug)]
-pub(crate) struct Block {
-    pub(crate) first: u32,
-    pub(crate) len: u32,
-}
-
-/// A node, whose members stand in the other tables.
-#[derive(Clone, Copy, Debug)]
-pub(crate) enum Stored {
-    List(Block),
-    Chain(Block),
-    If {
-        branches: Block,
-        otherwise: Option<NodeId>,
-    },
-    For {
-        name: Word,
-        words: Block,
-        body: NodeId,
-    },
-    While {
-        condition: NodeId,
-        body: NodeId,
-    },
-    Until {
-        condition: NodeId,
-        body: NodeId,
-    },
-    Assign {
-        name: Word,
-        value: Word,
-    },
-    Simple {
-        words: Block,
-    },
-}
 
 /// The nodes of a script and their members, a table of each kind.
 #[derive(Debug, Drop)]
@@ -68,28 +31,28 @@ pub(crate) struct Builder {
 }
 
 impl Builder {
-    ghost use Rattle.hush_words.specs.Parts.{Written};
+    ghost use Rattle.hush_words.specs.Parts.{word_atoms};
     ghost use Rattle.hush_syntax.specs.Answers.{left_in};
     ghost use Rattle.hush_syntax.specs.Builders.{Put, Adds, SettlesChains, SettlesLinks, SettlesBranches, Grows, IsEmpty, HasRoom, waiting, add_chains, add_links, add_branches};
-    ghost use Rattle.hush_syntax.specs.Nodes.{Members, block_of};
+    ghost use Rattle.hush_syntax.specs.Stored.{Members, block_of};
     ghost use Rattle.hush_syntax.specs.Reading.{skip, is_word, words_at};
     ghost use Rattle.hush_syntax.specs.Trees.{words_in};
 
-    /// Tables without members. They have the room that so many tokens mostly need, which spares them growths: no more
-    /// words than tokens, half as many nodes, a quarter as many chains and links, and few branches.
+    /// Tables without members. They have the room that so many tokens of ordinary commands need, which spares them growths:
+    /// no more words than tokens, a third as many nodes, a fifth as many chains, and few links and branches.
     pub(crate) fn new(alloc: Global, tokens: usize) -> Result<Builder, AllocError>
         ensures empty { IfOk result IsEmpty }
         ensures room { IfOk result (HasRoom tokens) }
     {
         Ok(Builder {
             table: Table {
-                nodes: Vec::with_capacity(alloc, tokens / 2)?,
+                nodes: Vec::with_capacity(alloc, tokens / 3)?,
                 words: Vec::with_capacity(alloc, tokens)?,
-                chains: Vec::with_capacity(alloc, tokens / 4)?,
-                links: Vec::with_capacity(alloc, tokens / 4)?,
+                chains: Vec::with_capacity(alloc, tokens / 5)?,
+                links: Vec::with_capacity(alloc, tokens / 16)?,
                 branches: Vec::with_capacity(alloc, tokens / 32)?,
             },
-            chains: Vec::with_capacity(alloc, tokens / 4)?,
+            chains: Vec::with_capacity(alloc, tokens / 8)?,
             links: Vec::new(alloc),
             branches: Vec::new(alloc),
         })
@@ -105,16 +68,55 @@ impl Builder {
     }
 
     /// Takes the words that come next into the table.
-    pub(crate) fn take_words(&mut self, tokens: &mut Tokens<'_>) -> Result<Block, SyntaxFault>
-        ensures words { IfOk result (λ block. (text : Written) (more : Members) → words_in text
-            (block_of block (self.new.table.words.items ++ more.words)) ≡ words_at (left_in text tokens.old)) }
+    pub(crate) fn take_words(
+        &mut self,
+        text: &Text,
+        tokens: &mut Tokens,
+    ) -> Result<Block, SyntaxFault>
+        ensures words { IfOk result (λ block. (more : Members) → words_in text.now
+            (block_of block (self.new.table.words.items ++ more.words)) ≡ words_at (left_in text.now tokens.old)) }
         ensures grows { OnOk result (Grows self.old.table self.new.table) }
         ensures waits { OnOk result (waiting self.new ≡ waiting self.old) }
-        ensures left { OnOk result ((text : Written) → left_in text tokens.new ≡ skip is_word (left_in text tokens.old)) }
+        ensures left { OnOk result (left_in text.now tokens.new ≡ skip is_word (left_in text.now tokens.old)) }
         ensures refused { IfErr result (λ f. f.kind ≡ Memory) }
     {
         let first = count(&self.table.words);
-        tokens.words(&mut self.table.words)?;
+        tokens.words(text, &mut self.table.words)?;
+        let block = block_from(first, &self.table.words)?;
+        Ok(block)
+    }
+
+    /// Takes a name and the words that come next into the table.
+    pub(crate) fn take_named(
+        &mut self,
+        name: Word,
+        text: &Text,
+        tokens: &mut Tokens,
+    ) -> Result<Block, SyntaxFault>
+        ensures words { IfOk result (λ block. (more : Members) → words_in text.now
+            (block_of block (self.new.table.words.items ++ more.words)) ≡ word_atoms text.now name ∷ words_at (left_in text.now tokens.old)) }
+        ensures grows { OnOk result (Grows self.old.table self.new.table) }
+        ensures waits { OnOk result (waiting self.new ≡ waiting self.old) }
+        ensures left { OnOk result (left_in text.now tokens.new ≡ skip is_word (left_in text.now tokens.old)) }
+        ensures refused { IfErr result (λ f. f.kind ≡ Memory) }
+    {
+        let first = count(&self.table.words);
+        self.table.words.push(name)?;
+        tokens.words(text, &mut self.table.words)?;
+        let block = block_from(first, &self.table.words)?;
+        Ok(block)
+    }
+
+    /// Puts the two sides of an assignment into the table of words.
+    pub(crate) fn put_sides(&mut self, name: Word, value: Word) -> Result<Block, AllocError>
+        ensures words { IfOk result (λ block. (more : Members) →
+            block_of block (self.new.table.words.items ++ more.words) ≡ name ∷ value ∷ []) }
+        ensures grows { OnOk result (Grows self.old.table self.new.table) }
+        ensures waits { OnOk result (waiting self.new ≡ waiting self.old) }
+    {
+        let first = count(&self.table.words);
+        self.table.words.push(name)?;
+        self.table.words.push(value)?;
         let block = block_from(first, &self.table.words)?;
         Ok(block)
     }

@@ -6,7 +6,7 @@ use Rattle.std.proofs.lemmas.Bool.{not-true, not-false, not_from_false, not_from
 use Rattle.hush_words.specs.Words.{Piece, piece_text, FitsPiece, FitAll, next, is_blank, ends_word, is_bare, is_special}
 use Rattle.hush_words.specs.Words.Piece.{Bare, Joined}
 use Rattle.hush_words.specs.Tokens.{lexeme_text, FitsLexeme, opens_word}
-use Rattle.hush_words.specs.Tokens.Lexeme.{WordOf, EndOfLine, Separator, And, Or, Blank, JoinedLine, Comment}
+use Rattle.hush_words.specs.Tokens.Lexeme.{WordOf, EndOfLine, SemicolonLexeme, And, Or, Blank, JoinedLine, Comment}
 use Rattle.hush_words.specs.Reading.{found, front, behind, all, closed, piece_at, word_of, joined_line, passed_at, lexeme_at}
 use Rattle.hush_words.proofs.Fronts.{on_test, on_byte, front-append, behind-append, front-behind, front-all, behind-next}
 use Rattle.hush_words.proofs.Many.{FoundFits, Heads, Takes, Finds, many-list, many-fits, Shortens, shortens, all-none, all-some}
@@ -74,7 +74,7 @@ passed-newline : (r : List ℕ) → passed_at (10 ∷ r) ≡ found EndOfLine r
 unfolding passed_at is_blank
 passed-newline r = refl
 
-passed-semicolon : (r : List ℕ) → passed_at (59 ∷ r) ≡ found Separator r
+passed-semicolon : (r : List ℕ) → passed_at (59 ∷ r) ≡ found SemicolonLexeme r
 unfolding passed_at is_blank
 passed-semicolon r = refl
 
@@ -117,7 +117,7 @@ bare-35 = refl
 pub lexeme-newline : (r : List ℕ) → lexeme_at (10 ∷ r) ≡ found EndOfLine r
 lexeme-newline r = passed-end 10 r ends-10 ∙ passed-newline r
 
-pub lexeme-semicolon : (r : List ℕ) → lexeme_at (59 ∷ r) ≡ found Separator r
+pub lexeme-semicolon : (r : List ℕ) → lexeme_at (59 ∷ r) ≡ found SemicolonLexeme r
 lexeme-semicolon r = passed-end 59 r ends-59 ∙ passed-semicolon r
 
 pub lexeme-and : (r : List ℕ) → lexeme_at (38 ∷ r) ≡ closed 38 And r
@@ -152,7 +152,7 @@ lexeme-heads (WordOf ps) r fit =
     fit.0
     ∙ (let e : next ends_word r ≡ true = fit.2 in rw e refl)
 lexeme-heads EndOfLine r fit = lexeme-newline r
-lexeme-heads Separator r fit = lexeme-semicolon r
+lexeme-heads SemicolonLexeme r fit = lexeme-semicolon r
 lexeme-heads And r fit = lexeme-and (38 ∷ r)
 lexeme-heads Or r fit = lexeme-or (124 ∷ r)
 lexeme-heads (Blank b) r fit = lexeme-blank b r fit
@@ -206,7 +206,7 @@ word-takes (p ∷ ps) r e fit = omega (arith, piece-takes p _ fit.0, length-appe
 pub lexeme-takes : Takes lexeme_text FitsLexeme
 lexeme-takes (WordOf ps) r fit = word-takes ps r fit.0 fit.1
 lexeme-takes EndOfLine r fit = omega arith
-lexeme-takes Separator r fit = omega arith
+lexeme-takes SemicolonLexeme r fit = omega arith
 lexeme-takes And r fit = omega arith
 lexeme-takes Or r fit = omega arith
 lexeme-takes (Blank b) r fit = omega arith

@@ -1,6 +1,8 @@
 pub mod Fronts
 pub mod Many
 pub mod Finders
+pub mod ClassLemmas
+pub mod BareLemmas
 pub mod Pieces
 pub mod Lexemes
 pub mod Whole
@@ -8,6 +10,7 @@ pub mod Told
 pub mod Runs
 pub mod DollarLemmas
 pub mod Inners
+pub mod PieceLemmas
 pub mod QuoteLemmas
 pub mod WordLemmas
 pub mod TextLemmas
@@ -17,4 +20,5 @@ pub mod NameRuns
 pub mod FormLemmas
 pub mod Rows
 pub mod RangeLemmas
+pub mod WalkLemmas
 pub mod PlainRuns

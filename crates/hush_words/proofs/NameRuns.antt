@@ -1,19 +1,24 @@
--- What a range of plain bytes is to a name and to an assignment.
-use Rattle.std.specs.Prelude.{◌≡◌, ℕ, suc, ◌+◌, ◌-◌, ◌<◌, ◌≤◌, ◌==◌, ◌||◌, ◌&&◌, Bool, true, false, not, List, [], ◌∷◌, ◌++◌, map, length, take, drop, Option, Some, None}
+-- How far the name goes that unquoted plain bytes begin.
+use Rattle.std.specs.Prelude.{◌≡◌, ℕ, ◌+◌, ◌-◌, ◌<◌, ◌≤◌, ◌==◌, ◌&&◌, Bool, true, false, not, List, [], ◌∷◌, ◌++◌, map, length, take, drop, Option, Some, None, is_some}
 use Rattle.std.specs.List.{list_all}
 use Rattle.std.specs.Option.{option_map}
-use Rattle.std.proofs.Common.{refl, sym, ◌∙◌, ap, subst, arith, length-take, get_or, inl, inr}
-use Rattle.std.proofs.lemmas.Bool.{cases_Bool, not-true, ne_eqb, cond-true, cond-false, and_right}
-use Rattle.std.proofs.lemmas.List.{take_all, drop_all}
-use Rattle.std.proofs.Math.Seq.{drop-cons}
-use Rattle.hush_words.specs.Words.{Atom, is_in_name, next}
+use Rattle.std.proofs.Common.{refl, sym, ◌∙◌, ap, subst, arith, append_assoc, append-nil}
+use Rattle.std.proofs.lemmas.Bool.{and_parts, cond-true, cond-false, both_ways}
+use Rattle.std.proofs.lemmas.List.{map-append}
+use Rattle.hush_words.specs.Words.{Atom, Piece, Dollar, piece_atoms, begins_name, is_in_name, is_bare, is_special, ends_word, is_blank}
 use Rattle.hush_words.specs.Words.Atom.{Plain}
-use Rattle.hush_words.specs.Forms.{goes_on, with_byte, name_from, value_from, assignment_from}
-use Rattle.hush_words.specs.Reading.{front, behind}
-use Rattle.hush_words.specs.Steps.{name_front, name_behind, behind_front, behind_name, StandsAt, IsRun}
-use Rattle.hush_words.proofs.DollarLemmas.{in_name}
-use Rattle.hush_words.proofs.Fronts.{behind-next}
-use Rattle.hush_words.proofs.RangeLemmas.{none-there}
+use Rattle.hush_words.specs.Words.Dollar.{Name, Braces, LastStatus, Alone}
+use Rattle.hush_words.specs.Words.Piece.{Bare, Joined, Single, Double}
+use Rattle.hush_words.specs.Forms.{goes_on, with_byte, name_from, name_of, value_from, assignment_from, assignment_of}
+use Rattle.hush_words.specs.Reading.{Found, found, front, behind, all, as_piece, closed, dollar_at, inner_at, escape_at, single_at, double_at, piece_at, piece_left}
+use Rattle.hush_words.specs.Parts.{range_bytes}
+use Rattle.hush_words.specs.Steps.{begins, behind_front, behind_name, StandsAt, IsRun, GoesOn, ReadsPlain, NameStops, SplitsAt}
+use Rattle.hush_words.proofs.ClassLemmas.{name-bare}
+use Rattle.hush_words.proofs.DollarLemmas.{in_name, begins-here}
+use Rattle.hush_words.proofs.Fronts.{on_test, front-all}
+use Rattle.hush_words.proofs.Inners.{run-takes}
+use Rattle.hush_words.proofs.Pieces.{piece-bare, piece-backslash, escape-newline}
+use Rattle.hush_words.proofs.PieceLemmas.{piece-one, piece-none, piece-run, nothing-left, nothing, range-rest, range-join}
 
 -- names
 shifted-name : (b : ℕ) (front : List ℕ) (o : Option (List ℕ)) → option_map (λ n. b ∷ n) (behind_name front o) ≡ behind_name (b ∷ front) o
@@ -33,178 +38,258 @@ same-assignment : (o : Option (List ℕ × List Atom)) → o ≡ behind_front []
 same-assignment None = refl
 same-assignment (Some f) = refl
 
-run-name : (bs : List ℕ) (more : List Atom) →
-    name_from true (map Plain bs ++ more) ≡ behind_name (front is_in_name bs) (name_from true (map Plain (behind is_in_name bs) ++ more))
-run-name [] more = same-name (name_from true more)
-run-name (b ∷ bs) more =
-    elim (cases_Bool (is_in_name b)) [
-      | inl e ↦ rw e (ap (λ o. option_map (λ n. b ∷ n) o) (run-name bs more)
-          ∙ shifted-name b (front is_in_name bs) (name_from true (map Plain (behind is_in_name bs) ++ more)))
-      | inr e ↦ rw e (rw e refl)
-    ]
-
-run-assignment : (bs : List ℕ) (more : List Atom) →
-    assignment_from true (map Plain bs ++ more) ≡ behind_front (front is_in_name bs) (assignment_from true (map Plain (behind is_in_name bs) ++ more))
-run-assignment [] more = same-assignment (assignment_from true more)
-run-assignment (b ∷ bs) more =
-    elim (cases_Bool (is_in_name b)) [
-      | inl e ↦ rw e (ap (λ o. option_map (with_byte b) o) (run-assignment bs more)
-          ∙ shifted-assignment b (front is_in_name bs) (assignment_from true (map Plain (behind is_in_name bs) ++ more)))
-      | inr e ↦ rw e (rw e (same-assignment (value_from true b (map Plain bs ++ more))))
-    ]
-
--- whether the name has begun behind this front of it
-abbrev pub now : Bool → List ℕ → Bool
-now begun front = begun || not (length front == 0)
-
-now-none : (begun : Bool) → begun ≡ now begun []
-now-none true = refl
-now-none false = refl
-
-now-some : (begun : Bool) (b : ℕ) (bs : List ℕ) → now begun (b ∷ bs) ≡ true
-now-some true b bs = refl
-now-some false b bs =
-    let e : (length (b ∷ bs) == 0) ≡ false = ne_eqb (length (b ∷ bs)) 0 (λ e. omega arith) in rw e refl
-
-pub part-name : (begun : Bool) (bytes k r : List ℕ) (more : List Atom) → k ≡ name_front begun bytes → r ≡ name_behind begun bytes →
-    name_from begun (map Plain bytes ++ more) ≡ behind_name k (name_from (now begun k) (map Plain r ++ more))
-part-name begun [] k r more ek er =
-    same-name (name_from begun more) ∙ ap (λ t. behind_name [] (name_from t more)) (now-none begun)
-    ∙ ap (λ q. behind_name q (name_from (now begun q) more)) (sym ek) ∙ ap (λ q. behind_name k (name_from (now begun k) (map Plain q ++ more))) (sym er)
-part-name begun (b ∷ bs) k r more ek er =
-    elim (cases_Bool (goes_on begun b)) [
-      | inl e ↦
-          let ek' : k ≡ b ∷ front is_in_name bs = ek ∙ cond-true (goes_on begun b) (b ∷ front is_in_name bs) [] e in
-          let er' : r ≡ behind is_in_name bs = er ∙ cond-true (goes_on begun b) (behind is_in_name bs) (b ∷ bs) e in
-          cond-true (goes_on begun b) (option_map (λ n. b ∷ n) (name_from true (map Plain bs ++ more))) None e
-          ∙ ap (λ o. option_map (λ n. b ∷ n) o) (run-name bs more)
-          ∙ shifted-name b (front is_in_name bs) (name_from true (map Plain (behind is_in_name bs) ++ more))
-          ∙ ap (λ t. behind_name (b ∷ front is_in_name bs) (name_from t (map Plain (behind is_in_name bs) ++ more))) (sym (now-some begun b (front is_in_name bs)))
-          ∙ ap (λ q. behind_name q (name_from (now begun q) (map Plain (behind is_in_name bs) ++ more))) (sym ek')
-          ∙ ap (λ q. behind_name k (name_from (now begun k) (map Plain q ++ more))) (sym er')
-      | inr e ↦
-          let ek' : k ≡ [] = ek ∙ cond-false (goes_on begun b) (b ∷ front is_in_name bs) [] e in
-          let er' : r ≡ b ∷ bs = er ∙ cond-false (goes_on begun b) (behind is_in_name bs) (b ∷ bs) e in
-          same-name (name_from begun (map Plain (b ∷ bs) ++ more))
-          ∙ ap (λ t. behind_name [] (name_from t (map Plain (b ∷ bs) ++ more))) (now-none begun)
-          ∙ ap (λ q. behind_name q (name_from (now begun q) (map Plain (b ∷ bs) ++ more))) (sym ek')
-          ∙ ap (λ q. behind_name k (name_from (now begun k) (map Plain q ++ more))) (sym er')
-    ]
-
-pub part-assignment : (begun : Bool) (bytes k r : List ℕ) (more : List Atom) → k ≡ name_front begun bytes → r ≡ name_behind begun bytes →
-    assignment_from begun (map Plain bytes ++ more) ≡ behind_front k (assignment_from (now begun k) (map Plain r ++ more))
-part-assignment begun [] k r more ek er =
-    same-assignment (assignment_from begun more) ∙ ap (λ t. behind_front [] (assignment_from t more)) (now-none begun)
-    ∙ ap (λ q. behind_front q (assignment_from (now begun q) more)) (sym ek) ∙ ap (λ q. behind_front k (assignment_from (now begun k) (map Plain q ++ more))) (sym er)
-part-assignment begun (b ∷ bs) k r more ek er =
-    elim (cases_Bool (goes_on begun b)) [
-      | inl e ↦
-          let ek' : k ≡ b ∷ front is_in_name bs = ek ∙ cond-true (goes_on begun b) (b ∷ front is_in_name bs) [] e in
-          let er' : r ≡ behind is_in_name bs = er ∙ cond-true (goes_on begun b) (behind is_in_name bs) (b ∷ bs) e in
-          cond-true (goes_on begun b) (option_map (with_byte b) (assignment_from true (map Plain bs ++ more))) (value_from begun b (map Plain bs ++ more)) e
-          ∙ ap (λ o. option_map (with_byte b) o) (run-assignment bs more)
-          ∙ shifted-assignment b (front is_in_name bs) (assignment_from true (map Plain (behind is_in_name bs) ++ more))
-          ∙ ap (λ t. behind_front (b ∷ front is_in_name bs) (assignment_from t (map Plain (behind is_in_name bs) ++ more))) (sym (now-some begun b (front is_in_name bs)))
-          ∙ ap (λ q. behind_front q (assignment_from (now begun q) (map Plain (behind is_in_name bs) ++ more))) (sym ek')
-          ∙ ap (λ q. behind_front k (assignment_from (now begun k) (map Plain q ++ more))) (sym er')
-      | inr e ↦
-          let ek' : k ≡ [] = ek ∙ cond-false (goes_on begun b) (b ∷ front is_in_name bs) [] e in
-          let er' : r ≡ b ∷ bs = er ∙ cond-false (goes_on begun b) (behind is_in_name bs) (b ∷ bs) e in
-          same-assignment (assignment_from begun (map Plain (b ∷ bs) ++ more))
-          ∙ ap (λ t. behind_front [] (assignment_from t (map Plain (b ∷ bs) ++ more))) (now-none begun)
-          ∙ ap (λ q. behind_front q (assignment_from (now begun q) (map Plain (b ∷ bs) ++ more))) (sym ek')
-          ∙ ap (λ q. behind_front k (assignment_from (now begun k) (map Plain q ++ more))) (sym er')
-    ]
-
-ends-true : (bs : List ℕ) (c : ℕ) (cs : List ℕ) → behind is_in_name bs ≡ c ∷ cs → is_in_name c ≡ false
-ends-true bs c cs e = not-true (is_in_name c) (subst (λ l. next (λ b. not (is_in_name b)) l ≡ true) e (behind-next is_in_name bs))
-
--- the byte behind the name doesn't go on with it
-pub front-ends : (begun : Bool) (bytes k : List ℕ) (c : ℕ) (cs : List ℕ) → k ≡ name_front begun bytes → name_behind begun bytes ≡ c ∷ cs →
-    goes_on (now begun k) c ≡ false
-front-ends begun [] k c cs ek e = absurd (cc)
-front-ends begun (b ∷ bs) k c cs ek e =
-    elim (cases_Bool (goes_on begun b)) [
-      | inl on ↦
-          let ek' : k ≡ b ∷ front is_in_name bs = ek ∙ cond-true (goes_on begun b) (b ∷ front is_in_name bs) [] on in
-          let e' : behind is_in_name bs ≡ c ∷ cs = sym (cond-true (goes_on begun b) (behind is_in_name bs) (b ∷ bs) on) ∙ e in
-          ap (λ q. goes_on (now begun q) c) ek' ∙ ap (λ t. goes_on t c) (now-some begun b (front is_in_name bs)) ∙ ends-true bs c cs e'
-      | inr off ↦
-          let ek' : k ≡ [] = ek ∙ cond-false (goes_on begun b) (b ∷ front is_in_name bs) [] off in
-          let e' : b ∷ bs ≡ c ∷ cs = sym (cond-false (goes_on begun b) (behind is_in_name bs) (b ∷ bs) off) ∙ e in
-          let same : b ≡ c = cc in
-          ap (λ q. goes_on (now begun q) c) ek' ∙ ap (λ t. goes_on t c) (sym (now-none begun)) ∙ ap (goes_on begun) (sym same) ∙ off
-    ]
-
-now-is : (begun : Bool) (k : List ℕ) (len : ℕ) → length k ≡ len → now begun k ≡ begun || not (len == 0)
-now-is begun k len e = ap (λ n. begun || not (n == 0)) e
-
--- a whole range goes on with a name
-pub range-on : (begun goes : Bool) (bytes : List ℕ) (len : ℕ) → take len bytes ≡ name_front begun bytes → drop len bytes ≡ name_behind begun bytes →
-    len ≡ length bytes → goes ≡ begun || not (len == 0) →
-    ((more : List Atom) → name_from begun (map Plain bytes ++ more) ≡ behind_name bytes (name_from goes more)) ×
-    ((more : List Atom) → assignment_from begun (map Plain bytes ++ more) ≡ behind_front bytes (assignment_from goes more))
-range-on begun goes bytes len ek er whole is =
-    let k : bytes ≡ name_front begun bytes = sym (take_all len bytes (omega arith)) ∙ ek in
-    let none : [] ≡ name_behind begun bytes = sym (drop_all len bytes (omega arith)) ∙ er in
-    let t : now begun bytes ≡ goes = now-is begun bytes len (sym whole) ∙ sym is in (
-      λ more. part-name begun bytes bytes [] more k none ∙ ap (λ u. behind_name bytes (name_from u more)) t,
-      λ more. part-assignment begun bytes bytes [] more k none ∙ ap (λ u. behind_front bytes (assignment_from u more)) t,
+-- bytes that go on with a name
+run-on : (bs : List ℕ) → list_all is_in_name bs ≡ true → GoesOn true bs true
+run-on [] all = (λ more. same-name (name_from true more), λ more. same-assignment (assignment_from true more))
+run-on (b ∷ bs) all =
+    let p = and_parts (is_in_name b) (list_all is_in_name bs) all in
+    let e : is_in_name b ≡ true = p.0 in
+    let rest = run-on bs p.1 in (
+      λ more. rw e (ap (λ o. option_map (λ n. b ∷ n) o) (rest.0 more) ∙ shifted-name b bs (name_from true more)),
+      λ more. rw e (ap (λ o. option_map (with_byte b) o) (rest.1 more) ∙ shifted-assignment b bs (assignment_from true more)),
     )
 
-stopped : (begun goes : Bool) (bytes : List ℕ) (len : ℕ) → take len bytes ≡ name_front begun bytes → drop len bytes ≡ name_behind begun bytes →
-    len ≤ length bytes → (len ≡ length bytes → ⊥) → goes ≡ begun || not (len == 0) → (more : List Atom) →
-    (name_from begun (map Plain bytes ++ more) ≡ None) ×
-    (assignment_from begun (map Plain bytes ++ more) ≡ behind_front (take len bytes) (value_from goes (get_or bytes len 0) (map Plain (drop (len + 1) bytes) ++ more)))
-stopped begun goes bytes len ek er within short is more =
-    let c : ℕ = get_or bytes len 0 in
-    let lt : len < length bytes = omega arith in
-    let one : len + 1 ≡ suc len = omega arith in
-    let rest : drop len bytes ≡ c ∷ drop (len + 1) bytes = drop-cons bytes len 0 lt ∙ ap (λ n. c ∷ drop n bytes) (sym one) in
-    let size : length (take len bytes) ≡ len = omega (arith, length-take len bytes) in
-    let t : now begun (take len bytes) ≡ goes = now-is begun (take len bytes) len size ∙ sym is in
-    let off : goes_on goes c ≡ false = ap (λ u. goes_on u c) (sym t) ∙ front-ends begun bytes (take len bytes) c (drop (len + 1) bytes) ek (sym er ∙ rest) in
-    let back : List Atom = map Plain (drop (len + 1) bytes) ++ more in (
-      part-name begun bytes (take len bytes) (drop len bytes) more ek er
-          ∙ ap (λ u. behind_name (take len bytes) (name_from u (map Plain (drop len bytes) ++ more))) t
-          ∙ ap (λ l. behind_name (take len bytes) (name_from goes (map Plain l ++ more))) rest
-          ∙ ap (behind_name (take len bytes)) (cond-false (goes_on goes c) (option_map (λ n. c ∷ n) (name_from true back)) None off),
-      part-assignment begun bytes (take len bytes) (drop len bytes) more ek er
-          ∙ ap (λ u. behind_front (take len bytes) (assignment_from u (map Plain (drop len bytes) ++ more))) t
-          ∙ ap (λ l. behind_front (take len bytes) (assignment_from goes (map Plain l ++ more))) rest
-          ∙ ap (behind_front (take len bytes)) (cond-false (goes_on goes c) (option_map (with_byte c) (assignment_from true back)) (value_from goes c back) off),
+name-on : (begun : Bool) (b : ℕ) (bs : List ℕ) → goes_on begun b ≡ true → list_all is_in_name bs ≡ true → GoesOn begun (b ∷ bs) true
+name-on begun b bs e all =
+    let rest = run-on bs all in (
+      λ more. cond-true (goes_on begun b) (option_map (λ n. b ∷ n) (name_from true (map Plain bs ++ more))) None e
+          ∙ ap (λ o. option_map (λ n. b ∷ n) o) (rest.0 more) ∙ shifted-name b bs (name_from true more),
+      λ more. cond-true (goes_on begun b) (option_map (with_byte b) (assignment_from true (map Plain bs ++ more))) (value_from begun b (map Plain bs ++ more)) e
+          ∙ ap (λ o. option_map (with_byte b) o) (rest.1 more) ∙ shifted-assignment b bs (assignment_from true more),
     )
 
-range-stops : (begun goes : Bool) (bytes : List ℕ) (len : ℕ) → take len bytes ≡ name_front begun bytes → drop len bytes ≡ name_behind begun bytes →
-    len ≤ length bytes → (len ≡ length bytes → ⊥) → goes ≡ begun || not (len == 0) → goes && get_or bytes len 0 == 61 ≡ false →
-    ((more : List Atom) → name_from begun (map Plain bytes ++ more) ≡ None) × ((more : List Atom) → assignment_from begun (map Plain bytes ++ more) ≡ None)
-range-stops begun goes bytes len ek er within short is no' = (
-  λ more. (stopped begun goes bytes len ek er within short is more).0,
-  λ more. (stopped begun goes bytes len ek er within short is more).1
-      ∙ ap (behind_front (take len bytes)) (cond-false (goes && get_or bytes len 0 == 61) (Some ([], map Plain (drop (len + 1) bytes) ++ more)) None no'),
+pub none-on : (begun : Bool) → GoesOn begun [] begun
+none-on begun = (λ more. same-name (name_from begun more), λ more. same-assignment (assignment_from begun more))
+
+twice-name : (front k : List ℕ) (o : Option (List ℕ)) → behind_name front (behind_name k o) ≡ behind_name (front ++ k) o
+twice-name front k None = refl
+twice-name front k (Some n) = ap (λ l. Some l) (sym (append_assoc front k n))
+
+twice-behind : (front k : List ℕ) (o : Option (List ℕ × List Atom)) → behind_front front (behind_front k o) ≡ behind_front (front ++ k) o
+twice-behind front k None = refl
+twice-behind front k (Some a) = ap (λ l. Some (l, a.1)) (sym (append_assoc front k a.0))
+
+plain-both : (xs ys : List ℕ) (more : List Atom) → map Plain (xs ++ ys) ++ more ≡ map Plain xs ++ (map Plain ys ++ more)
+plain-both xs ys more = ap (λ l. l ++ more) (map-append Plain xs ys) ∙ append_assoc (map Plain xs) (map Plain ys) more
+
+pub both-on : (begun mid now : Bool) (xs ys : List ℕ) → GoesOn begun xs mid → GoesOn mid ys now → GoesOn begun (xs ++ ys) now
+both-on begun mid now xs ys f g = (
+  λ more. ap (name_from begun) (plain-both xs ys more) ∙ f.0 (map Plain ys ++ more) ∙ ap (behind_name xs) (g.0 more) ∙ twice-name xs ys (name_from now more),
+  λ more. ap (assignment_from begun) (plain-both xs ys more) ∙ f.1 (map Plain ys ++ more) ∙ ap (behind_front xs) (g.1 more)
+      ∙ twice-behind xs ys (assignment_from now more),
 )
 
-pub no_equals-stops : (begun : Bool) (bytes : List ℕ) (len : ℕ) → list_all (λ b. not (b == 61)) bytes ≡ true → take len bytes ≡ name_front begun bytes →
-    drop len bytes ≡ name_behind begun bytes → len ≤ length bytes → (len ≡ length bytes → ⊥) →
-    ((more : List Atom) → name_from begun (map Plain bytes ++ more) ≡ None) × ((more : List Atom) → assignment_from begun (map Plain bytes ++ more) ≡ None)
-no_equals-stops begun bytes len none ek er within short =
-    let goes : Bool = begun || not (len == 0) in
-    range-stops begun goes bytes len ek er within short refl (and_right goes (get_or bytes len 0 == 61) (none-there bytes len (omega (arith, within, short)) none))
+-- ranges that are read as plain bytes
+pub none-read : ReadsPlain [] []
+none-read rest = refl
 
--- the first byte that goes on with a name is one of a name
-pub front-run : (begun : Bool) (b : ℕ) (bs : List ℕ) → goes_on begun b ≡ true →
-    (front is_in_name (b ∷ bs) ≡ name_front begun (b ∷ bs)) × (behind is_in_name (b ∷ bs) ≡ name_behind begun (b ∷ bs))
-front-run true b bs e = (refl, refl)
-front-run false b bs e =
-    let f : is_in_name b ≡ true = in_name b e in
-    (rw (e, f) refl, rw (e, f) refl)
+pub none-range : (source : List ℕ) (at : ℕ) → ReadsPlain (range_bytes source at at) []
+none-range source at =
+    let none : at - at ≡ 0 = omega arith in
+    subst (λ l. ReadsPlain l []) (sym (ap (λ n. take n (drop at source)) none)) none-read
 
-pub name-run : (begun : Bool) (bytes : List ℕ) (n b : ℕ) → StandsAt bytes 0 b → goes_on begun b ≡ true → IsRun is_in_name bytes 0 n →
-    (take n bytes ≡ name_front begun bytes) × (drop n bytes ≡ name_behind begun bytes)
-name-run begun bytes n b here on run =
-    let z : n - 0 ≡ n = omega arith in
-    let whole : bytes ≡ b ∷ drop 1 bytes = here.1 in
-    let f = front-run begun b (drop 1 bytes) on in (
-      ap (λ k. take k bytes) (sym z) ∙ run.2 ∙ subst (λ l. front is_in_name l ≡ name_front begun l) (sym whole) f.0,
-      run.3 ∙ subst (λ l. behind is_in_name l ≡ name_behind begun l) (sym whole) f.1,
+pub both-read : (r s xs ys : List ℕ) → ReadsPlain r xs → ReadsPlain s ys → ReadsPlain (r ++ s) (xs ++ ys)
+both-read r s xs ys f g rest =
+    ap piece_left (append_assoc r s rest) ∙ f (s ++ rest) ∙ ap (λ l. map Plain xs ++ l) (g rest) ∙ sym (plain-both xs ys (piece_left rest))
+
+all-bare : (bs : List ℕ) → list_all is_in_name bs ≡ true → list_all is_bare bs ≡ true
+all-bare [] e = refl
+all-bare (b ∷ bs) e =
+    let p = and_parts (is_in_name b) (list_all is_in_name bs) e in
+    let bare : is_bare b ≡ true = name-bare b p.0 in
+    rw bare (all-bare bs p.1)
+
+goes-in : (begun : Bool) (b : ℕ) → goes_on begun b ≡ true → is_in_name b ≡ true
+goes-in true b e = e
+goes-in false b e = in_name b e
+
+front-goes : (b : ℕ) (bs : List ℕ) → is_in_name b ≡ true → front is_in_name (b ∷ bs) ≡ b ∷ front is_in_name bs
+front-goes b bs e = rw e refl
+
+-- a run of a name's bytes
+pub run-goes : (source : List ℕ) (at end b : ℕ) (begun : Bool) → StandsAt source at b → goes_on begun b ≡ true → IsRun is_in_name source at end →
+    (at < end) × ReadsPlain (range_bytes source at end) (range_bytes source at end) × GoesOn begun (range_bytes source at end) true
+run-goes source at end b begun here on run =
+    let inside = goes-in begun b on in
+    let more : List ℕ = front is_in_name (drop (at + 1) source) in
+    let bytes : range_bytes source at end ≡ b ∷ more = run.2 ∙ ap (front is_in_name) here.1 ∙ front-goes b (drop (at + 1) source) inside in
+    let all : list_all is_in_name (range_bytes source at end) ≡ true = ap (list_all is_in_name) run.2 ∙ front-all is_in_name (drop at source) in (
+      run-takes is_in_name source at end b here inside run,
+      λ rest. (piece-run (range_bytes source at end) rest (all-bare (range_bytes source at end) all)).0,
+      subst (λ l. GoesOn begun l true) (sym bytes) (name-on begun b more on (front-all is_in_name (drop (at + 1) source))),
+    )
+
+-- a joined line within a name
+line-read : ReadsPlain (92 ∷ 10 ∷ []) []
+line-read rest = (piece-one (92 ∷ 10 ∷ rest) Joined rest (piece-backslash (10 ∷ rest) ∙ escape-newline rest)).0
+
+pub line-goes : (source : List ℕ) (at : ℕ) → begins 92 (drop at source) && begins 10 (drop (at + 1) source) ≡ true →
+    (at + 2 ≤ length source) × ReadsPlain (range_bytes source at (at + 2)) []
+line-goes source at e =
+    let p = and_parts (begins 92 (drop at source)) (begins 10 (drop (at + 1) source)) e in
+    let here = begins-here 92 source at p.0 in
+    let next' = begins-here 10 source (at + 1) p.1 in
+    let two : at + 2 - at ≡ 2 = omega arith in
+    let bytes : range_bytes source at (at + 2) ≡ 92 ∷ 10 ∷ [] =
+    ap (λ n. take n (drop at source)) two ∙ ap (take 2) (here.1 ∙ ap (λ (l : List ℕ). 92 ∷ l) next'.1) in
+    (omega (arith, next'.0), subst (λ l. ReadsPlain l []) (sym bytes) line-read)
+
+-- a step further
+pub step-on : (source : List ℕ) (start mid end : ℕ) (begun now : Bool) (xs ys : List ℕ) → start ≤ mid → mid ≤ end →
+    ReadsPlain (range_bytes source start mid) xs → GoesOn false xs begun → ReadsPlain (range_bytes source mid end) ys → GoesOn begun ys now →
+    ReadsPlain (range_bytes source start end) (xs ++ ys) × GoesOn false (xs ++ ys) now
+step-on source start mid end begun now xs ys low high f g h k = (
+  subst (λ l. ReadsPlain l (xs ++ ys)) (sym (range-join source start mid end low high))
+      (both-read (range_bytes source start mid) (range_bytes source mid end) xs ys f h),
+  both-on false begun now xs ys g k,
+)
+
+-- where nothing goes on with a name, what stands there is none of it
+abbrev Other : (begun : Bool) → ℕ → Found Piece → Type 0
+Other begun b None = Unit {0}
+Other begun b (Some f) =
+    (more : List Atom) →
+    (name_from begun (piece_atoms f.0 ++ more) ≡ None) × (begun && b == 61 ≡ false → assignment_from begun (piece_atoms f.0 ++ more) ≡ None)
+
+alone-other : (begun : Bool) (more : List Atom) → (name_from begun (Plain 36 ∷ more) ≡ None) × (assignment_from begun (Plain 36 ∷ more) ≡ None)
+unfolding is_in_name begins_name
+alone-other true more = (refl, refl)
+alone-other false more = (refl, refl)
+
+dollar-other : (begun : Bool) (b : ℕ) (o : Found Dollar) → Other begun b (option_map as_piece o)
+dollar-other begun b None = tt
+dollar-other begun b (Some (Name n, r)) = λ more. (refl, λ e. refl)
+dollar-other begun b (Some (Braces n, r)) = λ more. (refl, λ e. refl)
+dollar-other begun b (Some (LastStatus, r)) = λ more. (refl, λ e. refl)
+dollar-other begun b (Some (Alone, r)) = λ more. ((alone-other begun more).0, λ e. (alone-other begun more).1)
+
+escape-other : (begun : Bool) (b : ℕ) (bs : List ℕ) → begins 10 bs ≡ false → Other begun b (escape_at bs)
+unfolding escape_at
+escape-other begun b [] e = tt
+escape-other begun b (c ∷ cs) e = rw e (λ more. (refl, λ e'. refl))
+
+closed-other : (begun : Bool) (b k : ℕ) (p : Piece) (bs : List ℕ) →
+    ((more : List Atom) → (name_from begun (piece_atoms p ++ more) ≡ None) × (begun && b == 61 ≡ false → assignment_from begun (piece_atoms p ++ more) ≡ None)) →
+    Other begun b (closed k p bs)
+closed-other begun b k p [] h = tt
+closed-other begun b k p (c ∷ cs) h = on_test (c == k) (Other begun b) (found p cs) None (λ e. h) (λ e. tt)
+
+single-other : (begun : Bool) (b : ℕ) (bs : List ℕ) → Other begun b (single_at bs)
+unfolding single_at
+single-other begun b bs = closed-other begun b 39 (Single (front (λ k. not (k == 39)) bs)) (behind (λ k. not (k == 39)) bs) (λ more. (refl, λ e. refl))
+
+double-other : (begun : Bool) (b : ℕ) (bs : List ℕ) → Other begun b (double_at bs)
+unfolding double_at
+double-other begun b bs = closed-other begun b 34 (Double (all inner_at bs).0) (all inner_at bs).1 (λ more. (refl, λ e. refl))
+
+bare-other : (begun : Bool) (b : ℕ) (more : List Atom) → goes_on begun b ≡ false →
+    (name_from begun (Plain b ∷ more) ≡ None) × (begun && b == 61 ≡ false → assignment_from begun (Plain b ∷ more) ≡ None)
+bare-other begun b more off = (
+  cond-false (goes_on begun b) (option_map (λ n. b ∷ n) (name_from true more)) None off,
+  λ e. cond-false (goes_on begun b) (option_map (with_byte b) (assignment_from true more)) (value_from begun b more) off
+      ∙ cond-false (begun && b == 61) (Some ([], more)) None e,
+)
+
+piece-other : (begun : Bool) (b : ℕ) (bs : List ℕ) → NameStops begun (b ∷ bs) → Other begun b (piece_at (b ∷ bs))
+unfolding piece_at
+piece-other begun b bs stops =
+    on_test (is_bare b) (Other begun b) _ _ (λ e more. bare-other begun b more stops.0)
+    (λ e. on_test (b == 36) (Other begun b) _ _ (λ d. dollar-other begun b (dollar_at bs))
+    (λ d. on_test (b == 92) (Other begun b) _ _ (λ s. escape-other begun b bs (rw s at stops.1))
+    (λ s. on_test (b == 39) (Other begun b) _ _ (λ q. single-other begun b bs)
+    (λ q. on_test (b == 34) (Other begun b) _ _ (λ w. double-other begun b bs) (λ w. tt)))))
+
+stopped-by : (begun : Bool) (b : ℕ) (bs : List ℕ) (o : Found Piece) → piece_at (b ∷ bs) ≡ o → Other begun b o →
+    (is_some o ≡ true → name_from begun (piece_left (b ∷ bs)) ≡ None) ×
+    (begun && b == 61 ≡ false → assignment_from begun (piece_left (b ∷ bs)) ≡ None)
+stopped-by begun b bs None e other =
+    let none = (piece-none (b ∷ bs) e).0 in
+    (λ h. absurd (both_ways false refl h), λ h. ap (assignment_from begun) none)
+stopped-by begun b bs (Some f) e other =
+    let one = (piece-one (b ∷ bs) f.0 f.1 e).0 in
+    let o = other (piece_left f.1) in
+    (λ h. ap (name_from begun) one ∙ o.0, λ h. ap (assignment_from begun) one ∙ o.1 h)
+
+-- a name is one where no piece stands behind it
+pub name-not : (begun : Bool) (text : List ℕ) → NameStops begun text → is_some (piece_at text) ≡ true → name_from begun (piece_left text) ≡ None
+name-not begun [] stops e = absurd (both_ways (is_some (piece_at [])) (ap (λ o. is_some o) nothing-left) e)
+name-not begun (b ∷ bs) stops e = (stopped-by begun b bs (piece_at (b ∷ bs)) refl (piece-other begun b bs stops)).0 e
+
+none-by : (text : List ℕ) (o : Found Piece) → piece_at text ≡ o → is_some o ≡ false → piece_left text ≡ []
+none-by text None e h = (piece-none text e).0
+none-by text (Some f) e h = absurd (both_ways true h refl)
+
+begun-some : (begun : Bool) → is_some (name_from begun []) ≡ begun
+begun-some true = refl
+begun-some false = refl
+
+some-behind : (front : List ℕ) (o : Option (List ℕ)) → is_some (behind_name front o) ≡ is_some o
+some-behind front None = refl
+some-behind front (Some n) = refl
+
+-- through a name
+name-through : (source : List ℕ) (start at : ℕ) (bytes : List ℕ) (begun : Bool) → start ≤ at → ReadsPlain (range_bytes source start at) bytes →
+    GoesOn false bytes begun → is_some (name_of (piece_left (drop start source))) ≡ is_some (name_from begun (piece_left (drop at source)))
+unfolding name_of
+name-through source start at bytes begun ordered reads goes =
+    ap (λ l. is_some (name_from false l)) (ap piece_left (range-rest source start at ordered) ∙ reads (drop at source))
+    ∙ ap (λ o. is_some o) (goes.0 (piece_left (drop at source))) ∙ some-behind bytes (name_from begun (piece_left (drop at source)))
+
+pub name-told-by : (source : List ℕ) (start at : ℕ) (bytes : List ℕ) (begun goes : Bool) → start ≤ at → NameStops begun (drop at source) →
+    ReadsPlain (range_bytes source start at) bytes → GoesOn false bytes begun → goes ≡ is_some (piece_at (drop at source)) →
+    (goes ≡ true → false ≡ is_some (name_of (piece_left (drop start source)))) ×
+    (goes ≡ false → begun ≡ is_some (name_of (piece_left (drop start source))))
+name-told-by source start at bytes begun goes ordered stops reads on is = (
+  λ e. sym (name-through source start at bytes begun ordered reads on
+      ∙ ap (λ o. is_some o) (name-not begun (drop at source) stops (sym is ∙ e))),
+  λ e. sym (name-through source start at bytes begun ordered reads on
+      ∙ ap (λ l. is_some (name_from begun l)) (none-by (drop at source) (piece_at (drop at source)) refl (sym is ∙ e)) ∙ begun-some begun),
+)
+
+-- and through an assignment
+assignment-through : (source : List ℕ) (start at : ℕ) (bytes : List ℕ) (begun : Bool) → start ≤ at → ReadsPlain (range_bytes source start at) bytes →
+    GoesOn false bytes begun → assignment_of (piece_left (drop start source)) ≡ behind_front bytes (assignment_from begun (piece_left (drop at source)))
+unfolding assignment_of
+assignment-through source start at bytes begun ordered reads goes =
+    ap (assignment_from false) (ap piece_left (range-rest source start at ordered) ∙ reads (drop at source)) ∙ goes.1 (piece_left (drop at source))
+
+stops-assigning : (begun : Bool) (text : List ℕ) → NameStops begun text → begun && begins 61 text ≡ false → assignment_from begun (piece_left text) ≡ None
+stops-assigning begun [] stops e = ap (assignment_from begun) nothing
+stops-assigning begun (b ∷ bs) stops e = (stopped-by begun b bs (piece_at (b ∷ bs)) refl (piece-other begun b bs stops)).1 e
+
+pub no-equals : (source : List ℕ) (start at : ℕ) (bytes : List ℕ) (begun : Bool) → start ≤ at → NameStops begun (drop at source) →
+    ReadsPlain (range_bytes source start at) bytes → GoesOn false bytes begun → begun && begins 61 (drop at source) ≡ false →
+    SplitsAt source start None
+no-equals source start at bytes begun ordered stops reads goes e =
+    assignment-through source start at bytes begun ordered reads goes ∙ ap (behind_front bytes) (stops-assigning begun (drop at source) stops e)
+
+pub no-name : (source : List ℕ) (start at : ℕ) (bytes : List ℕ) (begun : Bool) → start ≤ at → NameStops begun (drop at source) →
+    ReadsPlain (range_bytes source start at) bytes → GoesOn false bytes begun → begun ≡ false → SplitsAt source start None
+no-name source start at bytes begun ordered stops reads goes e =
+    no-equals source start at bytes begun ordered stops reads goes (ap (λ t. t && begins 61 (drop at source)) e)
+
+equals-bare : is_bare 61 ≡ true
+unfolding is_bare ends_word is_special is_blank
+equals-bare = refl
+
+equals-piece : (bs : List ℕ) → piece_left (61 ∷ bs) ≡ Plain 61 ∷ piece_left bs
+equals-piece bs = (piece-one (61 ∷ bs) (Bare 61) bs (piece-bare 61 bs equals-bare)).0
+
+equals-value : (rest : List Atom) → assignment_from true (Plain 61 ∷ rest) ≡ Some ([], rest)
+unfolding is_in_name begins_name
+equals-value rest = refl
+
+pub equals-there : (source : List ℕ) (start at : ℕ) (bytes : List ℕ) (begun : Bool) → start ≤ at → ReadsPlain (range_bytes source start at) bytes →
+    GoesOn false bytes begun → begun ≡ true → begins 61 (drop at source) ≡ true → SplitsAt source start (Some at)
+equals-there source start at bytes begun ordered reads goes is e =
+    let here = begins-here 61 source at e in
+    let rest : List Atom = piece_left (drop (at + 1) source) in (
+      ordered,
+      here.0,
+      bytes,
+      sym (ap piece_left (append-nil (range_bytes source start at))) ∙ reads [] ∙ ap (λ l. map Plain bytes ++ l) nothing ∙ append-nil (map Plain bytes),
+      assignment-through source start at bytes begun ordered reads goes
+          ∙ ap (λ t. behind_front bytes (assignment_from t (piece_left (drop at source)))) is
+          ∙ ap (λ l. behind_front bytes (assignment_from true l)) (ap piece_left here.1 ∙ equals-piece (drop (at + 1) source))
+          ∙ ap (behind_front bytes) (equals-value rest) ∙ ap (λ l. Some (l, rest)) (append-nil bytes),
     )

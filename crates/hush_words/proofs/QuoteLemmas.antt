@@ -1,22 +1,22 @@
 -- A pair of quotes as one piece.
 use Rattle.std.specs.Prelude.{◌≡◌, ℕ, suc, ◌+◌, ◌-◌, ◌<◌, ◌==◌, true, false, not, List, [], ◌∷◌, ◌++◌, map, length, take, drop, Some, None}
 use Rattle.std.specs.Option.{option_map}
-use Rattle.std.proofs.Common.{refl, sym, ◌∙◌, ap, subst, arith, append_assoc, append-nil, get_or}
+use Rattle.std.proofs.Common.{refl, sym, ◌∙◌, ap, subst, arith, append_assoc, get_or, inl, inr}
 use Rattle.std.proofs.Math.Seq.{drop-cons}
-use Rattle.std.proofs.lemmas.Bool.{not-true, not-false, eq-eqb}
-use Rattle.std.proofs.lemmas.List.{drop_all}
-use Rattle.hush_words.specs.Words.{Atom, Piece, next}
+use Rattle.std.proofs.lemmas.Bool.{not-true, not-false, eq-eqb, cases_Bool, cases_lt, both_ways}
+use Rattle.std.proofs.lemmas.List.{drop_all, drop-drop}
+use Rattle.hush_words.specs.Words.{Atom, Piece, piece_atoms, next}
 use Rattle.hush_words.specs.Words.Atom.{Quoted, Mark}
 use Rattle.hush_words.specs.Words.Piece.{Single, Double}
-use Rattle.hush_words.specs.Reading.{found, front, behind, all, closed, inner_at, single_at, double_at, piece_at}
-use Rattle.hush_words.specs.Steps.{StandsAt, IsRun, begins, inner_left, inner_end, piece_read}
-use Rattle.hush_words.specs.Parts.{part_atoms, atoms_of}
-use Rattle.hush_words.specs.declared.parts.Part.{Part}
-use Rattle.hush_words.specs.declared.parts.Part.TheVariants as part
+use Rattle.hush_words.specs.Reading.{found, front, behind, all, closed, inner_at, single_at, double_at, piece_at, piece_left}
+use Rattle.hush_words.specs.Steps.{StandsAt, IsRun, begins, inner_left, inner_end, atoms_left, Closes}
+use Rattle.hush_words.specs.Parts.{range_bytes}
+use Rattle.hush_words.specs.declared.steps.Inside.TheVariants as inside
 use Rattle.hush_words.proofs.Fronts.{behind-next}
 use Rattle.hush_words.proofs.Pieces.{piece-single, piece-double}
 use Rattle.hush_words.proofs.Inners.{inner-none}
 use Rattle.hush_words.proofs.DollarLemmas.{begins-here}
+use Rattle.hush_words.proofs.PieceLemmas.{piece-one}
 
 pub closed-not : {P : Type 0} (k : ℕ) (p : P) (bs : List ℕ) → begins k bs ≡ false → closed k p bs ≡ None
 closed-not k p [] e = refl
@@ -33,11 +33,6 @@ double-read : (text : List ℕ) → double_at text ≡ closed 34 (Double (all in
 unfolding double_at inner_end
 double-read text = refl
 
-double-whole : (old : List Atom) (text rest : List ℕ) →
-    piece_read old (Double (all inner_at text).0, rest) ≡ (old ++ Mark ∷ inner_left text, rest)
-unfolding inner_left
-double-whole old text rest = refl
-
 double-there : (source : List ℕ) (place at : ℕ) → StandsAt source place 34 → inner_at (drop at source) ≡ None →
     inner_end (drop at source) ≡ inner_end (drop (place + 1) source) →
     piece_at (drop place source) ≡ closed 34 (Double (all inner_at (drop (place + 1) source)).0) (drop at source)
@@ -45,21 +40,13 @@ double-there source place at here none ends =
     ap piece_at here.1 ∙ piece-double (drop (place + 1) source) ∙ double-read (drop (place + 1) source)
     ∙ ap (closed 34 (Double (all inner_at (drop (place + 1) source)).0)) (sym ends ∙ (inner-none (drop at source) none).1)
 
-pub double-closes : (source : List ℕ) (place at : ℕ) (old new : List Atom) → StandsAt source place 34 → inner_at (drop at source) ≡ None →
-    begins 34 (drop at source) ≡ true →
-    new ++ inner_left (drop at source) ≡ (old ++ Mark ∷ []) ++ inner_left (drop (place + 1) source) →
-    inner_end (drop at source) ≡ inner_end (drop (place + 1) source) →
-    option_map (piece_read old) (piece_at (drop place source)) ≡ Some (new, drop (at + 1) source)
-double-closes source place at old new here none quote read ends =
-    let left : List Atom = inner_left (drop (place + 1) source) in
-    let p : Piece = Double (all inner_at (drop (place + 1) source)).0 in
-    let e : piece_at (drop place source) ≡ found p (drop (at + 1) source) =
-    double-there source place at here none ends ∙ closed-here 34 p source at quote in
-    let n : new ≡ old ++ Mark ∷ left =
-    sym (append-nil new) ∙ ap (λ l. new ++ l) (sym (inner-none (drop at source) none).0) ∙ read ∙ append_assoc old (Mark ∷ []) left in
-    ap (option_map (piece_read old)) e
-    ∙ ap (λ w. Some w) (double-whole old (drop (place + 1) source) (drop (at + 1) source))
-    ∙ ap (λ l. Some (l, drop (at + 1) source)) (sym n)
+pub double-closes : (source : List ℕ) (place at : ℕ) → StandsAt source place 34 → inner_at (drop at source) ≡ None →
+    begins 34 (drop at source) ≡ true → inner_end (drop at source) ≡ inner_end (drop (place + 1) source) →
+    option_map (λ (f : Piece × List ℕ). f.1) (piece_at (drop place source)) ≡ Some (drop (at + 1) source)
+double-closes source place at here none quote ends =
+    ap (λ o. option_map (λ (f : Piece × List ℕ). f.1) o)
+    (double-there source place at here none ends
+    ∙ closed-here 34 (Double (all inner_at (drop (place + 1) source)).0) source at quote)
 
 pub double-open : (source : List ℕ) (place at : ℕ) → StandsAt source place 34 → inner_at (drop at source) ≡ None →
     begins 34 (drop at source) ≡ false → inner_end (drop at source) ≡ inner_end (drop (place + 1) source) →
@@ -95,25 +82,88 @@ single-open source place end here run e =
     single-there source place end here run
     ∙ ap (closed 39 (Single (take (end - (place + 1)) (drop (place + 1) source)))) (drop_all end source (omega arith))
 
-pub single-closes : (source : List ℕ) (place end : ℕ) (old : List Atom) → StandsAt source place 39 →
+pub single-closes : (source : List ℕ) (place end : ℕ) → StandsAt source place 39 →
     IsRun (λ b. not (b == 39)) source (place + 1) end → (end ≡ length source → ⊥) →
-    option_map (piece_read old) (piece_at (drop place source)) ≡
-    Some (old ++ Mark ∷ map Quoted (take (end - (place + 1)) (drop (place + 1) source)), drop (end + 1) source)
-single-closes source place end old here run more =
-    ap (option_map (piece_read old))
+    option_map (λ (f : Piece × List ℕ). f.1) (piece_at (drop place source)) ≡ Some (drop (end + 1) source)
+single-closes source place end here run more =
+    ap (λ o. option_map (λ (f : Piece × List ℕ). f.1) o)
     (single-there source place end here run
     ∙ closed-here 39 (Single (take (end - (place + 1)) (drop (place + 1) source))) source end (run-stops 39 source (place + 1) end run more))
 
--- parts behind parts stand for atoms behind atoms
-pub atoms-append : (source : List ℕ) (xs ys : List Part) → atoms_of source (xs ++ ys) ≡ atoms_of source xs ++ atoms_of source ys
-atoms-append source [] ys = refl
-atoms-append source (x ∷ xs) ys =
-    ap (λ l. part_atoms source x ++ l) (atoms-append source xs ys)
-    ∙ sym (append_assoc (part_atoms source x) (atoms_of source xs) (atoms_of source ys))
+-- what closes stands there, if something ends behind it
+closed-some : {P : Type 0} (k : ℕ) (p : P) (bs rest : List ℕ) → option_map (λ (f : P × List ℕ). f.1) (closed k p bs) ≡ Some rest → begins k bs ≡ true
+closed-some k p [] rest e = absurd (cc)
+closed-some k p (b ∷ bs) rest e =
+    elim (cases_Bool (b == k)) [
+      | inl same ↦ same
+      | inr other ↦ absurd (let none = rw other at e in cc)
+    ]
 
-pub single-pushed : (source : List ℕ) (old marked new more : List Part) (atoms : List Atom) → marked ≡ old ++ part.Mark ∷ [] →
-    new ≡ marked ++ more → atoms_of source more ≡ atoms → atoms_of source old ++ Mark ∷ atoms ≡ atoms_of source new
-single-pushed source old marked new more atoms e f g =
-    sym (ap (atoms_of source) f ∙ atoms-append source marked more ∙ ap (λ l. atoms_of source l ++ atoms_of source more) e
-    ∙ ap (λ l. l ++ atoms_of source more) (atoms-append source old (part.Mark ∷ []))
-    ∙ append_assoc (atoms_of source old) (Mark ∷ []) (atoms_of source more) ∙ ap (λ l. atoms_of source old ++ Mark ∷ l) g)
+closed-is : {P : Type 0} (k : ℕ) (p : P) (bs : List ℕ) → begins k bs ≡ true → closed k p bs ≡ found p (drop 1 bs)
+closed-is k p [] e = absurd (both_ways false refl e)
+closed-is k p (b ∷ bs) e = rw e refl
+
+-- into a pair of quotes that is closed
+pub single-opens : (source : List ℕ) (at : ℕ) (rest : List ℕ) → StandsAt source at 39 →
+    option_map (λ (f : Piece × List ℕ). f.1) (piece_at (drop at source)) ≡ Some rest →
+    Closes inside.Single (drop (at + 1) source) × (piece_left (drop at source) ≡ Mark ∷ atoms_left inside.Single (drop (at + 1) source))
+single-opens source at rest here h =
+    let bs : List ℕ = drop (at + 1) source in
+    let p : Piece = Single (front (λ b. not (b == 39)) bs) in
+    let e : piece_at (drop at source) ≡ closed 39 p (behind (λ b. not (b == 39)) bs) = ap piece_at here.1 ∙ piece-single bs ∙ single-read bs in
+    let shut = closed-some 39 p (behind (λ b. not (b == 39)) bs) rest (ap (λ o. option_map (λ (f : Piece × List ℕ). f.1) o) (sym e) ∙ h) in
+    (shut, (piece-one (drop at source) p (drop 1 (behind (λ b. not (b == 39)) bs)) (e ∙ closed-is 39 p (behind (λ b. not (b == 39)) bs) shut)).0)
+
+double-atoms : (text rest : List ℕ) → piece_atoms (Double (all inner_at text).0) ++ piece_left rest ≡ Mark ∷ (inner_left text ++ piece_left rest)
+unfolding inner_left
+double-atoms text rest = refl
+
+pub double-opens : (source : List ℕ) (at : ℕ) (rest : List ℕ) → StandsAt source at 34 →
+    option_map (λ (f : Piece × List ℕ). f.1) (piece_at (drop at source)) ≡ Some rest →
+    Closes inside.Double (drop (at + 1) source) × (piece_left (drop at source) ≡ Mark ∷ atoms_left inside.Double (drop (at + 1) source))
+double-opens source at rest here h =
+    let bs : List ℕ = drop (at + 1) source in
+    let p : Piece = Double (all inner_at bs).0 in
+    let e : piece_at (drop at source) ≡ closed 34 p (inner_end bs) = ap piece_at here.1 ∙ piece-double bs ∙ double-read bs in
+    let shut = closed-some 34 p (inner_end bs) rest (ap (λ o. option_map (λ (f : Piece × List ℕ). f.1) o) (sym e) ∙ h) in (
+      shut,
+      (piece-one (drop at source) p (drop 1 (inner_end bs)) (e ∙ closed-is 34 p (inner_end bs) shut)).0 ∙ double-atoms bs (drop 1 (inner_end bs)),
+    )
+
+-- the rest of a pair of single quotes
+pub single-left : (source : List ℕ) (at end : ℕ) → IsRun (λ b. not (b == 39)) source at end →
+    begins 39 (behind (λ b. not (b == 39)) (drop at source)) ≡ true →
+    (end < length source) × (atoms_left inside.Single (drop at source) ≡ map Quoted (range_bytes source at end) ++ piece_left (drop (end + 1) source))
+single-left source at end run shut =
+    let here = begins-here 39 source end (ap (begins 39) run.3 ∙ shut) in (
+      here.0,
+      ap (λ l. map Quoted l ++ piece_left (drop 1 (behind (λ b. not (b == 39)) (drop at source)))) (sym run.2)
+          ∙ ap (λ l. map Quoted (range_bytes source at end) ++ piece_left l)
+          (ap (drop 1) (sym run.3) ∙ drop-drop 1 end source),
+    )
+
+-- the quote that closes a pair of double quotes
+pub double-left : (source : List ℕ) (at : ℕ) → inner_at (drop at source) ≡ None → begins 34 (inner_end (drop at source)) ≡ true →
+    (at < length source) × (atoms_left inside.Double (drop at source) ≡ piece_left (drop (at + 1) source))
+double-left source at none shut =
+    let e = inner-none (drop at source) none in
+    let here = begins-here 34 source at (ap (begins 34) (sym e.1) ∙ shut) in (
+      here.0,
+      ap (λ l. l ++ piece_left (drop 1 (inner_end (drop at source)))) e.0
+          ∙ ap (λ l. piece_left (drop 1 l)) e.1 ∙ ap piece_left (drop-drop 1 at source),
+    )
+
+-- what stands before it
+pub double-on : (left more rest : List Atom) (end after : List ℕ) → left ≡ more ++ rest → end ≡ after →
+    (left ++ piece_left (drop 1 end) ≡ more ++ (rest ++ piece_left (drop 1 after)))
+double-on left more rest end after e f =
+    ap (λ l. l ++ piece_left (drop 1 end)) e ∙ append_assoc more rest (piece_left (drop 1 end))
+    ∙ ap (λ l. more ++ (rest ++ piece_left (drop 1 l))) f
+
+-- a quote is there to be closed
+pub single-within : (source : List ℕ) (at : ℕ) → begins 39 (behind (λ b. not (b == 39)) (drop at source)) ≡ true → at < length source
+single-within source at shut =
+    elim (cases_lt at (length source)) [
+      | inl lt ↦ lt
+      | inr ge ↦ absurd (both_ways false refl (ap (λ l. begins 39 (behind (λ b. not (b == 39)) l)) (sym (drop_all at source ge)) ∙ shut))
+    ]

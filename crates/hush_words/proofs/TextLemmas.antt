@@ -2,7 +2,7 @@
 use Rattle.std.specs.Prelude.{◌≡◌, ℕ, zero, suc, ◌+◌, ◌<◌, ◌==◌, ◌&&◌, ◌||◌, Bool, true, false, not, List, [], ◌∷◌, ◌++◌, length, drop, Some, None, ◌⊎◌}
 use Rattle.std.specs.List.{flat_map, list_all}
 use Rattle.std.specs.Option.{option_map}
-use Rattle.std.proofs.Common.{refl, sym, ◌∙◌, ap, subst, arith, append_assoc, append-nil, get_or, inl, inr}
+use Rattle.std.proofs.Common.{refl, sym, ◌∙◌, ap, subst, arith, get_or, inl, inr}
 use Rattle.std.proofs.lemmas.Bool.{ne_eqb, eqb-true, eq-eqb, both_ways, or_cases, or_parts, not_from_true, and_parts, and_left, and_right}
 use Rattle.std.proofs.lemmas.List.{take_all}
 use Rattle.memchr.specs.Find.{IsFirstByte, is_byte}
@@ -10,8 +10,8 @@ use Rattle.hush_words.proofs.Runs.{found-none}
 use Rattle.hush_words.specs.Words.{is_blank, ends_word}
 use Rattle.hush_words.specs.Tokens.{Token, Lexeme, lexeme_tokens, has_no_nul}
 use Rattle.hush_words.specs.Tokens.Lexeme.{And, Or}
-use Rattle.hush_words.specs.Reading.{Found, found, front, all, closed, passed_at, lexeme_at, tokens_if_whole, tokens_of, tokens_before_fault}
-use Rattle.hush_words.specs.Steps.{begins, StandsAt, IsRun, lexeme_read, lexeme_left, lexeme_end}
+use Rattle.hush_words.specs.Reading.{Found, found, front, all, closed, passed_at, lexeme_at, tokens_if_whole, tokens_of, tokens_before_fault, lexeme_left, lexeme_end}
+use Rattle.hush_words.specs.Steps.{begins, StandsAt, IsRun, lexeme_read}
 use Rattle.hush_words.proofs.Fronts.{front-all}
 use Rattle.hush_words.proofs.Many.{all-some, all-none}
 use Rattle.hush_words.proofs.Lexemes.{lexeme-newline, lexeme-semicolon, lexeme-and, lexeme-or, lexeme-blank, lexeme-joined, lexeme-comment, lexeme-shortens}
@@ -164,43 +164,28 @@ pub nothing-at-end : lexeme_at [] ≡ None
 unfolding lexeme_at passed_at
 nothing-at-end = refl
 
-pub whole-read : (source : List ℕ) (at : ℕ) (ts : List Token) → has_no_nul source ≡ true → drop at source ≡ [] →
-    ts ++ lexeme_left (drop at source) ≡ lexeme_left source → lexeme_end (drop at source) ≡ lexeme_end source → tokens_of source ≡ Some ts
-whole-read source at ts clean stop read ends =
-    let none = lexeme-none [] nothing-at-end in
-    tokens-whole source clean (sym ends ∙ ap lexeme_end stop ∙ none.1)
-    ∙ ap (λ l. Some l) (sym read ∙ ap (λ l. ts ++ l) (ap lexeme_left stop ∙ none.0) ∙ append-nil ts)
+-- a text that is read to its end, and one that is not
+pub text-whole : (source : List ℕ) → has_no_nul source ≡ true → lexeme_end source ≡ [] → tokens_of source ≡ Some (lexeme_left source)
+text-whole source clean e = tokens-whole source clean e
 
-pub fault-read : (source : List ℕ) (at b : ℕ) → has_no_nul source ≡ true → StandsAt source at b → lexeme_at (drop at source) ≡ None →
-    lexeme_end (drop at source) ≡ lexeme_end source → tokens_of source ≡ None
-fault-read source at b clean here none ends =
-    tokens-not source b (drop (at + 1) source) clean (sym ends ∙ (lexeme-none (drop at source) none).1 ∙ here.1)
+not-by : (source rest : List ℕ) → has_no_nul source ≡ true → lexeme_end source ≡ rest → (rest ≡ [] → ⊥) → tokens_of source ≡ None
+not-by source [] clean e h = absurd (h refl)
+not-by source (b ∷ bs) clean e h = tokens-not source b bs clean e
 
--- the same up to a fault
-front-left : (source : List ℕ) → has_no_nul source ≡ true → tokens_before_fault source ≡ lexeme_left source
-unfolding tokens_before_fault lexeme_left
+pub text-not : (source : List ℕ) → has_no_nul source ≡ true → (lexeme_end source ≡ [] → ⊥) → tokens_of source ≡ None
+text-not source clean h = not-by source (lexeme_end source) clean refl h
+
+pub front-left : (source : List ℕ) → has_no_nul source ≡ true → tokens_before_fault source ≡ lexeme_left source
+unfolding tokens_before_fault
 front-left source clean = rw clean refl
 
-pub front-read : (source : List ℕ) (at : ℕ) (ts : List Token) → has_no_nul source ≡ true → lexeme_at (drop at source) ≡ None →
-    ts ++ lexeme_left (drop at source) ≡ lexeme_left source → ts ≡ tokens_before_fault source
-front-read source at ts clean none read =
-    sym (front-left source clean ∙ sym read ∙ ap (λ l. ts ++ l) (lexeme-none (drop at source) none).0 ∙ append-nil ts)
-
-pub front-whole : (source : List ℕ) (at : ℕ) (ts : List Token) → has_no_nul source ≡ true → drop at source ≡ [] →
-    ts ++ lexeme_left (drop at source) ≡ lexeme_left source → ts ≡ tokens_before_fault source
-front-whole source at ts clean stop read = front-read source at ts clean (ap lexeme_at stop ∙ nothing-at-end) read
-
-pub front-nul : (source : List ℕ) → has_no_nul source ≡ false → [] ≡ tokens_before_fault source
+pub front-nul : (source : List ℕ) → has_no_nul source ≡ false → tokens_before_fault source ≡ []
 unfolding tokens_before_fault
 front-nul source e = rw e refl
 
 pub nul-read : (source : List ℕ) → has_no_nul source ≡ false → tokens_of source ≡ None
 unfolding tokens_of
 nul-read source e = rw e refl
-
-pub step-read : {X : Type 0} (old new more left rest whole : List X) → new ≡ old ++ more → left ≡ more ++ rest → old ++ left ≡ whole → new ++ rest ≡ whole
-step-read old new more left rest whole e f g =
-    ap (λ l. l ++ rest) e ∙ append_assoc old more rest ∙ ap (λ l. old ++ l) (sym f) ∙ g
 
 pub word_inside : (b : ℕ) → is_blank b ≡ false → (b ≡ 10 → ⊥) → (b ≡ 59 → ⊥) → (b ≡ 38 → ⊥) → (b ≡ 124 → ⊥) → ends_word b ≡ false
 unfolding ends_word

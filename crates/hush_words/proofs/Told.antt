@@ -7,8 +7,6 @@ use Rattle.std.proofs.lemmas.Bool.{and_parts, and_from, both_ways, eqb-true, eq-
 use Rattle.hush_words.specs.Words.{Atom, begins_name, is_in_name, is_name}
 use Rattle.hush_words.specs.Words.Atom.{Plain, Quoted, Mark, Value, Status}
 use Rattle.hush_words.specs.Forms.{IsPlain, IsNameWord, IsAssignment, is_plain, goes_on, with_byte, name_from, name_of, value_from, assignment_from, assignment_of}
-use Rattle.hush_words.specs.Steps.{EqualsIs}
-use Rattle.hush_words.specs.declared.steps.Scan.TheVariants as scan
 use Rattle.hush_words.proofs.Fronts.{on_test}
 
 plain-here : (text : List ℕ) (atoms : List Atom) → is_plain text atoms ≡ true → IsPlain text atoms
@@ -120,14 +118,6 @@ assignment-fits begun (Status q ∷ atoms) = tt
 equals-in : is_in_name 61 ≡ false
 unfolding is_in_name begins_name
 equals-in = refl
-
--- a `=` where a name has begun, and where none has
-pub equals-begun : EqualsIs true scan.Equals
-equals-begun = (λ more. rw equals-in refl, λ more. rw equals-in refl)
-
-pub equals-first : EqualsIs false scan.Stops
-unfolding begins_name
-equals-first = (λ more. refl, λ more. refl)
 
 assignment-more : (n : List ℕ) (value : List Atom) → list_all is_in_name n ≡ true →
     assignment_from true (map Plain n ++ Plain 61 ∷ value) ≡ Some (n, value)

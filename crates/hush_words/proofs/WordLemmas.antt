@@ -1,98 +1,67 @@
--- What is left to read of a word.
-use Rattle.std.specs.Prelude.{◌≡◌, ℕ, ◌+◌, ◌-◌, ◌≤◌, ◌==◌, true, false, List, [], ◌∷◌, ◌++◌, map, take, drop, Some, None, Ok}
-use Rattle.std.specs.List.{flat_map, list_all}
+-- What begins at a place of a word.
+use Rattle.std.specs.Prelude.{◌≡◌, ℕ, ◌+◌, ◌≤◌, ◌==◌, true, false, not, List, [], ◌∷◌, ◌++◌, drop, Some, None, is_some}
 use Rattle.std.specs.Option.{option_map}
-use Rattle.std.proofs.Common.{refl, sym, ◌∙◌, ap, arith, append_assoc, append-nil, inl, inr}
-use Rattle.std.proofs.lemmas.Bool.{and_parts, ne_eqb, not_from_false, or_from, or_cases, eqb-true, both_ways}
-use Rattle.std.proofs.lemmas.List.{drop-drop, take-append-drop, append_cancel_left}
-use Rattle.hush_words.specs.Words.{Atom, Piece, Dollar, dollar_atom, piece_atoms, is_bare, is_special, ends_word, next}
-use Rattle.hush_words.specs.Words.Atom.{Plain}
-use Rattle.hush_words.specs.Words.Piece.{Bare, Escaped, Joined}
-use Rattle.hush_words.specs.Reading.{Found, found, as_piece, dollar_at, escape_at, piece_at}
-use Rattle.hush_words.specs.Parts.{part_atoms, atoms_of}
-use Rattle.hush_words.specs.Steps.{StandsAt, dollar_read, piece_read, piece_left, piece_end, ReadsPieces}
-use Rattle.hush_words.specs.declared.parts.Part.{Part}
-use Rattle.hush_words.proofs.Many.{all-some, all-none}
-use Rattle.hush_words.proofs.Pieces.{piece-shortens, piece-bare, piece-dollar, piece-backslash, escape-other, escape-newline}
-use Rattle.hush_words.proofs.QuoteLemmas.{atoms-append}
-
-pub piece-one : (bs : List ℕ) (p : Piece) (r : List ℕ) → piece_at bs ≡ found p r →
-    (piece_left bs ≡ piece_atoms p ++ piece_left r) × (piece_end bs ≡ piece_end r)
-unfolding piece_left piece_end
-piece-one bs p r e =
-    let q = all-some piece_at piece-shortens bs p r e in
-    (ap (λ w. flat_map piece_atoms w.0) q, ap (λ w. w.1) q)
-
-pub piece-none : (bs : List ℕ) → piece_at bs ≡ None → (piece_left bs ≡ []) × (piece_end bs ≡ bs)
-unfolding piece_left piece_end
-piece-none bs e =
-    let q = all-none piece_at bs e in
-    (ap (λ w. flat_map piece_atoms w.0) q, ap (λ w. w.1) q)
-
--- bytes that stand for themselves, one piece each
-pub piece-run : (run rest : List ℕ) → list_all is_bare run ≡ true →
-    (piece_left (run ++ rest) ≡ map Plain run ++ piece_left rest) × (piece_end (run ++ rest) ≡ piece_end rest)
-piece-run [] rest all = (refl, refl)
-piece-run (b ∷ bs) rest all =
-    let p = and_parts (is_bare b) (list_all is_bare bs) all in
-    let one = piece-one (b ∷ bs ++ rest) (Bare b) (bs ++ rest) (piece-bare b (bs ++ rest) p.0) in
-    let more = piece-run bs rest p.1 in
-    (one.0 ∙ ap (λ l. Plain b ∷ l) more.0, one.1 ∙ more.1)
-
-pieces-found : (old new : List Atom) (bs rest : List ℕ) (o : Found Piece) → piece_at bs ≡ o →
-    option_map (piece_read old) o ≡ Some (new, rest) →
-    (new ++ piece_left rest ≡ old ++ piece_left bs) × (piece_end rest ≡ piece_end bs)
-pieces-found old new bs rest None e h = absurd (cc)
-pieces-found old new bs rest (Some f) e h =
-    let w : ◌≡◌ {A = List Atom × List ℕ} (old ++ piece_atoms f.0, f.1) (new, rest) = cc in
-    let one = piece-one bs f.0 f.1 e in (
-      ap (λ v. v.0 ++ piece_left v.1) (sym w) ∙ append_assoc old (piece_atoms f.0) (piece_left f.1) ∙ ap (λ l. old ++ l) (sym one.0),
-      ap (λ v. piece_end v.1) (sym w) ∙ sym one.1,
-    )
-
-pub pieces-one : (old new : List Atom) (bs rest : List ℕ) → option_map (piece_read old) (piece_at bs) ≡ Some (new, rest) →
-    (new ++ piece_left rest ≡ old ++ piece_left bs) × (piece_end rest ≡ piece_end bs)
-pieces-one old new bs rest h = pieces-found old new bs rest (piece_at bs) refl h
-
-pub pushed-one : (source : List ℕ) (old new : List Part) (p : Part) → new ≡ old ++ p ∷ [] →
-    atoms_of source new ≡ atoms_of source old ++ part_atoms source p
-pushed-one source old new p e =
-    ap (atoms_of source) e ∙ atoms-append source old (p ∷ []) ∙ ap (λ l. atoms_of source old ++ l) (append-nil (part_atoms source p))
-
--- a run of bare bytes as one part
-pub run-pushed : (source : List ℕ) (start end : ℕ) (old new : List Atom) → start ≤ end → list_all is_bare (take (end - start) (drop start source)) ≡ true →
-    new ≡ old ++ map Plain (take (end - start) (drop start source)) →
-    (new ++ piece_left (drop end source) ≡ old ++ piece_left (drop start source)) × (piece_end (drop end source) ≡ piece_end (drop start source))
-run-pushed source start end old new ordered bare e =
-    let run : List ℕ = take (end - start) (drop start source) in
-    let r = piece-run run (drop end source) bare in
-    let place : start + (end - start) ≡ end = omega arith in
-    let whole : run ++ drop end source ≡ drop start source =
-    ap (λ l. run ++ l) (sym (drop-drop (end - start) start source ∙ ap (λ n. drop n source) place)) ∙ take-append-drop (end - start) (drop start source) in (
-      ap (λ l. l ++ piece_left (drop end source)) e ∙ append_assoc old (map Plain run) (piece_left (drop end source))
-          ∙ ap (λ l. old ++ l) (sym r.0 ∙ ap piece_left whole),
-      sym r.1 ∙ ap piece_end whole,
-    )
+use Rattle.std.specs.List.{list_all}
+use Rattle.std.proofs.Common.{refl, sym, ◌∙◌, ap, arith, inl, inr}
+use Rattle.std.proofs.lemmas.Bool.{ne_eqb, not_from_false, or_from, or_cases, eqb-true, both_ways, cases_eq, cases_Bool}
+use Rattle.hush_words.specs.Words.{Atom, Piece, Dollar, dollar_atom, is_bare, is_special, ends_word, next}
+use Rattle.hush_words.specs.Words.Atom.{Quoted}
+use Rattle.hush_words.specs.Words.Piece.{Bare, Escaped, Joined, DollarPiece}
+use Rattle.hush_words.specs.Reading.{Found, found, as_piece, dollar_at, escape_at, piece_at, piece_left, piece_end}
+use Rattle.hush_words.specs.Forms.{first_plain}
+use Rattle.hush_words.specs.Parts.{range_bytes}
+use Rattle.hush_words.specs.Steps.{StandsAt, IsRun, dollar_read}
+use Rattle.hush_words.proofs.Pieces.{piece-bare, piece-dollar, piece-backslash, escape-other, escape-newline}
+use Rattle.hush_words.proofs.PieceLemmas.{piece-one, piece-none, range-rest, read-again, run-read}
+use Rattle.hush_words.proofs.Fronts.{front-all, behind-next}
 
 pub bare-by : (b : ℕ) → ends_word b ≡ false → is_special b ≡ false → is_bare b ≡ true
 unfolding is_bare
 bare-by b e f = not_from_false _ (or_from (ends_word b) (is_special b) e f)
 
-dollar-found : (old : List Atom) (bs : List ℕ) (o : Found Dollar) (atoms : List Atom) (rest : List ℕ) →
-    option_map (dollar_read false) o ≡ Some (atoms, rest) →
-    option_map (piece_read old) (option_map as_piece o) ≡ Some (old ++ atoms, rest)
-dollar-found old bs None atoms rest h = absurd (cc)
-dollar-found old bs (Some f) atoms rest h =
-    let w : ◌≡◌ {A = List Atom × List ℕ} (dollar_atom false f.0 ∷ [], f.1) (atoms, rest) = cc in
-    ap (λ v. Some (old ++ v.0, v.1)) w
+pub bare-here : (source : List ℕ) (at b : ℕ) → StandsAt source at b → is_bare b ≡ true → is_some (piece_at (drop at source)) ≡ true
+bare-here source at b here bare = ap (λ l. is_some (piece_at l)) here.1 ∙ ap (λ o. is_some o) (piece-bare b (drop (at + 1) source) bare)
 
-pub read-dollar-piece : (source : List ℕ) (at end : ℕ) (old atoms : List Atom) → StandsAt source at 36 →
+pub bare-first : (source : List ℕ) (at b : ℕ) → StandsAt source at b → is_bare b ≡ true → first_plain (piece_left (drop at source)) ≡ Some b
+bare-first source at b here bare =
+    ap (λ l. first_plain (piece_left l)) here.1
+    ∙ ap first_plain (piece-one (b ∷ drop (at + 1) source) (Bare b) (drop (at + 1) source) (piece-bare b (drop (at + 1) source) bare)).0
+
+-- a run of plain bytes
+pub plain-read : (source : List ℕ) (start end : ℕ) → IsRun is_bare source start end →
+    (piece_end (drop end source) ≡ piece_end (drop start source)) × (next (λ b. not (is_bare b)) (drop end source) ≡ true)
+plain-read source start end run =
+    let all : list_all is_bare (range_bytes source start end) ≡ true = ap (list_all is_bare) run.2 ∙ front-all is_bare (drop start source) in (
+      (run-read source start end run.0 all).1,
+      ap (next (λ b. not (is_bare b))) run.3 ∙ behind-next is_bare (drop start source),
+    )
+
+pub special-by : (b : ℕ) → is_bare b ≡ false → ends_word b ≡ false → is_special b ≡ true
+unfolding is_bare
+special-by b bare inside =
+    elim (cases_Bool (is_special b)) [
+      | inl e ↦ e
+      | inr e ↦ absurd (both_ways (is_bare b) bare (bare-by b inside e))
+    ]
+
+-- what a `$` begins, as a piece
+dollar-found : (bs : List ℕ) (o : Found Dollar) (atoms : List Atom) (rest : List ℕ) → piece_at bs ≡ option_map as_piece o →
+    option_map (dollar_read false) o ≡ Some (atoms, rest) →
+    (option_map (λ (f : Piece × List ℕ). f.1) (piece_at bs) ≡ Some rest) × (piece_left bs ≡ atoms ++ piece_left rest)
+dollar-found bs None atoms rest e h = absurd (cc)
+dollar-found bs (Some f) atoms rest e h =
+    let w : ◌≡◌ {A = List Atom × List ℕ} (dollar_atom false f.0 ∷ [], f.1) (atoms, rest) = cc in (
+      ap (λ o. option_map (λ (g : Piece × List ℕ). g.1) o) e ∙ ap (λ v. Some v.1) w,
+      (piece-one bs (DollarPiece f.0) f.1 e).0 ∙ ap (λ v. v.0 ++ piece_left v.1) w,
+    )
+
+pub read-dollar-piece : (source : List ℕ) (at end : ℕ) (atoms : List Atom) → StandsAt source at 36 →
     option_map (dollar_read false) (dollar_at (drop (at + 1) source)) ≡ Some (atoms, drop end source) →
-    option_map (piece_read old) (piece_at (drop at source)) ≡ Some (old ++ atoms, drop end source)
-read-dollar-piece source at end old atoms here h =
-    ap (λ l. option_map (piece_read old) (piece_at l)) here.1
-    ∙ ap (λ o. option_map (piece_read old) o) (piece-dollar (drop (at + 1) source))
-    ∙ dollar-found old (drop (at + 1) source) (dollar_at (drop (at + 1) source)) atoms (drop end source) h
+    (option_map (λ (f : Piece × List ℕ). f.1) (piece_at (drop at source)) ≡ Some (drop end source)) ×
+    (piece_left (drop at source) ≡ atoms ++ piece_left (drop end source))
+read-dollar-piece source at end atoms here h =
+    dollar-found (drop at source) (dollar_at (drop (at + 1) source)) atoms (drop end source)
+    (ap piece_at here.1 ∙ piece-dollar (drop (at + 1) source)) h
 
 pub no-dollar-piece : (source : List ℕ) (at : ℕ) → StandsAt source at 36 → dollar_at (drop (at + 1) source) ≡ None → piece_at (drop at source) ≡ None
 no-dollar-piece source at here e =
@@ -120,9 +89,24 @@ joined-there source at b here next' e =
     ∙ escape-newline (drop (at + 1 + 1) source)
     ∙ ap (λ n. found Joined (drop n source)) two
 
-pub nothing-left : piece_at [] ≡ None
-unfolding piece_at
-nothing-left = refl
+-- a `\` and the byte behind it
+pub escape-ends : (source : List ℕ) (at b : ℕ) → StandsAt source at 92 → StandsAt source (at + 1) b →
+    option_map (λ (f : Piece × List ℕ). f.1) (piece_at (drop at source)) ≡ Some (drop (at + 2) source)
+escape-ends source at b here next' =
+    elim (cases_eq b 10) [
+      | inl e ↦ ap (λ o. option_map (λ (f : Piece × List ℕ). f.1) o) (joined-there source at b here next' e)
+      | inr e ↦ ap (λ o. option_map (λ (f : Piece × List ℕ). f.1) o) (escape-there source at b here next' e)
+    ]
+
+pub escaped-left : (source : List ℕ) (at b : ℕ) → StandsAt source at 92 → StandsAt source (at + 1) b → (b ≡ 10 → ⊥) →
+    piece_left (drop at source) ≡ Quoted b ∷ piece_left (drop (at + 2) source)
+escaped-left source at b here next' ne =
+    (piece-one (drop at source) (Escaped b) (drop (at + 2) source) (escape-there source at b here next' ne)).0
+
+pub joined-left : (source : List ℕ) (at b : ℕ) → StandsAt source at 92 → StandsAt source (at + 1) b → b ≡ 10 →
+    piece_left (drop at source) ≡ piece_left (drop (at + 2) source)
+joined-left source at b here next' e =
+    (piece-one (drop at source) Joined (drop (at + 2) source) (joined-there source at b here next' e)).0
 
 -- of the special bytes the last
 pub last-special : (b : ℕ) → is_special b ≡ true → (b ≡ 36 → ⊥) → (b ≡ 92 → ⊥) → (b ≡ 39 → ⊥) → b ≡ 34
@@ -134,13 +118,12 @@ last-special b e d s q =
     let rest = rw (f, h) at e in
     elim (or_cases (b == 34) _ rest) [ inl w ↦ eqb-true b 34 w | inr w ↦ absurd (both_ways _ (or_from (b == 92) false g refl) w) ]
 
--- where a word ends, all of it is read
-pub word-whole : (source : List ℕ) (start at : ℕ) (first new : List Part) (old : List Atom) → ReadsPieces source at old (atoms_of source new) (Ok None) →
-    (tail : List Part) → new ≡ first ++ tail →
-    old ++ piece_left (drop at source) ≡ atoms_of source first ++ piece_left (drop start source) → piece_end (drop at source) ≡ piece_end (drop start source) →
-    (atoms_of source tail ≡ piece_left (drop start source)) × (piece_end (drop start source) ≡ drop at source) × (next ends_word (drop at source) ≡ true)
-word-whole source start at first new old h tail e read ends =
-    let none = piece-none (drop at source) h.1 in
-    let whole : atoms_of source first ++ atoms_of source tail ≡ atoms_of source first ++ piece_left (drop start source) =
-    sym (ap (atoms_of source) e ∙ atoms-append source first tail) ∙ h.0 ∙ sym (append-nil old) ∙ ap (λ l. old ++ l) (sym none.0) ∙ read in
-    (append_cancel_left (atoms_of source first) (atoms_of source tail) (piece_left (drop start source)) whole, sym ends ∙ none.1, h.2)
+-- where a word ends, all of its range is read
+pub word-read : (source : List ℕ) (start at : ℕ) → start ≤ at → piece_at (drop at source) ≡ None → piece_end (drop at source) ≡ piece_end (drop start source) →
+    (piece_left (range_bytes source start at) ≡ piece_left (drop start source)) × (piece_end (drop start source) ≡ drop at source)
+word-read source start at ordered none ends =
+    let end : piece_end (drop start source) ≡ drop at source = sym ends ∙ (piece-none (drop at source) none).1 in (
+      read-again (drop start source) (range_bytes source start at)
+          (range-rest source start at ordered ∙ ap (λ l. range_bytes source start at ++ l) (sym end)),
+      end,
+    )

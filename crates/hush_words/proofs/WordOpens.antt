@@ -1,5 +1,5 @@
 -- A word opens where nothing else begins, and is read or refused.
-use Rattle.std.specs.Prelude.{◌≡◌, ℕ, ◌+◌, ◌<◌, ◌≤◌, ◌==◌, ◌&&◌, true, false, not, if◌then◌else◌, List, [], ◌∷◌, length, drop, Some, None, Err}
+use Rattle.std.specs.Prelude.{◌≡◌, ℕ, ◌+◌, ◌<◌, ◌≤◌, ◌==◌, ◌&&◌, true, false, not, if◌then◌else◌, List, [], ◌∷◌, length, drop, Some, None}
 use Rattle.std.specs.List.{flat_map}
 use Rattle.std.specs.Option.{option_map}
 use Rattle.std.proofs.Common.{refl, sym, ◌∙◌, ap, subst, arith, length-drop, inl, inr}
@@ -8,16 +8,13 @@ use Rattle.hush_words.specs.Words.{Atom, Piece, Dollar, piece_atoms, is_blank, e
 use Rattle.hush_words.specs.Words.Piece.{Single, Double}
 use Rattle.hush_words.specs.Tokens.{Token, Lexeme, lexeme_tokens, opens_word}
 use Rattle.hush_words.specs.Tokens.Token.{Word}
-use Rattle.hush_words.specs.Reading.{Found, found, front, behind, all, closed, as_piece, dollar_at, inner_at, escape_at, single_at, double_at, piece_at, word_of, joined_line, passed_at, lexeme_at}
-use Rattle.hush_words.specs.Steps.{begins, StandsAt, lexeme_read, piece_left, piece_end, ReadsPieces, ReadsLexeme}
-use Rattle.hush_words.specs.declared.parts.Part.{Part}
-use Rattle.hush_words.specs.declared.steps.Stop.{Stop}
-use Rattle.hush_words.specs.declared.steps.Stop.TheVariants as stop
+use Rattle.hush_words.specs.Reading.{Found, found, front, behind, all, closed, as_piece, dollar_at, inner_at, escape_at, single_at, double_at, piece_at, word_of, joined_line, passed_at, lexeme_at, piece_left, piece_end}
+use Rattle.hush_words.specs.Steps.{begins, StandsAt, lexeme_read}
 use Rattle.hush_words.proofs.Fronts.{on_test}
 use Rattle.hush_words.proofs.Many.{all-some, Shorter}
 use Rattle.hush_words.proofs.Pieces.{piece-shortens}
 use Rattle.hush_words.proofs.Lexemes.{passed-none, word-here, lexeme-shortens}
-use Rattle.hush_words.proofs.WordLemmas.{piece-none}
+use Rattle.hush_words.proofs.PieceLemmas.{piece-none}
 
 -- a word opens where nothing else begins
 abbrev Opens : Found Piece → Type 0
@@ -154,10 +151,3 @@ no-word-token source at b here inside comment line going =
     let opens = subst (λ l. Opens (piece_at l)) (sym here.1) (piece_opens b bs comment line') in
     let passed = subst (λ l. passed_at l ≡ None) (sym here.1) (nothing_passed b bs inside comment line') in
     word-not (drop at source) (piece_at (drop at source)) refl opens passed going
-
-pub refused-word : (source : List ℕ) (at b : ℕ) → StandsAt source at b → ends_word b ≡ false → (b ≡ 35 → ⊥) →
-    begins 92 (drop at source) && begins 10 (drop (at + 1) source) ≡ false → (here : ℕ) (old new : List Atom) (parts : List Part) (s : Stop) →
-    ReadsPieces source here old new (Err s) → piece_end (drop here source) ≡ piece_end (drop at source) → ReadsLexeme source at parts (Err s)
-refused-word source at b stands inside comment line here old new parts (stop.Fault f) h e =
-    no-word-token source at b stands inside comment line (ap (next ends_word) (sym e ∙ (piece-none (drop here source) h.0).1) ∙ h.1)
-refused-word source at b stands inside comment line here old new parts (stop.Memory m) h e = tt

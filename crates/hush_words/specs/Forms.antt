@@ -1,6 +1,7 @@
 -- The forms of a word that the grammar asks for, by its atoms (docs/scripts.md, "Grammar").
 use Rattle.std.specs.Prelude.{◌≡◌, ℕ, ◌==◌, ◌&&◌, Bool, true, false, if◌then◌else◌, List, [], ◌∷◌, ◌++◌, map, Option, Some, None}
 use Rattle.std.specs.Option.{option_map}
+use Rattle.hush_words.specs.Bytes.{equals}
 use Rattle.hush_words.specs.Words.{Atom, begins_name, is_in_name, is_name}
 use Rattle.hush_words.specs.Words.Atom.{Plain, Quoted, Mark, Value, Status}
 
@@ -14,7 +15,7 @@ IsNameWord name atoms = (is_name name ≡ true) × IsPlain name atoms
 
 -- unquoted plain bytes at the front that are a name and `=`, and what stands behind them
 abbrev pub IsAssignment : (name : List ℕ) → (value : List Atom) → List Atom → Type 0
-IsAssignment name value atoms = (is_name name ≡ true) × (atoms ≡ map Plain name ++ Plain 61 ∷ value)
+IsAssignment name value atoms = (is_name name ≡ true) × (atoms ≡ map Plain name ++ Plain equals ∷ value)
 
 -- the same from the word's side: each is the one that the law of this crate gives it
 
@@ -58,7 +59,7 @@ unfoldable pub name_of : List Atom → Option (List ℕ)
 name_of atoms = name_from false atoms
 
 abbrev pub value_from : (begun : Bool) → ℕ → List Atom → Option (List ℕ × List Atom)
-value_from begun b atoms = if begun && b == 61 then Some ([], atoms) else None
+value_from begun b atoms = if begun && b == equals then Some ([], atoms) else None
 
 abbrev pub assignment_from : (begun : Bool) → List Atom → Option (List ℕ × List Atom)
 assignment_from begun [] = None

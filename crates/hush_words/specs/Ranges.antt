@@ -1,7 +1,9 @@
 -- The parts of words lie inside their source, and a `=` among plain bytes is a part of its own.
-use Rattle.std.specs.Prelude.{◌≡◌, ℕ, ◌≤◌, ◌==◌, ◌⊎◌, true, not, List, [], ◌∷◌, length}
+use Rattle.std.specs.Prelude.{◌≡◌, ℕ, ◌≤◌, ◌<◌, ◌==◌, ◌⊎◌, true, not, List, [], ◌∷◌, ◌++◌, length, Option, Some, None}
 use Rattle.std.specs.List.{list_all}
-use Rattle.hush_words.specs.Parts.{span_bytes}
+use Rattle.hush_words.specs.Bytes.{equals}
+use Rattle.hush_words.specs.Words.{Atom}
+use Rattle.hush_words.specs.Parts.{span_bytes, part_atoms}
 use Rattle.hush_words.specs.declared.parts.Span.{Span}
 use Rattle.hush_words.specs.declared.parts.Part.{Part}
 use Rattle.hush_words.specs.declared.parts.Part.TheVariants as part
@@ -16,7 +18,7 @@ IsWithin source s = (s.start ≤ s.end) × (s.end ≤ length source)
 
 -- one `=`, or bytes without one
 abbrev pub IsSplit : List ℕ → Type 0
-IsSplit bytes = (bytes ≡ 61 ∷ []) ⊎ (list_all (λ b. not (b == 61)) bytes ≡ true)
+IsSplit bytes = (bytes ≡ equals ∷ []) ⊎ (list_all (λ b. not (b == equals)) bytes ≡ true)
 
 abbrev pub Fits : List ℕ → Part → Type 0
 Fits source (part.Plain s) = IsWithin source s × IsSplit (span_bytes source s)
@@ -25,6 +27,20 @@ Fits source part.Mark = Unit {0}
 Fits source (part.Value s quoted) = IsWithin source s
 Fits source (part.Status quoted) = Unit {0}
 
-abbrev pub AllFit : List ℕ → List Part → Type 0
-AllFit source [] = Unit {0}
-AllFit source (p ∷ ps) = Fits source p × AllFit source ps
+-- a part, if there is one, of this source
+abbrev pub FitsSome : List ℕ → Option Part → Type 0
+FitsSome source None = Unit {0}
+FitsSome source (Some part) = Fits source part
+
+-- the parts of a word that aren't taken yet: of this source they are ranges, these atoms they stand for, and so many
+-- bytes of the word are left
+pub record PartsLeft : Type 0 where
+  pub source : List ℕ
+  pub atoms : List Atom
+  pub bytes : ℕ
+
+-- the next part was taken, or none is left
+abbrev pub TakesPart : PartsLeft → PartsLeft → Option Part → Type 0
+TakesPart old new None = old.atoms ≡ []
+TakesPart old new (Some part) =
+    (old.atoms ≡ part_atoms old.source part ++ new.atoms) × Fits old.source part × (new.source ≡ old.source) × (new.bytes < old.bytes)

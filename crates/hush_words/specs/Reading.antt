@@ -3,12 +3,13 @@
 use Rattle.std.specs.Prelude.{ℕ, zero, suc, ◌+◌, ◌==◌, Bool, not, if◌then◌else◌, List, [], ◌∷◌, ◌++◌, map, Option, Some, None, length}
 use Rattle.std.specs.List.{flat_map}
 use Rattle.std.specs.Option.{option_map}
-use Rattle.hush_words.specs.Words.{Dollar, Inner, Piece, is_blank, ends_word, begins_name, is_in_name, is_in_braces, follows_dollar, is_bare, is_inner, is_escaped, next}
+use Rattle.hush_words.specs.Bytes.{newline, double_quote, hash, dollar, ampersand, single_quote, semicolon, question_mark, backslash, opening_brace, vertical_bar, closing_brace}
+use Rattle.hush_words.specs.Words.{Atom, Dollar, Inner, Piece, piece_atoms, is_blank, ends_word, begins_name, is_in_name, is_in_braces, follows_dollar, is_bare, is_inner, is_escaped, next}
 use Rattle.hush_words.specs.Words.Dollar.{Name, Braces, LastStatus, Alone}
 use Rattle.hush_words.specs.Words.Inner.{Byte, Backslash, EscapedInner, JoinedInner, DollarInner}
 use Rattle.hush_words.specs.Words.Piece.{Bare, Escaped, Joined, Single, Double, DollarPiece}
 use Rattle.hush_words.specs.Tokens.{Token, Lexeme, opens_word, lexeme_text, lexeme_tokens, has_no_nul}
-use Rattle.hush_words.specs.Tokens.Lexeme.{WordOf, EndOfLine, Separator, And, Or, Blank, JoinedLine, Comment}
+use Rattle.hush_words.specs.Tokens.Lexeme.{WordOf, EndOfLine, SemicolonLexeme, And, Or, Blank, JoinedLine, Comment}
 
 -- a piece at the front of a text, and the text behind it
 abbrev pub Found : Type 0 → Type 0
@@ -47,15 +48,15 @@ closed quote p (b ∷ bs) = if b == quote then Some (p, bs) else None
 
 abbrev pub braces : List ℕ → List ℕ → Found Dollar
 braces [] rest = None
-braces (b ∷ bs) rest = closed 125 (Braces (b ∷ bs)) rest
+braces (b ∷ bs) rest = closed closing_brace (Braces (b ∷ bs)) rest
 
 -- behind a `$`
 unfoldable pub dollar_at : List ℕ → Found Dollar
 dollar_at [] = Some (Alone, [])
 dollar_at (b ∷ bs) =
     if begins_name b then Some (Name (b ∷ front is_in_name bs), behind is_in_name bs)
-    else if b == 123 then braces (front is_in_braces bs) (behind is_in_braces bs)
-    else if b == 63 then Some (LastStatus, bs)
+    else if b == opening_brace then braces (front is_in_braces bs) (behind is_in_braces bs)
+    else if b == question_mark then Some (LastStatus, bs)
     else if follows_dollar b then None
     else Some (Alone, b ∷ bs)
 
@@ -70,7 +71,7 @@ unfoldable pub inner_escape : List ℕ → Found Inner
 inner_escape [] = Some (Backslash, [])
 inner_escape (b ∷ bs) =
     if is_escaped b then Some (EscapedInner b, bs)
-    else if b == 10 then Some (JoinedInner, bs)
+    else if b == newline then Some (JoinedInner, bs)
     else Some (Backslash, b ∷ bs)
 
 -- between double quotes
@@ -78,33 +79,40 @@ unfoldable pub inner_at : List ℕ → Found Inner
 inner_at [] = None
 inner_at (b ∷ bs) =
     if is_inner b then Some (Byte b, bs)
-    else if b == 36 then option_map as_inner (dollar_at bs)
-    else if b == 92 then inner_escape bs
+    else if b == dollar then option_map as_inner (dollar_at bs)
+    else if b == backslash then inner_escape bs
     else None
 
 -- behind a `\`
 unfoldable pub escape_at : List ℕ → Found Piece
 escape_at [] = None
-escape_at (b ∷ bs) = if b == 10 then Some (Joined, bs) else Some (Escaped b, bs)
+escape_at (b ∷ bs) = if b == newline then Some (Joined, bs) else Some (Escaped b, bs)
 
 -- behind a single quote
 unfoldable pub single_at : List ℕ → Found Piece
-single_at text = closed 39 (Single (front (λ b. not (b == 39)) text)) (behind (λ b. not (b == 39)) text)
+single_at text = closed single_quote (Single (front (λ b. not (b == single_quote)) text)) (behind (λ b. not (b == single_quote)) text)
 
 -- behind a double quote
 unfoldable pub double_at : List ℕ → Found Piece
-double_at text = closed 34 (Double (all inner_at text).0) (all inner_at text).1
+double_at text = closed double_quote (Double (all inner_at text).0) (all inner_at text).1
 
 -- in a word
 unfoldable pub piece_at : List ℕ → Found Piece
 piece_at [] = None
 piece_at (b ∷ bs) =
     if is_bare b then Some (Bare b, bs)
-    else if b == 36 then option_map as_piece (dollar_at bs)
-    else if b == 92 then escape_at bs
-    else if b == 39 then single_at bs
-    else if b == 34 then double_at bs
+    else if b == dollar then option_map as_piece (dollar_at bs)
+    else if b == backslash then escape_at bs
+    else if b == single_quote then single_at bs
+    else if b == double_quote then double_at bs
     else None
+
+-- what the pieces at the front stand for, as far as there are any, and the text behind them
+unfoldable pub piece_left : List ℕ → List Atom
+piece_left text = flat_map piece_atoms (all piece_at text).0
+
+unfoldable pub piece_end : List ℕ → List ℕ
+piece_end text = (all piece_at text).1
 
 -- where no word is open
 abbrev pub word_of : List Piece → List ℕ → Found Lexeme
@@ -112,18 +120,18 @@ word_of ps rest = if next ends_word rest then Some (WordOf ps, rest) else None
 
 abbrev pub joined_line : List ℕ → Found Lexeme
 joined_line [] = None
-joined_line (b ∷ bs) = if b == 10 then Some (JoinedLine, bs) else None
+joined_line (b ∷ bs) = if b == newline then Some (JoinedLine, bs) else None
 
 unfoldable pub passed_at : List ℕ → Found Lexeme
 passed_at [] = None
 passed_at (b ∷ bs) =
     if is_blank b then Some (Blank b, bs)
-    else if b == 10 then Some (EndOfLine, bs)
-    else if b == 59 then Some (Separator, bs)
-    else if b == 38 then closed 38 And bs
-    else if b == 124 then closed 124 Or bs
-    else if b == 35 then Some (Comment (front (λ k. not (k == 10)) bs), behind (λ k. not (k == 10)) bs)
-    else if b == 92 then joined_line bs
+    else if b == newline then Some (EndOfLine, bs)
+    else if b == semicolon then Some (SemicolonLexeme, bs)
+    else if b == ampersand then closed ampersand And bs
+    else if b == vertical_bar then closed vertical_bar Or bs
+    else if b == hash then Some (Comment (front (λ k. not (k == newline)) bs), behind (λ k. not (k == newline)) bs)
+    else if b == backslash then joined_line bs
     else None
 
 unfoldable pub lexeme_at : List ℕ → Found Lexeme
@@ -134,18 +142,29 @@ abbrev pub tokens_if_whole : List Lexeme × List ℕ → Option (List Token)
 tokens_if_whole (ls, []) = Some (flat_map lexeme_tokens ls)
 tokens_if_whole (ls, b ∷ bs) = None
 
+-- the tokens at the front, up to the end or to where no lexeme can stand, and the text behind them
+unfoldable pub lexeme_left : List ℕ → List Token
+lexeme_left text = flat_map lexeme_tokens (all lexeme_at text).0
+
+unfoldable pub lexeme_end : List ℕ → List ℕ
+lexeme_end text = (all lexeme_at text).1
+
 -- the tokens of a text up to its end or its first fault; a byte 0 is looked for before all else
 unfoldable pub tokens_before_fault : List ℕ → List Token
-tokens_before_fault text = if has_no_nul text then flat_map lexeme_tokens (all lexeme_at text).0 else []
+tokens_before_fault text = if has_no_nul text then lexeme_left text else []
 
 -- how many bytes stand before each token of these lexemes, where so many stand before the lexemes
 abbrev pub places_from : ℕ → List Lexeme → List ℕ
 places_from at [] = []
 places_from at (l ∷ ls) = map (λ t. at) (lexeme_tokens l) ++ places_from (at + length (lexeme_text l)) ls
 
--- how many bytes of a text stand before each of those tokens
+-- the same of the tokens at the front of a text, where so many bytes stand before it
+unfoldable pub places_left : ℕ → List ℕ → List ℕ
+places_left at text = places_from at (all lexeme_at text).0
+
+-- how many bytes of a text stand before each of its tokens, up to its end or its first fault
 unfoldable pub token_places : List ℕ → List ℕ
-token_places text = if has_no_nul text then places_from 0 (all lexeme_at text).0 else []
+token_places text = if has_no_nul text then places_left 0 text else []
 
 -- the tokens of a text, none where it has none
 unfoldable pub tokens_of : List ℕ → Option (List Token)

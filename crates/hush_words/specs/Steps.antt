@@ -1,32 +1,36 @@
 -- What the readers of this crate promise each other: a reader stands at a place of the source, and says what was
 -- read there and where it went on from.
-use Rattle.std.specs.Prelude.{◌≡◌, ℕ, ◌+◌, ◌-◌, ◌<◌, ◌≤◌, ◌==◌, Bool, true, false, not, ◌&&◌, if◌then◌else◌, List, [], ◌∷◌, ◌++◌, map, Option, Some, None, Result, Ok, Err, length, take, drop}
+use Rattle.std.specs.Prelude.{◌≡◌, ℕ, ◌+◌, ◌-◌, ◌<◌, ◌≤◌, ◌==◌, Bool, true, false, not, ◌&&◌, List, [], ◌∷◌, ◌++◌, map, Option, Some, None, is_some, Result, Ok, Err, length, take, drop}
 use Rattle.std.specs.List.{flat_map, list_all}
 use Rattle.std.specs.Option.{option_map}
-use Rattle.hush_words.specs.Words.{Atom, Piece, Dollar, byte_atom, dollar_atom, inner_atoms, piece_atoms, ends_word, is_in_name, is_in_braces, is_bare, is_inner, next}
+use Rattle.hush_words.specs.Bytes.{newline, double_quote, single_quote, equals, backslash}
+use Rattle.hush_words.specs.Words.{Atom, Dollar, byte_atom, dollar_atom, inner_atoms, ends_word, is_in_name, is_in_braces, is_bare, is_inner, next}
 use Rattle.hush_words.specs.Tokens.{Lexeme, lexeme_tokens}
 use Rattle.hush_words.specs.Tokens as tokens
-use Rattle.hush_words.specs.Reading.{Found, front, behind, all, braces, dollar_at, inner_at, piece_at, lexeme_at, places_from}
+use Rattle.hush_words.specs.Reading.{Found, front, behind, all, braces, dollar_at, inner_at, piece_at, lexeme_at, piece_left, piece_end}
 use Rattle.hush_words.specs.Words.Atom.{Plain, Quoted, Mark, Value, Status}
 use Rattle.hush_words.specs.Forms.{is_plain, first_plain, goes_on, name_from, assignment_from, assignment_of}
-use Rattle.hush_words.specs.Parts.{Written, written, span_bytes, part_atoms, atoms_of}
+use Rattle.hush_words.specs.Parts.{Written, written, range_bytes, span_bytes, part_atoms}
 use Rattle.hush_words.specs.Views.{kind_token}
-use Rattle.hush_words.specs.Ranges.{IsWithin, IsSplit, AllFit}
+use Rattle.hush_words.specs.Ranges.{IsWithin, IsSplit, Fits, FitsSome}
 use Rattle.hush_words.specs.declared.classes.Class.{Class}
 use Rattle.hush_words.specs.declared.classes.Class.TheVariants as class
+use Rattle.hush_words.specs.declared.faults.Fault.{Fault}
 use Rattle.hush_words.specs.declared.parts.Part.{Part}
+use Rattle.hush_words.specs.declared.parts.Span.{Span}
 use Rattle.hush_words.specs.declared.tokens.TokenKind.{TokenKind}
-use Rattle.hush_words.specs.declared.steps.Stop.{Stop}
-use Rattle.hush_words.specs.declared.steps.Stop.TheVariants as stop
 use Rattle.hush_words.specs.declared.steps.PartRead.{PartRead}
 use Rattle.hush_words.specs.declared.steps.InnerRead.{InnerRead}
 use Rattle.hush_words.specs.declared.steps.LexemeRead.{LexemeRead}
-use Rattle.hush_words.specs.declared.steps.Scan.{Scan}
-use Rattle.hush_words.specs.declared.steps.Scan.TheVariants as scan
-use Rattle.hush_words.specs.declared.parts.Span.{Span}
+use Rattle.hush_words.specs.declared.steps.Inside.{Inside}
+use Rattle.hush_words.specs.declared.steps.Inside.TheVariants as inside
+use Rattle.hush_words.specs.declared.steps.Place.{Place}
+use Rattle.hush_words.specs.declared.steps.PlaceRead.{PlaceRead}
+use Rattle.hush_words.specs.declared.steps.NamePlace.{NamePlace}
 
 abbrev pub passes : Class → ℕ → Bool
-passes class.Bare b = is_bare b && not (b == 61)
+passes class.Plain b = is_bare b
+passes class.Bare b = is_bare b && not (b == equals)
 passes class.Inner b = is_inner b
 passes class.Name b = is_in_name b
 passes class.Braces b = is_in_braces b
@@ -93,52 +97,16 @@ ReadsInner source at (Some r) =
     (inner_left (drop at source) ≡ optional_atoms source r.part ++ inner_left (drop r.end source)) ×
     (inner_end (drop at source) ≡ inner_end (drop r.end source))
 
--- what is left to read of a word, and where that ends
-unfoldable pub piece_left : List ℕ → List Atom
-piece_left text = flat_map piece_atoms (all piece_at text).0
+-- one piece, up to where it ends
+abbrev pub ReadsPiece : List ℕ → ℕ → Result ℕ Fault → Type 0
+ReadsPiece source at (Ok end) =
+    (at < end) × (end ≤ length source) × (option_map (λ f. f.1) (piece_at (drop at source)) ≡ Some (drop end source))
+ReadsPiece source at (Err f) = piece_at (drop at source) ≡ None
 
-unfoldable pub piece_end : List ℕ → List ℕ
-piece_end text = (all piece_at text).1
-
-abbrev pub piece_read : List Atom → Piece × List ℕ → List Atom × List ℕ
-piece_read old f = (old ++ piece_atoms f.0, f.1)
-
--- one piece, whose atoms are put behind those that were there
-abbrev pub ReadsPiece : List ℕ → ℕ → List Atom → List Atom → Result ℕ Stop → Type 0
-ReadsPiece source at old new (Ok end) =
-    (at < end) × (end ≤ length source) ×
-    (option_map (piece_read old) (piece_at (drop at source)) ≡ Some (new, drop end source))
-ReadsPiece source at old new (Err (stop.Fault f)) = piece_at (drop at source) ≡ None
-ReadsPiece source at old new (Err (stop.Memory e)) = Unit {0}
-
--- the parts were put behind those that were there
-abbrev pub Pushed : List Part → List Part → List Part → Result (Unit {0}) Stop → Type 0
-Pushed old new more (Ok u) = new ≡ old ++ more
-Pushed old new more (Err (stop.Fault f)) = ⊥
-Pushed old new more (Err (stop.Memory e)) = Unit {0}
-
--- a growth was refused
-abbrev pub IsMemory : Stop → Type 0
-IsMemory (stop.Fault f) = ⊥
-IsMemory (stop.Memory e) = Unit {0}
-
-abbrev pub optional_part : Option Part → List Part
-optional_part None = []
-optional_part (Some part) = part ∷ []
-
--- parts of this source came behind those that were there
-abbrev pub Added : List ℕ → List Part → List Part → Type 0
-Added source old new = (more : List Part) × (new ≡ old ++ more) × AllFit source more
-
--- the same where the reader came to an end, or to a fault
-abbrev pub Adds : {X : Type 0} → List ℕ → List Part → List Part → Result X Stop → Type 0
-Adds source old new (Ok x) = Added source old new
-Adds source old new (Err (stop.Fault f)) = Added source old new
-Adds source old new (Err (stop.Memory e)) = Unit {0}
-
+-- a part between double quotes is one of this source
 abbrev pub FitsInner : List ℕ → Option InnerRead → Type 0
 FitsInner source None = Unit {0}
-FitsInner source (Some r) = AllFit source (optional_part r.part)
+FitsInner source (Some r) = FitsSome source r.part
 
 -- bytes that stand for themselves, as one part
 abbrev pub IsPlainRun : List ℕ → ℕ → ℕ → Type 0
@@ -151,49 +119,62 @@ abbrev pub IsSplitRange : List ℕ → Span → Type 0
 IsSplitRange source span = IsWithin source span × IsSplit (span_bytes source span)
 
 -- the pieces at a place; none where the word ends, a fault where something else stands
-abbrev pub ReadsPieces : List ℕ → ℕ → List Atom → List Atom → Result (Option ℕ) Stop → Type 0
-ReadsPieces source at old new (Ok (Some end)) =
-    (at < end) × (end ≤ length source) ×
-    (new ++ piece_left (drop end source) ≡ old ++ piece_left (drop at source)) ×
+abbrev pub ReadsPieces : List ℕ → ℕ → Result (Option ℕ) Fault → Type 0
+ReadsPieces source at (Ok (Some end)) =
+    (at < end) × (end ≤ length source) × (is_some (piece_at (drop at source)) ≡ true) ×
     (piece_end (drop end source) ≡ piece_end (drop at source))
-ReadsPieces source at old new (Ok None) =
-    (new ≡ old) × (piece_at (drop at source) ≡ None) × (next ends_word (drop at source) ≡ true)
-ReadsPieces source at old new (Err (stop.Fault f)) =
-    (piece_at (drop at source) ≡ None) × (next ends_word (drop at source) ≡ false)
-ReadsPieces source at old new (Err (stop.Memory e)) = Unit {0}
+ReadsPieces source at (Ok None) = (piece_at (drop at source) ≡ None) × (next ends_word (drop at source) ≡ true)
+ReadsPieces source at (Err f) = (piece_at (drop at source) ≡ None) × (next ends_word (drop at source) ≡ false)
+
+-- where pieces end no byte that stands for itself stands
+abbrev pub EndsPlain : List ℕ → Result (Option ℕ) Fault → Type 0
+EndsPlain source (Ok (Some end)) = next (λ b. not (is_bare b)) (drop end source) ≡ true
+EndsPlain source (Ok None) = Unit {0}
+EndsPlain source (Err f) = Unit {0}
+
+-- what is left to read of a word from inside a pair of quotes, or from outside of them
+abbrev pub atoms_left : Inside → List ℕ → List Atom
+atoms_left inside.Nothing text = piece_left text
+atoms_left inside.Single text =
+    map Quoted (front (λ b. not (b == single_quote)) text) ++ piece_left (drop 1 (behind (λ b. not (b == single_quote)) text))
+atoms_left inside.Double text = inner_left text ++ piece_left (drop 1 (inner_end text))
+
+-- the pair of quotes is closed
+abbrev pub Closes : Inside → List ℕ → Type 0
+Closes inside.Nothing text = Unit {0}
+Closes inside.Single text = begins single_quote (behind (λ b. not (b == single_quote)) text) ≡ true
+Closes inside.Double text = begins double_quote (inner_end text) ≡ true
+
+abbrev pub place_in : Inside → ℕ → Place
+place_in inside at = record { at = at; inside = inside }
+
+-- a step through a word: a part, or none for what is passed over, and where it goes on; none where the word ends
+abbrev pub Steps : List ℕ → Place → Option PlaceRead → Type 0
+Steps source p None = atoms_left p.inside (drop p.at source) ≡ []
+Steps source p (Some r) =
+    (p.at < r.next.at) × (r.next.at ≤ length source) × Closes r.next.inside (drop r.next.at source) × FitsSome source r.part ×
+    (atoms_left p.inside (drop p.at source) ≡ optional_atoms source r.part ++ atoms_left r.next.inside (drop r.next.at source))
+
+-- the part that comes next, and where the word goes on; none where no part is left
+abbrev pub StepsTo : List ℕ → Place → Option (Part × Place) → Type 0
+StepsTo source p None = atoms_left p.inside (drop p.at source) ≡ []
+StepsTo source p (Some r) =
+    (p.at < r.1.at) × (r.1.at ≤ length source) × Closes r.1.inside (drop r.1.at source) × Fits source r.0 ×
+    (atoms_left p.inside (drop p.at source) ≡ part_atoms source r.0 ++ atoms_left r.1.inside (drop r.1.at source))
 
 abbrev pub optional_token : Written → Option TokenKind → List tokens.Token
 optional_token text None = []
 optional_token text (Some kind) = kind_token text kind ∷ []
 
-abbrev pub optional_place : ℕ → Option TokenKind → List ℕ
-optional_place at None = []
-optional_place at (Some kind) = at ∷ []
-
 abbrev pub lexeme_read : Lexeme × List ℕ → List tokens.Token × List ℕ
 lexeme_read f = (lexeme_tokens f.0, f.1)
 
--- a lexeme, whatever parts come behind those of its word
-abbrev pub ReadsLexeme : List ℕ → ℕ → List Part → Result LexemeRead Stop → Type 0
-ReadsLexeme source at parts (Ok r) =
+-- a lexeme, up to where it ends
+abbrev pub ReadsLexeme : List ℕ → ℕ → Result LexemeRead Fault → Type 0
+ReadsLexeme source at (Ok r) =
     (at < r.end) × (r.end ≤ length source) ×
-    ((more : List Part) → option_map lexeme_read (lexeme_at (drop at source)) ≡ Some (optional_token (written source (parts ++ more)) r.kind, drop r.end source))
-ReadsLexeme source at parts (Err (stop.Fault f)) = lexeme_at (drop at source) ≡ None
-ReadsLexeme source at parts (Err (stop.Memory e)) = Unit {0}
-
-abbrev pub ReadsOperator : List ℕ → ℕ → Result LexemeRead Stop → Type 0
-ReadsOperator source at r = (parts : List Part) → ReadsLexeme source at parts r
-
--- what is left to read of a text, and where that ends
-unfoldable pub lexeme_left : List ℕ → List tokens.Token
-lexeme_left text = flat_map lexeme_tokens (all lexeme_at text).0
-
-unfoldable pub lexeme_end : List ℕ → List ℕ
-lexeme_end text = (all lexeme_at text).1
-
--- the places of the tokens that are left
-unfoldable pub places_left : ℕ → List ℕ → List ℕ
-places_left at text = places_from at (all lexeme_at text).0
+    (option_map lexeme_read (lexeme_at (drop at source)) ≡ Some (optional_token (written source) r.kind, drop r.end source))
+ReadsLexeme source at (Err f) = lexeme_at (drop at source) ≡ None
 
 -- the first atom is another than a plain byte
 abbrev pub begins_otherwise : List Atom → Bool
@@ -209,29 +190,9 @@ abbrev pub ArePlain : List Atom → Option (List ℕ) → Type 0
 ArePlain atoms None = begins_otherwise atoms ≡ true
 ArePlain atoms (Some bytes) = atoms ≡ map Plain bytes
 
--- what goes on with a name, and what stands behind that
-abbrev pub name_front : (begun : Bool) → List ℕ → List ℕ
-name_front begun [] = []
-name_front begun (b ∷ bs) = if goes_on begun b then b ∷ front is_in_name bs else []
-
-abbrev pub name_behind : (begun : Bool) → List ℕ → List ℕ
-name_behind begun [] = []
-name_behind begun (b ∷ bs) = if goes_on begun b then behind is_in_name bs else b ∷ bs
-
--- the parts before the `=` and those behind it
-abbrev pub SplitsAt : List ℕ → List Part → Option ℕ → Type 0
-SplitsAt source parts None = assignment_of (atoms_of source parts) ≡ None
-SplitsAt source parts (Some index) =
-    (index < length parts) × (name : List ℕ) × (atoms_of source (take index parts) ≡ map Plain name) ×
-    (assignment_of (atoms_of source parts) ≡ Some (name, atoms_of source (drop (index + 1) parts)))
-
 -- the assignment of a name that has begun so
 abbrev pub behind_front : List ℕ → Option (List ℕ × List Atom) → Option (List ℕ × List Atom)
 behind_front front f = option_map (λ a. (front ++ a.0, a.1)) f
-
-abbrev pub PartAt : List Part → ℕ → Option Part → Type 0
-PartAt parts index None = drop index parts ≡ []
-PartAt parts index (Some part) = (index < length parts) × (drop index parts ≡ part ∷ drop (index + 1) parts)
 
 -- what a text has left to be, behind these atoms
 abbrev pub PlainRest : List Atom → List ℕ → Option (List ℕ) → Type 0
@@ -246,19 +207,37 @@ FirstIs atoms (Some first) = (more : List Atom) → first_plain (atoms ++ more) 
 abbrev pub behind_name : List ℕ → Option (List ℕ) → Option (List ℕ)
 behind_name front n = option_map (λ m. front ++ m) n
 
--- what atoms are to a name, whatever stands behind them
-abbrev pub ScanIs : List Atom → (begun : Bool) → Scan → Type 0
-ScanIs atoms begun (scan.GoesOn now) =
-    (front : List ℕ) × (atoms ≡ map Plain front) ×
-    ((more : List Atom) → name_from begun (atoms ++ more) ≡ behind_name front (name_from now more)) ×
-    ((more : List Atom) → assignment_from begun (atoms ++ more) ≡ behind_front front (assignment_from now more))
-ScanIs atoms begun scan.Equals =
-    ((more : List Atom) → name_from begun (atoms ++ more) ≡ None) × ((more : List Atom) → assignment_from begun (atoms ++ more) ≡ Some ([], more))
-ScanIs atoms begun scan.Stops =
-    ((more : List Atom) → name_from begun (atoms ++ more) ≡ None) × ((more : List Atom) → assignment_from begun (atoms ++ more) ≡ None)
+-- atoms that go on with a name by these bytes, whatever stands behind them
+abbrev pub GoesOn : (begun : Bool) → List ℕ → (now : Bool) → Type 0
+GoesOn begun bytes now =
+    ((more : List Atom) → name_from begun (map Plain bytes ++ more) ≡ behind_name bytes (name_from now more)) ×
+    ((more : List Atom) → assignment_from begun (map Plain bytes ++ more) ≡ behind_front bytes (assignment_from now more))
 
-abbrev pub RangeIs : List ℕ → Span → (begun : Bool) → Scan → Type 0
-RangeIs source span begun s = ScanIs (map Plain (span_bytes source span)) begun s
+-- a range that is read as these plain bytes, whatever stands behind it
+abbrev pub ReadsPlain : List ℕ → List ℕ → Type 0
+ReadsPlain range bytes = (rest : List ℕ) → piece_left (range ++ rest) ≡ map Plain bytes ++ piece_left rest
 
-abbrev pub EqualsIs : (begun : Bool) → Scan → Type 0
-EqualsIs begun s = ScanIs (Plain 61 ∷ []) begun s
+-- a place where nothing goes on with a name that has begun or not
+abbrev pub NameStops : (begun : Bool) → List ℕ → Type 0
+NameStops begun [] = Unit {0}
+NameStops begun (b ∷ bs) = (goes_on begun b ≡ false) × ((b == backslash) && begins newline bs ≡ false)
+
+-- a step through a name; none where it doesn't go on
+abbrev pub NameStep : List ℕ → NamePlace → Option NamePlace → Type 0
+NameStep source p None = NameStops p.begun (drop p.at source)
+NameStep source p (Some q) =
+    (p.at < q.at) × (q.at ≤ length source) ×
+    (bytes : List ℕ) × ReadsPlain (range_bytes source p.at q.at) bytes × GoesOn p.begun bytes q.begun
+
+-- the name at a place, as far as it goes
+abbrev pub NameFrom : List ℕ → ℕ → NamePlace → Type 0
+NameFrom source start p =
+    (start ≤ p.at) × NameStops p.begun (drop p.at source) ×
+    (bytes : List ℕ) × ReadsPlain (range_bytes source start p.at) bytes × GoesOn false bytes p.begun
+
+-- the `=` of an assignment
+abbrev pub SplitsAt : List ℕ → ℕ → Option ℕ → Type 0
+SplitsAt source start None = assignment_of (piece_left (drop start source)) ≡ None
+SplitsAt source start (Some at) =
+    (start ≤ at) × (at < length source) × (name : List ℕ) × (piece_left (range_bytes source start at) ≡ map Plain name) ×
+    (assignment_of (piece_left (drop start source)) ≡ Some (name, piece_left (drop (at + 1) source)))

@@ -1,14 +1,14 @@
--- What the tokens of the code and the sides of an assignment stand for.
-use Rattle.std.specs.Prelude.{ℕ, List, map, Option, Some, None}
+-- What the tokens of the code stand for, which token comes next, and what the sides of an assignment stand for.
+use Rattle.std.specs.Prelude.{◌≡◌, ◌↔◌, ℕ, ◌<◌, ◌≤◌, List, [], ◌∷◌, Option, Some, None, Result, Ok, Err, length, drop}
 use Rattle.hush_words.specs.Words.{Atom}
 use Rattle.hush_words.specs.Tokens as tokens
 use Rattle.hush_words.specs.Forms.{name_of}
+use Rattle.hush_words.specs.Reading.{lexeme_left, lexeme_end, places_left, tokens_of, tokens_before_fault, token_places}
 use Rattle.hush_words.specs.Parts.{Written, word_atoms}
 use Rattle.hush_words.specs.declared.forms.Assignment.{Assignment}
 use Rattle.hush_words.specs.declared.tokens.TokenKind.{TokenKind}
 use Rattle.hush_words.specs.declared.tokens.TokenKind.TheVariants as kind
-use Rattle.hush_words.specs.declared.tokens.Token.{Token}
-use Rattle.hush_words.specs.declared.tokens.Lexed.{Lexed}
+use Rattle.hush_words.specs.declared.tokens.TokenRead.{TokenRead}
 use Rattle.hush_words.specs.declared.faults.Fault.{Fault}
 
 abbrev pub kind_token : Written → TokenKind → tokens.Token
@@ -18,20 +18,30 @@ kind_token text kind.Semicolon = tokens.Token.Semicolon
 kind_token text kind.AndIf = tokens.Token.AndIf
 kind_token text kind.OrIf = tokens.Token.OrIf
 
--- the tokens that a list of the code's tokens stands for
-abbrev pub tokens_in : Written → List Token → List tokens.Token
-tokens_in text ts = map (λ t. kind_token text t.kind) ts
+-- the token behind a place where no word is open, where it ends, and what stands behind it; or none up to the end of the
+-- text, or up to a fault
+abbrev pub NextToken : Written → ℕ → Result (Option TokenRead) Fault → Type 0
+NextToken text at (Ok None) = (lexeme_left (drop at text.source) ≡ []) × (lexeme_end (drop at text.source) ≡ [])
+NextToken text at (Ok (Some read)) =
+    (lexeme_left (drop at text.source) ≡ kind_token text read.token.kind ∷ lexeme_left (drop read.end text.source)) ×
+    (lexeme_end (drop at text.source) ≡ lexeme_end (drop read.end text.source)) ×
+    (places_left at (drop at text.source) ≡ read.token.place ∷ places_left read.end (drop read.end text.source)) ×
+    (at < read.end) × (read.end ≤ length text.source)
+NextToken text at (Err fault) = (lexeme_left (drop at text.source) ≡ []) × (lexeme_end (drop at text.source) ≡ [] → ⊥)
 
--- how many bytes stand before each of them
-abbrev pub places_in : List Token → List ℕ
-places_in ts = map (λ t. t.place) ts
+-- the first token of a text, where it ends, and what stands behind it; or none up to the end, or up to a fault
+abbrev pub FirstToken : Written → Result (Option TokenRead) Fault → Type 0
+FirstToken text (Ok None) = (tokens_of text.source ≡ Some []) × (tokens_before_fault text.source ≡ [])
+FirstToken text (Ok (Some read)) =
+    (tokens_before_fault text.source ≡ kind_token text read.token.kind ∷ lexeme_left (drop read.end text.source)) ×
+    (token_places text.source ≡ read.token.place ∷ places_left read.end (drop read.end text.source)) × (read.end ≤ length text.source) ×
+    ((tokens_of text.source ≡ None) ↔ (lexeme_end (drop read.end text.source) ≡ [] → ⊥))
+FirstToken text (Err fault) = (tokens_of text.source ≡ None) × (tokens_before_fault text.source ≡ [])
 
--- the tokens of a text that was read to its end; none where a fault stopped the reading
-abbrev pub tokens_to : Written → List Token → Option Fault → Option (List tokens.Token)
-tokens_to text ts fault = elim fault [ None ↦ Some (tokens_in text ts) | Some f ↦ None ]
-
-abbrev pub tokens_read : Lexed → Option (List tokens.Token)
-tokens_read lexed = tokens_to lexed.text lexed.tokens.items lexed.fault
+-- the tokens that a text has where this is its first fault, or where it has none
+abbrev pub tokens_unless : Option Fault → List tokens.Token → Option (List tokens.Token)
+tokens_unless None ts = Some ts
+tokens_unless (Some fault) ts = None
 
 -- the name and the value that an assignment's words stand for
 abbrev pub assignment_view : Written → Assignment → Option (List ℕ) × List Atom

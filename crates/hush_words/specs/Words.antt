@@ -2,6 +2,7 @@
 use Rattle.std.specs.Prelude.{◌≡◌, ℕ, ◌==◌, ◌||◌, ◌&&◌, Bool, true, false, not, List, [], ◌∷◌, ◌++◌, map, codes}
 use Rattle.std.specs.List.{list_all, list_any, flat_map}
 use Rattle.std.specs.Char.{is_ascii_alphabetic, is_ascii_digit}
+use Rattle.hush_words.specs.Bytes.{tab, newline, space, double_quote, dollar, single_quote, question_mark, backslash, underscore, opening_brace, closing_brace}
 
 -- what a word is made of, before names and the status are put in
 pub data Atom : Type 0 where
@@ -16,15 +17,15 @@ is_one_of set b = list_any (λ k. b == k) set
 
 -- space and tab
 unfoldable pub is_blank : ℕ → Bool
-is_blank b = b == 32 || b == 9
+is_blank b = b == space || b == tab
 
 -- blanks, the separators newline and `;`, and the bytes of the operators end a word
 unfoldable pub ends_word : ℕ → Bool
-ends_word b = is_blank b || is_one_of (10 ∷ codes ";&|") b
+ends_word b = is_blank b || is_one_of (newline ∷ codes ";&|") b
 
 -- a letter or `_`
 unfoldable pub begins_name : ℕ → Bool
-begins_name b = is_ascii_alphabetic b || b == 95
+begins_name b = is_ascii_alphabetic b || b == underscore
 
 -- a letter, a digit or `_`
 unfoldable pub is_in_name : ℕ → Bool
@@ -32,7 +33,7 @@ is_in_name b = begins_name b || is_ascii_digit b
 
 -- what may stand between `${` and `}`: all but blanks, newline and `} { $ : = ' " \`
 unfoldable pub is_in_braces : ℕ → Bool
-is_in_braces b = not (is_blank b || is_one_of (10 ∷ codes "}{$:='\"\\") b)
+is_in_braces b = not (is_blank b || is_one_of (newline ∷ codes "}{$:='\"\\") b)
 
 -- what makes more of a `$` before it than the byte itself: a name, `{`, `?`, a digit or one of `# @ * $ ! - (`
 unfoldable pub follows_dollar : ℕ → Bool
@@ -79,8 +80,8 @@ pub data Dollar : Type 0 where
 -- the text behind the `$`
 abbrev pub dollar_text : Dollar → List ℕ
 dollar_text (Name n) = n
-dollar_text (Braces n) = 123 ∷ n ++ 125 ∷ []
-dollar_text LastStatus = 63 ∷ []
+dollar_text (Braces n) = opening_brace ∷ n ++ closing_brace ∷ []
+dollar_text LastStatus = question_mark ∷ []
 dollar_text Alone = []
 
 abbrev pub byte_atom : (quoted : Bool) → ℕ → Atom
@@ -91,7 +92,7 @@ abbrev pub dollar_atom : (quoted : Bool) → Dollar → Atom
 dollar_atom quoted (Name n) = Value n quoted
 dollar_atom quoted (Braces n) = Value n quoted
 dollar_atom quoted LastStatus = Status quoted
-dollar_atom quoted Alone = byte_atom quoted 36
+dollar_atom quoted Alone = byte_atom quoted dollar
 
 -- it may be written so before this text: a name is the longest run
 abbrev pub FitsDollar : Dollar → List ℕ → Type 0
@@ -110,21 +111,21 @@ pub data Inner : Type 0 where
 
 abbrev pub inner_text : Inner → List ℕ
 inner_text (Byte b) = b ∷ []
-inner_text Backslash = 92 ∷ []
-inner_text (EscapedInner b) = 92 ∷ b ∷ []
-inner_text JoinedInner = 92 ∷ 10 ∷ []
-inner_text (DollarInner d) = 36 ∷ dollar_text d
+inner_text Backslash = backslash ∷ []
+inner_text (EscapedInner b) = backslash ∷ b ∷ []
+inner_text JoinedInner = backslash ∷ newline ∷ []
+inner_text (DollarInner d) = dollar ∷ dollar_text d
 
 abbrev pub inner_atoms : Inner → List Atom
 inner_atoms (Byte b) = Quoted b ∷ []
-inner_atoms Backslash = Quoted 92 ∷ []
+inner_atoms Backslash = Quoted backslash ∷ []
 inner_atoms (EscapedInner b) = Quoted b ∷ []
 inner_atoms JoinedInner = []
 inner_atoms (DollarInner d) = dollar_atom true d ∷ []
 
 abbrev pub FitsInner : Inner → List ℕ → Type 0
 FitsInner (Byte b) after = is_inner b ≡ true
-FitsInner Backslash after = next (λ b. not (is_escaped b || b == 10)) after ≡ true
+FitsInner Backslash after = next (λ b. not (is_escaped b || b == newline)) after ≡ true
 FitsInner (EscapedInner b) after = is_escaped b ≡ true
 FitsInner JoinedInner after = Unit {0}
 FitsInner (DollarInner d) after = FitsDollar d after
@@ -145,11 +146,11 @@ pub data Piece : Type 0 where
 
 abbrev pub piece_text : Piece → List ℕ
 piece_text (Bare b) = b ∷ []
-piece_text (Escaped b) = 92 ∷ b ∷ []
-piece_text Joined = 92 ∷ 10 ∷ []
-piece_text (Single bs) = 39 ∷ bs ++ 39 ∷ []
-piece_text (Double ps) = 34 ∷ flat_map inner_text ps ++ 34 ∷ []
-piece_text (DollarPiece d) = 36 ∷ dollar_text d
+piece_text (Escaped b) = backslash ∷ b ∷ []
+piece_text Joined = backslash ∷ newline ∷ []
+piece_text (Single bs) = single_quote ∷ bs ++ single_quote ∷ []
+piece_text (Double ps) = double_quote ∷ flat_map inner_text ps ++ double_quote ∷ []
+piece_text (DollarPiece d) = dollar ∷ dollar_text d
 
 -- each pair of quotes is also a mark
 abbrev pub piece_atoms : Piece → List Atom
@@ -162,8 +163,8 @@ piece_atoms (DollarPiece d) = dollar_atom false d ∷ []
 
 abbrev pub FitsPiece : Piece → List ℕ → Type 0
 FitsPiece (Bare b) after = is_bare b ≡ true
-FitsPiece (Escaped b) after = (b == 10) ≡ false
+FitsPiece (Escaped b) after = (b == newline) ≡ false
 FitsPiece Joined after = Unit {0}
-FitsPiece (Single bs) after = list_all (λ b. not (b == 39)) bs ≡ true
-FitsPiece (Double ps) after = FitAll inner_text FitsInner ps (34 ∷ after)
+FitsPiece (Single bs) after = list_all (λ b. not (b == single_quote)) bs ≡ true
+FitsPiece (Double ps) after = FitAll inner_text FitsInner ps (double_quote ∷ after)
 FitsPiece (DollarPiece d) after = FitsDollar d after

@@ -1,15 +1,21 @@
 //! Classes of bytes, and the runs of a class in the source.
 
-ghost use Rattle.std.specs.Prelude.{◌≡◌, ◌≤◌, ◌==◌, not, length, drop};
+ghost use Rattle.std.specs.Prelude.{◌≡◌, ◌+◌, ◌<◌, ◌≤◌, ◌==◌, ◌&&◌, not, length, drop};
+ghost use Rattle.hush_words.specs.Bytes.{newline, backslash};
 ghost use Rattle.hush_words.specs.Words.{is_one_of, is_blank, ends_word, begins_name, is_in_name, is_in_braces, follows_dollar, is_special, is_bare, is_inner, is_escaped};
 ghost use Rattle.hush_words.specs.Steps.{passes, begins, ByteAt, IsRun};
 
+mod bare;
+
+use bare::BARE;
 use memchr::memchr;
 
 /// What a run of bytes can be made of (docs/scripts.md, "Words").
 #[derive(Clone, Copy)]
 pub(crate) enum Class {
-    /// Bytes that stand for themselves in a word, but `=`, which is a part of its own.
+    /// Bytes that stand for themselves in a word.
+    Plain,
+    /// The same but `=`, which is a part of its own.
     Bare,
     /// Bytes that stand for themselves between double quotes.
     Inner,
@@ -25,6 +31,7 @@ impl Class {
         ensures { result ≡ passes self b }
     {
         match self {
+            Class::Plain => is_bare(b),
             Class::Bare => is_bare(b) && b != b'=',
             Class::Inner => is_inner(b),
             Class::Name => is_in_name(b),
@@ -50,6 +57,14 @@ pub(crate) fn stands_at(source: &[u8], at: usize, byte: u8) -> bool
     }
 }
 
+/// Whether a `\` and a newline stand at the place.
+pub(crate) fn is_joined_line(source: &[u8], at: usize) -> bool
+    requires { at < usize.MAX }
+    ensures { result ≡ begins backslash (drop at source.now) && begins newline (drop (at + 1) source.now) }
+{
+    stands_at(source, at, b'\\') && stands_at(source, at + 1, b'\n')
+}
+
 /// Where the run of bytes of the class ends that begins at `start`.
 pub(crate) fn run_end(class: Class, source: &[u8], start: usize) -> usize
     requires { start ≤ length source.now }
@@ -71,13 +86,6 @@ pub(crate) fn place_of(byte: u8, source: &[u8], start: usize) -> usize
         Some(len) => start + len,
         None => source.len(),
     }
-}
-
-/// Whether the byte is among these.
-fn is_among(set: &[u8], b: u8) -> bool
-    ensures { result ≡ is_one_of set.now b }
-{
-    set.contains(&b)
 }
 
 /// A space or a tab.
@@ -137,11 +145,10 @@ pub(crate) fn is_special(b: u8) -> bool
 }
 
 /// A byte that stands for itself in a word.
-#[tactic(auto, unfolding(crate::specs::Words::is_bare))]
-fn is_bare(b: u8) -> bool
+pub(crate) fn is_bare(b: u8) -> bool
     ensures { result ≡ is_bare b }
 {
-    !(ends_word(b) || is_special(b))
+    BARE[usize::from(b)]
 }
 
 /// A byte that stands for itself between double quotes.
@@ -158,4 +165,11 @@ pub(crate) fn is_escaped(b: u8) -> bool
     ensures { result ≡ is_escaped b }
 {
     is_among(b"$\"\\", b)
+}
+
+/// Whether the byte is among these.
+fn is_among(set: &[u8], b: u8) -> bool
+    ensures { result ≡ is_one_of set.now b }
+{
+    set.contains(&b)
 }

@@ -1,6 +1,7 @@
 //! What a `$` begins (docs/scripts.md, "Words").
 
 ghost use Rattle.std.specs.Prelude.{◌≡◌, ◌+◌, ◌<◌, ◌≤◌, length, IfSome, ℕ, List, false, ◌==◌};
+ghost use Rattle.hush_words.specs.Bytes.{dollar, equals};
 ghost use Rattle.hush_words.specs.Ranges.{IsShort, Fits};
 ghost use Rattle.hush_words.specs.Steps.{StandsAt, ReadsByte, ReadsBraces, ReadsDollar};
 
@@ -11,7 +12,7 @@ use crate::{Part, Span};
 /// Reads what the `$` at the place begins; none where it can't stand there.
 pub(crate) fn dollar(source: &[u8], place: usize, quoted: bool) -> Option<PartRead>
     requires few { IsShort source.now }
-    requires here { StandsAt source.now place 36 }
+    requires here { StandsAt source.now place dollar }
     ensures reads { ReadsDollar source.now (place + 1) quoted result }
     ensures fits { IfSome result (λ read. Fits source.now read.part) }
 {
@@ -24,7 +25,7 @@ pub(crate) fn dollar(source: &[u8], place: usize, quoted: bool) -> Option<PartRe
 /// Reads what the `$` at the place begins before this byte.
 fn dollar_before(source: &[u8], place: usize, next: u8, quoted: bool) -> Option<PartRead>
     requires few { IsShort source.now }
-    requires dollar { StandsAt source.now place 36 }
+    requires dollar { StandsAt source.now place dollar }
     requires next { StandsAt source.now (place + 1) next }
     ensures reads { ReadsDollar source.now (place + 1) quoted result }
     ensures fits { IfSome result (λ read. Fits source.now read.part) }
@@ -72,7 +73,7 @@ fn braces(source: &[u8], start: usize, quoted: bool) -> Option<PartRead>
 pub(crate) fn byte_part(place: usize, quoted: bool) -> PartRead
     requires { place < u32.MAX }
     ensures reads { ReadsByte place quoted result }
-    ensures fits { (source : List ℕ) (b : ℕ) → StandsAt source place b → (quoted ≡ false → (b == 61) ≡ false) → Fits source result.part }
+    ensures fits { (source : List ℕ) (b : ℕ) → StandsAt source place b → (quoted ≡ false → (b == equals) ≡ false) → Fits source result.part }
 {
     let end = place + 1;
     let span = Span::new(place, end);

@@ -1,23 +1,27 @@
 //! The forms of a word that the grammar asks for (docs/scripts.md, "Grammar").
 
-ghost use Rattle.std.specs.Prelude.{◌≡◌, ◌+◌, ◌&&◌, ◌||◌, ◌==◌, ◌≤◌, ◌∷◌, [], length, take, drop, not, is_some, All};
+ghost use Rattle.std.specs.Prelude.{◌≡◌, ◌<◌, take, drop, is_some, IfSome, Some, true};
 ghost use Rattle.std.specs.Option.{option_map};
 ghost use Rattle.hush_words.specs.Forms.{is_plain, first_plain, goes_on, name_of, assignment_of, split_of};
-ghost use Rattle.hush_words.specs.Parts.{part_atoms, atoms_of, word_atoms};
+ghost use Rattle.hush_words.specs.Parts.{part_atoms, word_atoms};
+ghost use Rattle.hush_words.specs.Reading.{piece_left, piece_at};
 ghost use Rattle.hush_words.specs.Views.{assignment_view};
-ghost use Rattle.hush_words.specs.Steps.{PartAt, FirstIs, PlainRest, ScanIs, RangeIs, EqualsIs, SplitsAt, IsSplitRange, name_front, name_behind};
-ghost use Rattle.hush_words.specs.Ranges.{Fits};
+ghost use Rattle.hush_words.specs.Steps.{FirstIs, PlainRest, NameStep, NameFrom, SplitsAt, StandsAt};
+ghost use Rattle.hush_words.specs.Ranges.{Fits, IsShort};
 
-use crate::classes::{Class, begins_name, byte_at, is_in_name, run_end, stands_at};
-use crate::steps::Scan;
-use crate::{Part, Span, Text, Word};
+use crate::classes::{
+    Class, begins_name, byte_at, is_bare, is_in_name, is_joined_line, run_end, stands_at,
+};
+use crate::steps::NamePlace;
+use crate::words::pieces;
+use crate::{Part, Parts, Text, Word};
 
 /// The two sides of an assignment.
 #[derive(Clone, Copy, Debug, PartialEq, Eq)]
 pub struct Assignment {
     /// The variable: a word that is a name.
     pub name: Word,
-    /// What stands behind the `=`. It may have no parts.
+    /// What stands behind the `=`. It may have no bytes.
     pub value: Word,
 }
 
@@ -33,21 +37,24 @@ impl Word {
     pub fn first_byte(self, text: &Text) -> Option<u8>
         ensures { result ≡ first_plain (word_atoms text.now self) }
     {
-        first_in(text.parts(self), text.source())
+        match bare_at(front(text.source(), self.end), self.start as usize) {
+            Some(first) => Some(first),
+            None => first_in(text.parts(self), text.source()),
+        }
     }
 
     /// Whether the word is a name, in unquoted plain bytes alone: a letter or `_`, then letters, digits and `_`.
     pub fn is_name(self, text: &Text) -> bool
         ensures { result ≡ is_some (name_of (word_atoms text.now self)) }
     {
-        are_name(text.parts(self), text.source())
+        is_name_at(front(text.source(), self.end), self.start as usize)
     }
 
     /// Whether the word has an assignment's form: its unquoted plain bytes at the front begin with a name and `=`.
     pub fn is_assignment(self, text: &Text) -> bool
         ensures { result ≡ is_some (assignment_of (word_atoms text.now self)) }
     {
-        match equals_in(text.parts(self), text.source()) {
+        match equals_from(front(text.source(), self.end), self.start as usize) {
             Some(_) => true,
             None => false,
         }
@@ -57,16 +64,15 @@ impl Word {
     pub fn assignment(self, text: &Text) -> Option<Assignment>
         ensures { option_map (assignment_view text.now) result ≡ split_of (word_atoms text.now self) }
     {
-        let parts = text.parts(self);
-        match equals_in(parts, text.source()) {
-            Some(index) => Some(Assignment {
+        match equals_from(front(text.source(), self.end), self.start as usize) {
+            Some(at) => Some(Assignment {
                 name: Word {
-                    first: self.first,
-                    len: index as u32,
+                    start: self.start,
+                    end: at as u32,
                 },
                 value: Word {
-                    first: self.first + index as u32 + 1,
-                    len: (parts.len() - index - 1) as u32,
+                    start: at as u32 + 1,
+                    end: self.end,
                 },
             }),
             None => None,
@@ -74,23 +80,33 @@ impl Word {
     }
 }
 
-/// The part with this number, counted from 0.
-fn part_at(parts: &[Part], index: usize) -> Option<Part>
-    ensures { PartAt parts.now index result }
+/// The bytes before a place, as far as there are any.
+fn front(source: &[u8], end: u32) -> &[u8]
+    ensures { result.now ≡ take end source.now }
 {
-    parts.get(index).copied()
+    &source[..(end as usize).min(source.len())]
+}
+
+/// The byte at a place of a word, if it stands for itself: mostly it does, and the parts needn't be read.
+fn bare_at(source: &[u8], at: usize) -> Option<u8>
+    ensures { IfSome result (λ first. first_plain (piece_left (drop at source.now)) ≡ Some first) }
+{
+    match byte_at(source, at) {
+        Some(first) => { if is_bare(first) { Some(first) } else { None } }
+        None => None,
+    }
 }
 
 /// The byte that the parts begin with, if it is an unquoted plain one.
-fn first_in(parts: &[Part], source: &[u8]) -> Option<u8>
-    requires { All (Fits source.now) parts.now }
-    ensures { result ≡ first_plain (atoms_of source.now parts.now) }
+fn first_in(parts: Parts<'_>, source: &[u8]) -> Option<u8>
+    requires { parts.source ≡ source.now }
+    ensures { result ≡ first_plain parts.entry.atoms }
 {
-    let mut index = 0;
-    while let Some(part) = part_at(parts, index) {
+    let mut left = parts;
+    while let Some(part) = left.next_part() {
         match first_of(part, source) {
             Some(first) => return first,
-            None => index += 1,
+            None => {}
         }
     }
     None
@@ -111,18 +127,17 @@ fn first_of(part: Part, source: &[u8]) -> Option<Option<u8>>
 }
 
 /// Whether the parts are this text, in unquoted plain bytes alone.
-fn are_plain(parts: &[Part], source: &[u8], text: &[u8]) -> bool
-    requires { All (Fits source.now) parts.now }
-    ensures { result ≡ is_plain text.now (atoms_of source.now parts.now) }
+fn are_plain(parts: Parts<'_>, source: &[u8], text: &[u8]) -> bool
+    requires { parts.source ≡ source.now }
+    ensures { result ≡ is_plain text.now parts.entry.atoms }
 {
+    let mut left = parts;
     let mut rest = text;
-    let mut index = 0;
-    while let Some(part) = part_at(parts, index) {
+    while let Some(part) = left.next_part() {
         match plain_rest(part, source, rest) {
             Some(behind) => rest = behind,
             None => return false,
         }
-        index += 1;
     }
     rest.is_empty()
 }
@@ -145,92 +160,90 @@ fn plain_rest<'a>(part: Part, source: &[u8], text: &'a [u8]) -> Option<&'a [u8]>
     }
 }
 
-/// Whether the parts are a name, in unquoted plain bytes alone.
-fn are_name(parts: &[Part], source: &[u8]) -> bool
-    requires { All (Fits source.now) parts.now }
-    ensures { result ≡ is_some (name_of (atoms_of source.now parts.now)) }
+/// Whether a word that begins at the place is a name.
+fn is_name_at(source: &[u8], start: usize) -> bool
+    requires { IsShort source.now }
+    ensures { result ≡ is_some (name_of (piece_left (drop start source.now))) }
 {
-    let mut begun = false;
-    let mut index = 0;
-    while let Some(part) = part_at(parts, index) {
-        match scan(part, source, begun) {
-            Scan::GoesOn(now) => begun = now,
-            Scan::Equals => return false,
-            Scan::Stops => return false,
-        }
-        index += 1;
-    }
-    begun
-}
-
-/// Which part is the `=` of an assignment, counted from 0.
-fn equals_in(parts: &[Part], source: &[u8]) -> Option<usize>
-    requires { All (Fits source.now) parts.now }
-    ensures { SplitsAt source.now parts.now result }
-{
-    let mut begun = false;
-    let mut index = 0;
-    while let Some(part) = part_at(parts, index) {
-        match scan(part, source, begun) {
-            Scan::GoesOn(now) => begun = now,
-            Scan::Equals => return Some(index),
-            Scan::Stops => return None,
-        }
-        index += 1;
-    }
-    None
-}
-
-/// What a part is to the name of an assignment, which has begun before it or not.
-fn scan(part: Part, source: &[u8], begun: bool) -> Scan
-    requires { Fits source.now part }
-    ensures { ScanIs (part_atoms source.now part) begun result }
-{
-    match part.plain(source) {
-        Some(span) => scan_range(span, source, begun),
-        None => Scan::Stops,
-    }
-}
-
-/// What a range of plain bytes, one `=` or none, is to the name of an assignment.
-fn scan_range(span: Span, source: &[u8], begun: bool) -> Scan
-    requires { IsSplitRange source.now span }
-    ensures { RangeIs source.now span begun result }
-{
-    let bytes = span.of(source);
-    if stands_at(bytes, 0, b'=') {
-        return equals_behind(begun);
-    }
-    let len = name_len(bytes, begun);
-    if len == bytes.len() {
-        Scan::GoesOn(has_begun(begun, len))
+    let name = name_from(source, start);
+    if is_piece_at(source, name.at) {
+        false
     } else {
-        Scan::Stops
+        name.begun
     }
 }
 
-/// What a `=` is to the name of an assignment, which has begun before it or not.
-fn equals_behind(begun: bool) -> Scan
-    ensures { EqualsIs begun result }
+/// Whether a piece of a word stands at the place.
+fn is_piece_at(source: &[u8], at: usize) -> bool
+    requires { IsShort source.now }
+    ensures { result ≡ is_some (piece_at (drop at source.now)) }
 {
-    if begun { Scan::Equals } else { Scan::Stops }
+    match pieces(source, at) {
+        Ok(Some(_)) => true,
+        Ok(None) => false,
+        Err(_) => false,
+    }
 }
 
-/// How many bytes at the front go on with a name, which has begun or else begins here.
-fn name_len(bytes: &[u8], begun: bool) -> usize
-    ensures within { result ≤ length bytes.now }
-    ensures name { take result bytes.now ≡ name_front begun bytes.now }
-    ensures rest { drop result bytes.now ≡ name_behind begun bytes.now }
+/// Where the `=` stands of an assignment that begins at the place.
+fn equals_from(source: &[u8], start: usize) -> Option<usize>
+    requires { IsShort source.now }
+    ensures { SplitsAt source.now start result }
 {
-    match byte_at(bytes, 0) {
-        Some(first) => {
-            if goes_on(begun, first) {
-                run_end(Class::Name, bytes, 0)
-            } else {
-                0
-            }
-        }
-        None => 0,
+    let name = name_from(source, start);
+    if !name.begun {
+        None
+    } else if stands_at(source, name.at, b'=') {
+        Some(name.at)
+    } else {
+        None
+    }
+}
+
+/// Where the name ends that unquoted plain bytes at the place begin, and whether it has any.
+fn name_from(source: &[u8], start: usize) -> NamePlace
+    requires { IsShort source.now }
+    ensures { NameFrom source.now start result }
+{
+    let mut here = NamePlace {
+        at: start,
+        begun: false,
+    };
+    while let Some(next) = name_step(source, here) {
+        here = next;
+    }
+    here
+}
+
+/// Where the name goes on behind what goes on with it at the place, a joined line among it; none where nothing does.
+fn name_step(source: &[u8], here: NamePlace) -> Option<NamePlace>
+    requires { IsShort source.now }
+    ensures { NameStep source.now here result }
+{
+    match byte_at(source, here.at) {
+        Some(first) => name_step_from(source, here, first),
+        None => None,
+    }
+}
+
+/// The same where this byte stands at the place.
+fn name_step_from(source: &[u8], here: NamePlace, first: u8) -> Option<NamePlace>
+    requires few { IsShort source.now }
+    requires here { StandsAt source.now here.at first }
+    ensures { NameStep source.now here result }
+{
+    if goes_on(here.begun, first) {
+        Some(NamePlace {
+            at: run_end(Class::Name, source, here.at),
+            begun: true,
+        })
+    } else if is_joined_line(source, here.at) {
+        Some(NamePlace {
+            at: here.at + 2,
+            begun: here.begun,
+        })
+    } else {
+        None
     }
 }
 
@@ -239,11 +252,4 @@ fn goes_on(begun: bool, b: u8) -> bool
     ensures { result ≡ goes_on begun b }
 {
     if begun { is_in_name(b) } else { begins_name(b) }
-}
-
-/// Whether a name has begun, once so many bytes more belong to it.
-fn has_begun(begun: bool, len: usize) -> bool
-    ensures { result ≡ begun || not (len == 0) }
-{
-    begun || len != 0
 }

@@ -1,7 +1,7 @@
-//! The words of a script: reads a script's bytes into tokens. A word is some parts, each a range of those bytes.
-//! The rules are those of docs/scripts.md, "Words".
+//! The words of a script: reads tokens of a script's bytes, and of a word its parts, each a range of those bytes. The
+//! bytes are all that is kept. The rules are those of docs/scripts.md, "Words".
 //!
-//! To read in this order: parts, tokens, text, faults; reading, words, dollars, quotes, steps; classes; forms; laws.
+//! To read in this order: parts, tokens, text, faults; reading, words, dollars, quotes, steps; walk; classes; forms; laws.
 #![tactic(auto)]
 
 mod classes;
@@ -15,11 +15,12 @@ mod reading;
 mod steps;
 mod text;
 mod tokens;
+mod walk;
 mod words;
 
 pub use faults::{Fault, FaultKind};
 pub use forms::Assignment;
 pub use parts::{Part, Span, Word};
-pub use reading::read;
 pub use text::Text;
-pub use tokens::{Lexed, Token, TokenKind};
+pub use tokens::{Survey, Token, TokenKind, TokenRead};
+pub use walk::Parts;

@@ -1,7 +1,7 @@
-//! The parts that words are made of.
+//! Words, and the parts that they are made of.
 ghost use Rattle.std.specs.Prelude.{◌≡◌, ◌≤◌, IfSome};
 ghost use Rattle.std.specs.Option.{option_map};
-ghost use Rattle.hush_words.specs.Parts.{span_of, part_atoms, span_bytes};
+ghost use Rattle.hush_words.specs.Parts.{span_of, word_between, part_atoms, span_bytes};
 ghost use Rattle.hush_words.specs.Ranges.{IsWithin, Fits};
 ghost use Rattle.hush_words.specs.Steps.{ArePlain, IsSplitRange};
 
@@ -29,13 +29,14 @@ pub enum Part {
     Status(bool),
 }
 
-/// A word: parts that stand one behind the other in the table of its text.
+/// A word: the bytes of the source that it is written in, from `start` up to `end`, `end` not among them. Its parts are
+/// read of them again whenever somebody asks.
 #[derive(Clone, Copy, Debug, PartialEq, Eq)]
 pub struct Word {
-    /// How many parts stand before its first.
-    pub first: u32,
-    /// How many parts it has.
-    pub len: u32,
+    /// How many bytes stand before the word.
+    pub start: u32,
+    /// How many bytes stand before what follows the word.
+    pub end: u32,
 }
 
 impl Span {
@@ -57,6 +58,21 @@ impl Span {
         ensures { result.now ≡ span_bytes source.now self }
     {
         &source[self.start as usize..self.end as usize]
+    }
+}
+
+impl Word {
+    /// The word of these bounds.
+    pub(crate) fn new(start: usize, end: usize) -> Word
+        requires start { start ≤ u32.MAX }
+        requires end { end ≤ u32.MAX }
+        ensures { result ≡ word_between start end }
+    {
+        let end = end as u32;
+        Word {
+            start: start as u32,
+            end,
+        }
     }
 }
 

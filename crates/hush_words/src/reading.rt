@@ -1,133 +1,145 @@
-//! The tokens of a text (docs/scripts.md, "Words").
+//! The tokens of a text (docs/scripts.md, "Words"), read one by one.
 
-ghost use Rattle.std.specs.Prelude.{◌≡◌, ◌+◌, ◌&&◌, ◌++◌, ◌<◌, ◌≤◌, ℕ, List, IfOk, OnOk, Bool, true, drop, [], ◌==◌, ◌||◌};
+ghost use Rattle.std.specs.Prelude.{◌≡◌, ◌≤◌, length, not, is_some, true, ◌==◌, ◌||◌};
+ghost use Rattle.hush_words.specs.Bytes.{ampersand, vertical_bar};
 ghost use Rattle.hush_words.specs.Tokens.{has_no_nul};
-ghost use Rattle.hush_words.specs.Reading.{tokens_of, tokens_before_fault, token_places};
-ghost use Rattle.hush_words.specs.Parts.{Written, written};
-ghost use Rattle.hush_words.specs.Views.{tokens_in, tokens_to, places_in, tokens_read};
-ghost use Rattle.hush_words.specs.Ranges.{IsShort, AllFit};
-ghost use Rattle.hush_words.specs.Steps.{begins, optional_token, optional_place, StandsAt, ReadsLexeme, ReadsOperator, Adds};
+ghost use Rattle.hush_words.specs.Reading.{tokens_of, tokens_before_fault};
+ghost use Rattle.hush_words.specs.Parts.{written};
+ghost use Rattle.hush_words.specs.Views.{NextToken, FirstToken, tokens_unless};
+ghost use Rattle.hush_words.specs.Ranges.{IsShort};
+ghost use Rattle.hush_words.specs.Steps.{StandsAt, ReadsLexeme};
 
-use crate::classes::{byte_at, is_blank, place_of, stands_at};
-use crate::steps::{LexemeRead, Stop};
+use crate::classes::{byte_at, is_blank, is_joined_line, place_of, stands_at};
+use crate::steps::LexemeRead;
 use crate::words::word;
-use crate::{Fault, FaultKind, Lexed, Part, Text, Token, TokenKind};
+use crate::{Fault, FaultKind, Survey, Text, Token, TokenKind, TokenRead};
 use memchr::memchr;
-use std::alloc::{AllocError, Global};
 
-/// Commands as they are mostly written have a token, and a part of a word, for about every seven bytes: so much room at
-/// the start spares the tables their growths.
-const BYTES_PER_TOKEN: usize = 6;
+impl Text {
+    /// Looks through the text before its tokens are read: counts the tokens up to its end, or up to the first fault of a
+    /// word or an operator; a byte 0 is looked for before all else. One pass, of as many steps as the text has bytes.
+    pub fn survey(&self) -> Survey
+        ensures tokens { result.tokens ≡ length (tokens_before_fault self.now.source) }
+        ensures fault { tokens_of self.now.source ≡ tokens_unless result.fault (tokens_before_fault self.now.source) }
+    {
+        match nul_in(self.source()) {
+            Some(fault) => Survey {
+                tokens: 0,
+                fault: Some(fault),
+            },
+            None => counted(self.source()),
+        }
+    }
 
-/// Reads the tokens of a text, up to its end or up to the first fault of a word or an operator; a byte 0 is looked
-/// for before all else. The words of the tokens are ranges of this text. One pass, of as many steps as the text has
-/// bytes.
-///
-/// # Errors
-///
-/// Memory for the tokens or their parts was refused, or there are more bytes or parts than a number of 32 bits can count.
-/// A fault of the text is no error here: it is answered with the tokens before it.
-pub fn read(alloc: Global, source: Vec<u8>) -> Result<Lexed, AllocError>
-    ensures text { IfOk result (λ lexed. lexed.text.source ≡ source.items) }
-    ensures whole { IfOk result (λ lexed. tokens_of source.items ≡ tokens_read lexed) }
-    ensures front { IfOk result (λ lexed. tokens_in lexed.text lexed.tokens.items ≡ tokens_before_fault source.items) }
-    ensures places { IfOk result (λ lexed. places_in lexed.tokens.items ≡ token_places source.items) }
-{
-    if source.len() > u32::MAX as usize {
-        return Err(AllocError);
+    /// Reads the first token; none where the text has none.
+    ///
+    /// # Errors
+    ///
+    /// A byte 0, which is looked for before all else, or the fault of a word or an operator where no token stands before
+    /// it.
+    pub fn first_token(&self) -> Result<Option<TokenRead>, Fault>
+        ensures { FirstToken self.now result }
+    {
+        match nul_in(self.source()) {
+            Some(fault) => Err(fault),
+            None => token_from(self.source(), 0),
+        }
     }
-    let room = source.len() / BYTES_PER_TOKEN;
-    let mut tokens = Vec::with_capacity(alloc, room)?;
-    let mut parts = Vec::with_capacity(alloc, room)?;
-    let fault = read_text(source.as_slice(), &mut tokens, &mut parts)?;
-    if parts.len() > u32::MAX as usize {
-        return Err(AllocError);
+
+    /// Reads the token that comes next behind a place where no word is open, as one is where a token ends; none up to the
+    /// end of the text.
+    ///
+    /// # Errors
+    ///
+    /// The fault of a word or an operator where no token stands before it. A byte 0 isn't looked for.
+    pub fn next_token(&self, place: usize) -> Result<Option<TokenRead>, Fault>
+        ensures { NextToken self.now place result }
+    {
+        token_from(self.source(), place)
     }
-    Ok(Lexed {
-        text: Text::new(source, parts),
-        tokens,
-        fault,
-    })
 }
 
-/// Puts the tokens of a text and the parts of their words into tables that are empty, and answers its first fault.
-fn read_text(
-    source: &[u8],
-    tokens: &mut Vec<Token>,
-    parts: &mut Vec<Part>,
-) -> Result<Option<Fault>, AllocError>
-    requires few { IsShort source.now }
-    requires tokens { tokens.old.items ≡ [] }
-    requires parts { parts.old.items ≡ [] }
-    ensures ranges { IfOk result (λ _. AllFit source.now parts.new.items) }
-    ensures whole { IfOk result (λ fault. tokens_of source.now ≡ tokens_to (written source.now parts.new.items) tokens.new.items fault) }
-    ensures front { IfOk result (λ _. tokens_in (written source.now parts.new.items) tokens.new.items ≡ tokens_before_fault source.now) }
-    ensures places { IfOk result (λ _. places_in tokens.new.items ≡ token_places source.now) }
+/// The first byte 0 of a text, which is a fault.
+fn nul_in(source: &[u8]) -> Option<Fault>
+    ensures { has_no_nul source.now ≡ not (is_some result) }
 {
     match memchr(0, source) {
-        Some(place) => Ok(Some(Fault {
+        Some(place) => Some(Fault {
             kind: FaultKind::Nul,
             place,
-        })),
-        None => read_lexemes(source, tokens, parts),
+        }),
+        None => None,
     }
 }
 
-/// Reads the tokens of a text without 0.
-fn read_lexemes(
-    source: &[u8],
-    tokens: &mut Vec<Token>,
-    parts: &mut Vec<Part>,
-) -> Result<Option<Fault>, AllocError>
+/// What a text without 0 has.
+fn counted(source: &[u8]) -> Survey
     requires few { IsShort source.now }
     requires clean { has_no_nul source.now ≡ true }
-    requires tokens { tokens.old.items ≡ [] }
-    requires parts { parts.old.items ≡ [] }
-    ensures ranges { IfOk result (λ _. AllFit source.now parts.new.items) }
-    ensures whole { IfOk result (λ fault. tokens_of source.now ≡ tokens_to (written source.now parts.new.items) tokens.new.items fault) }
-    ensures front { IfOk result (λ _. tokens_in (written source.now parts.new.items) tokens.new.items ≡ tokens_before_fault source.now) }
-    ensures places { IfOk result (λ _. places_in tokens.new.items ≡ token_places source.now) }
+    ensures tokens { result.tokens ≡ length (tokens_before_fault source.now) }
+    ensures fault { tokens_of source.now ≡ tokens_unless result.fault (tokens_before_fault source.now) }
 {
+    let mut tokens = 0;
     let mut at = 0;
-    while let Some(first) = byte_at(source, at) {
-        match lexeme(source, at, first, parts) {
-            Ok(LexemeRead { kind, end }) => {
-                push_token(tokens, kind, at)?;
-                at = end;
+    loop {
+        match token_from(source, at) {
+            Ok(Some(read)) => {
+                tokens += 1;
+                at = read.end;
             }
-            Err(Stop::Fault(fault)) => return Ok(Some(fault)),
-            Err(Stop::Memory(error)) => return Err(error),
+            Ok(None) => {
+                return Survey {
+                    tokens,
+                    fault: None,
+                };
+            }
+            Err(fault) => {
+                return Survey {
+                    tokens,
+                    fault: Some(fault),
+                };
+            }
+        }
+    }
+}
+
+/// Reads the token that comes next behind a place; none up to the end of the text.
+fn token_from(source: &[u8], place: usize) -> Result<Option<TokenRead>, Fault>
+    requires few { IsShort source.now }
+    ensures { NextToken (written source.now) place result }
+{
+    let mut at = place;
+    while let Some(first) = byte_at(source, at) {
+        let LexemeRead { kind, end } = lexeme(source, at, first)?;
+        match kind {
+            Some(kind) => return Ok(Some(token_read(kind, at, end))),
+            None => at = end,
         }
     }
     Ok(None)
 }
 
-/// Puts the token behind the others, if there is one.
-fn push_token(
-    tokens: &mut Vec<Token>,
-    kind: Option<TokenKind>,
-    place: usize,
-) -> Result<(), AllocError>
+/// A token between two places.
+fn token_read(kind: TokenKind, place: usize, end: usize) -> TokenRead
     requires { place ≤ u32.MAX }
-    ensures tokens { OnOk result ((text : Written) → tokens_in text tokens.new.items ≡ tokens_in text tokens.old.items ++ optional_token text kind) }
-    ensures places { OnOk result (places_in tokens.new.items ≡ places_in tokens.old.items ++ optional_place place kind) }
+    ensures kind { result.token.kind ≡ kind }
+    ensures place { result.token.place ≡ place }
+    ensures end { result.end ≡ end }
 {
-    match kind {
-        Some(kind) => tokens.push(Token {
+    TokenRead {
+        token: Token {
             kind,
             place: place as u32,
-        })?,
-        None => {}
+        },
+        end,
     }
-    Ok(())
 }
 
 /// Reads what begins with this byte where no word is open.
-fn lexeme(source: &[u8], at: usize, first: u8, parts: &mut Vec<Part>) -> Result<LexemeRead, Stop>
+fn lexeme(source: &[u8], at: usize, first: u8) -> Result<LexemeRead, Fault>
     requires few { IsShort source.now }
     requires here { StandsAt source.now at first }
-    ensures reads { ReadsLexeme source.now at parts.new.items result }
-    ensures adds { Adds source.now parts.old.items parts.new.items result }
+    ensures { ReadsLexeme source.now at result }
 {
     let end = at + 1;
     if is_blank(first) {
@@ -155,36 +167,28 @@ fn lexeme(source: &[u8], at: usize, first: u8, parts: &mut Vec<Part>) -> Result<
             end: end + 1,
         })
     } else {
-        word(source, at, first, parts)
+        word(source, at, first)
     }
-}
-
-/// Whether a `\` and a newline stand at the place.
-fn is_joined_line(source: &[u8], at: usize) -> bool
-    requires { at < usize.MAX }
-    ensures { result ≡ begins 92 (drop at source.now) && begins 10 (drop (at + 1) source.now) }
-{
-    stands_at(source, at, b'\\') && stands_at(source, at + 1, b'\n')
 }
 
 /// `&` or `|`.
 fn begins_operator(b: u8) -> bool
-    ensures { result ≡ (b == 38 || b == 124) }
+    ensures { result ≡ (b == ampersand || b == vertical_bar) }
 {
     b == b'&' || b == b'|'
 }
 
 /// Reads `&&` or `||`, which begins with this byte.
-fn operator(source: &[u8], at: usize, first: u8) -> Result<LexemeRead, Stop>
+fn operator(source: &[u8], at: usize, first: u8) -> Result<LexemeRead, Fault>
     requires here { StandsAt source.now at first }
-    requires operator { first == 38 || first == 124 ≡ true }
-    ensures { ReadsOperator source.now at result }
+    requires operator { first == ampersand || first == vertical_bar ≡ true }
+    ensures { ReadsLexeme source.now at result }
 {
     if !stands_at(source, at + 1, first) {
-        return Err(Stop::Fault(Fault {
+        return Err(Fault {
             kind: FaultKind::Operator,
             place: at,
-        }));
+        });
     }
     Ok(LexemeRead {
         kind: Some(if first == b'&' {

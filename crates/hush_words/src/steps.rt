@@ -1,19 +1,6 @@
-//! What the readers answer, and the table of parts that they add to.
+//! What the readers answer, and the places of a word and of a name at which they stand.
 
-ghost use Rattle.std.specs.Prelude.{◌≡◌, [], ◌∷◌};
-ghost use Rattle.hush_words.specs.Steps.{Pushed, optional_part};
-
-use crate::{Fault, Part, TokenKind};
-use std::alloc::AllocError;
-
-/// Why a reader stops.
-#[derive(Drop)]
-pub(crate) enum Stop {
-    /// The text isn't written as the rules want.
-    Fault(Fault),
-    /// A growth was refused.
-    Memory(AllocError),
-}
+use crate::{Part, TokenKind};
 
 /// A part, and where it ends.
 #[derive(Clone, Copy)]
@@ -36,33 +23,31 @@ pub(crate) struct LexemeRead {
     pub(crate) end: usize,
 }
 
-/// What a part is to the name of an assignment.
+/// The pair of quotes that a place of a word stands in.
+#[derive(Clone, Copy, Debug)]
+pub(crate) enum Inside {
+    Nothing,
+    Single,
+    Double,
+}
+
+/// A place of a word: how many bytes of the source stand before it, and in which quotes it stands.
+#[derive(Clone, Copy, Debug)]
+pub(crate) struct Place {
+    pub(crate) at: usize,
+    pub(crate) inside: Inside,
+}
+
+/// What stands at a place of a word: a part, or none for what is passed over, and the place behind it.
 #[derive(Clone, Copy)]
-pub(crate) enum Scan {
-    /// It goes on with the name, or holds nothing: whether the name has begun now.
-    GoesOn(bool),
-    /// It is the `=` behind the name.
-    Equals,
-    /// It is no part of such a name.
-    Stops,
+pub(crate) struct PlaceRead {
+    pub(crate) part: Option<Part>,
+    pub(crate) next: Place,
 }
 
-/// Puts the part behind the others.
-pub(crate) fn push(parts: &mut Vec<Part>, part: Part) -> Result<(), Stop>
-    ensures { Pushed parts.old.items parts.new.items (part ∷ []) result }
-{
-    match parts.push(part) {
-        Ok(()) => Ok(()),
-        Err(failed) => Err(Stop::Memory(AllocError::from(failed))),
-    }
-}
-
-/// Puts the part behind the others, if there is one.
-pub(crate) fn push_some(parts: &mut Vec<Part>, part: Option<Part>) -> Result<(), Stop>
-    ensures { Pushed parts.old.items parts.new.items (optional_part part) result }
-{
-    match part {
-        Some(part) => push(parts, part),
-        None => Ok(()),
-    }
+/// A place within a name, and whether the name has begun before it.
+#[derive(Clone, Copy)]
+pub(crate) struct NamePlace {
+    pub(crate) at: usize,
+    pub(crate) begun: bool,
 }

@@ -1,56 +1,60 @@
-//! A script's bytes with the parts of its words.
-ghost use Rattle.std.specs.Prelude.{◌≡◌, ◌≤◌, All, length};
-ghost use Rattle.hush_words.specs.Parts.{written, span_bytes, word_parts};
-ghost use Rattle.hush_words.specs.Ranges.{IsWithin, Fits, AllFit};
+//! A script's bytes, which its words are ranges of.
+ghost use Rattle.std.specs.Prelude.{◌≡◌, ◌≤◌, ◌<◌, IfOk, OnErr, length};
+ghost use Rattle.hush_words.specs.Parts.{written, span_bytes, word_atoms};
+ghost use Rattle.hush_words.specs.Ranges.{IsWithin};
 
-use crate::{Part, Span, Word};
+use crate::{Parts, Span, Word};
+use std::alloc::AllocError;
 use std::marker::Model;
 
-/// A text and the table of the parts of its words, all of them ranges of the text.
+/// A text, of which tokens, words and parts are read. It keeps its bytes alone.
 #[derive(Debug, Drop)]
 pub struct Text {
     source: Vec<u8>,
-    parts: Vec<Part>,
 }
 
 impl Model for Text {
-    ghost use Rattle.std.specs.Prelude.{◌≤◌, length};
     ghost use Rattle.hush_words.specs.Parts.{Written};
-    ghost use Rattle.hush_words.specs.Ranges.{AllFit};
+    ghost use Rattle.hush_words.specs.Ranges.{IsShort};
 
     ghost Value = { Written };
 
-    ghost view = { λ t. record { source = t.source.items; parts = t.parts.items } };
+    ghost view = { λ t. record { source = t.source.items } };
 
-    ghost invariant = { λ t. (length t.parts.items ≤ 4294967295) × AllFit t.source.items t.parts.items };
+    ghost invariant = { λ t. IsShort t.source.items };
 }
 
 impl Text {
-    /// A text with these parts of its words.
-    pub(crate) fn new(source: Vec<u8>, parts: Vec<Part>) -> Text
-        requires few { length parts.items ≤ u32.MAX }
-        requires ranges { AllFit source.items parts.items }
-        ensures { result ≡ written source.items parts.items }
+    /// A text of these bytes. It takes no memory.
+    ///
+    /// # Errors
+    ///
+    /// There are more bytes than a number of 32 bits can count: they are refused as memory is.
+    pub fn new(source: Vec<u8>) -> Result<Text, AllocError>
+        ensures text { IfOk result (λ text. text ≡ written source.items) }
+        ensures refused_only { OnErr result (u32.MAX < length source.items) }
     {
-        Text { source, parts }
+        if source.len() > u32::MAX as usize {
+            return Err(AllocError);
+        }
+        Ok(Text { source })
     }
 
     /// The text, byte for byte.
     pub fn source(&self) -> &[u8]
-        ensures { result.now ≡ self.now.source }
+        ensures bytes { result.now ≡ self.now.source }
+        ensures few { length self.now.source ≤ u32.MAX }
     {
         self.source.as_slice()
     }
 
-    /// The parts of a word of this text.
-    pub fn parts(&self, word: Word) -> &[Part]
-        ensures parts { result.now ≡ word_parts self.now.parts word }
-        ensures few { length self.now.parts ≤ u32.MAX }
-        ensures ranges { All (Fits self.now.source) result.now }
+    /// The parts of a word of this text, or of any other range of it that is read as one.
+    pub fn parts(&self, word: Word) -> Parts<'_>
+        ensures source { result.source ≡ self.now.source }
+        ensures atoms { result.atoms ≡ word_atoms self.now word }
+        ensures bytes { result.bytes ≤ length self.now.source }
     {
-        let parts = self.parts.as_slice();
-        let rest = &parts[(word.first as usize).min(parts.len())..];
-        &rest[..(word.len as usize).min(rest.len())]
+        Parts::new(self.source(), word.start as usize, word.end as usize)
     }
 
     /// The bytes of a range of this text, as those of its parts are.

@@ -1,5 +1,5 @@
 //! The tokens of a script.
-use crate::{Fault, Text, Word};
+use crate::{Fault, Word};
 
 /// What a token is.
 #[derive(Clone, Copy, Debug, PartialEq, Eq)]
@@ -25,13 +25,20 @@ pub struct Token {
     pub place: u32,
 }
 
-/// What was read of a text.
-#[derive(Debug, Drop)]
-pub struct Lexed {
-    /// The text, and the parts of the words of its tokens.
-    pub text: Text,
-    /// The tokens up to the end, or up to the fault.
-    pub tokens: Vec<Token>,
+/// A token that was read, and where it ends.
+#[derive(Clone, Copy, Debug, PartialEq, Eq)]
+pub struct TokenRead {
+    /// The token.
+    pub token: Token,
+    /// How many bytes of the source stand before what follows the token.
+    pub end: usize,
+}
+
+/// What a text has, told before its tokens are read.
+#[derive(Clone, Copy, Debug, PartialEq, Eq)]
+pub struct Survey {
+    /// How many tokens stand before the end, or before the fault.
+    pub tokens: usize,
     /// The first fault of a word or an operator, if there is one.
     pub fault: Option<Fault>,
 }

@@ -1,106 +1,93 @@
 //! Words, a piece behind the other (docs/scripts.md, "Words").
 
-ghost use Rattle.std.specs.Prelude.{◌≡◌, IfOk, IfErr, ◌+◌, ◌-◌, ◌≤◌, ◌&&◌, true, false, length, drop};
-ghost use Rattle.hush_words.specs.Words.{ends_word, is_special, is_bare};
-ghost use Rattle.hush_words.specs.Parts.{atoms_of};
+ghost use Rattle.std.specs.Prelude.{◌≡◌, ◌+◌, ◌&&◌, not, true, false, drop};
+ghost use Rattle.hush_words.specs.Bytes.{newline, hash, dollar, backslash};
+ghost use Rattle.hush_words.specs.Words.{ends_word, is_special, is_bare, next};
 ghost use Rattle.hush_words.specs.Ranges.{IsShort};
-ghost use Rattle.hush_words.specs.Steps.{StandsAt, ReadsPiece, ReadsPieces, ReadsLexeme, Adds, IsPlainRun, IsMemory, begins};
+ghost use Rattle.hush_words.specs.Steps.{StandsAt, ReadsPiece, ReadsPieces, EndsPlain, ReadsLexeme, IsPlainRun, begins};
 
 use crate::classes::{Class, byte_at, ends_word, is_special, run_end};
-use crate::dollars::{byte_part, dollar};
+use crate::dollars::dollar;
 use crate::quotes::{double, single};
-use crate::steps::{LexemeRead, Stop, push};
-use crate::{Fault, FaultKind, Part, Span, TokenKind, Word};
-use std::alloc::AllocError;
+use crate::steps::LexemeRead;
+use crate::{Fault, FaultKind, TokenKind, Word};
 
-/// Reads a word, which opens with this byte, and puts its parts behind the others.
-pub(crate) fn word(
-    source: &[u8],
-    start: usize,
-    first: u8,
-    parts: &mut Vec<Part>,
-) -> Result<LexemeRead, Stop>
+/// Reads a word, which opens with this byte.
+pub(crate) fn word(source: &[u8], start: usize, first: u8) -> Result<LexemeRead, Fault>
     requires few { IsShort source.now }
     requires here { StandsAt source.now start first }
     requires inside { ends_word first ≡ false }
-    requires no_comment { first ≡ 35 → ⊥ }
-    requires no_line { begins 92 (drop start source.now) && begins 10 (drop (start + 1) source.now) ≡ false }
-    ensures reads { ReadsLexeme source.now start parts.new.items result }
-    ensures adds { Adds source.now parts.old.items parts.new.items result }
+    requires no_comment { first ≡ hash → ⊥ }
+    requires no_line { begins backslash (drop start source.now) && begins newline (drop (start + 1) source.now) ≡ false }
+    ensures { ReadsLexeme source.now start result }
 {
-    let before = count(parts);
-    let mut at = start;
-    while let Some(end) = pieces(source, at, parts)? {
+    let mut at = run_end(Class::Plain, source, start);
+    while let Some(end) = special_pieces(source, at)? {
         at = end;
     }
-    let whole = word_from(before, parts)?;
     Ok(LexemeRead {
-        kind: Some(TokenKind::Word(whole)),
+        kind: Some(TokenKind::Word(Word::new(start, at))),
         end: at,
     })
 }
 
-/// How many parts there are.
-fn count(parts: &Vec<Part>) -> usize
-    ensures { result ≡ length parts.now.items }
-{
-    parts.len()
-}
-
-/// The word of the parts from this one on; none where there are more than the table can number.
-fn word_from(first: usize, parts: &Vec<Part>) -> Result<Word, Stop>
-    requires { first ≤ length parts.now.items }
-    ensures first { IfOk result (λ word. word.first ≡ first) }
-    ensures len { IfOk result (λ word. word.len ≡ length parts.now.items - first) }
-    ensures refused { IfErr result IsMemory }
-{
-    if parts.len() > u32::MAX as usize {
-        return Err(Stop::Memory(AllocError));
-    }
-    Ok(Word {
-        first: first as u32,
-        len: (parts.len() - first) as u32,
-    })
-}
-
-/// Reads the pieces at the place; none where the word ends there.
-fn pieces(source: &[u8], at: usize, parts: &mut Vec<Part>) -> Result<Option<usize>, Stop>
+/// Where the plain bytes end behind the piece at the place; none where the word ends at the place.
+fn special_pieces(source: &[u8], at: usize) -> Result<Option<usize>, Fault>
     requires few { IsShort source.now }
-    ensures reads { ReadsPieces source.now at (atoms_of source.now parts.old.items) (atoms_of source.now parts.new.items) result }
-    ensures adds { Adds source.now parts.old.items parts.new.items result }
+    requires behind { next (λ b. not (is_bare b)) (drop at source.now) ≡ true }
+    ensures reads { ReadsPieces source.now at result }
+    ensures plain { EndsPlain source.now result }
 {
     match byte_at(source, at) {
-        Some(first) => pieces_from(source, at, first, parts),
+        Some(first) => special_pieces_from(source, at, first),
         None => Ok(None),
     }
 }
 
-/// Reads the pieces that begin with this byte; none where it ends the word.
-fn pieces_from(
-    source: &[u8],
-    at: usize,
-    first: u8,
-    parts: &mut Vec<Part>,
-) -> Result<Option<usize>, Stop>
+/// The same where this byte stands at the place.
+fn special_pieces_from(source: &[u8], at: usize, first: u8) -> Result<Option<usize>, Fault>
     requires few { IsShort source.now }
     requires here { StandsAt source.now at first }
-    ensures reads { ReadsPieces source.now at (atoms_of source.now parts.old.items) (atoms_of source.now parts.new.items) result }
-    ensures adds { Adds source.now parts.old.items parts.new.items result }
+    requires behind { is_bare first ≡ false }
+    ensures reads { ReadsPieces source.now at result }
+    ensures plain { EndsPlain source.now result }
+{
+    if ends_word(first) {
+        return Ok(None);
+    }
+    let end = piece(source, at, first)?;
+    Ok(Some(run_end(Class::Plain, source, end)))
+}
+
+/// Where the pieces at the place end; none where the word ends there.
+pub(crate) fn pieces(source: &[u8], at: usize) -> Result<Option<usize>, Fault>
+    requires few { IsShort source.now }
+    ensures { ReadsPieces source.now at result }
+{
+    match byte_at(source, at) {
+        Some(first) => pieces_from(source, at, first),
+        None => Ok(None),
+    }
+}
+
+/// Where the pieces end that begin with this byte; none where it ends the word.
+fn pieces_from(source: &[u8], at: usize, first: u8) -> Result<Option<usize>, Fault>
+    requires few { IsShort source.now }
+    requires here { StandsAt source.now at first }
+    ensures { ReadsPieces source.now at result }
 {
     if ends_word(first) {
         Ok(None)
     } else if is_special(first) {
-        let end = piece(source, at, first, parts)?;
+        let end = piece(source, at, first)?;
         Ok(Some(end))
     } else {
-        let end = plain_end(source, at, first);
-        push(parts, Part::Plain(Span::new(at, end)))?;
-        Ok(Some(end))
+        Ok(Some(plain_end(source, at, first)))
     }
 }
 
 /// Where the plain bytes end that begin with this one: a `=` is a part of its own, and others end before one.
-fn plain_end(source: &[u8], at: usize, first: u8) -> usize
+pub(crate) fn plain_end(source: &[u8], at: usize, first: u8) -> usize
     requires here { StandsAt source.now at first }
     requires bare { is_bare first ≡ true }
     ensures { IsPlainRun source.now at result }
@@ -112,78 +99,50 @@ fn plain_end(source: &[u8], at: usize, first: u8) -> usize
     }
 }
 
-/// Reads the piece that begins with this byte, one of `$`, `\` and the quotes.
-fn piece(source: &[u8], at: usize, first: u8, parts: &mut Vec<Part>) -> Result<usize, Stop>
+/// Where the piece ends that begins with this byte, one of `$`, `\` and the quotes.
+fn piece(source: &[u8], at: usize, first: u8) -> Result<usize, Fault>
     requires few { IsShort source.now }
     requires here { StandsAt source.now at first }
     requires special { is_special first ≡ true }
-    ensures reads { ReadsPiece source.now at (atoms_of source.now parts.old.items) (atoms_of source.now parts.new.items) result }
-    ensures adds { Adds source.now parts.old.items parts.new.items result }
+    ensures { ReadsPiece source.now at result }
 {
     if first == b'$' {
-        dollar_piece(source, at, parts)
+        dollar_piece(source, at)
     } else if first == b'\\' {
-        backslash(source, at, parts)
+        backslash(source, at)
     } else if first == b'\'' {
-        single(source, at, parts)
+        single(source, at)
     } else {
-        double(source, at, parts)
+        double(source, at)
     }
 }
 
-/// Reads what an unquoted `$` begins.
-fn dollar_piece(source: &[u8], at: usize, parts: &mut Vec<Part>) -> Result<usize, Stop>
+/// Where that ends what an unquoted `$` begins.
+fn dollar_piece(source: &[u8], at: usize) -> Result<usize, Fault>
     requires few { IsShort source.now }
-    requires here { StandsAt source.now at 36 }
-    ensures reads { ReadsPiece source.now at (atoms_of source.now parts.old.items) (atoms_of source.now parts.new.items) result }
-    ensures adds { Adds source.now parts.old.items parts.new.items result }
+    requires here { StandsAt source.now at dollar }
+    ensures { ReadsPiece source.now at result }
 {
     match dollar(source, at, false) {
-        Some(read) => {
-            push(parts, read.part)?;
-            Ok(read.end)
-        }
-        None => Err(Stop::Fault(Fault {
+        Some(read) => Ok(read.end),
+        None => Err(Fault {
             kind: FaultKind::Substitution,
             place: at,
-        })),
+        }),
     }
 }
 
-/// Reads an unquoted `\` and the byte behind it.
-fn backslash(source: &[u8], at: usize, parts: &mut Vec<Part>) -> Result<usize, Stop>
+/// Where an unquoted `\` ends with the byte behind it.
+fn backslash(source: &[u8], at: usize) -> Result<usize, Fault>
     requires few { IsShort source.now }
-    requires here { StandsAt source.now at 92 }
-    ensures reads { ReadsPiece source.now at (atoms_of source.now parts.old.items) (atoms_of source.now parts.new.items) result }
-    ensures adds { Adds source.now parts.old.items parts.new.items result }
+    requires here { StandsAt source.now at backslash }
+    ensures { ReadsPiece source.now at result }
 {
-    let start = at + 1;
-    match byte_at(source, start) {
-        Some(next) => backslash_before(source, at, next, parts),
-        None => Err(Stop::Fault(Fault {
+    match byte_at(source, at + 1) {
+        Some(_) => Ok(at + 2),
+        None => Err(Fault {
             kind: FaultKind::Backslash,
             place: at,
-        })),
+        }),
     }
-}
-
-/// Reads an unquoted `\` before this byte.
-fn backslash_before(
-    source: &[u8],
-    at: usize,
-    next: u8,
-    parts: &mut Vec<Part>,
-) -> Result<usize, Stop>
-    requires few { IsShort source.now }
-    requires backslash { StandsAt source.now at 92 }
-    requires next { StandsAt source.now (at + 1) next }
-    ensures reads { ReadsPiece source.now at (atoms_of source.now parts.old.items) (atoms_of source.now parts.new.items) result }
-    ensures adds { Adds source.now parts.old.items parts.new.items result }
-{
-    let end = at + 2;
-    if next == b'\n' {
-        return Ok(end);
-    }
-    push(parts, byte_part(at + 1, true).part)?;
-    Ok(end)
 }

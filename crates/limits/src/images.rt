@@ -11,6 +11,7 @@ use std::io;
 /// The bytes of the greatest value, of a name of one byte.
 const LONGEST: usize = 1_048_568;
 
+/// A line for each call over images.
 pub fn rows(rt: &HostRuntime) -> io::Result<()> {
     let alloc = rt.alloc();
     defaults_row(

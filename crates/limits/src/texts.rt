@@ -16,6 +16,7 @@ const LINES: u32 = 65_536;
 /// `x`s that make a line of 16 MiB with three other bytes.
 const LONG: usize = 16_777_213;
 
+/// A line for each call over texts.
 pub fn rows(rt: &HostRuntime) -> io::Result<()> {
     let alloc = rt.alloc();
     entries_row(

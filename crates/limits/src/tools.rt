@@ -10,6 +10,7 @@ use std::io;
 /// What fills the area together with a name of one byte and another word of one byte.
 const LONG_WORD: usize = 1_048_565;
 
+/// A line for each tool.
 pub fn rows(rt: &HostRuntime) -> io::Result<()> {
     match empty(rt.alloc()) {
         Some(mut session) => {

@@ -16,6 +16,7 @@ const ITEMS: u32 = 131_000;
 /// What fills the area in one value or one name, the other of one byte.
 const LONGEST: usize = 1_048_568;
 
+/// A line for each call over variables.
 pub fn rows(rt: &HostRuntime) -> io::Result<()> {
     let alloc = rt.alloc();
     kinds_row(rt, &every_kind(alloc)?)?;
@@ -80,13 +81,16 @@ fn say_undone(rt: &HostRuntime, session: &mut Session) -> io::Result<()> {
     if session.save().is_err() {
         return println!(rt; "save: no memory");
     }
-    let touched = session.touched();
+    let changed_names = session.changed_names();
     say(rt, "saved", session.vars())?;
     match session.undo() {
         Ok(()) => say(rt, "undone", session.vars())?,
         Err(_) => println!(rt; "undo: no memory")?,
     }
-    println!(rt; "touched: {touched}, then {}", session.touched())
+    println!(rt;
+        "changed names: {changed_names}, then {}",
+        session.changed_names()
+    )
 }
 
 fn kinds_row(rt: &HostRuntime, entries: &[u8]) -> io::Result<()> {

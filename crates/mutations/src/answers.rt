@@ -46,6 +46,7 @@ pub struct Tally {
 }
 
 impl Tally {
+    /// No answers.
     pub fn new(alloc: Global) -> Tally {
         Tally {
             rows: BTreeMap::new(alloc),

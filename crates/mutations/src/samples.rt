@@ -10,6 +10,7 @@ pub const AREAS: [&[u8]; 6] = [
     b"z=1\0y=2\0x=3\0w=4\0v=5\0u=6\0t=7\0\0",
 ];
 
+/// Pieces that are put into areas.
 pub const AREA_TOKENS: [&[u8]; 10] = [
     b"\0",
     b"\0\0",
@@ -23,6 +24,7 @@ pub const AREA_TOKENS: [&[u8]; 10] = [
     b"\xFF\xFF\xFF\xFF",
 ];
 
+/// Configurations that are damaged.
 pub const CONFIGURATIONS: [&[u8]; 7] = [
     b"# one copy\n/dev/mtd1 0x0000 0x4000 0x4000\n",
     b"/dev/mtd1\t0x0 4000\r\n/dev/mtd2 -0x4000 0x4000 0x4000 1\r\n/dev/mtd3 0 8\n",
@@ -33,6 +35,7 @@ pub const CONFIGURATIONS: [&[u8]; 7] = [
     b"short 0 7\nlong 0 100001\n",
 ];
 
+/// Pieces that are put into configurations.
 pub const CONFIGURATION_TOKENS: [&[u8]; 16] = [
     b"0x",
     b"-",
@@ -52,6 +55,7 @@ pub const CONFIGURATION_TOKENS: [&[u8]; 16] = [
     b"\nd 0 10\n",
 ];
 
+/// Texts for import that are damaged.
 pub const IMPORTS: [&[u8]; 5] = [
     b"# the console\nbaudrate=115200\nscript=echo one\\\necho two\nbootdelay=\n",
     b"a=1\n\n \t b=2\nc\nd=x\\=\\\\y\\\\\ne=1=2\n#f=6\ng=7",
@@ -60,6 +64,7 @@ pub const IMPORTS: [&[u8]; 5] = [
     b"long=0123456789012345678901234567890123456789012345678901234567890123456789\nlong=1\no=2\no=3\n",
 ];
 
+/// Pieces that are put into texts for import.
 pub const IMPORT_TOKENS: [&[u8]; 12] = [
     b"\\",
     b"\\\n",
@@ -75,6 +80,7 @@ pub const IMPORT_TOKENS: [&[u8]; 12] = [
     b" \t\n",
 ];
 
+/// Set scripts that are damaged.
 pub const SET_SCRIPTS: [&[u8]; 5] = [
     b"# comment\nnetdev  eth0\nfoo a  b\nbar\nk=v w\n",
     b"a 1\r\n\r\n \t\nb\t2 \r\nc=\n d = 4\n #e 5",
@@ -83,6 +89,7 @@ pub const SET_SCRIPTS: [&[u8]; 5] = [
     b"r 1\nr\nlong 0123456789012345678901234567890123456789012345678901234567890123456789\no 2\n",
 ];
 
+/// Pieces that are put into set scripts.
 pub const SET_SCRIPT_TOKENS: [&[u8]; 10] = [
     b"=",
     b" ",
@@ -96,6 +103,7 @@ pub const SET_SCRIPT_TOKENS: [&[u8]; 10] = [
     b"\nc 2\n",
 ];
 
+/// Stand-in files that are damaged.
 pub const STAND_INS: [&[u8]; 5] = [
     b"mmc/dev\nusb 1\n",
     b"# c\n\nusb  007 \r\nmmc\n \t\next4load 255\n",
@@ -104,6 +112,7 @@ pub const STAND_INS: [&[u8]; 5] = [
     b"  # 3\nfdt 9\necho 0\nbootz 1\n",
 ];
 
+/// Pieces that are put into stand-in files.
 pub const STAND_IN_TOKENS: [&[u8]; 12] = [
     b" ",
     b"\t",
@@ -131,6 +140,7 @@ pub const STAND_IN_NAMES: [&[u8]; 8] = [
     b"mmc/dev",
 ];
 
+/// Scripts that are damaged.
 pub const SCRIPTS: [&[u8]; 10] = [
     b"a=1; for i in a${x}b \"${x}\" \"\"; do echo \"[$i]\"; done\n",
     b"if test $n -gt 0; then run s\nelif false; then exit 3\nelse echo $?; fi && echo ok || echo no\n",
@@ -144,6 +154,7 @@ pub const SCRIPTS: [&[u8]; 10] = [
     b"if a; then\n  a=1 b\nfi\n",
 ];
 
+/// Pieces that are put into scripts.
 pub const SCRIPT_TOKENS: [&[u8]; 34] = [
     b"'",
     b"\"",

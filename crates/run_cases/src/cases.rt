@@ -14,7 +14,7 @@ pub struct Case<'a> {
     /// The variables, as entries that a 0 ends.
     pub variables: &'a [u8],
     /// The stand-in file.
-    pub stubs: &'a [u8],
+    pub stand_ins: &'a [u8],
     /// The script.
     pub script: &'a [u8],
 }
@@ -32,12 +32,12 @@ impl<'a> Case<'a> {
             output,
             defaults,
             variables,
-            stubs,
+            stand_ins,
             script,
         ] = numbers;
         let (defaults, rest) = rest.split_at_checked(defaults as usize)?;
         let (variables, rest) = rest.split_at_checked(variables as usize)?;
-        let (stubs, rest) = rest.split_at_checked(stubs as usize)?;
+        let (stand_ins, rest) = rest.split_at_checked(stand_ins as usize)?;
         let (script, rest) = rest.split_at_checked(script as usize)?;
         let (_newline, rest) = rest.split_at_checked(1)?;
         let case = Case {
@@ -46,7 +46,7 @@ impl<'a> Case<'a> {
             limits: [steps, depth, word, output],
             defaults,
             variables,
-            stubs,
+            stand_ins,
             script,
         };
         Some((case, rest))

@@ -1,7 +1,7 @@
 //! What a run leaves, as it stands in the output.
 use crate::cases::Case;
 use env_session::{Session, Side};
-use hush_run::{Limits, Outcome, Stubs, run};
+use hush_run::{Limits, Outcome, StandIns, run};
 use hush_syntax::Script;
 use std::alloc::{AllocError, Global};
 
@@ -16,15 +16,15 @@ pub fn report(
     let Some(limits) = Limits::new(steps, depth, word, output) else {
         return Ok(None);
     };
-    let stubs = match Stubs::parse(alloc, case.stubs) {
-        Ok(stubs) => stubs,
+    let stand_ins = match StandIns::parse(alloc, case.stand_ins) {
+        Ok(stand_ins) => stand_ins,
         Err(fault) => return Ok(Some(format!(in alloc; "{fault}\n")?.into_bytes())),
     };
     let script = match Script::parse(alloc, case.script.to_vec(alloc)?) {
         Ok(script) => script,
         Err(fault) => return Ok(Some(format!(in alloc; "{fault}\n")?.into_bytes())),
     };
-    let outcome = run(alloc, session, &script, &stubs, &limits);
+    let outcome = run(alloc, session, &script, &stand_ins, &limits);
     Ok(Some(left(alloc, session, &outcome)?))
 }
 

@@ -3,7 +3,7 @@
 use env_session::{Session, Stored};
 use envimg_core::{Geometry, Layout};
 use envvars_core::Vars;
-use hush_run::{Ending, Limits, Outcome, Stubs, run};
+use hush_run::{Ending, Limits, Outcome, StandIns, run};
 use hush_syntax::Script;
 use std::alloc::{AllocError, Global};
 use std::test::Fail;
@@ -50,11 +50,11 @@ fn session(alloc: Global) -> Result<Option<Session>, AllocError> {
 /// Runs a script with 20 steps, where `mmc` is a stand-in with status 3; none where one of what it needs is refused.
 fn ran(alloc: Global, session: &mut Session, script: &[u8]) -> Result<Option<Outcome>, AllocError> {
     let script = Script::parse(alloc, Vec::from_slice(alloc, script)?).ok();
-    let stubs = Stubs::parse(alloc, b"mmc 3\n").ok();
+    let stand_ins = StandIns::parse(alloc, b"mmc 3\n").ok();
     let limits = Limits::new(20, 1, 256, 4096);
-    match (script, stubs, limits) {
-        (Some(script), Some(stubs), Some(limits)) => {
-            Ok(Some(run(alloc, session, &script, &stubs, &limits)))
+    match (script, stand_ins, limits) {
+        (Some(script), Some(stand_ins), Some(limits)) => {
+            Ok(Some(run(alloc, session, &script, &stand_ins, &limits)))
         }
         _ => Ok(None),
     }

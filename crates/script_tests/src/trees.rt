@@ -1,7 +1,8 @@
 //! The worked texts of docs/scripts.md and more.
 
 ghost use Rattle.std.specs.Prelude.{All, IsSome};
-ghost use Rattle.hush_syntax.specs.Scripts.{sub_at};
+ghost use Rattle.hush_words.specs.Ranges.{Fits};
+ghost use Rattle.hush_syntax.specs.Scripts.{subtree_at};
 
 mod boots;
 mod faults;
@@ -26,7 +27,7 @@ const DEEPEST: u32 = 3 * 65;
 /// Nodes that are deeper than the room are left out.
 #[cycle(showing)]
 fn show(script: &Script, id: NodeId, room: u32, out: &mut Vec<u8>) -> Result<(), AllocError>
-    requires { IsSome (sub_at script.now id) }
+    requires { IsSome (subtree_at script.now id) }
 {
     if room == 0 {
         return out.extend_from_slice(b"..");
@@ -73,7 +74,7 @@ fn show_list(
     room: u32,
     out: &mut Vec<u8>,
 ) -> Result<(), AllocError>
-    requires { All (λ id. IsSome (sub_at script.now id)) chains.now }
+    requires { All (λ id. IsSome (subtree_at script.now id)) chains.now }
 {
     out.extend_from_slice(b"{")?;
     let mut is_first = true;
@@ -94,7 +95,7 @@ fn show_chain(
     room: u32,
     out: &mut Vec<u8>,
 ) -> Result<(), AllocError>
-    requires { All (λ link. IsSome (sub_at script.now link.command)) links.now }
+    requires { All (λ link. IsSome (subtree_at script.now link.command)) links.now }
 {
     for link in links.iter() {
         match link.operator {
@@ -114,8 +115,8 @@ fn show_branches(
     room: u32,
     out: &mut Vec<u8>,
 ) -> Result<(), AllocError>
-    requires conditions { All (λ branch. IsSome (sub_at script.now branch.condition)) branches.now }
-    requires bodies { All (λ branch. IsSome (sub_at script.now branch.body)) branches.now }
+    requires conditions { All (λ branch. IsSome (subtree_at script.now branch.condition)) branches.now }
+    requires bodies { All (λ branch. IsSome (subtree_at script.now branch.body)) branches.now }
 {
     let mut is_first = true;
     for branch in branches.iter() {
@@ -130,7 +131,7 @@ fn show_branches(
 
 #[cycle(showing)]
 fn show_body(script: &Script, body: NodeId, room: u32, out: &mut Vec<u8>) -> Result<(), AllocError>
-    requires { IsSome (sub_at script.now body) }
+    requires { IsSome (subtree_at script.now body) }
 {
     out.extend_from_slice(b" do ")?;
     show(script, body, room, out)?;
@@ -176,21 +177,28 @@ fn show_words(words: &[Word], text: &Text, out: &mut Vec<u8>) -> Result<(), Allo
 }
 
 fn show_word(word: Word, text: &Text, out: &mut Vec<u8>) -> Result<(), AllocError> {
-    for part in text.parts(word).iter() {
-        match part {
-            Part::Plain(span) => out.extend_from_slice(text.bytes(*span))?,
-            Part::Quoted(span) => show_quoted(b"", text.bytes(*span), out)?,
-            Part::Mark => out.extend_from_slice(b"\"")?,
-            Part::Value(span, true) => show_quoted(b"$", text.bytes(*span), out)?,
-            Part::Value(span, false) => {
-                out.extend_from_slice(b"$")?;
-                out.extend_from_slice(text.bytes(*span))?;
-            }
-            Part::Status(true) => show_quoted(b"$", b"?", out)?,
-            Part::Status(false) => out.extend_from_slice(b"$?")?,
-        }
+    let mut parts = text.parts(word);
+    while let Some(part) = parts.next_part() {
+        show_part(part, text, out)?;
     }
     Ok(())
+}
+
+fn show_part(part: Part, text: &Text, out: &mut Vec<u8>) -> Result<(), AllocError>
+    requires { Fits text.now.source part }
+{
+    match part {
+        Part::Plain(span) => out.extend_from_slice(text.bytes(span)),
+        Part::Quoted(span) => show_quoted(b"", text.bytes(span), out),
+        Part::Mark => out.extend_from_slice(b"\""),
+        Part::Value(span, true) => show_quoted(b"$", text.bytes(span), out),
+        Part::Value(span, false) => {
+            out.extend_from_slice(b"$")?;
+            out.extend_from_slice(text.bytes(span))
+        }
+        Part::Status(true) => show_quoted(b"$", b"?", out),
+        Part::Status(false) => out.extend_from_slice(b"$?"),
+    }
 }
 
 fn show_quoted(sign: &[u8], bytes: &[u8], out: &mut Vec<u8>) -> Result<(), AllocError> {

@@ -6,7 +6,7 @@ mod hostile;
 mod lines;
 mod pieces;
 
-use hush_words::{Fault, FaultKind, Lexed, Part, Span, Token, TokenKind, read};
+use hush_words::{Fault, FaultKind, Part, Parts, Span, Text, Token, TokenKind};
 use std::alloc::{AllocError, Global};
 
 fn plain(start: u32, end: u32) -> Part {
@@ -25,16 +25,52 @@ fn quoted_value(start: u32, end: u32) -> Part {
     Part::Value(Span { start, end }, true)
 }
 
-/// What is read of a copy of the text.
+/// What was read of a text: its tokens up to the end or up to the fault, the fault, and the one of the survey.
+#[derive(Drop)]
+struct Lexed {
+    text: Text,
+    tokens: Vec<Token>,
+    fault: Option<Fault>,
+    surveyed: Option<Fault>,
+}
+
+/// What is read of a copy of the text: its tokens one by one, as many as were counted before.
 fn read_copy(alloc: Global, source: &[u8]) -> Result<Lexed, AllocError> {
-    read(alloc, source.to_vec(alloc)?)
+    let text = Text::new(source.to_vec(alloc)?)?;
+    let survey = text.survey();
+    let mut tokens = Vec::new(alloc);
+    let mut next = text.first_token();
+    for _ in 0..survey.tokens {
+        if let Ok(Some(read)) = next {
+            tokens.push(read.token)?;
+            next = text.next_token(read.end);
+        }
+    }
+    Ok(Lexed {
+        text,
+        tokens,
+        fault: next.err(),
+        surveyed: survey.fault,
+    })
+}
+
+/// Whether these are the parts that are left, and no more.
+fn has_parts(left: Parts<'_>, parts: &[Part]) -> bool {
+    let mut left = left;
+    for part in parts {
+        if left.next_part() != Some(*part) {
+            return false;
+        }
+    }
+    left.next_part().is_none()
 }
 
 /// Whether the token with this number is a word of these parts at this place.
 fn is_word(lexed: &Lexed, index: usize, place: u32, parts: &[Part]) -> bool {
     match lexed.tokens.get(index) {
         Some(token) => match &token.kind {
-            TokenKind::Word(word) => token.place == place && lexed.text.parts(*word) == parts,
+            TokenKind::Word(word) => token.place == place
+                && has_parts(lexed.text.parts(*word), parts),
             _ => false,
         },
         None => false,
@@ -51,7 +87,7 @@ fn is_token(lexed: &Lexed, index: usize, place: u32, kind: TokenKind) -> bool {
 
 /// Whether the text was read whole, and had so many tokens.
 fn has_tokens(lexed: &Lexed, count: usize) -> bool {
-    lexed.tokens.len() == count && lexed.fault == None
+    lexed.tokens.len() == count && lexed.fault == None && lexed.surveyed == None
 }
 
 /// Whether the text is one word of these parts.
@@ -68,5 +104,6 @@ fn is_fault(
     place: usize,
 ) -> Result<bool, AllocError> {
     let lexed = read_copy(alloc, source)?;
-    Ok(lexed.fault == Some(Fault { kind, place }))
+    let fault = Some(Fault { kind, place });
+    Ok(lexed.fault == fault && lexed.surveyed == fault)
 }

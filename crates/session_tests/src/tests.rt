@@ -13,7 +13,7 @@ use envimg_core::{Geometry, Layout};
 use envvars_core::Vars;
 use failing_streams::{Narrow, Slow};
 use fw_session::{SessionEnd, SessionEnding, session};
-use hush_run::{Limits, Stubs};
+use hush_run::{Limits, StandIns};
 use std::alloc::{AllocError, Global};
 use std::io::{Read, Write};
 use std::process::Abort;
@@ -111,11 +111,11 @@ fn talked<R: Read, W: Write>(
     input: &mut R,
     output: &mut W,
 ) -> Option<SessionEnd> {
-    let stubs = Stubs::parse(alloc, b"mmc\nusb 1\n").ok();
+    let stand_ins = StandIns::parse(alloc, b"mmc\nusb 1\n").ok();
     let [steps, depth, word, text] = limits;
-    match (begun, stubs, Limits::new(steps, depth, word, text)) {
-        (Some(begun), Some(stubs), Some(limits)) => {
-            Some(session(alloc, begun, &stubs, &limits, input, output))
+    match (begun, stand_ins, Limits::new(steps, depth, word, text)) {
+        (Some(begun), Some(stand_ins), Some(limits)) => {
+            Some(session(alloc, begun, &stand_ins, &limits, input, output))
         }
         _ => None,
     }

@@ -3,25 +3,25 @@ ghost use Rattle.std.specs.Prelude.{◌≡◌, ◌≤◌};
 ghost use Rattle.envvars_core.specs.Olds.{restored, RestoredFits};
 
 use crate::lines::{refused, wrong};
-use crate::variables::{DECIMAL, LOADED, ONCE, State, WITH_B, is_in, state_row};
+use crate::variables::{DECIMAL, LOADED, ONCE, VarsState, WITH_B, is_vars_state, vars_row};
 use envvars_core::laws::nothing_restored;
 use envvars_core::{Memory, Olds, Refusal, Vars};
 use std::alloc::Global;
 use std::io::{self, Write};
 
-const OVERWRITTEN: State = State {
+const OVERWRITTEN: VarsState = VarsState {
     lines: b".flags=n:d;a=another value;n=5;",
     used: 32,
     attr: DECIMAL,
 };
 
-const NEW_FLAGS: State = State {
+const NEW_FLAGS: VarsState = VarsState {
     lines: b".flags=n:xo;a=1;n=5;",
     used: 21,
     attr: ONCE,
 };
 
-const WITHOUT_A: State = State {
+const WITHOUT_A: VarsState = VarsState {
     lines: b".flags=n:d;n=5;",
     used: 16,
     attr: DECIMAL,
@@ -33,7 +33,7 @@ struct Kept {
     call: &'static str,
     name: &'static [u8],
     value: Option<&'static [u8]>,
-    after: State,
+    after: VarsState,
 }
 
 /// A kept write that no check refuses. Refused for memory, it has changed nothing and kept nothing more, and made again it writes.
@@ -43,21 +43,21 @@ fn write_kept<W: Write>(
     olds: &mut Olds,
     defaults: &Vars,
     write: &Kept,
-    before: &State,
+    before: &VarsState,
 ) -> io::Result<()>
     ensures brings_back { restored vars.new.env olds.new ≡ restored vars.old.env olds.old }
     ensures room { vars.new.room ≡ vars.old.room }
 {
     let kept = olds.len();
     match vars.write_kept(write.name, write.value, false, defaults, olds) {
-        Ok(()) => return state_row(out, write.call, vars, &write.after),
-        Err(Refusal::Memory) if is_in(vars, before) && olds.len() == kept => {
+        Ok(()) => return vars_row(out, write.call, vars, &write.after),
+        Err(Refusal::Memory) if is_vars_state(vars, before) && olds.len() == kept => {
             refused(out, "write_kept")?
         }
         Err(_) => wrong(out, "write_kept")?,
     }
     match vars.write_kept(write.name, write.value, false, defaults, olds) {
-        Ok(()) => state_row(out, write.call, vars, &write.after),
+        Ok(()) => vars_row(out, write.call, vars, &write.after),
         Err(_) => wrong(out, "write_kept, made again"),
     }
 }
@@ -69,13 +69,13 @@ fn restore<W: Write>(
     vars: &mut Vars,
     olds: &mut Olds,
     needs: bool,
-    before: &State,
+    before: &VarsState,
 ) -> io::Result<()>
     requires { RestoredFits vars.old olds.old }
 {
     let kept = olds.len();
     if let Err(Memory) = vars.restore(olds) {
-        if !needs || !is_in(vars, before) || olds.len() != kept {
+        if !needs || !is_vars_state(vars, before) || olds.len() != kept {
             return wrong(out, "restore");
         }
         refused(out, "restore")?;
@@ -86,7 +86,7 @@ fn restore<W: Write>(
     if olds.len() != 0 {
         return wrong(out, "restore");
     }
-    state_row(out, "restore", vars, &LOADED)
+    vars_row(out, "restore", vars, &LOADED)
 }
 
 /// A kept write, which is then brought back.

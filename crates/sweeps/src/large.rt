@@ -1,10 +1,10 @@
 //! A session over an image of 40,000 variables, which takes `.flags` of 1,000 items, and what an undo brings back.
 
 use crate::lines::{refused, row, wrong};
-use crate::many::digest;
+use crate::states::state_of;
 use bench_parts::name;
-use env_session::{Session, Side, StartFault, Stored};
-use envimg_core::{Geometry, ImageWriter, Layout, crc32};
+use env_session::{Session, StartFault, Stored};
+use envimg_core::{Geometry, ImageWriter, Layout};
 use envvars_core::{Refusal, Vars};
 use std::alloc::{AllocError, Global};
 use std::io::{self, Write};
@@ -101,11 +101,6 @@ fn is_changed(vars: &Vars) -> bool {
         && vars.get(&name(39_999)).is_none()
 }
 
-/// The checksum of the copy.
-fn copy_sum(session: &Session) -> Option<u32> {
-    Some(crc32(session.copy(Side::First)?))
-}
-
 /// A write that no check refuses. Refused for memory, it has changed nothing, and made again it writes.
 fn write<W: Write>(
     out: &mut W,
@@ -113,10 +108,10 @@ fn write<W: Write>(
     name: &[u8],
     value: Option<&[u8]>,
 ) -> io::Result<()> {
-    let before = digest(session.vars());
+    let before = state_of(session);
     match session.write(name, value, false) {
         Ok(()) => return Ok(()),
-        Err(Refusal::Memory) if digest(session.vars()) == before => refused(out, "large write")?,
+        Err(Refusal::Memory) if state_of(session) == before => refused(out, "large write")?,
         Err(_) => return wrong(out, "large write"),
     }
     match session.write(name, value, false) {
@@ -137,13 +132,13 @@ fn change<W: Write>(out: &mut W, session: &mut Session, flags: &[u8]) -> io::Res
     write(out, session, &name(39_999), None)
 }
 
-/// A save. Refused for memory, the copy is as it was, and made again it saves.
+/// A save. Refused for memory, nothing has changed, and made again it saves.
 fn save<W: Write>(out: &mut W, session: &mut Session) -> io::Result<()> {
-    let before = copy_sum(session);
+    let before = state_of(session);
     if session.save().is_ok() {
         return Ok(());
     }
-    if copy_sum(session) != before {
+    if state_of(session) != before {
         return wrong(out, "large save");
     }
     refused(out, "large save")?;
@@ -153,13 +148,13 @@ fn save<W: Write>(out: &mut W, session: &mut Session) -> io::Result<()> {
     }
 }
 
-/// An undo to the start. Refused for memory, it has changed no variable, and made again it brings everything back.
+/// An undo to the start. Refused for memory, it has changed nothing, and made again it brings everything back.
 fn undo<W: Write>(out: &mut W, session: &mut Session) -> io::Result<()> {
-    let before = digest(session.vars());
+    let before = state_of(session);
     if session.undo_to(0).is_ok() {
         return Ok(());
     }
-    if digest(session.vars()) != before {
+    if state_of(session) != before {
         return wrong(out, "large undo");
     }
     refused(out, "large undo")?;
@@ -171,21 +166,20 @@ fn undo<W: Write>(out: &mut W, session: &mut Session) -> io::Result<()> {
 
 /// The session over the image, changed, saved and brought back.
 fn sweep_session<W: Write>(out: &mut W, session: &mut Session, flags: &[u8]) -> io::Result<()> {
-    let opened = digest(session.vars());
-    let copy = copy_sum(session);
-    if !is_shaped(session.vars(), OPENED) || copy.is_none() {
+    let opened = state_of(session);
+    if !is_shaped(session.vars(), OPENED) {
         return wrong(out, "large start");
     }
     row(out, "large start", b"40000 variables")?;
     change(out, session, flags)?;
     save(out, session)?;
     let is_right = is_shaped(session.vars(), CHANGED) && is_changed(session.vars());
-    if !is_right || copy_sum(session) == copy {
+    if !is_right || state_of(session).has_copies_of(&opened) {
         return wrong(out, "large save");
     }
     row(out, "large save", b"40001 variables")?;
     undo(out, session)?;
-    if digest(session.vars()) != opened || copy_sum(session) != copy {
+    if state_of(session) != opened {
         return wrong(out, "large undo");
     }
     row(out, "large undo", b"40000 variables")

@@ -2,9 +2,9 @@
 
 use crate::lines::{refused, row, wrong};
 use crate::sessions::{ALL, shows};
-use crate::whole_sessions::{Told, is_same, stand_ins, talk};
+use crate::whole_sessions::{Told, is_same, parsed_stand_ins, talk};
 use fw_session::SessionEnding;
-use hush_run::Stubs;
+use hush_run::StandIns;
 use std::alloc::{AllocError, Global};
 use std::io::{self, Write};
 
@@ -25,21 +25,21 @@ const UNREAD: &[u8] = b"[Memory]\np=1\nq=2\nr=3\n";
 /// The input over a session that was just started, and again over another one where memory ran out.
 pub fn sweep<W: Write>(alloc: Global, out: &mut W) -> io::Result<()> {
     let input = input_twice(alloc, out)?;
-    let stubs = stand_ins(alloc, out)?;
-    let (Some(input), Some(stubs)) = (input, stubs) else {
+    let stand_ins = parsed_stand_ins(alloc, out)?;
+    let (Some(input), Some(stand_ins)) = (input, stand_ins) else {
         return wrong(out, "what 500 commands of a session need, made again");
     };
-    let Some(told) = talk(alloc, out, &stubs, COUNT, &input)? else {
+    let Some(told) = talk(alloc, out, &stand_ins, COUNT, &input)? else {
         return wrong(out, "start of 500 commands");
     };
     if is_whole(&told) {
         return row(out, "500 commands of a session", AFTER);
     }
-    if !is_right(alloc, out, &stubs, &input, &told)? {
+    if !is_right(alloc, out, &stand_ins, &input, &told)? {
         return wrong(out, "500 commands that memory stopped");
     }
     refused(out, "500 commands of a session")?;
-    match talk(alloc, out, &stubs, COUNT, &input)? {
+    match talk(alloc, out, &stand_ins, COUNT, &input)? {
         Some(again) if is_whole(&again) => row(out, "500 commands of a session", AFTER),
         _ => wrong(out, "500 commands of a session, made again"),
     }
@@ -76,7 +76,7 @@ fn is_whole(told: &Told) -> bool {
 fn is_right<W: Write>(
     alloc: Global,
     out: &mut W,
-    stubs: &Stubs,
+    stand_ins: &StandIns,
     input: &[u8],
     told: &Told,
 ) -> io::Result<bool> {
@@ -84,7 +84,7 @@ fn is_right<W: Write>(
     match told.end.ending {
         SessionEnding::Memory => Ok(text.is_empty() && shows(&told.end.session, ALL)),
         SessionEnding::Done if text == UNREAD => Ok(shows(&told.end.session, ALL)),
-        SessionEnding::Done => is_stopped(alloc, out, stubs, input, told),
+        SessionEnding::Done => is_stopped(alloc, out, stand_ins, input, told),
         _ => Ok(false),
     }
 }
@@ -93,7 +93,7 @@ fn is_right<W: Write>(
 fn is_stopped<W: Write>(
     alloc: Global,
     out: &mut W,
-    stubs: &Stubs,
+    stand_ins: &StandIns,
     input: &[u8],
     told: &Told,
 ) -> io::Result<bool> {
@@ -101,7 +101,7 @@ fn is_stopped<W: Write>(
     let Some((steps, rest)) = steps_of(text) else {
         return Ok(false);
     };
-    let Some(limited) = talk(alloc, out, stubs, steps, input)? else {
+    let Some(limited) = talk(alloc, out, stand_ins, steps, input)? else {
         return Ok(false);
     };
     Ok(

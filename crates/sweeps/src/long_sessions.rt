@@ -2,6 +2,7 @@
 
 use crate::lines::{refused, row, wrong};
 use crate::long_texts::{COUNT, are_first};
+use crate::states::state_of;
 use bench_parts::name;
 use env_session::{ImportEnding, Session, Stored};
 use envcfg_core::TextEntry;
@@ -39,13 +40,14 @@ fn start(alloc: Global) -> Option<Session> {
 
 /// An import. At want of memory the entries before one stand, and those left are imported.
 fn import<W: Write>(out: &mut W, session: &mut Session, entries: &[TextEntry]) -> io::Result<()> {
+    let before = state_of(session);
     let report = session.import(entries);
     if report.ending == ImportEnding::Memory {
         let done = u32::try_from(report.done).unwrap_or(u32::MAX);
         let Some(left) = entries.get(report.done..) else {
             return wrong(out, "500 writes of an import");
         };
-        if !are_first(session.vars(), done) {
+        if !are_first(session.vars(), done) || !state_of(session).has_copies_of(&before) {
             return wrong(out, "500 writes of an import");
         }
         refused(out, "500 writes of an import")?;
@@ -64,11 +66,13 @@ fn bring_back<W: Write>(out: &mut W, session: &mut Session) -> io::Result<()> {
     if session.mark() != Ok(1) {
         return wrong(out, "mark before 500 deletions");
     }
+    let marked = state_of(session);
     for i in 0..COUNT {
         delete(out, session, &name(i))?;
     }
+    let deleted = state_of(session);
     if session.undo_to(1).is_err() {
-        if !are_first(session.vars(), 0) {
+        if !are_first(session.vars(), 0) || state_of(session) != deleted {
             return wrong(out, "500 ways back");
         }
         refused(out, "500 ways back")?;
@@ -76,16 +80,20 @@ fn bring_back<W: Write>(out: &mut W, session: &mut Session) -> io::Result<()> {
             return wrong(out, "500 ways back, made again");
         }
     }
-    if !are_first(session.vars(), COUNT) {
+    if !are_first(session.vars(), COUNT) || state_of(session) != marked {
         return wrong(out, "500 ways back");
     }
     row(out, "500 ways back", b"all")
 }
 
-/// A deletion, made again where memory ran out.
+/// A deletion. Refused for memory, nothing has changed, and it is made again.
 fn delete<W: Write>(out: &mut W, session: &mut Session, name: &[u8]) -> io::Result<()> {
+    let before = state_of(session);
     if session.write(name, None, false).is_ok() {
         return Ok(());
+    }
+    if state_of(session) != before {
+        return wrong(out, "one of 500 deletions");
     }
     refused(out, "one of 500 deletions")?;
     match session.write(name, None, false) {

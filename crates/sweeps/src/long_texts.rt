@@ -10,7 +10,7 @@ use envcfg_core::{
 };
 use envvars_core::{Refusal, Vars};
 use fw_tools::{default_text, defaults};
-use hush_run::{StubFault, Stubs};
+use hush_run::{StandInFault, StandIns};
 use hush_syntax::{FaultKind, Script};
 use std::alloc::{AllocError, Global};
 use std::io::{self, Write};
@@ -60,16 +60,16 @@ fn lines_twice<W: Write>(alloc: Global, out: &mut W, separator: u8) -> io::Resul
 
 /// The stand-ins of a file, read again where memory ran out.
 fn sweep_stand_ins<W: Write>(alloc: Global, out: &mut W, text: &[u8]) -> io::Result<()> {
-    let mut read = Stubs::parse(alloc, text);
-    if matches!(&read, Err(StubFault::Memory)) {
+    let mut read = StandIns::parse(alloc, text);
+    if matches!(&read, Err(StandInFault::Memory)) {
         refused(out, "500 stand-ins")?;
-        read = Stubs::parse(alloc, text);
+        read = StandIns::parse(alloc, text);
     }
-    let Ok(stubs) = read else {
+    let Ok(stand_ins) = read else {
         return wrong(out, "500 stand-ins");
     };
     for i in 0..COUNT {
-        if stubs.status(&name(i)) != Some(1) {
+        if stand_ins.status(&name(i)) != Some(1) {
             return wrong(out, "500 stand-ins");
         }
     }

@@ -4,7 +4,7 @@
 //! scripts/test runs this program once for each of its allocations, with that one refused. A line that begins with
 //! `refused:` says which call met the refusal; every other line is the same whichever allocation it was. A word on standard
 //! input chooses a part by its first letter, so that what is large isn't done again for each small allocation: `small`,
-//! `texts`, `wide` or `large`.
+//! `texts`, `wide` or `large`. In each module what is swept stands last, behind the steps that it takes.
 #![tactic(auto)]
 
 mod defaulting;
@@ -17,10 +17,12 @@ mod long_sessions;
 mod long_texts;
 mod many;
 mod pages;
+mod pairs;
 mod runs;
 mod scripts;
 mod sessions;
 mod showing;
+mod states;
 mod texts;
 mod tools;
 mod variables;
@@ -62,6 +64,7 @@ fn sweep_small(rt: &HostRuntime) -> io::Result<()> {
     many::sweep(rt.alloc(), &mut rt.stdout())?;
     defaulting::sweep(rt.alloc(), &mut rt.stdout())?;
     sessions::sweep(rt.alloc(), &mut rt.stdout())?;
+    pairs::sweep(rt.alloc(), &mut rt.stdout())?;
     tools::sweep(rt.alloc(), &mut rt.stdout())?;
     scripts::sweep(rt.alloc(), &mut rt.stdout())?;
     runs::sweep(rt.alloc(), &mut rt.stdout())?;

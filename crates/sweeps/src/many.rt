@@ -1,6 +1,7 @@
 //! Enough variables that a refused growth meets a run of the store that is cut in two, and one that is new: names are
 //! written one behind another, then between others, taken out again, copied, and written into the copy.
 use crate::lines::{refused, row, wrong};
+use crate::states::sum_of_lines;
 use envvars_core::{Refusal, Vars};
 use std::alloc::Global;
 use std::io::{self, Write};
@@ -20,18 +21,6 @@ fn name(i: u32, letter: u8) -> [u8; 5] {
         (i % 10) as u8 + 48,
         letter,
     ]
-}
-
-/// A number that is another where the variables are others, but for chance.
-pub fn digest(vars: &Vars) -> u32 {
-    let mut sum = 0u32;
-    for line in vars.lines() {
-        for byte in line {
-            sum = sum.wrapping_mul(31).wrapping_add(u32::from(*byte));
-        }
-        sum = sum.wrapping_mul(31);
-    }
-    sum
 }
 
 /// Whether there are so many variables, each of 8 bytes, in ascending order.
@@ -56,10 +45,10 @@ fn write<W: Write>(
     new: Option<&[u8]>,
     defaults: &Vars,
 ) -> io::Result<()> {
-    let before = digest(vars);
+    let before = sum_of_lines(vars);
     match vars.write(name, new, false, defaults) {
         Ok(_) => return Ok(()),
-        Err(Refusal::Memory) if digest(vars) == before => refused(out, "write among many")?,
+        Err(Refusal::Memory) if sum_of_lines(vars) == before => refused(out, "write among many")?,
         Err(_) => return wrong(out, "write among many"),
     }
     if vars.write(name, new, false, defaults).is_err() {
@@ -98,14 +87,14 @@ fn count_row<W: Write>(
 
 /// A copy of variables that ROOM holds, made again where memory ran out.
 fn copy<W: Write>(alloc: Global, out: &mut W, vars: &Vars) -> io::Result<Option<Vars>> {
-    let before = digest(vars);
+    let before = sum_of_lines(vars);
     if vars.used() > ROOM {
         return Ok(None);
     }
     if let Ok(copy) = vars.copy(alloc, ROOM) {
         return Ok(Some(copy));
     }
-    if digest(vars) != before {
+    if sum_of_lines(vars) != before {
         return Ok(None);
     }
     refused(out, "copy of many")?;

@@ -5,12 +5,13 @@ mod commands;
 use crate::lines::{refused, row, wrong};
 use crate::runs::commands::{BEHIND_COMMANDS, COMMANDS, Command, DELETIONS};
 use crate::sessions::{ALL, is_bad, shows, start};
+use crate::states::state_of;
 use env_session::Session;
 use hush_commands::{
-    ExpansionFault, FieldBuffer, Locals, Output, PrintFault, Scope, StubFault, Stubs, carry_out,
-    delete,
+    ExpansionFault, FieldBuffer, Locals, Output, PrintFault, Scope, StandInFault, StandIns,
+    carry_out, delete,
 };
-use hush_words::{Lexed, TokenKind, Word, read};
+use hush_words::{Text, Word};
 use std::alloc::{AllocError, Global};
 use std::io::{self, Write};
 
@@ -20,7 +21,7 @@ const STAND_INS: &[u8] = b"# a board\nusb 1\nmmc 3\n";
 #[derive(Drop)]
 struct Run {
     session: Session,
-    stubs: Stubs,
+    stand_ins: StandIns,
     locals: Locals,
     fields: FieldBuffer,
 }
@@ -28,20 +29,15 @@ struct Run {
 /// Words, and the text in which they stand.
 #[derive(Drop)]
 struct Words {
-    lexed: Lexed,
+    text: Text,
     words: Vec<Word>,
 }
 
 /// The words of a text.
 fn words_once(alloc: Global, text: &[u8]) -> Result<Words, AllocError> {
-    let lexed = read(alloc, Vec::from_slice(alloc, text)?)?;
-    let mut words = Vec::new(alloc);
-    for token in &lexed.tokens {
-        if let TokenKind::Word(word) = token.kind {
-            words.push(word)?;
-        }
-    }
-    Ok(Words { lexed, words })
+    let text = Text::new(Vec::from_slice(alloc, text)?)?;
+    let words = bench_parts::words_of(alloc, &text)?;
+    Ok(Words { text, words })
 }
 
 /// The words of a text, read again where memory ran out.
@@ -54,13 +50,13 @@ fn words_of<W: Write>(alloc: Global, out: &mut W, text: &[u8]) -> io::Result<Opt
 }
 
 /// The stand-ins of a file, read again where memory ran out.
-fn stand_ins<W: Write>(alloc: Global, out: &mut W) -> io::Result<Option<Stubs>> {
-    match Stubs::parse(alloc, STAND_INS) {
-        Ok(stubs) => return Ok(Some(stubs)),
-        Err(StubFault::Memory) => refused(out, "Stubs::parse")?,
-        Err(_) => wrong(out, "Stubs::parse")?,
+fn parsed_stand_ins<W: Write>(alloc: Global, out: &mut W) -> io::Result<Option<StandIns>> {
+    match StandIns::parse(alloc, STAND_INS) {
+        Ok(stand_ins) => return Ok(Some(stand_ins)),
+        Err(StandInFault::Memory) => refused(out, "StandIns::parse")?,
+        Err(_) => wrong(out, "StandIns::parse")?,
     }
-    Ok(Stubs::parse(alloc, STAND_INS).ok())
+    Ok(StandIns::parse(alloc, STAND_INS).ok())
 }
 
 /// A local variable gets a value. Refused, it has the one that it had, and so has the other; made again it gets it.
@@ -93,7 +89,7 @@ fn assigned<W: Write>(alloc: Global, out: &mut W, run: &mut Run) -> io::Result<(
         return wrong(out, "read, made again");
     };
     for word in &words.words {
-        if let Some(assignment) = word.assignment(&words.lexed.text) {
+        if let Some(assignment) = word.assignment(&words.text) {
             let scope = scope_of(&words, &run.session, &run.locals);
             let value = assignment.value;
             let mut made = run.fields.expand_value(&scope, value, 64);
@@ -114,7 +110,7 @@ fn assigned<W: Write>(alloc: Global, out: &mut W, run: &mut Run) -> io::Result<(
 
 fn scope_of<'a>(words: &'a Words, session: &'a Session, locals: &'a Locals) -> Scope<'a> {
     Scope {
-        text: &words.lexed.text,
+        text: &words.text,
         vars: session.vars(),
         locals,
         status: 7,
@@ -137,11 +133,17 @@ fn expand<W: Write>(out: &mut W, words: &Words, run: &mut Run) -> io::Result<()>
 
 /// What the fields that stand in the buffer answer as a command.
 fn answered(alloc: Global, run: &mut Run, output: &mut Output) -> Result<u8, PrintFault> {
-    carry_out(alloc, &mut run.session, &run.stubs, &run.fields, 7, output)
+    carry_out(
+        alloc,
+        &mut run.session,
+        &run.stand_ins,
+        &run.fields,
+        7,
+        output,
+    )
 }
 
-/// A command. Refused, it has printed nothing and changed neither variables nor copy, and made again it does what it has
-/// to.
+/// A command. Refused, it has printed nothing and changed nothing, and made again it does what it has to.
 fn carry<W: Write>(
     alloc: Global,
     out: &mut W,
@@ -153,11 +155,11 @@ fn carry<W: Write>(
         return wrong(out, "read, made again");
     };
     expand(out, &words, run)?;
-    let touched = run.session.touched();
+    let as_before = state_of(&run.session);
     let mut output = Output::new(alloc, 64);
     let mut answer = answered(alloc, run, &mut output);
     if answer == Err(PrintFault::Memory) {
-        let is_as_before = shows(&run.session, before) && run.session.touched() == touched;
+        let is_as_before = shows(&run.session, before) && state_of(&run.session) == as_before;
         if !output.text().is_empty() || !is_as_before || !is_bad(&run.session) {
             return wrong(out, "carry_out");
         }
@@ -180,11 +182,11 @@ fn deleted<W: Write>(
     before: &[u8],
 ) -> io::Result<()> {
     let name = deletion.text;
-    let touched = session.touched();
+    let as_before = state_of(session);
     let mut output = Output::new(alloc, 64);
     let mut answer = delete(session, name, false, false, &mut output);
     if answer == Err(PrintFault::Memory) {
-        let is_as_before = shows(session, before) && session.touched() == touched;
+        let is_as_before = shows(session, before) && state_of(session) == as_before;
         if !output.text().is_empty() || !is_as_before {
             return wrong(out, "delete");
         }
@@ -235,12 +237,13 @@ fn delete_all<W: Write>(alloc: Global, out: &mut W, session: &mut Session) -> io
 
 /// Local variables, a value, the commands and the deletions.
 pub fn sweep<W: Write>(alloc: Global, out: &mut W) -> io::Result<()> {
-    let (Some(session), Some(stubs)) = (start(alloc, out)?, stand_ins(alloc, out)?) else {
+    let (Some(session), Some(stand_ins)) = (start(alloc, out)?, parsed_stand_ins(alloc, out)?)
+    else {
         return wrong(out, "start of a run, made again");
     };
     let mut run = Run {
         session,
-        stubs,
+        stand_ins,
         locals: Locals::new(alloc),
         fields: FieldBuffer::new(alloc),
     };

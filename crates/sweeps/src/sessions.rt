@@ -1,6 +1,7 @@
 //! Sessions: `start`, `write`, `import`, `save`, and `undo_to` over three spans that each deleted a default.
 
 use crate::lines::{refused, row, wrong};
+use crate::states::{State, state_of};
 use crate::variables::begins_with;
 use env_session::{ImportEnding, Session, Side, StartFault, Stored, UndoFault};
 use envcfg_core::{TextEntry, TextFault, parse_import};
@@ -13,9 +14,10 @@ const SIZE: u32 = 64;
 
 const DEFAULTS: [(&[u8], &[u8]); 3] = [(b"p", b"1"), (b"q", b"2"), (b"r", b"3")];
 
+/// The default variables, as lines.
 pub const ALL: &[u8] = b"p=1;q=2;r=3;";
 
-/// The variables of the defaults that an undo to the start has brought back where the span of each mark was refused.
+/// The variables at the end of each of three spans.
 const LEFT_AT: [&[u8]; 3] = [b"q=2;r=3;", b"r=3;", b""];
 
 /// The import, and the variables after each of its entries.
@@ -110,17 +112,16 @@ pub fn start<W: Write>(alloc: Global, out: &mut W) -> io::Result<Option<Session>
 }
 
 /// A write that no check refuses. Refused for memory, it has changed nothing, and made again it writes.
-fn write<W: Write>(
+pub fn write<W: Write>(
     out: &mut W,
     session: &mut Session,
     name: &[u8],
     value: Option<&[u8]>,
-    before: &[u8],
 ) -> io::Result<()> {
-    let touched = session.touched();
+    let before = state_of(session);
     match session.write(name, value, false) {
         Ok(()) => return Ok(()),
-        Err(Refusal::Memory) if shows(session, before) && session.touched() == touched => {
+        Err(Refusal::Memory) if state_of(session) == before => {
             refused(out, "write of a session")?
         }
         Err(_) => wrong(out, "write of a session")?,
@@ -131,18 +132,21 @@ fn write<W: Write>(
     }
 }
 
-/// A save. Refused for memory, no copy has changed, and made again it saves.
-fn save<W: Write>(out: &mut W, session: &mut Session) -> io::Result<()> {
-    if session.save().is_ok() {
-        return Ok(());
+/// A save into a copy. Refused for memory, nothing has changed, and made again it saves.
+pub fn save<W: Write>(out: &mut W, session: &mut Session, side: Side) -> io::Result<()> {
+    let before = state_of(session);
+    let mut saved = session.save();
+    if saved.is_err() {
+        if state_of(session) != before {
+            return wrong(out, "save");
+        }
+        refused(out, "save")?;
+        saved = session.save();
     }
-    if !is_bad(session) {
-        return wrong(out, "save");
-    }
-    refused(out, "save")?;
-    match session.save() {
-        Ok(_) => Ok(()),
-        Err(_) => wrong(out, "save, made again"),
+    if saved == Ok(side) {
+        Ok(())
+    } else {
+        wrong(out, "save, made again")
     }
 }
 
@@ -156,6 +160,7 @@ fn save_again<W: Write>(out: &mut W, session: &mut Session) -> io::Result<()> {
 
 /// An import with one refused entry. At want of memory the entries before one stand, and those left are imported.
 fn import<W: Write>(out: &mut W, session: &mut Session, entries: &[TextEntry]) -> io::Result<()> {
+    let before = state_of(session);
     let report = session.import(entries);
     if report.ending == ImportEnding::Done {
         return Ok(());
@@ -163,7 +168,7 @@ fn import<W: Write>(out: &mut W, session: &mut Session, entries: &[TextEntry]) -
     let (Some(lines), Some(left)) = (IMPORTED.get(report.done), entries.get(report.done..)) else {
         return wrong(out, "import into a session");
     };
-    if !shows(session, lines) {
+    if !shows(session, lines) || !state_of(session).has_copies_of(&before) {
         return wrong(out, "import into a session");
     }
     refused(out, "import into a session")?;
@@ -173,36 +178,49 @@ fn import<W: Write>(out: &mut W, session: &mut Session, entries: &[TextEntry]) -
     }
 }
 
-/// Three spans, each of which deletes a default, the second with a save.
-fn delete_all<W: Write>(out: &mut W, session: &mut Session) -> io::Result<()> {
-    write(out, session, b"p", None, ALL)?;
-    let first = session.mark();
-    write(out, session, b"q", None, LEFT_AT[0])?;
-    save(out, session)?;
+/// Three spans, each of which deletes a default, the second with a save; and what stood at the end of each.
+fn delete_all<W: Write>(out: &mut W, session: &mut Session) -> io::Result<[State; 3]> {
+    write(out, session, b"p", None)?;
+    let first = state_of(session);
+    let first_mark = session.mark();
+    write(out, session, b"q", None)?;
+    save(out, session, Side::First)?;
     save_again(out, session)?;
-    let second = session.mark();
-    write(out, session, b"r", None, LEFT_AT[1])?;
-    if first != Ok(1) || second != Ok(2) {
-        return wrong(out, "mark");
+    let second = state_of(session);
+    let second_mark = session.mark();
+    write(out, session, b"r", None)?;
+    if first_mark != Ok(1) || second_mark != Ok(2) {
+        wrong(out, "mark")?;
     }
-    session_row(out, "three deletes", session, b"")
+    session_row(out, "three deletes", session, b"")?;
+    Ok([first, second, state_of(session)])
 }
 
-/// An undo to the start. Refused in the span of a mark, the spans above it are undone and the marks up to it stand,
-/// and the variables are those that `left` has at the mark; made again it gives the opening.
-fn undo<W: Write>(out: &mut W, session: &mut Session, left: &[&[u8]]) -> io::Result<()> {
+/// An undo to the start, from these variables and these states at the ends of the spans. Refused in the span of a mark, the
+/// spans above it are undone and the marks up to it stand, and all is as it was at that span's end; made again it gives the
+/// opening.
+fn undo<W: Write>(
+    out: &mut W,
+    session: &mut Session,
+    left_at: &[&[u8]],
+    ends: &[State],
+    opening: State,
+) -> io::Result<()> {
     if let Err(fault) = session.undo_to(0) {
-        match left.get(session.marks() as usize) {
-            Some(lines) if fault == UndoFault::Memory && shows(session, lines) => {
-                refused(out, "undo_to")?
-            }
-            _ => return wrong(out, "undo_to"),
+        let span = session.marks() as usize;
+        let is_at_end = match (left_at.get(span), ends.get(span)) {
+            (Some(lines), Some(end)) => shows(session, lines) && state_of(session) == *end,
+            _ => false,
+        };
+        if fault != UndoFault::Memory || !is_at_end {
+            return wrong(out, "undo_to");
         }
+        refused(out, "undo_to")?;
         if session.undo_to(0).is_err() {
             return wrong(out, "undo_to, made again");
         }
     }
-    if !is_bad(session) || session.touched() != 0 || session.marks() != 0 {
+    if !is_bad(session) || state_of(session) != opening {
         return wrong(out, "undo_to");
     }
     session_row(out, "undo_to", session, ALL)
@@ -219,9 +237,11 @@ pub fn sweep<W: Write>(alloc: Global, out: &mut W) -> io::Result<()> {
         return wrong(out, "start, made again");
     };
     session_row(out, "start", &session, ALL)?;
-    delete_all(out, &mut session)?;
-    undo(out, &mut session, &LEFT_AT)?;
+    let opening = state_of(&session);
+    let ends = delete_all(out, &mut session)?;
+    undo(out, &mut session, &LEFT_AT, &ends, opening)?;
     import(out, &mut session, &entries)?;
     session_row(out, "import into a session", &session, IMPORTED[3])?;
-    undo(out, &mut session, &[IMPORTED[3]])
+    let end = state_of(&session);
+    undo(out, &mut session, &IMPORTED[3..], &[end], opening)
 }

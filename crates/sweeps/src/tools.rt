@@ -4,11 +4,11 @@
 use crate::lines::{refused, row, wrong};
 use crate::pages::Page;
 use crate::sessions::{ALL, is_bad, shows, start};
+use crate::states::state_of;
 use env_session::Session;
 use envcfg_core::{ImportText, ScriptText, TextEntry, TextFault, parse_import};
 use fw_tools::{
-    StreamFault, ToolEnd, export, import, import_text, print_at_once, script_text, set_script,
-    setenv,
+    ToolEnd, ToolFault, export, import, import_text, print_at_once, script_text, set_script, setenv,
 };
 use std::alloc::Global;
 use std::io::{self, Write};
@@ -182,8 +182,8 @@ fn is_begun(tool: Tool, session: &Session, after: &[u8]) -> bool {
     between || shows(session, ALL) || shows(session, after)
 }
 
-/// A call over a session. Refused for memory, it has printed nothing and no copy has changed, and made again it does what
-/// it has to.
+/// A call over a session. Refused for memory, it has printed nothing, and neither a copy, nor the choice, nor a mark has
+/// changed; made again it does what it has to.
 fn sweep_over<W: Write>(
     alloc: Global,
     out: &mut W,
@@ -191,10 +191,12 @@ fn sweep_over<W: Write>(
     session: &mut Session,
     entries: &[TextEntry],
 ) -> io::Result<()> {
+    let before = state_of(session);
     let mut pages = Pages::new();
     let mut end = call(alloc, wanted.tool, session, entries, &mut pages);
-    if end.fault == Some(StreamFault::Memory) {
-        let is_kept = is_bad(session) && is_begun(wanted.tool, session, wanted.after);
+    if end.fault == Some(ToolFault::Memory) {
+        let has_copies = is_bad(session) && state_of(session).has_copies_of(&before);
+        let is_kept = has_copies && is_begun(wanted.tool, session, wanted.after);
         if end.status != 1 || !pages.are(b"", b"") || !is_kept {
             return wrong(out, wanted.name);
         }

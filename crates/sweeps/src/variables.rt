@@ -9,35 +9,39 @@ const AREA: &[u8] = b".flags=n:d\0a=1\0n=5\0\0the rest of the area is room for m
 
 /// What variables have to be: their lines, what they use, and the attributes of `n`.
 #[derive(Clone, Copy)]
-pub struct State {
+pub struct VarsState {
     pub lines: &'static [u8],
     pub used: u32,
     pub attr: Attr,
 }
 
+/// A decimal variable, of any access.
 pub const DECIMAL: Attr = Attr {
     kind: Kind::Decimal,
     access: Access::Any,
 };
 
+/// A hexadecimal variable that is written once.
 pub const ONCE: Attr = Attr {
     kind: Kind::Hexadecimal,
     access: Access::WriteOnce,
 };
 
-pub const LOADED: State = State {
+/// What a load of the area leaves.
+pub const LOADED: VarsState = VarsState {
     lines: b".flags=n:d;a=1;n=5;",
     used: 20,
     attr: DECIMAL,
 };
 
-pub const WITH_B: State = State {
+/// The same with one variable more.
+pub const WITH_B: VarsState = VarsState {
     lines: b".flags=n:d;a=1;b=a value with more bytes;n=5;",
     used: 46,
     attr: DECIMAL,
 };
 
-const WITH_FLAGS: State = State {
+const WITH_FLAGS: VarsState = VarsState {
     lines: b".flags=n:xo;a=1;b=a value with more bytes;n=5;",
     used: 47,
     attr: ONCE,
@@ -52,7 +56,7 @@ pub fn begins_with<'a>(text: &'a [u8], line: &[u8]) -> Option<&'a [u8]> {
 }
 
 /// Whether the variables are these.
-pub fn is_in(vars: &Vars, state: &State) -> bool {
+pub fn is_vars_state(vars: &Vars, state: &VarsState) -> bool {
     let mut text = state.lines;
     for line in vars.lines() {
         match begins_with(text, line) {
@@ -64,8 +68,13 @@ pub fn is_in(vars: &Vars, state: &State) -> bool {
 }
 
 /// A row: the name of the call, and the variables that it left.
-pub fn state_row<W: Write>(out: &mut W, call: &str, vars: &Vars, state: &State) -> io::Result<()> {
-    if !is_in(vars, state) {
+pub fn vars_row<W: Write>(
+    out: &mut W,
+    call: &str,
+    vars: &Vars,
+    state: &VarsState,
+) -> io::Result<()> {
+    if !is_vars_state(vars, state) {
         return wrong(out, call);
     }
     row(out, call, state.lines)
@@ -78,11 +87,11 @@ fn write<W: Write>(
     defaults: &Vars,
     name: &[u8],
     value: &[u8],
-    before: &State,
+    before: &VarsState,
 ) -> io::Result<()> {
     match vars.write(name, Some(value), false, defaults) {
         Ok(_was) => return Ok(()),
-        Err(Refusal::Memory) if is_in(vars, before) => refused(out, "write")?,
+        Err(Refusal::Memory) if is_vars_state(vars, before) => refused(out, "write")?,
         Err(_) => wrong(out, "write")?,
     }
     match vars.write(name, Some(value), false, defaults) {
@@ -98,10 +107,14 @@ fn refused_write<W: Write>(
     defaults: &Vars,
     value: &[u8],
     refusal: Refusal,
-    state: &State,
+    state: &VarsState,
 ) -> io::Result<()> {
     match vars.write(b"n", Some(value), false, defaults) {
-        Err(found) if found == refusal && is_in(vars, state) => row(out, "refused write", value),
+        Err(found) if found == refusal && is_vars_state(vars, state) => row(
+            out,
+            "refused write",
+            value,
+        ),
         _ => wrong(out, "refused write"),
     }
 }
@@ -110,9 +123,9 @@ fn sweep_writes<W: Write>(out: &mut W, vars: &mut Vars, defaults: &Vars) -> io::
     let value = b"a value with more bytes";
     refused_write(out, vars, defaults, b"zz", Refusal::BadType, &LOADED)?;
     write(out, vars, defaults, b"b", value, &LOADED)?;
-    state_row(out, "write", vars, &WITH_B)?;
+    vars_row(out, "write", vars, &WITH_B)?;
     write(out, vars, defaults, b".flags", b"n:xo", &WITH_B)?;
-    state_row(out, "write of .flags", vars, &WITH_FLAGS)?;
+    vars_row(out, "write of .flags", vars, &WITH_FLAGS)?;
     refused_write(
         out,
         vars,
@@ -134,7 +147,7 @@ pub fn sweep<W: Write>(alloc: Global, out: &mut W) -> io::Result<()> {
     let Ok(vars) = loaded else {
         return wrong(out, "load, made again");
     };
-    state_row(out, "load", &vars, &LOADED)?;
+    vars_row(out, "load", &vars, &LOADED)?;
     sweep_copy(alloc, out, &vars, &defaults)
 }
 
@@ -149,7 +162,7 @@ fn sweep_copy<W: Write>(
     }
     let mut copied = vars.copy(alloc, 60);
     if copied.is_err() {
-        if !is_in(vars, &LOADED) {
+        if !is_vars_state(vars, &LOADED) {
             return wrong(out, "copy");
         }
         refused(out, "copy")?;
@@ -158,7 +171,7 @@ fn sweep_copy<W: Write>(
     let Ok(mut vars) = copied else {
         return wrong(out, "copy, made again");
     };
-    state_row(out, "copy", &vars, &LOADED)?;
+    vars_row(out, "copy", &vars, &LOADED)?;
     sweep_all_kept(alloc, out, &mut vars, defaults)?;
     sweep_writes(out, &mut vars, defaults)
 }

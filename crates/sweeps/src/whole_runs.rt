@@ -3,8 +3,9 @@
 
 use crate::lines::{refused, row, wrong};
 use crate::sessions::{shows, start};
+use crate::states::state_of;
 use env_session::{Session, Side};
-use hush_run::{Ending, Limits, Outcome, Stubs, run};
+use hush_run::{Ending, Limits, Outcome, StandIns, run};
 use hush_syntax::Script;
 use std::alloc::{AllocError, Global};
 use std::io::{self, Write};
@@ -63,7 +64,7 @@ const LONG: Wanted = Wanted {
 #[derive(Drop)]
 struct Needs {
     script: Script,
-    stubs: Stubs,
+    stand_ins: StandIns,
 }
 
 fn parse_once(alloc: Global, wanted: Wanted) -> Result<Option<Needs>, AllocError> {
@@ -72,9 +73,9 @@ fn parse_once(alloc: Global, wanted: Wanted) -> Result<Option<Needs>, AllocError
         text.extend_from_slice(wanted.piece)?;
     }
     let script = Script::parse(alloc, text).ok();
-    let stubs = Stubs::parse(alloc, b"mmc 3\n").ok();
-    match (script, stubs) {
-        (Some(script), Some(stubs)) => Ok(Some(Needs { script, stubs })),
+    let stand_ins = StandIns::parse(alloc, b"mmc 3\n").ok();
+    match (script, stand_ins) {
+        (Some(script), Some(stand_ins)) => Ok(Some(Needs { script, stand_ins })),
         _ => Ok(None),
     }
 }
@@ -97,7 +98,13 @@ struct Done {
 
 fn run_over(alloc: Global, mut session: Session, needs: &Needs, steps: u32) -> Option<Done> {
     let limits = Limits::new(steps, 2, 64, 256)?;
-    let outcome = run(alloc, &mut session, &needs.script, &needs.stubs, &limits);
+    let outcome = run(
+        alloc,
+        &mut session,
+        &needs.script,
+        &needs.stand_ins,
+        &limits,
+    );
     Some(Done { session, outcome })
 }
 
@@ -114,13 +121,14 @@ fn run_anew<W: Write>(
     }
 }
 
-/// Whether two runs counted as many steps, and left the same status, text, variables and copy.
+/// Whether two runs counted as many steps, and left the same status, text and session.
 fn is_same(one: &Done, other: &Done) -> bool {
     one.outcome.steps == other.outcome.steps
         && one.outcome.status == other.outcome.status
         && one.outcome.text == other.outcome.text
         && one.session.vars().iter().eq(other.session.vars().iter())
         && one.session.copy(Side::First) == other.session.copy(Side::First)
+        && state_of(&one.session) == state_of(&other.session)
 }
 
 /// The row of a run that memory didn't stop.

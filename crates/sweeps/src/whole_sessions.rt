@@ -3,9 +3,10 @@
 use crate::lines::{refused, row, wrong};
 use crate::pages::Page;
 use crate::sessions::{shows, start};
+use crate::states::state_of;
 use env_session::{Session, Side};
 use fw_session::{SessionEnd, SessionEnding, session};
-use hush_run::{Limits, Stubs};
+use hush_run::{Limits, StandIns};
 use std::alloc::Global;
 use std::io::{self, Write};
 
@@ -86,12 +87,12 @@ pub struct Told {
 }
 
 /// The stand-ins, of which there are none.
-pub fn stand_ins<W: Write>(alloc: Global, out: &mut W) -> io::Result<Option<Stubs>> {
-    if let Ok(stubs) = Stubs::parse(alloc, b"") {
-        return Ok(Some(stubs));
+pub fn parsed_stand_ins<W: Write>(alloc: Global, out: &mut W) -> io::Result<Option<StandIns>> {
+    if let Ok(stand_ins) = StandIns::parse(alloc, b"") {
+        return Ok(Some(stand_ins));
     }
     refused(out, "stand-ins of a session")?;
-    Ok(Stubs::parse(alloc, b"").ok())
+    Ok(StandIns::parse(alloc, b"").ok())
 }
 
 /// The items before a place.
@@ -124,14 +125,14 @@ fn texts_of(items: &[Item]) -> io::Result<Page> {
 pub fn talk<W: Write>(
     alloc: Global,
     out: &mut W,
-    stubs: &Stubs,
+    stand_ins: &StandIns,
     steps: u32,
     mut input: &[u8],
 ) -> io::Result<Option<Told>> {
     match (start(alloc, out)?, Limits::new(steps, 2, 64, 256)) {
         (Some(begun), Some(limits)) => {
             let mut output = Page::new();
-            let end = session(alloc, begun, stubs, &limits, &mut input, &mut output);
+            let end = session(alloc, begun, stand_ins, &limits, &mut input, &mut output);
             Ok(Some(Told { end, output }))
         }
         _ => Ok(None),
@@ -139,10 +140,14 @@ pub fn talk<W: Write>(
 }
 
 /// All items over a session that was just started.
-fn talk_whole<W: Write>(alloc: Global, out: &mut W, stubs: &Stubs) -> io::Result<Option<Told>> {
+fn talk_whole<W: Write>(
+    alloc: Global,
+    out: &mut W,
+    stand_ins: &StandIns,
+) -> io::Result<Option<Told>> {
     let mut input = Page::new();
     put_inputs(&mut input, ITEMS)?;
-    talk(alloc, out, stubs, STEPS, input.text())
+    talk(alloc, out, stand_ins, STEPS, input.text())
 }
 
 /// Whether it is what memory that suffices gives.
@@ -155,11 +160,11 @@ fn is_whole(told: &Told) -> io::Result<bool> {
     )
 }
 
-/// Whether two sessions have left the same variables, copy and marks.
+/// Whether two sessions show the same.
 pub fn is_same(one: &Session, other: &Session) -> bool {
     one.vars().iter().eq(other.vars().iter())
         && one.copy(Side::First) == other.copy(Side::First)
-        && one.marks() == other.marks()
+        && state_of(one) == state_of(other)
 }
 
 /// What is behind two texts.
@@ -171,7 +176,7 @@ fn rest_of<'a>(output: &'a [u8], front: &[u8], text: &[u8]) -> Option<&'a [u8]> 
 fn is_stopped_so<W: Write>(
     alloc: Global,
     out: &mut W,
-    stubs: &Stubs,
+    stand_ins: &StandIns,
     told: &Told,
     stopped: Stopped,
 ) -> io::Result<bool> {
@@ -181,7 +186,7 @@ fn is_stopped_so<W: Write>(
     input.write_all(like)?;
     put_inputs(&mut input, behind(place))?;
     let front = texts_of(first(place))?;
-    let Some(other) = talk(alloc, out, stubs, STEPS, input.text())? else {
+    let Some(other) = talk(alloc, out, stand_ins, STEPS, input.text())? else {
         return Ok(false);
     };
     let rest = rest_of(told.output.text(), front.text(), said);
@@ -196,11 +201,11 @@ fn is_stopped_so<W: Write>(
 fn is_stopped<W: Write>(
     alloc: Global,
     out: &mut W,
-    stubs: &Stubs,
+    stand_ins: &StandIns,
     told: &Told,
 ) -> io::Result<bool> {
     for stopped in STOPPED {
-        if is_stopped_so(alloc, out, stubs, told, stopped)? {
+        if is_stopped_so(alloc, out, stand_ins, told, stopped)? {
             return Ok(true);
         }
     }
@@ -208,11 +213,16 @@ fn is_stopped<W: Write>(
 }
 
 /// Whether a session that memory ended is what some of the first items leave.
-fn is_ended<W: Write>(alloc: Global, out: &mut W, stubs: &Stubs, told: &Told) -> io::Result<bool> {
+fn is_ended<W: Write>(
+    alloc: Global,
+    out: &mut W,
+    stand_ins: &StandIns,
+    told: &Told,
+) -> io::Result<bool> {
     for count in 0..=ITEMS.len() {
         let mut input = Page::new();
         put_inputs(&mut input, first(count))?;
-        let Some(other) = talk(alloc, out, stubs, STEPS, input.text())? else {
+        let Some(other) = talk(alloc, out, stand_ins, STEPS, input.text())? else {
             return Ok(false);
         };
         let text = texts_of(first(count))?;
@@ -224,33 +234,38 @@ fn is_ended<W: Write>(alloc: Global, out: &mut W, stubs: &Stubs, told: &Told) ->
 }
 
 /// Whether a session that met the refusal is what the rules say.
-fn is_right<W: Write>(alloc: Global, out: &mut W, stubs: &Stubs, told: &Told) -> io::Result<bool> {
+fn is_right<W: Write>(
+    alloc: Global,
+    out: &mut W,
+    stand_ins: &StandIns,
+    told: &Told,
+) -> io::Result<bool> {
     if told.end.written != told.output.text().len() as u64 {
         return Ok(false);
     }
     match told.end.ending {
-        SessionEnding::Done => is_stopped(alloc, out, stubs, told),
-        SessionEnding::Memory => is_ended(alloc, out, stubs, told),
+        SessionEnding::Done => is_stopped(alloc, out, stand_ins, told),
+        SessionEnding::Memory => is_ended(alloc, out, stand_ins, told),
         _ => Ok(false),
     }
 }
 
 /// The input over a session that was just started, and again over another one where memory ran out.
 pub fn sweep<W: Write>(alloc: Global, out: &mut W) -> io::Result<()> {
-    let Some(stubs) = stand_ins(alloc, out)? else {
+    let Some(stand_ins) = parsed_stand_ins(alloc, out)? else {
         return wrong(out, "stand-ins of a session, made again");
     };
-    let Some(told) = talk_whole(alloc, out, &stubs)? else {
+    let Some(told) = talk_whole(alloc, out, &stand_ins)? else {
         return wrong(out, "start of a session over streams");
     };
     if is_whole(&told)? {
         return row(out, "session", AFTER);
     }
-    if !is_right(alloc, out, &stubs, &told)? {
+    if !is_right(alloc, out, &stand_ins, &told)? {
         return wrong(out, "session that memory stopped");
     }
     refused(out, "session")?;
-    match talk_whole(alloc, out, &stubs)? {
+    match talk_whole(alloc, out, &stand_ins)? {
         Some(again) if is_whole(&again)? => row(out, "session", AFTER),
         _ => wrong(out, "session, made again"),
     }

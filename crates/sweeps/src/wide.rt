@@ -2,13 +2,13 @@
 
 use crate::large::{COUNT, SIZE, image, start};
 use crate::lines::{refused, row, wrong};
-use crate::many::digest;
 use crate::pages::Page;
+use crate::states::sum_of_lines;
 use bench_parts::name;
 use env_session::{Session, Side};
 use envimg_core::Order;
 use envvars_core::Vars;
-use fw_tools::{StreamFault, ToolEnd, export, print_at_once, show};
+use fw_tools::{ToolEnd, ToolFault, export, print_at_once, show};
 use std::alloc::Global;
 use std::io::{self, Write};
 
@@ -99,7 +99,7 @@ fn sweep_printer<W: Write>(
     let mut output = Listing::new();
     let mut errors = Page::new();
     let mut end = call(alloc, printer, session, &mut output, &mut errors);
-    if end.fault == Some(StreamFault::Memory) {
+    if end.fault == Some(ToolFault::Memory) {
         if end.status != 1 || !output.has_lines(0) || !errors.text().is_empty() {
             return wrong(out, said);
         }
@@ -120,17 +120,17 @@ fn sweep_copy<W: Write>(alloc: Global, out: &mut W, vars: &Vars) -> io::Result<(
     if vars.used() > SIZE {
         return wrong(out, "wide copy");
     }
-    let before = digest(vars);
+    let before = sum_of_lines(vars);
     let mut copied = vars.copy(alloc, SIZE);
     if copied.is_err() {
-        if digest(vars) != before {
+        if sum_of_lines(vars) != before {
             return wrong(out, "wide copy");
         }
         refused(out, "wide copy")?;
         copied = vars.copy(alloc, SIZE);
     }
     match copied {
-        Ok(copy) if digest(&copy) == before => row(out, "wide copy", b"40000 variables"),
+        Ok(copy) if sum_of_lines(&copy) == before => row(out, "wide copy", b"40000 variables"),
         _ => wrong(out, "wide copy, made again"),
     }
 }

@@ -1,6 +1,7 @@
 //! The tools over streams in memory, and over streams that fail.
 
 mod defaulting;
+mod printing;
 mod showing;
 
 /// An image of the one variable `a=b`.

@@ -54,7 +54,7 @@ impl<'a> Copies<'a> {
     }
 }
 
-/// A step, and after it: the variables as lines with a `;` behind each, how many names are touched, how many marks
+/// A step, and after it: the variables as lines with a `;` behind each, how many names are changed, how many marks
 /// stand, and the copies.
 pub type Row<'a> = (Step, &'static str, usize, u32, Copies<'a>);
 
@@ -121,12 +121,12 @@ pub fn single(
 
 /// Makes each request in turn: its answer is the row's, and then all stands as the row says.
 pub fn go(rt: &impl Abort, alloc: Global, session: &mut Session, rows: &[Row]) -> Result<(), Fail> {
-    for (step, lines, touched, marks, copies) in rows {
+    for (step, lines, changed_names, marks, copies) in rows {
         let is_answer = answers(session, *step);
         assert!(rt; is_answer, "an answer, before {lines}");
         assert_eq!(rt;
-            (session.touched(), session.marks()),
-            (*touched, *marks),
+            (session.changed_names(), session.marks()),
+            (*changed_names, *marks),
             "{lines}"
         );
         stands(rt, alloc, session, lines, *copies)?;

@@ -1,4 +1,4 @@
-//! What is touched, and what comes back.
+//! What is changed, and what comes back.
 
 use crate::steps::{Copies, Step, go, single};
 use env_session::{MarkFault, Side, UndoFault};
@@ -7,7 +7,7 @@ use envvars_core::{Access, Attr, Kind, Refusal};
 use std::test::Fail;
 
 #[test]
-fn a_name_is_touched_once(rt: HostRuntime) -> Result<(), Fail> {
+fn a_name_is_changed_once(rt: HostRuntime) -> Result<(), Fail> {
     let bytes = [255; 64];
     let blank = Copies::single(Choice::Neither, &bytes);
     let rows = [
@@ -102,6 +102,79 @@ fn flags_do_not_stand_in_the_way_of_an_undo(rt: HostRuntime) -> Result<(), Fail>
     };
     assert_eq!(rt; session.vars().attributes(b"k"), plain);
     Ok(())
+}
+
+/// What forced writes changed goes back over the access that held at the start, in whatever order it is put back.
+#[test]
+fn access_does_not_stand_in_the_way_of_an_undo(rt: HostRuntime) -> Result<(), Fail> {
+    let bytes = [255; 64];
+    let blank = Copies::single(Choice::Neither, &bytes);
+    let rows = [
+        (
+            Step::Refused("k", Some("2"), Refusal::NoOverwrite),
+            ".flags=k:sr;k=1;",
+            0,
+            0,
+            blank,
+        ),
+        (Step::Force("k", "2"), ".flags=k:sr;k=2;", 1, 0, blank),
+        (Step::Write(".flags", None), "k=2;", 2, 0, blank),
+        (Step::Undo, ".flags=k:sr;k=1;", 0, 0, blank),
+    ];
+    let mut session = single(&rt, rt.alloc(), &bytes, ".flags=k:sr;k=1")?;
+    go(&rt, rt.alloc(), &mut session, &rows)
+}
+
+/// Values that no write would be given go back: under the present types in one session, under those of the start in the
+/// other.
+#[test]
+fn types_do_not_stand_in_the_way_of_an_undo(rt: HostRuntime) -> Result<(), Fail> {
+    let bytes = [255; 64];
+    let blank = Copies::single(Choice::Neither, &bytes);
+    let typed = ".flags=k:d;k=5;";
+    let rows = [
+        (Step::Write("k", Some("5")), "k=5;", 1, 0, blank),
+        (Step::Write(".flags", Some("k:d")), typed, 2, 0, blank),
+        (
+            Step::Refused("k", Some("x"), Refusal::BadType),
+            typed,
+            2,
+            0,
+            blank,
+        ),
+        (Step::Undo, "k=x;", 0, 0, blank),
+    ];
+    let mut session = single(&rt, rt.alloc(), &bytes, "k=x")?;
+    go(&rt, rt.alloc(), &mut session, &rows)?;
+    let rows = [
+        (Step::Write("k", Some("5")), typed, 1, 0, blank),
+        (Step::Write(".flags", None), "k=5;", 2, 0, blank),
+        (Step::Undo, ".flags=k:d;k=x;", 0, 0, blank),
+    ];
+    let mut session = single(&rt, rt.alloc(), &bytes, "k=x;.flags=k:d")?;
+    go(&rt, rt.alloc(), &mut session, &rows)
+}
+
+/// With the longer value back and the other not yet, the variables would take 17 bytes of 13: with the first name back in
+/// one session, with the last in the other.
+#[test]
+fn the_room_does_not_stand_in_the_way_of_a_deleted_name(rt: HostRuntime) -> Result<(), Fail> {
+    let bytes = [255; 17];
+    let blank = Copies::single(Choice::Neither, &bytes);
+    let rows = [
+        (Step::Write("a", None), "b=1;", 1, 0, blank),
+        (Step::Write("b", Some("xxxxx")), "b=xxxxx;", 2, 0, blank),
+        (Step::Undo, "a=xxxxx;b=1;", 0, 0, blank),
+    ];
+    let mut session = single(&rt, rt.alloc(), &bytes, "a=xxxxx;b=1")?;
+    go(&rt, rt.alloc(), &mut session, &rows)?;
+    let rows = [
+        (Step::Write("b", None), "a=1;", 1, 0, blank),
+        (Step::Write("a", Some("xxxxx")), "a=xxxxx;", 2, 0, blank),
+        (Step::Undo, "a=1;b=xxxxx;", 0, 0, blank),
+    ];
+    let mut session = single(&rt, rt.alloc(), &bytes, "a=1;b=xxxxx")?;
+    go(&rt, rt.alloc(), &mut session, &rows)
 }
 
 #[test]

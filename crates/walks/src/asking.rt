@@ -3,6 +3,7 @@ use crate::model::Model;
 use crate::openings::{opening, start};
 use crate::random::Random;
 use crate::requests::{Name, Request, next_request};
+use crate::tally::Tally;
 use env_session::{ImportEnding, ImportReport, Session, Side};
 use envcfg_core::TextEntry;
 use envimg_core::Geometry;
@@ -78,7 +79,7 @@ fn compare(alloc: Global, session: &Session, model: &Model) -> Result<(), Fault>
     )?;
     same(
         "the changed names",
-        session.touched() == model.changed.len(),
+        session.changed_names() == model.changed_names.len(),
     )
 }
 
@@ -87,14 +88,14 @@ fn write(
     alloc: Global,
     session: &mut Session,
     model: &mut Model,
-    name: &[u8],
-    value: &[u8],
-    force: bool,
+    tally: &mut Tally,
+    (name, value, force): (&[u8], &[u8], bool),
 ) -> Result<(), Fault> {
     let wanted = model.write(alloc, name, value, force)?;
     let checked = session.check(name, Some(value), force).err();
     same("the check of a write", checked == wanted)?;
     let found = session.write(name, Some(value), force).err();
+    tally.write(found);
     same("the reply to a write", found == wanted)
 }
 
@@ -115,8 +116,8 @@ fn import(
     alloc: Global,
     session: &mut Session,
     model: &mut Model,
-    written: (Name, &[u8]),
-    deleted: Name,
+    tally: &mut Tally,
+    (written, deleted): ((Name, &[u8]), Name),
 ) -> Result<(), Fault> {
     let first = model.write(alloc, &written.0, written.1, false)?;
     let second = model.write(alloc, &deleted, b"", false)?;
@@ -129,7 +130,9 @@ fn import(
         refused: usize::from(first.is_some()) + usize::from(second.is_some()),
         ending: ImportEnding::Done,
     };
-    same("the reply to an import", session.import(&entries) == wanted)
+    let found = session.import(&entries);
+    tally.import(found.refused);
+    same("the reply to an import", found == wanted)
 }
 
 /// A request of both.
@@ -137,39 +140,49 @@ fn ask(
     alloc: Global,
     session: &mut Session,
     model: &mut Model,
+    tally: &mut Tally,
     request: Request,
 ) -> Result<(), Fault> {
+    tally.request();
     match request {
-        Request::Write(name, value, force) => write(alloc, session, model, &name, value, force),
+        Request::Write(name, value, force) => {
+            write(alloc, session, model, tally, (&name, value, force))
+        }
         Request::Flags(name, kind, access) => {
             let flags = [name[0], name[1], b':', kind, access];
-            write(alloc, session, model, b".flags", &flags, true)
+            write(alloc, session, model, tally, (b".flags", &flags, true))
         }
-        Request::Plain => write(alloc, session, model, b".flags", b"", true),
+        Request::Plain => write(alloc, session, model, tally, (b".flags", b"", true)),
         Request::Import(name, value, deleted) => {
-            import(alloc, session, model, (name, value), deleted)
+            import(alloc, session, model, tally, ((name, value), deleted))
         }
         Request::Save => {
             let wanted = model.save(alloc)?;
+            tally.save();
             same("the reply to a save", session.save() == Ok(wanted))
         }
         Request::Mark => {
             let wanted = model.mark(alloc)?;
-            same("the reply to a mark", session.mark() == wanted)
+            let found = session.mark();
+            tally.mark(found.is_ok());
+            same("the reply to a mark", found == wanted)
         }
         Request::UndoTo(n) => {
             let wanted = model.undo_to(alloc, n as usize)?;
-            same("the reply to an undo", session.undo_to(n) == wanted)
+            let found = session.undo_to(n);
+            tally.undo(found.is_ok());
+            same("the reply to an undo", found == wanted)
         }
     }
 }
 
-/// A list of requests, and then an undo of all.
+/// A list of requests, of which is counted what was replied and what they left; and then an undo of all.
 pub fn walk(
     alloc: Global,
     geometry: Geometry,
     is_good: bool,
     random: &mut Random,
+    tally: &mut Tally,
 ) -> Result<(), Fault> {
     let opening = opening(alloc, geometry, is_good)?;
     let Some(mut session) = start(alloc, geometry, &opening)? else {
@@ -178,9 +191,10 @@ pub fn walk(
     let mut model = Model::new(alloc, geometry, opening)?;
     compare(alloc, &session, &model)?;
     for _ in 0..REQUESTS {
-        ask(alloc, &mut session, &mut model, next_request(random))?;
+        ask(alloc, &mut session, &mut model, tally, next_request(random))?;
         compare(alloc, &session, &model)?;
     }
-    ask(alloc, &mut session, &mut model, Request::UndoTo(0))?;
+    tally.list(alloc, &lines_of(alloc, &session)?, &session)?;
+    ask(alloc, &mut session, &mut model, tally, Request::UndoTo(0))?;
     compare(alloc, &session, &model)
 }

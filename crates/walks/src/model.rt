@@ -56,6 +56,7 @@ pub struct Whole {
 }
 
 impl Whole {
+    /// The same in memory of its own.
     pub fn copy(&self, alloc: Global) -> Result<Whole, AllocError> {
         Ok(Whole {
             names: copy_of(alloc, &self.names)?,
@@ -129,7 +130,7 @@ pub struct Model {
     pub geometry: Geometry,
     pub now: Whole,
     pub marks: Vec<Whole>,
-    pub changed: BTreeMap<Vec<u8>, bool>,
+    pub changed_names: BTreeMap<Vec<u8>, bool>,
 }
 
 impl Model {
@@ -141,7 +142,7 @@ impl Model {
             geometry,
             now,
             marks,
-            changed: BTreeMap::new(alloc),
+            changed_names: BTreeMap::new(alloc),
         })
     }
 
@@ -181,7 +182,7 @@ impl Model {
             return Ok(refusal);
         }
         if self.now.value(name).unwrap_or(b"") != value {
-            let _before = self.changed.insert(name.to_vec(alloc)?, true)?;
+            let _before = self.changed_names.insert(name.to_vec(alloc)?, true)?;
         }
         if value.is_empty() {
             let _old = self.now.names.remove(name);
@@ -215,7 +216,7 @@ impl Model {
         }
         let number = self.marks.len() as u32;
         self.marks.push(self.now.copy(alloc)?)?;
-        self.changed.clear();
+        self.changed_names.clear();
         Ok(Ok(number))
     }
 
@@ -230,7 +231,7 @@ impl Model {
         };
         self.now = mark.copy(alloc)?;
         self.marks.truncate(n + 1);
-        self.changed.clear();
+        self.changed_names.clear();
         Ok(Ok(()))
     }
 }

@@ -4,17 +4,18 @@ ghost use Rattle.std.specs.Prelude.{◌≡◌, ◌≤◌, ◌%◌, ◌^◌, ◌�
 ghost use Rattle.std.specs.FinMap as env;
 ghost use Rattle.envimg_core.specs.Environment.{used, is_name, is_value};
 ghost use Rattle.envimg_core.specs.Pieces.{with_value};
-ghost use Rattle.envvars_store.specs.Pairs.{unmarked};
+ghost use Rattle.envvars_store.specs.Tags.{untagged};
 ghost use Rattle.envvars_core.specs.Refusals.{given, after, refusal};
 ghost use Rattle.envvars_core.specs.Variables.{size_of};
-ghost use Rattle.envvars_core.specs.Olds.{same_value, kept, kept_by, restored, goes_in_place, HavePlaces, RestoredFits};
+ghost use Rattle.envvars_core.specs.Olds.{same_value, kept, kept_by, restored, goes_in_place, RestoredFits};
+ghost use Rattle.envvars_core.specs.Steps.{HavePlaces};
 
 use super::{Vars, size_of_all};
 use crate::checks::{given, same_value};
 use crate::flags::{FLAGS_NAME, Flags};
 use crate::olds::Olds;
 use crate::refusals::{Memory, Refusal};
-use envvars_store::{Hint, Text, Variables, unmarked};
+use envvars_store::{Hint, OwnedVariable, Variables, untagged};
 
 impl Vars {
     /// Writes a new value, or deletes the variable where there is none or an empty one, and keeps the old value
@@ -138,35 +139,35 @@ fn swap_all(variables: &mut Variables, olds: &mut Olds, mut size: usize) -> usiz
     'kept: loop {
         match olds.pop() {
             None => return size,
-            Some(text) => size = swap_one(variables, text, size),
+            Some(variable) => size = swap_one(variables, variable, size),
         }
     }
 }
 
-/// Swaps one kept value in, which is marked, and counts what it takes in place of the present one.
-fn swap_one(variables: &mut Variables, text: Text, size: usize) -> usize
-    requires place { IfSome (unmarked text.1) (λ v. IsSome (env.get variables.old text.0)) }
+/// Swaps one kept value in, which is tagged, and counts what it takes in place of the present one.
+fn swap_one(variables: &mut Variables, variable: OwnedVariable, size: usize) -> usize
+    requires place { IfSome (untagged variable.1) (λ v. IsSome (env.get variables.old variable.0)) }
     requires sized { size ≡ used variables.old % 2 ^ 64 }
-    ensures swapped { variables.new ≡ with_value variables.old text.0 (unmarked text.1) }
-    ensures sized { result ≡ used (with_value variables.old text.0 (unmarked text.1)) % 2 ^ 64 }
+    ensures swapped { variables.new ≡ with_value variables.old variable.0 (untagged variable.1) }
+    ensures sized { result ≡ used (with_value variables.old variable.0 (untagged variable.1)) % 2 ^ 64 }
 {
-    let (present, hint) = variables.find(text.name());
-    let present = size_of(text.name(), present);
-    let kept = size_of(text.name(), unmarked(text.value()));
-    swap_text(variables, hint, text);
+    let (present, hint) = variables.find(variable.name());
+    let present = size_of(variable.name(), present);
+    let kept = size_of(variable.name(), untagged(variable.value()));
+    swap_variable(variables, hint, variable);
     size.wrapping_sub(present).wrapping_add(kept)
 }
 
-/// Swaps one kept value in, which is marked.
-fn swap_text(variables: &mut Variables, hint: Hint, text: Text)
-    requires { IfSome (unmarked text.1) (λ v. IsSome (env.get variables.old text.0)) }
-    ensures { variables.new ≡ with_value variables.old text.0 (unmarked text.1) }
+/// Swaps one kept value in, which is tagged.
+fn swap_variable(variables: &mut Variables, hint: Hint, variable: OwnedVariable)
+    requires { IfSome (untagged variable.1) (λ v. IsSome (env.get variables.old variable.0)) }
+    ensures { variables.new ≡ with_value variables.old variable.0 (untagged variable.1) }
 {
-    match text.unmarked() {
-        Ok(text) => {
-            let _swapped = variables.replace(text);
+    match variable.untagged() {
+        Ok(variable) => {
+            let _swapped = variables.replace(variable);
         }
-        Err(text) => variables.remove(hint, text.name()),
+        Err(variable) => variables.remove(hint, variable.name()),
     }
 }
 

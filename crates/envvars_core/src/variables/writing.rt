@@ -7,7 +7,7 @@ ghost use Rattle.envimg_core.specs.Environment.{used, is_name, is_value};
 ghost use Rattle.envimg_core.specs.Pieces.{with_value};
 ghost use Rattle.envvars_core.specs.Attributes.{flags_name};
 ghost use Rattle.envvars_core.specs.Refusals.{given, after, access_refusal, refusal, full, answer_of, IsAccepted};
-ghost use Rattle.envvars_core.specs.Variables.{IsWas, IsFormedWas};
+ghost use Rattle.envvars_core.specs.Variables.{IsPreviousValue, IsFormedPreviousValue};
 
 use super::Vars;
 use crate::attributes::Access;
@@ -19,124 +19,14 @@ use std::alloc::{AllocError, Global};
 
 /// A name and the value that it had before a write.
 #[derive(Debug, Drop)]
-pub struct Was {
+pub struct PreviousValue {
     /// The name that was written.
     pub name: Vec<u8>,
     /// Its value before the write, if it had one.
-    pub before: Option<Vec<u8>>,
-}
-
-fn copied(alloc: Global, value: Option<&[u8]>) -> Result<Option<Vec<u8>>, AllocError>
-    ensures { IfOk result (λ copy. option_map (λ v. v.items) copy ≡ option_copied value.entry) }
-{
-    match value {
-        Some(value) => Ok(Some(value.to_vec(alloc)?)),
-        None => Ok(None),
-    }
-}
-
-/// The bytes of a value, none where there is no value.
-fn text_of(value: Option<&[u8]>) -> &[u8]
-    ensures { result.now ≡ unwrap_or (option_copied value.entry) [] }
-{
-    match value {
-        Some(value) => value,
-        None => &[],
-    }
-}
-
-fn make_was(alloc: Global, name: &[u8], before: Option<&[u8]>) -> Result<Was, Memory>
-    ensures { IfOk result (λ was. IsWas was name.now (option_copied before.entry)) }
-{
-    let name = name.to_vec(alloc)?;
-    let before = copied(alloc, before)?;
-    Ok(Was { name, before })
-}
-
-/// The change itself: gives a name a value, or takes its variable away.
-fn change(
-    variables: &mut Variables,
-    hint: Hint,
-    name: &[u8],
-    value: Option<&[u8]>,
-) -> Result<(), AllocError>
-    requires name_form { IsTrue (is_name name.now) }
-    requires value_form { IfSome (option_copied value) (λ v. IsTrue (is_value v)) }
-    ensures ok { OnOk result (variables.new ≡ with_value variables.old name.now (option_copied value.entry)) }
-    ensures err { OnErr result (variables.new ≡ variables.old) }
-{
-    match value {
-        Some(value) => variables.insert(hint, name, value),
-        None => {
-            variables.remove(hint, name);
-            Ok(())
-        }
-    }
-}
-
-/// The value of the default environment, where an access asks for it.
-fn default_for<'a>(access: Access, defaults: &'a Vars, name: &[u8]) -> Option<&'a [u8]>
-    ensures { (old new : Option (List ℕ)) → access_refusal access old (option_copied result) new
-        ≡ access_refusal access old (env.get defaults.now.env name.now) new }
-{
-    match access {
-        Access::ChangeDefault => defaults.get(name),
-        Access::Any => None,
-        Access::ReadOnly => None,
-        Access::WriteOnce => None,
-    }
+    pub value: Option<Vec<u8>>,
 }
 
 impl Vars {
-    /// The size that a write would leave, where the room holds it.
-    fn fitting_size(
-        &self,
-        name: &[u8],
-        old: Option<&[u8]>,
-        value: Option<&[u8]>,
-    ) -> Result<u32, Refusal>
-        requires { option_copied old ≡ env.get self.now.env name.now }
-        ensures size { IfOk result (λ size. size ≡ used (with_value self.now.env name.now (option_copied value.entry))) }
-        ensures fits { OnOk result (full self.now.room (with_value self.now.env name.now (option_copied value.entry)) ≡ None) }
-        ensures full { IfErr result (λ r. full self.now.room (with_value self.now.env name.now (option_copied value.entry)) ≡ Some r) }
-    {
-        match self.used_after(name, old, value) {
-            Some(size) => Ok(size),
-            None => Err(Refusal::Full),
-        }
-    }
-
-    /// The size that a write leaves, or the first of the checks that refuses it. The old value is given.
-    pub(super) fn size_left(
-        &self,
-        name: &[u8],
-        new: Option<&[u8]>,
-        force: bool,
-        defaults: &Vars,
-        old: Option<&[u8]>,
-    ) -> Result<u32, Refusal>
-        requires { option_copied old ≡ env.get self.now.env name.now }
-        ensures size { IfOk result (λ size. size ≡ used (after self.now.env name.now (option_copied new.entry))) }
-        ensures accepted { OnOk result
-            (refusal self.now.env defaults.now.env self.now.room name.now (option_copied new.entry) force ≡ None) }
-        ensures refused { IfErr result
-            (λ r. refusal self.now.env defaults.now.env self.now.room name.now (option_copied new.entry) force ≡ Some r) }
-    {
-        if !has_form(name, new) {
-            return Err(Refusal::BadForm);
-        }
-        let value = given(new);
-        if is_nothing(old, value) {
-            return Ok(self.used);
-        }
-        let attr = self.attributes(name);
-        let default = default_for(attr.access, defaults, name);
-        match attr_refusal(force, attr, old, default, value) {
-            Some(refusal) => Err(refusal),
-            None => self.fitting_size(name, old, value),
-        }
-    }
-
     /// Whether a write is refused, and for what: the first of form, type, access and size that applies.
     /// It takes no memory, and never answers that memory ran out.
     ///
@@ -159,6 +49,115 @@ impl Vars {
         match self.size_left(name, new, force, defaults, old) {
             Ok(_) => Ok(()),
             Err(refusal) => Err(refusal),
+        }
+    }
+
+    /// Writes a new value, or deletes the variable where there is none or an empty one.
+    /// Hands out the value before the write.
+    ///
+    /// A write that is refused has changed nothing. It is refused for memory only where no check refuses it.
+    /// `defaults` is the default environment, and `force` leaves out the check of access and no other.
+    pub fn write(
+        &mut self,
+        name: &[u8],
+        new: Option<&[u8]>,
+        force: bool,
+        defaults: &Vars,
+    ) -> Result<PreviousValue, Refusal>
+        ensures refused { IfSome
+            (refusal self.old.env defaults.now.env self.old.room name.now (option_copied new.entry) force)
+            (λ r. result ≡ Err r) }
+        ensures accepted { IfNone
+            (refusal self.old.env defaults.now.env self.old.room name.now (option_copied new.entry) force)
+            (IsOkUnless result Refusal.Memory) }
+        ensures written { OnOk result
+            (self.new ≡ record self.old { env = after self.old.env name.now (option_copied new.entry) }) }
+        ensures previous { IfOk result (λ previous. IsPreviousValue previous name.now (env.get self.old.env name.now)) }
+        ensures formed { IfOk result IsFormedPreviousValue }
+        ensures unchanged { OnErr result (self.new ≡ self.old) }
+    {
+        // for the proof: what is used fits
+        prove!(self.used <= self.room);
+        let (old, hint) = self.find(name);
+        let size = self.size_left(name, new, force, defaults, old)?;
+        let previous = previous_value(self.alloc, name, old)?;
+        self.set(hint, name, given(new), size)?;
+        Ok(previous)
+    }
+
+    /// The size that a write leaves, or the first of the checks that refuses it. The old value is given.
+    pub(super) fn size_left(
+        &self,
+        name: &[u8],
+        new: Option<&[u8]>,
+        force: bool,
+        defaults: &Vars,
+        old: Option<&[u8]>,
+    ) -> Result<u32, Refusal>
+        requires { option_copied old ≡ env.get self.now.env name.now }
+        ensures size { IfOk result (λ size. size ≡ used (after self.now.env name.now (option_copied new.entry))) }
+        ensures accepted { OnOk result
+            (refusal self.now.env defaults.now.env self.now.room name.now (option_copied new.entry) force ≡ None) }
+        ensures refused { IfErr result
+            (λ r.
+            refusal self.now.env defaults.now.env self.now.room name.now (option_copied new.entry) force ≡ Some r) }
+    {
+        if !has_form(name, new) {
+            return Err(Refusal::BadForm);
+        }
+        let value = given(new);
+        if is_nothing(old, value) {
+            return Ok(self.used);
+        }
+        let attr = self.attributes(name);
+        let default = default_for(attr.access, defaults, name);
+        match attr_refusal(force, attr, old, default, value) {
+            Some(refusal) => Err(refusal),
+            None => self.fitting_size(name, old, value),
+        }
+    }
+
+    /// The size that a write would leave, where the room holds it.
+    fn fitting_size(
+        &self,
+        name: &[u8],
+        old: Option<&[u8]>,
+        value: Option<&[u8]>,
+    ) -> Result<u32, Refusal>
+        requires { option_copied old ≡ env.get self.now.env name.now }
+        ensures size { IfOk result
+            (λ size. size ≡ used (with_value self.now.env name.now (option_copied value.entry))) }
+        ensures fits { OnOk result
+            (full self.now.room (with_value self.now.env name.now (option_copied value.entry)) ≡ None) }
+        ensures full { IfErr result
+            (λ r. full self.now.room (with_value self.now.env name.now (option_copied value.entry)) ≡ Some r) }
+    {
+        match self.used_after(name, old, value) {
+            Some(size) => Ok(size),
+            None => Err(Refusal::Full),
+        }
+    }
+
+    /// Gives a name a value or takes its variable away, which leaves this size.
+    pub(super) fn set(
+        &mut self,
+        hint: Hint,
+        name: &[u8],
+        value: Option<&[u8]>,
+        size: u32,
+    ) -> Result<(), Memory>
+        requires name_form { IsTrue (is_name name.now) }
+        requires value_form { IfSome (option_copied value) (λ v. IsTrue (is_value v)) }
+        requires sized { size ≡ used (with_value self.old.env name.now (option_copied value)) }
+        requires fits { size ≤ self.old.room }
+        ensures ok { OnOk result (self.new
+            ≡ record self.old { env = with_value self.old.env name.now (option_copied value.entry) }) }
+        ensures err { OnErr result (self.new ≡ self.old) }
+    {
+        if name == FLAGS_NAME {
+            self.set_flags(hint, value, size)
+        } else {
+            self.set_other(hint, name, value, size)
         }
     }
 
@@ -199,60 +198,67 @@ impl Vars {
         self.used = size;
         Ok(())
     }
+}
 
-    /// Gives a name a value or takes its variable away, which leaves this size.
-    pub(super) fn set(
-        &mut self,
-        hint: Hint,
-        name: &[u8],
-        value: Option<&[u8]>,
-        size: u32,
-    ) -> Result<(), Memory>
-        requires name_form { IsTrue (is_name name.now) }
-        requires value_form { IfSome (option_copied value) (λ v. IsTrue (is_value v)) }
-        requires sized { size ≡ used (with_value self.old.env name.now (option_copied value)) }
-        requires fits { size ≤ self.old.room }
-        ensures ok { OnOk result (self.new
-            ≡ record self.old { env = with_value self.old.env name.now (option_copied value.entry) }) }
-        ensures err { OnErr result (self.new ≡ self.old) }
-    {
-        if name == FLAGS_NAME {
-            self.set_flags(hint, value, size)
-        } else {
-            self.set_other(hint, name, value, size)
+/// The value of the default environment, where an access asks for it.
+fn default_for<'a>(access: Access, defaults: &'a Vars, name: &[u8]) -> Option<&'a [u8]>
+    ensures { (old new : Option (List ℕ)) → access_refusal access old (option_copied result) new
+        ≡ access_refusal access old (env.get defaults.now.env name.now) new }
+{
+    match access {
+        Access::ChangeDefault => defaults.get(name),
+        Access::Any => None,
+        Access::ReadOnly => None,
+        Access::WriteOnce => None,
+    }
+}
+
+/// A name and its value before a write, in memory of their own.
+fn previous_value(alloc: Global, name: &[u8], value: Option<&[u8]>) -> Result<PreviousValue, Memory>
+    ensures { IfOk result (λ previous. IsPreviousValue previous name.now (option_copied value.entry)) }
+{
+    let name = name.to_vec(alloc)?;
+    let value = copied(alloc, value)?;
+    Ok(PreviousValue { name, value })
+}
+
+/// A value in memory of its own.
+fn copied(alloc: Global, value: Option<&[u8]>) -> Result<Option<Vec<u8>>, AllocError>
+    ensures { IfOk result (λ copy. option_map (λ v. v.items) copy ≡ option_copied value.entry) }
+{
+    match value {
+        Some(value) => Ok(Some(value.to_vec(alloc)?)),
+        None => Ok(None),
+    }
+}
+
+/// The change itself: gives a name a value, or takes its variable away.
+fn change(
+    variables: &mut Variables,
+    hint: Hint,
+    name: &[u8],
+    value: Option<&[u8]>,
+) -> Result<(), AllocError>
+    requires name_form { IsTrue (is_name name.now) }
+    requires value_form { IfSome (option_copied value) (λ v. IsTrue (is_value v)) }
+    ensures ok { OnOk result (variables.new ≡ with_value variables.old name.now (option_copied value.entry)) }
+    ensures err { OnErr result (variables.new ≡ variables.old) }
+{
+    match value {
+        Some(value) => variables.insert(hint, name, value),
+        None => {
+            variables.remove(hint, name);
+            Ok(())
         }
     }
+}
 
-    /// Writes a new value, or deletes the variable where there is none or an empty one.
-    /// Hands out the value before the write.
-    ///
-    /// A write that is refused has changed nothing. It is refused for memory only where no check refuses it.
-    /// `defaults` is the default environment, and `force` leaves out the check of access and no other.
-    pub fn write(
-        &mut self,
-        name: &[u8],
-        new: Option<&[u8]>,
-        force: bool,
-        defaults: &Vars,
-    ) -> Result<Was, Refusal>
-        ensures refused { IfSome
-            (refusal self.old.env defaults.now.env self.old.room name.now (option_copied new.entry) force)
-            (λ r. result ≡ Err r) }
-        ensures accepted { IfNone
-            (refusal self.old.env defaults.now.env self.old.room name.now (option_copied new.entry) force)
-            (IsOkUnless result Refusal.Memory) }
-        ensures written { OnOk result
-            (self.new ≡ record self.old { env = after self.old.env name.now (option_copied new.entry) }) }
-        ensures was { IfOk result (λ was. IsWas was name.now (env.get self.old.env name.now)) }
-        ensures formed { IfOk result IsFormedWas }
-        ensures unchanged { OnErr result (self.new ≡ self.old) }
-    {
-        // for the proof: what is used fits
-        prove!(self.used <= self.room);
-        let (old, hint) = self.find(name);
-        let size = self.size_left(name, new, force, defaults, old)?;
-        let was = make_was(self.alloc, name, old)?;
-        self.set(hint, name, given(new), size)?;
-        Ok(was)
+/// The bytes of a value, none where there is no value.
+fn text_of(value: Option<&[u8]>) -> &[u8]
+    ensures { result.now ≡ unwrap_or (option_copied value.entry) [] }
+{
+    match value {
+        Some(value) => value,
+        None => &[],
     }
 }

@@ -1,13 +1,15 @@
 //! The forms that a reserved word opens: `if`, `for`, `while` and `until`.
 
 ghost use Rattle.std.specs.Prelude.{◌≡◌};
+ghost use Rattle.hush_syntax.specs.Builders.{if_stored};
 
 use crate::SyntaxFault;
 use crate::cursor::Tokens;
 use crate::keywords::Keyword;
 use crate::nodes::{Branch, NodeId};
 use crate::parser::Parser;
-use crate::table::{Builder, Stored};
+use crate::stored::{Block, Stored};
+use crate::table::Builder;
 
 impl<'s> Parser<'s> {
     ghost use Rattle.hush_syntax.specs.Answers.{branch, otherwise};
@@ -19,7 +21,7 @@ impl<'s> Parser<'s> {
     #[cycle(parsing)]
     pub(super) fn compound(
         self,
-        tokens: &mut Tokens<'_>,
+        tokens: &mut Tokens,
         builder: &mut Builder,
         keyword: Keyword,
         fault: SyntaxFault,
@@ -53,7 +55,7 @@ impl<'s> Parser<'s> {
     #[cycle(parsing)]
     fn loop_parts(
         self,
-        tokens: &mut Tokens<'_>,
+        tokens: &mut Tokens,
         builder: &mut Builder,
         room: u32,
     ) -> Result<(NodeId, NodeId), SyntaxFault>
@@ -71,7 +73,7 @@ impl<'s> Parser<'s> {
     #[cycle(parsing)]
     fn binding_loop(
         self,
-        tokens: &mut Tokens<'_>,
+        tokens: &mut Tokens,
         builder: &mut Builder,
         room: u32,
     ) -> Result<NodeId, SyntaxFault>
@@ -79,12 +81,12 @@ impl<'s> Parser<'s> {
     {
         let name = tokens.name(self.text)?;
         tokens.expect(self.text, b"in")?;
-        let words = builder.take_words(tokens)?;
-        tokens.separators()?;
+        let words = builder.take_named(name, self.text, tokens)?;
+        tokens.separators(self.text)?;
         tokens.expect(self.text, Keyword::Do.text())?;
         let body = self.list(tokens, builder, room)?;
         tokens.expect(self.text, Keyword::Done.text())?;
-        let node = builder.put(Stored::For { name, words, body })?;
+        let node = builder.put(Stored::For { words, body })?;
         Ok(node)
     }
 
@@ -92,7 +94,7 @@ impl<'s> Parser<'s> {
     #[cycle(parsing)]
     fn branches(
         self,
-        tokens: &mut Tokens<'_>,
+        tokens: &mut Tokens,
         builder: &mut Builder,
         room: u32,
     ) -> Result<NodeId, SyntaxFault>
@@ -102,16 +104,13 @@ impl<'s> Parser<'s> {
         let first = self.branch(tokens, builder, room)?;
         builder.push_branch(first)?;
         while tokens.at(self.text, Keyword::Elif.text()) {
-            tokens.advance();
+            tokens.advance(self.text);
             let branch = self.branch(tokens, builder, room)?;
             builder.push_branch(branch)?;
         }
         let otherwise = self.otherwise(tokens, builder, room)?;
         let branches = builder.settle_branches(mark)?;
-        let node = builder.put(Stored::If {
-            branches,
-            otherwise,
-        })?;
+        let node = builder.put(stored_if(branches, otherwise))?;
         Ok(node)
     }
 
@@ -119,7 +118,7 @@ impl<'s> Parser<'s> {
     #[cycle(parsing)]
     fn branch(
         self,
-        tokens: &mut Tokens<'_>,
+        tokens: &mut Tokens,
         builder: &mut Builder,
         room: u32,
     ) -> Result<Branch, SyntaxFault>
@@ -135,7 +134,7 @@ impl<'s> Parser<'s> {
     #[cycle(parsing)]
     fn otherwise(
         self,
-        tokens: &mut Tokens<'_>,
+        tokens: &mut Tokens,
         builder: &mut Builder,
         room: u32,
     ) -> Result<Option<NodeId>, SyntaxFault>
@@ -145,9 +144,22 @@ impl<'s> Parser<'s> {
             tokens.expect(self.text, Keyword::Fi.text())?;
             return Ok(None);
         }
-        tokens.advance();
+        tokens.advance(self.text);
         let body = self.list(tokens, builder, room)?;
         tokens.expect(self.text, Keyword::Fi.text())?;
         Ok(Some(body))
+    }
+}
+
+/// An `if` of these branches, and maybe the list behind `else`.
+fn stored_if(branches: Block, otherwise: Option<NodeId>) -> Stored
+    ensures { result ≡ if_stored branches otherwise }
+{
+    match otherwise {
+        Some(otherwise) => Stored::IfElse {
+            branches,
+            otherwise,
+        },
+        None => Stored::If { branches },
     }
 }

@@ -10,7 +10,8 @@ ghost use Rattle.hush_syntax.specs.Reading.{is_word};
 use crate::cursor::Tokens;
 use crate::nodes::NodeId;
 use crate::parser::Parser;
-use crate::table::{Builder, Stored};
+use crate::stored::Stored;
+use crate::table::Builder;
 use crate::{FaultKind, SyntaxFault};
 use hush_words::{Assignment, Word};
 
@@ -24,7 +25,7 @@ impl<'s> Parser<'s> {
     /// An assignment, which no word may follow, or a simple command.
     pub(super) fn plain(
         self,
-        tokens: &mut Tokens<'_>,
+        tokens: &mut Tokens,
         builder: &mut Builder,
     ) -> Result<NodeId, SyntaxFault>
         ensures { Parses CommandAt self.entry.text.now plain builder.old builder.new tokens.old tokens.new result }
@@ -35,11 +36,11 @@ impl<'s> Parser<'s> {
         };
         match self.sides(first) {
             Some(assignment) => {
-                tokens.advance();
+                tokens.advance(self.text);
                 self.assignment(tokens, builder, assignment)
             }
             None => {
-                let words = builder.take_words(tokens)?;
+                let words = builder.take_words(self.text, tokens)?;
                 let node = builder.put(Stored::Simple { words })?;
                 Ok(node)
             }
@@ -56,7 +57,7 @@ impl<'s> Parser<'s> {
     /// What stands behind an assignment: no word.
     fn assignment(
         self,
-        tokens: &mut Tokens<'_>,
+        tokens: &mut Tokens,
         builder: &mut Builder,
         assignment: Assignment,
     ) -> Result<NodeId, SyntaxFault>
@@ -65,13 +66,14 @@ impl<'s> Parser<'s> {
     {
         no_word(tokens)?;
         let Assignment { name, value } = assignment;
-        let node = builder.put(Stored::Assign { name, value })?;
+        let sides = builder.put_sides(name, value)?;
+        let node = builder.put(Stored::Assign { sides })?;
         Ok(node)
     }
 }
 
 /// No word may stand behind an assignment.
-fn no_word(tokens: &Tokens<'_>) -> Result<(), SyntaxFault>
+fn no_word(tokens: &Tokens) -> Result<(), SyntaxFault>
     ensures passed { OnOk result ((text : Written) → begins is_word (left_in text tokens.now) ≡ false) }
     ensures word { IfErr result (λ _. (text : Written) → begins is_word (left_in text tokens.now) ≡ true) }
     ensures refused { IfErr result (λ fault. fault ≡ assignment_fault tokens.now) }

@@ -1,6 +1,8 @@
 //! The parts of words.
 
-use super::{has_tokens, is_one_word, is_word, plain, quoted, quoted_value, read_copy, value};
+use super::{
+    has_parts, has_tokens, is_one_word, is_word, plain, quoted, quoted_value, read_copy, value,
+};
 use hush_words::{Part, TokenKind};
 use std::test::Fail;
 
@@ -144,12 +146,15 @@ fn ranges_are_bytes_of_their_text(rt: HostRuntime) -> Result<(), Fail> {
     let lexed = read_copy(rt.alloc(), b"a ${bc}")?;
     match lexed.tokens.last() {
         Some(token) => match token.kind {
-            TokenKind::Word(word) => match lexed.text.parts(word) {
-                [Part::Value(range, false)] => {
-                    assert_eq!(rt; lexed.text.bytes(*range), b"bc".as_slice())
+            TokenKind::Word(word) => {
+                assert!(rt; has_parts(lexed.text.parts(word), &[value(4, 6)]));
+                match lexed.text.parts(word).next_part() {
+                    Some(Part::Value(range, false)) => {
+                        assert_eq!(rt; lexed.text.bytes(range), b"bc".as_slice())
+                    }
+                    _ => assert!(rt; false),
                 }
-                _ => assert!(rt; false),
-            },
+            }
             _ => assert!(rt; false),
         },
         None => assert!(rt; false),

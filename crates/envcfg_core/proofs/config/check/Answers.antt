@@ -1,5 +1,5 @@
 use Rattle.std.proofs.Common.{None, Some}
-use Rattle.envcfg_core.specs.Candidate.{candidate_view}
+use Rattle.envcfg_core.specs.ConfigSteps.{candidate_view}
 use Rattle.envcfg_core.proofs.ConfigLemmas.{checked-not_utf8, checked-utf8}
 use Rattle.envcfg_core.proofs.config.check.Goals as goal
 

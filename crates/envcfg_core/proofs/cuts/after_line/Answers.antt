@@ -1,5 +1,5 @@
-use Rattle.envcfg_core.specs.Bytes.{is_newline}
-use Rattle.envcfg_core.proofs.CutLemmas.{after_first-found, after_first-none}
+use Rattle.text_parts.specs.Bytes.{is_newline}
+use Rattle.text_parts.proofs.CutLemmas.{after_first-found, after_first-none}
 use Rattle.envcfg_core.proofs.cuts.after_line.Goals as goal
 
 pub returns-in-Some-clause-rest : goal.returns-in-Some-clause-rest

@@ -1,6 +1,6 @@
 use Rattle.std.proofs.Common.{◌∙◌}
 use Rattle.envcfg_core.specs.Import.{ends_name}
-use Rattle.envcfg_core.proofs.CutLemmas.{position_or_len-answer}
+use Rattle.text_parts.proofs.CutLemmas.{position_or_len-answer}
 use Rattle.envcfg_core.proofs.cuts.name_len.Goals as goal
 
 pub returns-clause-value : goal.returns-clause-value

@@ -2,7 +2,7 @@ use Rattle.std.proofs.Common.{◌≡◌, ℕ, Bool, List, length, ap, ◌∙◌,
 use Rattle.std.specs.List.{count_by}
 use Rattle.memchr.specs.Find.{places}
 use Rattle.memchr.proofs.lemmas.CallerLemmas.{length-places}
-use Rattle.envcfg_core.specs.Bytes.{is_newline}
+use Rattle.text_parts.specs.Bytes.{is_newline}
 use Rattle.envcfg_core.proofs.EscapeLemmas.{length-escaped, length-escaped-le, is_backslash}
 use Rattle.envcfg_core.proofs.export.escaped_len.Goals as goal
 

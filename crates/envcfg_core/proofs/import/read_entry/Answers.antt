@@ -1,5 +1,5 @@
 use Rattle.std.proofs.Common.{◌≡◌, ℕ, List, false, eqb, length, sym, ap, ◌∙◌}
-use Rattle.envcfg_core.specs.Views.{value_view}
+use Rattle.envcfg_core.specs.ImportSteps.{value_view}
 use Rattle.envcfg_core.proofs.ImportLemmas.{entry_without_name, entry_with_name}
 use Rattle.envcfg_core.proofs.import.read_entry.Goals as goal
 

@@ -1,6 +1,4 @@
-use Rattle.std.proofs.Common.{◌≡◌, ℕ, List, false, eqb, length, sym, ap, ◌∙◌, refl}
-use Rattle.envcfg_core.specs.Import.{behind_name}
-use Rattle.envcfg_core.specs.Bytes.{some_unless_empty}
+use Rattle.std.proofs.Common.{sym, ◌∙◌}
 use Rattle.envcfg_core.proofs.ImportLemmas.{entry_without_name, entry_passed}
 use Rattle.envcfg_core.proofs.import.skip_entry.Goals as goal
 

@@ -1,5 +1,5 @@
 use Rattle.std.proofs.Common.{◌≡◌, ◌⊎◌, ℕ, true, ap, ◌∙◌, ⊎_elim, arith}
-use Rattle.envcfg_core.specs.Bytes.{is_blank}
+use Rattle.text_parts.specs.Bytes.{is_blank}
 use Rattle.envcfg_core.proofs.ImportLemmas.{entries_from-blank, entries_from-newline, entries_from-comment}
 use Rattle.envcfg_core.proofs.import.skip_to_entry.Goals as goal
 

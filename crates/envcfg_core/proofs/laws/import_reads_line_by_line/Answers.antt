@@ -1,5 +1,5 @@
 use Rattle.envcfg_core.proofs.ExportLemmas.{entries_from-exported}
-use Rattle.envcfg_core.proofs.LawLemmas.{reads_blank_line, reads_comment, reads_deletion}
+use Rattle.envcfg_core.proofs.LineLawLemmas.{reads_blank_line, reads_comment, reads_deletion}
 use Rattle.envcfg_core.proofs.laws.import_reads_line_by_line.Goals as goal
 
 pub returns : goal.returns

@@ -1,6 +1,6 @@
 use Rattle.std.proofs.Common.{◌∷◌, ap, sym, ◌∙◌}
 use Rattle.envcfg_core.specs.Numerals.{offset_of}
-use Rattle.envcfg_core.proofs.FieldLemmas.{negated}
+use Rattle.envcfg_core.proofs.OffsetLemmas.{negated}
 use Rattle.envcfg_core.proofs.numerals.read_offset.Goals as goal
 
 pub returns-in_ok-read_magnitude-in-45 : goal.returns-in_ok-read_magnitude-in-45

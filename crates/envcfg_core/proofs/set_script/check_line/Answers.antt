@@ -1,7 +1,8 @@
 use Rattle.std.proofs.Common.{◌≡◌, ℕ, List, Some, false, eqb, length, sym, ap, ◌∙◌, subst}
 use Rattle.std.proofs.lemmas.Bool.{cond-false}
 use Rattle.std.specs.List.{before_first, after_first}
-use Rattle.envcfg_core.specs.Bytes.{some_unless_empty, without_blanks}
+use Rattle.envcfg_core.specs.Bytes.{some_unless_empty}
+use Rattle.text_parts.specs.Bytes.{without_blanks}
 use Rattle.envcfg_core.specs.SetScript.{ends_key}
 use Rattle.envcfg_core.proofs.set_script.check_line.Goals as goal
 

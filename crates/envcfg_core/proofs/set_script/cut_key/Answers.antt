@@ -1,5 +1,5 @@
 use Rattle.envcfg_core.specs.SetScript.{ends_key}
-use Rattle.envcfg_core.proofs.CutLemmas.{before_first-found, before_first-none, after_first-found, after_first-none}
+use Rattle.text_parts.proofs.CutLemmas.{before_first-found, before_first-none, after_first-found, after_first-none}
 use Rattle.envcfg_core.proofs.set_script.cut_key.Goals as goal
 
 pub returns-in-Some-clause-key : goal.returns-in-Some-clause-key

@@ -1,7 +1,8 @@
-use Rattle.envcfg_core.proofs.LineLemmas.{is_skipped_line-is}
+use Rattle.std.proofs.Common.{ap, ◌∙◌, length, eqb}
+use Rattle.envcfg_core.proofs.SkippedLineLemmas.{is_skipped_line-is}
 use Rattle.envcfg_core.proofs.set_script.is_skipped_line.Goals as goal
 
-pub returns-else-first-eq35 : goal.returns-else-first-eq35
-returns-else-first-eq35 c =
-    is_skipped_line-is c.args.line.now c.without_blanks.result.now c.in-Some.field-0-1.now c.in-Some.first.now c.is_empty.result
-    c.in-Some.ensures.cases.0 c.if-first-eq35.false c.without_blanks.ensures c.is_empty.ensures
+pub returns-else-begins_with_byte : goal.returns-else-begins_with_byte
+returns-else-begins_with_byte c =
+    is_skipped_line-is c.args.line.now c.begins_with_byte.result c.is_empty.result c.begins_with_byte.ensures c.if-begins_with_byte.false
+    (c.is_empty.ensures ∙ ap (λ xs. eqb (length xs) 0) c.without_blanks.ensures)

@@ -1,6 +1,7 @@
 use Rattle.std.proofs.Common.{◌≡◌, map}
-use Rattle.envcfg_core.specs.Entries.{entry_view, with_front}
-use Rattle.envcfg_core.specs.Lines.{numbered_lines}
+use Rattle.envcfg_core.specs.Entries.{entry_view}
+use Rattle.envcfg_core.specs.ImportSteps.{with_front}
+use Rattle.text_parts.specs.Lines.{numbered_lines}
 use Rattle.envcfg_core.specs.SetScript.{entries_of_lines}
 use Rattle.envcfg_core.proofs.set_script.parse_set_script.Given as goal
 

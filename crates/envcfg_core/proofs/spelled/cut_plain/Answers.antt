@@ -1,4 +1,4 @@
-use Rattle.envcfg_core.specs.Views.{stop_view}
+use Rattle.envcfg_core.specs.ImportSteps.{stop_view}
 use Rattle.envcfg_core.proofs.SpelledLemmas.{spelled_without_marks, spelled_at_mark}
 use Rattle.envcfg_core.proofs.spelled.cut_plain.Goals as goal
 

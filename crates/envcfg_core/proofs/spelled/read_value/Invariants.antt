@@ -1,5 +1,6 @@
 use Rattle.std.proofs.Common.{◌≡◌, ◌+◌, ◌≤◌, length, false}
-use Rattle.envcfg_core.specs.Import.{spelled, onto}
+use Rattle.envcfg_core.specs.Import.{spelled}
+use Rattle.envcfg_core.specs.ImportSteps.{onto}
 use Rattle.envcfg_core.proofs.spelled.read_value.Given as goal
 
 abbrev pub invariant-loop-bytes : goal.invariant-loop-bytes

@@ -1,5 +1,5 @@
 use Rattle.std.proofs.Common.{◌+◌, length, ap, ◌∙◌, [], ◌∷◌}
-use Rattle.envimg_core.specs.Image.{spliced}
+use Rattle.envimg_core.specs.Steps.{spliced}
 use Rattle.envimg_core.proofs.WriterLemmas.{store_four}
 use Rattle.envimg_core.proofs.writer.store.Goals as goal
 

@@ -1,11 +1,12 @@
-use Rattle.std.proofs.Common.{arith, refl, ap, length, ◌+◌, ◌≤◌, ◌<◌, ◌≡◌, length-take}
+use Rattle.std.proofs.Common.{arith, length, ◌+◌, ◌≤◌, ◌<◌, ◌≡◌, length-take}
 use Rattle.fw_session.specs.declared.ending.SessionEnding.TheVariants.{ReadFault, TooLong, WriteFault, Memory}
-use Rattle.fw_session.specs.NamedSessions.{named_session, unnamed}
+use Rattle.fw_session.specs.NamedSessions.{unnamed}
+use Rattle.fw_session.specs.Ends.{input_limit}
 use Rattle.fw_session.proofs.EndLemmas.{ended_as, reading_none, reading_more, read_failed, one_too_many, at_its_end, write_failed, no_room, gave_piece, piece_long, stopped_by_write, stopped_by_memory}
 use Rattle.fw_session.proofs.talking.session.Goals as goal
 
 pub loop-read-init : goal.loop-read-init
-loop-read-init g c = reading_none _ (unnamed c.args.session) _ _ _ c.new.ensures.items refl (ap (named_session c.args.session) c.unnamed-names.ensures) refl
+loop-read-init g c = reading_none _ (unnamed c.args.session) _ _ _ c.begun-talk.ensures.bytes c.begun-talk.ensures.start c.begun-talk.ensures.session c.begun-talk.ensures.written
 
 pub returns-in-Err : goal.returns-in-Err
 returns-in-Err g c =
@@ -26,26 +27,26 @@ pub loop-read-preserved : goal.loop-read-preserved
 loop-read-preserved g c =
     let le = c.in-Ok.ensures.bound.0 in
     let same = c.read.auto.buf in
-    let room : c.loop-read.read + c.in-Ok.count ≤ 16777216 = omega (arith, length-take c.min-most.result c.loop-read.piece) in
-    reading_more _ _ _ _ _ _ _ _ _ c.in-Ok.count _ c.loop-read.talk c.hear.new.talk c.loop-read.invariant (gave_piece _ _ _ _ _ le c.in-Ok.ensures.bytes.0) (piece_long _ _ _ le) room c.in-Ok-hear.ensures
+    let room : c.loop-read.read + c.in-Ok.count ≤ input_limit = omega (arith, length-take c.min-most.result c.loop-read.piece) in
+    reading_more _ _ _ _ _ _ _ _ _ c.in-Ok.count _ c.loop-read.talk c.handle_piece.new.talk c.loop-read.invariant (gave_piece _ _ _ _ _ le c.in-Ok.ensures.bytes.0) (piece_long _ _ _ le) room c.in-Ok-handle_piece.ensures
 
 pub returns-in-Err-Write : goal.returns-in-Err-Write
 returns-in-Err-Write g c =
     let le = c.in-Ok.ensures.bound.0 in
     let same = c.read.auto.buf in
-    let room : c.loop-read.read + c.in-Ok.count ≤ 16777216 = omega (arith, length-take c.min-most.result c.loop-read.piece) in
-    ended_as WriteFault c.ended-in-Err-Write.result.ending _ _ c.hear.new.talk _ _ _ _ _ _ _ _ c.ended-in-Err-Write.ensures.session c.ended-in-Err-Write.ensures.ending c.ended-in-Err-Write.ensures.read c.ended-in-Err-Write.ensures.written
-    (write_failed _ _ _ _ _ _ _ _ _ c.in-Ok.count _ c.loop-read.talk c.hear.new.talk c.loop-read.invariant (gave_piece _ _ _ _ _ le c.in-Ok.ensures.bytes.0) (piece_long _ _ _ le) room
-    (stopped_by_write _ _ c.loop-read.talk c.hear.new.talk _ _ c.in-Err-Write.field-0 c.in-Err-Write.field-0-is c.in-Err-Write.ensures))
+    let room : c.loop-read.read + c.in-Ok.count ≤ input_limit = omega (arith, length-take c.min-most.result c.loop-read.piece) in
+    ended_as WriteFault c.ended-in-Err-Write.result.ending _ _ c.handle_piece.new.talk _ _ _ _ _ _ _ _ c.ended-in-Err-Write.ensures.session c.ended-in-Err-Write.ensures.ending c.ended-in-Err-Write.ensures.read c.ended-in-Err-Write.ensures.written
+    (write_failed _ _ _ _ _ _ _ _ _ c.in-Ok.count _ c.loop-read.talk c.handle_piece.new.talk c.loop-read.invariant (gave_piece _ _ _ _ _ le c.in-Ok.ensures.bytes.0) (piece_long _ _ _ le) room
+    (stopped_by_write _ _ c.loop-read.talk c.handle_piece.new.talk _ _ c.in-Err-Write.field-0 c.in-Err-Write.field-0-is c.in-Err-Write.ensures))
 
 pub returns-in-Err-Memory : goal.returns-in-Err-Memory
 returns-in-Err-Memory g c =
     let le = c.in-Ok.ensures.bound.0 in
     let same = c.read.auto.buf in
-    let room : c.loop-read.read + c.in-Ok.count ≤ 16777216 = omega (arith, length-take c.min-most.result c.loop-read.piece) in
-    ended_as Memory c.ended-in-Err-Memory.result.ending _ _ c.hear.new.talk _ _ _ _ _ _ _ _ c.ended-in-Err-Memory.ensures.session c.ended-in-Err-Memory.ensures.ending c.ended-in-Err-Memory.ensures.read c.ended-in-Err-Memory.ensures.written
-    (no_room _ _ _ _ _ _ _ _ _ c.in-Ok.count _ c.loop-read.talk c.hear.new.talk c.loop-read.invariant (gave_piece _ _ _ _ _ le c.in-Ok.ensures.bytes.0) (piece_long _ _ _ le) room
-    (stopped_by_memory _ _ c.loop-read.talk c.hear.new.talk _ _ c.in-Err-Memory.field-0 c.in-Err-Memory.field-0-is c.in-Err-Memory.ensures))
+    let room : c.loop-read.read + c.in-Ok.count ≤ input_limit = omega (arith, length-take c.min-most.result c.loop-read.piece) in
+    ended_as Memory c.ended-in-Err-Memory.result.ending _ _ c.handle_piece.new.talk _ _ _ _ _ _ _ _ c.ended-in-Err-Memory.ensures.session c.ended-in-Err-Memory.ensures.ending c.ended-in-Err-Memory.ensures.read c.ended-in-Err-Memory.ensures.written
+    (no_room _ _ _ _ _ _ _ _ _ c.in-Ok.count _ c.loop-read.talk c.handle_piece.new.talk c.loop-read.invariant (gave_piece _ _ _ _ _ le c.in-Ok.ensures.bytes.0) (piece_long _ _ _ le) room
+    (stopped_by_memory _ _ c.loop-read.talk c.handle_piece.new.talk _ _ c.in-Err-Memory.field-0 c.in-Err-Memory.field-0-is c.in-Err-Memory.ensures))
 
 pub returns-in-Err-read : goal.returns-in-Err-read
 returns-in-Err-read g c =

@@ -1,6 +1,8 @@
 use Rattle.std.proofs.Common.{◌≡◌, ◌%◌, take}
-use Rattle.hush_calc.specs.Numbers.{number, modulus}
+use Rattle.text_parts.specs.declared.digits.Base.TheVariants.{Hexadecimal}
+use Rattle.text_parts.specs.Digits.{number}
+use Rattle.hush_calc.specs.Numbers.{modulus}
 use Rattle.hush_calc.proofs.numbers.wrapped.Given as goal
 
 abbrev pub invariant-loop-digit : goal.invariant-loop-digit
-invariant-loop-digit l = l.value ≡ number 16 (take l.digit-index l.digits) % modulus
+invariant-loop-digit l = l.value ≡ number Hexadecimal (take l.digit-index l.digits) % modulus

@@ -1,5 +1,5 @@
 use Rattle.std.proofs.Common.{rules}
-use Rattle.hush_syntax.specs.Scripts.{sub_at}
+use Rattle.hush_syntax.specs.Scripts.{subtree_at}
 use Rattle.hush_run.proofs.Parts.{list_first, chain_first, if_first, while_first, until_first, some_chain}
 use Rattle.hush_run.proofs.descent.first_part.Goals as goal
 
@@ -16,7 +16,7 @@ pub returns-in-If : goal.returns-in-If
 returns-in-If c = let h = rw c.in-If.is at c.node.ensures in if_first _ c.args.id c.member-in-If.result c.in-If.branches.now c.in-If.otherwise h.0 h.1 h.2 h.3 h.4 c.member-in-If.ensures
 
 pub returns-in-While : goal.returns-in-While
-returns-in-While c = let h = rw c.in-While.is at c.node.ensures in while_first (sub_at c.args.script.now) c.args.id c.in-While.condition h.0 h.1 h.2 h.3
+returns-in-While c = let h = rw c.in-While.is at c.node.ensures in while_first (subtree_at c.args.script.now) c.args.id c.in-While.condition h.0 h.1 h.2 h.3
 
 pub returns-in-Until : goal.returns-in-Until
-returns-in-Until c = let h = rw c.in-Until.is at c.node.ensures in until_first (sub_at c.args.script.now) c.args.id c.in-Until.condition h.0 h.1 h.2 h.3
+returns-in-Until c = let h = rw c.in-Until.is at c.node.ensures in until_first (subtree_at c.args.script.now) c.args.id c.in-Until.condition h.0 h.1 h.2 h.3

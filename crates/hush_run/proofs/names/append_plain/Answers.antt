@@ -1,14 +1,18 @@
-use Rattle.hush_run.proofs.NameLemmas.{plain_on, other_on, fit_on}
+use Rattle.std.proofs.Common.{◌++◌, ◌∙◌, ap, subst}
+use Rattle.hush_words.specs.Parts.{part_atoms}
+use Rattle.hush_words.specs.Ranges.{Fits}
+use Rattle.hush_run.proofs.NameLemmas.{plain_on}
 use Rattle.hush_run.proofs.names.append_plain.Goals as goal
 
-pub loop-part-preserved-in_ok-extend_from_slice : goal.loop-part-preserved-in_ok-extend_from_slice
-loop-part-preserved-in_ok-extend_from_slice c = record {
-  fit = fit_on c.args.text.now.source c.loop-part.rest.now c.in-Some.behind.now c.in-Some.part.now c.in-Some.ensures.cases.0 c.loop-part.invariant.fit;
-  read = plain_on c.args.text.now.source c.loop-part.rest.now c.in-Some.behind.now c.in-Some.part.now c.in-Plain.span c.bytes.result.now c.loop-part.name.items c.extend_from_slice.new.self.items _ c.in-Some.ensures.cases.0 c.in-Plain.is c.bytes.ensures c.in_ok-extend_from_slice.ensures.items c.loop-part.invariant.read;
-}
-
 pub loop-part-preserved : goal.loop-part-preserved
-loop-part-preserved c = record {
-  fit = fit_on c.args.text.now.source c.loop-part.rest.now c.in-Some.behind.now c.in-Some.part.now c.in-Some.ensures.cases.0 c.loop-part.invariant.fit;
-  read = other_on c.args.text.now.source c.loop-part.rest.now c.in-Some.behind.now c.in-Some.part.now c.loop-part.name.items _ c.in-Some.ensures.cases.0 c.in_default-part.not-Plain c.loop-part.invariant.read;
-}
+loop-part-preserved c =
+    let i = c.loop-part.invariant in
+    let t = c.in-Some.ensures in
+    let rest = c.next_part.new.self.atoms in
+    record {
+      source = t.2 ∙ i.source;
+      read = plain_on c.args.text.now.source c.loop-part.left.atoms rest c.in-Some.part c.plain_in.result.now c.loop-part.name.items c.extend_from_slice.new.self.items _ (t.0 ∙ ap (λ l. part_atoms l c.in-Some.part ++ rest) i.source) c.plain_in.ensures c.in_ok-extend_from_slice.ensures.items i.read;
+    }
+
+pub plain_in-requires : goal.plain_in-requires
+plain_in-requires c = subst (λ l. Fits l c.in-Some.part) c.loop-part.invariant.source c.in-Some.ensures.1

@@ -1,6 +1,5 @@
 use Rattle.std.proofs.Common.{◌++◌, ◌∙◌, sym, ap, List, ℕ}
-use Rattle.hush_words.specs.Parts.{word_atoms, atoms_of}
-use Rattle.hush_words.specs.declared.parts.Part.{Part}
+use Rattle.hush_words.specs.Parts.{word_atoms}
 use Rattle.hush_run.specs.Names.{plain_bytes}
 use Rattle.hush_run.proofs.NameLemmas.{name_is}
 use Rattle.hush_run.proofs.names.read_name.Goals as goal
@@ -8,6 +7,6 @@ use Rattle.hush_run.proofs.names.read_name.Goals as goal
 pub returns-in_ok-append_plain : goal.returns-in_ok-append_plain
 returns-in_ok-append_plain c =
     c.in_ok-append_plain.ensures
-    ∙ ap (λ (xs : List ℕ). xs ++ plain_bytes (atoms_of c.args.text.now.source c.parts.result.now)) c.clear.ensures.items
-    ∙ ap (λ (ps : List Part). plain_bytes (atoms_of c.args.text.now.source ps)) c.parts.ensures.parts
+    ∙ ap (λ (xs : List ℕ). xs ++ plain_bytes c.parts.result.atoms) c.clear.ensures.items
+    ∙ ap plain_bytes c.parts.ensures.atoms
     ∙ name_is (word_atoms c.args.text.now c.args.word) (sym c.is_name.ensures ∙ c.if-is_name.true)

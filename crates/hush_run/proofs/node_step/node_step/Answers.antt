@@ -1,7 +1,7 @@
 use Rattle.std.proofs.Common.{ap, subst, arith, Ok, Err, refl, map}
 use Rattle.hush_words.specs.Parts.{Written, word_atoms}
 use Rattle.hush_syntax.specs.Grammar.{Assign, For}
-use Rattle.hush_syntax.specs.Scripts.{sub_at}
+use Rattle.hush_syntax.specs.Scripts.{subtree_at}
 use Rattle.hush_syntax.specs.Trees.{name_in, words_in}
 use Rattle.hush_run.specs.declared.turns.Due.TheVariants as due
 use Rattle.hush_run.specs.Meaning.{Rules, Goes, step, assigned, for, fields_of, bindings, chains}
@@ -13,7 +13,7 @@ use Rattle.hush_run.proofs.node_step.node_step.Goals as goal
 pub returns-in-Ok-clause-due : goal.returns-in-Ok-clause-due
 returns-in-Ok-clause-due c =
     let h = rw c.in-Simple.is at c.node.ensures in
-    let d = c.due_behind.ensures.due (sub_at c.args.script.now) in
+    let d = c.due_behind.ensures.due (subtree_at c.args.script.now) in
     let e = ap room h in
     (d.0, omega (arith, d.1, e))
 
@@ -24,7 +24,7 @@ returns-in-Ok-assign_step-clause-step c =
     let s = state_of c.args.session.now c.args.progress.now in
     let t = state_of c.args.session.now c.assign_step.new.progress in
     let did = subst (λ (text : Written). Did r (λ (q : Rules) begin. step q (assigned q (name_in text c.in-Assign.name) (word_atoms text c.in-Assign.value))) (λ (u : Unit {0}) q begin. Goes) s t (Ok tt)) c.text-in-Assign.ensures c.in-Ok-assign_step.ensures in
-    node_did r (sub_at c.args.script.now) c.args.node (Assign (name_in c.args.script.now.text c.in-Assign.name) (word_atoms c.args.script.now.text c.in-Assign.value)) s t h (λ (u : Unit {0}) q begin. Goes) tt due.Over did (λ q begin u. refl)
+    node_did r (subtree_at c.args.script.now) c.args.node (Assign (name_in c.args.script.now.text c.in-Assign.name) (word_atoms c.args.script.now.text c.in-Assign.value)) s t h (λ (u : Unit {0}) q begin. Goes) tt due.Over did (λ q begin u. refl)
 
 pub returns-in-Err-assign_step-clause-step : goal.returns-in-Err-assign_step-clause-step
 returns-in-Err-assign_step-clause-step c =
@@ -33,7 +33,7 @@ returns-in-Err-assign_step-clause-step c =
     let s = state_of c.args.session.now c.args.progress.now in
     let t = state_of c.args.session.now c.assign_step.new.progress in
     let did = subst (λ (text : Written). Did r (λ (q : Rules) begin. step q (assigned q (name_in text c.in-Assign.name) (word_atoms text c.in-Assign.value))) (λ (u : Unit {0}) q begin. Goes) s t (Err c.in-Err-assign_step.stop)) c.text-in-Assign.ensures c.in-Err-assign_step.ensures in
-    node_stopped r (sub_at c.args.script.now) c.args.node (Assign (name_in c.args.script.now.text c.in-Assign.name) (word_atoms c.args.script.now.text c.in-Assign.value)) s t h (λ (u : Unit {0}) q begin. Goes) c.in-Err-assign_step.stop did
+    node_stopped r (subtree_at c.args.script.now) c.args.node (Assign (name_in c.args.script.now.text c.in-Assign.name) (word_atoms c.args.script.now.text c.in-Assign.value)) s t h (λ (u : Unit {0}) q begin. Goes) c.in-Err-assign_step.stop did
 
 pub returns-in-Ok-head_step-clause-step : goal.returns-in-Ok-head_step-clause-step
 returns-in-Ok-head_step-clause-step c =
@@ -44,13 +44,13 @@ returns-in-Ok-head_step-clause-step c =
     let name = name_in c.args.script.now.text c.in-For.name in
     let words = words_in c.args.script.now.text c.in-For.words.now in
     let did = subst (λ (text : Written). Did r (λ (q : Rules) begin u. for q name (fields_of q (map (word_atoms text) c.in-For.words.now) u) (chains q begin h.0) u) (λ fields q begin. bindings q name (chains q begin h.0) fields) s t (Ok c.in-Ok-head_step.fields)) c.text-in-For.ensures (c.in-Ok-head_step.ensures name (λ q begin. chains q begin h.0)) in
-    node_did r (sub_at c.args.script.now) c.args.node (For name words h.0) s t h.1 (λ fields q begin. bindings q name (chains q begin h.0) fields) c.in-Ok-head_step.fields c.due_binding.result did
-    (λ q begin u. c.due_binding.ensures.same q begin (sub_at c.args.script.now) name words h.0 u h.1)
+    node_did r (subtree_at c.args.script.now) c.args.node (For name words h.0) s t h.1 (λ fields q begin. bindings q name (chains q begin h.0) fields) c.in-Ok-head_step.fields c.due_binding.result did
+    (λ q begin u. c.due_binding.ensures.same q begin (subtree_at c.args.script.now) name words h.0 u h.1)
 
 pub returns-in-Ok-head_step-clause-due : goal.returns-in-Ok-head_step-clause-due
 returns-in-Ok-head_step-clause-due c =
     let h = rw c.in-For.is at c.node.ensures in
-    c.due_binding.ensures.due (sub_at c.args.script.now) (name_in c.args.script.now.text c.in-For.name) (words_in c.args.script.now.text c.in-For.words.now) h.0 h.1
+    c.due_binding.ensures.due (subtree_at c.args.script.now) (name_in c.args.script.now.text c.in-For.name) (words_in c.args.script.now.text c.in-For.words.now) h.0 h.1
 
 pub returns-in-Err-head_step-clause-step : goal.returns-in-Err-head_step-clause-step
 returns-in-Err-head_step-clause-step c =
@@ -61,4 +61,4 @@ returns-in-Err-head_step-clause-step c =
     let name = name_in c.args.script.now.text c.in-For.name in
     let words = words_in c.args.script.now.text c.in-For.words.now in
     let did = subst (λ (text : Written). Did r (λ (q : Rules) begin u. for q name (fields_of q (map (word_atoms text) c.in-For.words.now) u) (chains q begin h.0) u) (λ fields q begin. bindings q name (chains q begin h.0) fields) s t (Err c.in-Err-head_step.stop)) c.text-in-For.ensures (c.in-Err-head_step.ensures name (λ q begin. chains q begin h.0)) in
-    node_stopped r (sub_at c.args.script.now) c.args.node (For name words h.0) s t h.1 (λ fields q begin. bindings q name (chains q begin h.0) fields) c.in-Err-head_step.stop did
+    node_stopped r (subtree_at c.args.script.now) c.args.node (For name words h.0) s t h.1 (λ fields q begin. bindings q name (chains q begin h.0) fields) c.in-Err-head_step.stop did

@@ -11,5 +11,5 @@ run_script-stop-requires-clause-steps c = let e = ap (λ (s : State). s.steps) (
 
 pub returns : goal.returns
 returns c =
-    runs_so (rules c.args.stubs.now c.args.limits.now) (tree_of c.args.script.now) c.args.session.now (state_of c.args.session.now c.new-progress.result) (state_of c.run_script-stop.new.session c.run_script-stop.new.progress) c.of.result c.into_text.result c.run_script-stop.result
+    runs_so (rules c.args.stand_ins.now c.args.limits.now) (tree_of c.args.script.now) c.args.session.now (state_of c.args.session.now c.new-progress.result) (state_of c.run_script-stop.new.session c.run_script-stop.new.progress) c.of.result c.into_text.result c.run_script-stop.result
     (c.new-progress.ensures c.args.session.now) c.run_script-stop.ensures c.of.ensures c.into_text.ensures

@@ -1,11 +1,11 @@
 use Rattle.std.proofs.Common.{◌≡◌, length}
-use Rattle.hush_run.specs.Rises.{Leaves}
+use Rattle.hush_run.specs.Rises.{IsLeft}
 use Rattle.hush_run.specs.declared.turns.Due.TheVariants as due
 use Rattle.hush_run.proofs.rising.rise_up.Given as goal
 
 abbrev pub invariant-loop-frame : goal.invariant-loop-frame
 invariant-loop-frame l = record {
-  leaves : Leaves l.initial.calls l.initial.frames.frames l.initial.status l.calls l.frames.frames l.status due.Over;
+  leaves : IsLeft l.initial.calls l.initial.frames.frames l.initial.status l.calls l.frames.frames l.status due.Over;
   depth : l.frames.depth ≡ l.initial.frames.depth;
 }
 

@@ -1,5 +1,5 @@
 use Rattle.std.proofs.Common.{sym, subst}
-use Rattle.hush_syntax.specs.Scripts.{sub_at}
+use Rattle.hush_syntax.specs.Scripts.{subtree_at}
 use Rattle.hush_run.specs.Turns.{Turns}
 use Rattle.hush_run.specs.declared.turns.Turn.{Turn}
 use Rattle.hush_run.specs.declared.frames.Frame.TheVariants as frame
@@ -9,9 +9,9 @@ use Rattle.hush_run.proofs.turns.body_turn.Goals as goal
 pub returns-in-While : goal.returns-in-While
 returns-in-While c =
     let h = rw c.in-While.is at c.node.ensures in
-    subst (λ (t : Turn). Turns (sub_at c.args.script.now) (frame.Body c.args.node) c.args.status t) (sym c.goes_to.ensures) (while_again (sub_at c.args.script.now) c.args.node c.in-While.condition h.0 h.1 c.args.status h.2 h.3)
+    subst (λ (t : Turn). Turns (subtree_at c.args.script.now) (frame.Body c.args.node) c.args.status t) (sym c.goes_to.ensures) (while_again (subtree_at c.args.script.now) c.args.node c.in-While.condition h.0 h.1 c.args.status h.2 h.3)
 
 pub returns-in-Until : goal.returns-in-Until
 returns-in-Until c =
     let h = rw c.in-Until.is at c.node.ensures in
-    subst (λ (t : Turn). Turns (sub_at c.args.script.now) (frame.Body c.args.node) c.args.status t) (sym c.goes_to-in-Until.ensures) (until_again (sub_at c.args.script.now) c.args.node c.in-Until.condition h.0 h.1 c.args.status h.2 h.3)
+    subst (λ (t : Turn). Turns (subtree_at c.args.script.now) (frame.Body c.args.node) c.args.status t) (sym c.goes_to-in-Until.ensures) (until_again (subtree_at c.args.script.now) c.args.node c.in-Until.condition h.0 h.1 c.args.status h.2 h.3)

@@ -12,4 +12,4 @@ returns-in-None-clause-reads c =
     (omega arith, omega (arith, c.requires.here.0), r.0, r.1)
 
 pub returns-in-None-clause-fits : goal.returns-in-None-clause-fits
-returns-in-None-clause-fits c = (c.byte_part.ensures.fits c.args.source.now 92 c.requires.here (λ q. absurd (both_ways true q refl)), tt)
+returns-in-None-clause-fits c = c.byte_part.ensures.fits c.args.source.now 92 c.requires.here (λ q. absurd (both_ways true q refl))

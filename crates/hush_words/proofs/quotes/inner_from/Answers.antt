@@ -24,7 +24,7 @@ returns-else-first-eq34-clause-reads c =
     rw c.new.ensures (run-takes is_inner c.args.source.now c.args.at c.run_end-end.result c.args.first c.requires.here e c.run_end-end.ensures, c.run_end-end.ensures.1, r.0, r.1)
 
 pub returns-in-Some-clause-fits : goal.returns-in-Some-clause-fits
-returns-in-Some-clause-fits c = (c.in-Some.ensures.fits, tt)
+returns-in-Some-clause-fits c = c.in-Some.ensures.fits
 
 pub returns-else-first-eq34-clause-fits : goal.returns-else-first-eq34-clause-fits
-returns-else-first-eq34-clause-fits c = rw c.new.ensures ((c.run_end-end.ensures.0, c.run_end-end.ensures.1), tt)
+returns-else-first-eq34-clause-fits c = rw c.new.ensures (c.run_end-end.ensures.0, c.run_end-end.ensures.1)

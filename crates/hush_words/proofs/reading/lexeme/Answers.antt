@@ -1,31 +1,30 @@
 use Rattle.std.proofs.Common.{arith, sym, ◌∙◌}
 use Rattle.hush_words.proofs.TextLemmas.{blank-there, newline-there, semicolon-there, comment-there, joined-begins, joined-line-there, word_inside, no-operator}
-use Rattle.hush_words.proofs.RangeLemmas.{added-none, adds-none}
 use Rattle.hush_words.proofs.reading.lexeme.Goals as goal
 
-pub returns-then-is_blank-clause-reads : goal.returns-then-is_blank-clause-reads
-returns-then-is_blank-clause-reads c =
-    (omega arith, omega (arith, c.requires.here.0), λ more. blank-there c.args.source.now c.args.at c.args.first c.requires.here (sym c.is_blank.ensures ∙ c.if-is_blank.true))
+pub returns-then-is_blank : goal.returns-then-is_blank
+returns-then-is_blank c =
+    (omega arith, omega (arith, c.requires.here.0), blank-there c.args.source.now c.args.at c.args.first c.requires.here (sym c.is_blank.ensures ∙ c.if-is_blank.true))
 
-pub returns-then-first-eq10-clause-reads : goal.returns-then-first-eq10-clause-reads
-returns-then-first-eq10-clause-reads c =
-    (omega arith, omega (arith, c.requires.here.0), λ more. newline-there c.args.source.now c.args.at c.args.first c.requires.here c.if-first-eq10.true)
+pub returns-then-first-eq10 : goal.returns-then-first-eq10
+returns-then-first-eq10 c =
+    (omega arith, omega (arith, c.requires.here.0), newline-there c.args.source.now c.args.at c.args.first c.requires.here c.if-first-eq10.true)
 
-pub returns-then-first-eq59-clause-reads : goal.returns-then-first-eq59-clause-reads
-returns-then-first-eq59-clause-reads c =
-    (omega arith, omega (arith, c.requires.here.0), λ more. semicolon-there c.args.source.now c.args.at c.args.first c.requires.here c.if-first-eq59.true)
+pub returns-then-first-eq59 : goal.returns-then-first-eq59
+returns-then-first-eq59 c =
+    (omega arith, omega (arith, c.requires.here.0), semicolon-there c.args.source.now c.args.at c.args.first c.requires.here c.if-first-eq59.true)
 
-pub returns-then-first-eq35-clause-reads : goal.returns-then-first-eq35-clause-reads
-returns-then-first-eq35-clause-reads c = (
+pub returns-then-first-eq35 : goal.returns-then-first-eq35
+returns-then-first-eq35 c = (
   omega (arith, c.place_of.ensures.0),
   c.place_of.ensures.1,
-  λ more. comment-there c.args.source.now c.args.at c.args.first c.place_of.result c.requires.here c.if-first-eq35.true c.place_of.ensures,
+  comment-there c.args.source.now c.args.at c.args.first c.place_of.result c.requires.here c.if-first-eq35.true c.place_of.ensures,
 )
 
-pub returns-then-is_joined_line-clause-reads : goal.returns-then-is_joined_line-clause-reads
-returns-then-is_joined_line-clause-reads c =
+pub returns-then-is_joined_line : goal.returns-then-is_joined_line
+returns-then-is_joined_line c =
     let both = joined-begins c.args.source.now c.args.at (sym c.is_joined_line.ensures ∙ c.if-is_joined_line.true) in
-    (omega arith, omega (arith, both.1.0), λ more. joined-line-there c.args.source.now c.args.at both.0 both.1)
+    (omega arith, omega (arith, both.1.0), joined-line-there c.args.source.now c.args.at both.0 both.1)
 
 pub word-requires-clause-inside : goal.word-requires-clause-inside
 word-requires-clause-inside c =
@@ -34,24 +33,3 @@ word-requires-clause-inside c =
 
 pub operator-requires-clause-operator : goal.operator-requires-clause-operator
 operator-requires-clause-operator c = sym c.begins_operator.ensures ∙ c.if-begins_operator.true
-
-pub returns-then-begins_operator-clause-reads : goal.returns-then-begins_operator-clause-reads
-returns-then-begins_operator-clause-reads c = c.operator.ensures c.args.parts.now.items
-
-pub returns-then-begins_operator-clause-adds : goal.returns-then-begins_operator-clause-adds
-returns-then-begins_operator-clause-adds c = adds-none c.args.source.now c.args.parts.now.items c.operator.result
-
-pub returns-then-is_blank-clause-adds : goal.returns-then-is_blank-clause-adds
-returns-then-is_blank-clause-adds c = added-none c.args.source.now c.args.parts.now.items
-
-pub returns-then-first-eq10-clause-adds : goal.returns-then-first-eq10-clause-adds
-returns-then-first-eq10-clause-adds c = added-none c.args.source.now c.args.parts.now.items
-
-pub returns-then-first-eq59-clause-adds : goal.returns-then-first-eq59-clause-adds
-returns-then-first-eq59-clause-adds c = added-none c.args.source.now c.args.parts.now.items
-
-pub returns-then-first-eq35-clause-adds : goal.returns-then-first-eq35-clause-adds
-returns-then-first-eq35-clause-adds c = added-none c.args.source.now c.args.parts.now.items
-
-pub returns-then-is_joined_line-clause-adds : goal.returns-then-is_joined_line-clause-adds
-returns-then-is_joined_line-clause-adds c = added-none c.args.source.now c.args.parts.now.items

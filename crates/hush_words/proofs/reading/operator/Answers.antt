@@ -1,4 +1,4 @@
-use Rattle.std.proofs.Common.{arith, sym, ◌∙◌, ◌+◌, ap, Some, [], ◌∷◌, drop, ◌++◌}
+use Rattle.std.proofs.Common.{arith, sym, ◌∙◌, ◌+◌, ap, Some, [], ◌∷◌, drop}
 use Rattle.hush_words.specs.Parts.{written}
 use Rattle.hush_words.specs.Views.{kind_token}
 use Rattle.hush_words.proofs.DollarLemmas.{begins-here}
@@ -8,21 +8,19 @@ use Rattle.hush_words.proofs.reading.operator.Goals.{then-first-eq38, else-first
 
 pub returns-then-not-stands_at : goal.returns-then-not-stands_at
 returns-then-not-stands_at c =
-    λ parts. operator-single c.args.source.now c.args.at c.args.first c.requires.here c.requires.operator (sym c.stands_at.ensures ∙ c.if-not-stands_at.true)
+    operator-single c.args.source.now c.args.at c.args.first c.requires.here c.requires.operator (sym c.stands_at.ensures ∙ c.if-not-stands_at.true)
 
 pub returns : goal.returns
 returns c =
     let source = c.args.source.now in
     let twice = sym c.stands_at.ensures ∙ c.if-not-stands_at.false in
-    let here = begins-here c.args.first source (c.args.at + 1) twice in
-    λ parts. (
+    let here = begins-here c.args.first source (c.args.at + 1) twice in (
       omega arith,
       omega (arith, here.0),
-      λ more.
-          elim c.if-first-eq38.branch [
-            | then-first-eq38 w ↦ and-read source c.args.at c.args.first c.requires.here w.if-first-eq38.true twice
-                ∙ ap (λ k. Some (kind_token (written source (parts ++ more)) k ∷ [], drop (c.args.at + 2) source)) (sym w.result-is)
-            | else-first-eq38 w ↦ or-read source c.args.at c.args.first c.requires.here c.requires.operator w.if-first-eq38.false twice
-                ∙ ap (λ k. Some (kind_token (written source (parts ++ more)) k ∷ [], drop (c.args.at + 2) source)) (sym w.result-is)
-          ],
+      elim c.if-first-eq38.branch [
+        | then-first-eq38 w ↦ and-read source c.args.at c.args.first c.requires.here w.if-first-eq38.true twice
+            ∙ ap (λ k. Some (kind_token (written source) k ∷ [], drop (c.args.at + 2) source)) (sym w.result-is)
+        | else-first-eq38 w ↦ or-read source c.args.at c.args.first c.requires.here c.requires.operator w.if-first-eq38.false twice
+            ∙ ap (λ k. Some (kind_token (written source) k ∷ [], drop (c.args.at + 2) source)) (sym w.result-is)
+      ],
     )

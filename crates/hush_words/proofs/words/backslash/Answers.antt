@@ -1,9 +1,9 @@
-use Rattle.hush_words.proofs.WordLemmas.{escape-last}
-use Rattle.hush_words.proofs.RangeLemmas.{added-none}
+use Rattle.std.proofs.Common.{arith}
+use Rattle.hush_words.proofs.WordLemmas.{escape-ends, escape-last}
 use Rattle.hush_words.proofs.words.backslash.Goals as goal
 
-pub returns-in-None-clause-reads : goal.returns-in-None-clause-reads
-returns-in-None-clause-reads c = escape-last c.args.source.now c.args.at c.requires.here c.in-None.ensures
+pub returns-in-Some : goal.returns-in-Some
+returns-in-Some c = (omega arith, omega (arith, c.in-Some.ensures.0), escape-ends c.args.source.now c.args.at _ c.requires.here c.in-Some.ensures)
 
-pub returns-in-None-clause-adds : goal.returns-in-None-clause-adds
-returns-in-None-clause-adds c = added-none c.args.source.now c.args.parts.now.items
+pub returns-in-None : goal.returns-in-None
+returns-in-None c = escape-last c.args.source.now c.args.at c.requires.here c.in-None.ensures

@@ -1,21 +1,22 @@
-use Rattle.std.proofs.Common.{rules, arith, refl, sym, ◌∙◌, ap, ◌≡◌, Err, length, ◌-◌, List, [], ◌∷◌, Some, drop, Option, ℕ}
-use Rattle.hush_words.specs.declared.steps.LexemeRead.{LexemeRead}
-use Rattle.hush_words.specs.Words.{Atom}
-use Rattle.hush_words.specs.Tokens.Token.{Word}
-use Rattle.hush_words.specs.Parts.{atoms_of}
-use Rattle.hush_words.proofs.RangeLemmas.{added-none, added-both, adds-then, last-word}
-use Rattle.hush_words.proofs.WordLemmas.{word-whole}
-use Rattle.hush_words.proofs.WordOpens.{word-token, refused-word}
+use Rattle.std.proofs.Common.{rules, arith, refl, sym, ◌∙◌, ap, ◌≡◌, Err, drop}
+use Rattle.hush_words.specs.Words.{ends_word, next}
+use Rattle.hush_words.specs.Reading.{piece_left}
+use Rattle.hush_words.specs.Parts.{range_bytes}
+use Rattle.hush_words.proofs.PieceLemmas.{piece-none}
+use Rattle.hush_words.proofs.WordLemmas.{word-read, plain-read}
+use Rattle.hush_words.proofs.WordOpens.{word-token, no-word-token}
 use Rattle.hush_words.proofs.words.word.Goals as goal
 
 pub loop-end-init : goal.loop-end-init
-loop-end-init c = record {
-  begun = omega arith;
-  within = omega (arith, c.requires.here.0);
-  added = added-none c.args.source.now c.args.parts.now.items;
-  read = refl;
-  ends = refl;
-}
+loop-end-init c =
+    let run = c.run_end-at.ensures in
+    let plain = plain-read c.args.source.now c.args.start c.run_end-at.result run in
+    record {
+      begun = omega (arith, run.0);
+      within = run.1;
+      ends = plain.0;
+      behind = plain.1;
+    }
 
 pub loop-end-preserved : goal.loop-end-preserved
 loop-end-preserved c =
@@ -24,44 +25,23 @@ loop-end-preserved c =
     record {
       begun = omega (arith, i.begun, r.0);
       within = r.1;
-      added = added-both c.args.source.now c.args.parts.now.items c.loop-end.parts.items c.pieces.new.parts.items i.added c.in_ok-end.ensures.adds;
-      read = r.2 ∙ i.read;
       ends = r.3 ∙ i.ends;
+      behind = rw c.in-Some.is at c.in_ok-end.ensures.plain;
     }
 
-pub returns-in_err-end-clause-reads : goal.returns-in_err-end-clause-reads
-returns-in_err-end-clause-reads c =
+pub returns-in_err-end : goal.returns-in_err-end
+returns-in_err-end c =
     let source = c.args.source.now in
     let same : c.from_residual.result ≡ Err c.in_err-end.field-0.0 = search rules in
-    rw same (refused-word source c.args.start c.args.first c.requires.here c.requires.inside c.requires.no_comment c.requires.no_line
-    c.loop-end.at (atoms_of source c.loop-end.parts.items) (atoms_of source c.pieces.new.parts.items)
-    c.pieces.new.parts.items c.in_err-end.field-0.0 c.in_err-end.ensures.reads c.loop-end.invariant.ends)
+    let r = c.in_err-end.ensures.reads in
+    rw same (no-word-token source c.args.start c.args.first c.requires.here c.requires.inside c.requires.no_comment c.requires.no_line
+    (ap (next ends_word) (sym c.loop-end.invariant.ends ∙ (piece-none (drop c.loop-end.at source) r.0).1) ∙ r.1))
 
-pub returns-in_err-end-clause-adds : goal.returns-in_err-end-clause-adds
-returns-in_err-end-clause-adds c =
+pub returns : goal.returns
+returns c =
     let source = c.args.source.now in
-    let same : c.from_residual.result ≡ Err c.in_err-end.field-0.0 = search rules in
-    rw same (adds-then (Option ℕ) LexemeRead source c.args.parts.now.items c.loop-end.parts.items c.pieces.new.parts.items c.in_err-end.field-0.0 c.loop-end.invariant.added c.in_err-end.ensures.adds)
-
-pub returns-clause-reads : goal.returns-clause-reads
-returns-clause-reads c =
-    let source = c.args.source.now in
-    let old = c.args.parts.now.items in
-    let new = c.pieces.new.parts.items in
     let i = c.loop-end.invariant in
     let h = rw c.in_default.is at c.in_ok-end.ensures.reads in
-    let m = c.in_ok-end.ensures.adds in
-    let tail = added-both source old c.loop-end.parts.items new i.added m in
-    let w = word-whole source c.args.start c.loop-end.at old new (atoms_of source c.loop-end.parts.items) h tail.0 tail.1 i.read i.ends in
-    let token = word-token source c.args.start c.args.first c.requires.here c.requires.inside c.requires.no_comment c.requires.no_line
-    c.loop-end.at (atoms_of source tail.0) i.within w.0 w.1 w.2 in (
-      token.0,
-      token.1,
-      λ more. token.2 ∙ ap (λ (l : List Atom). Some (Word l ∷ [], drop c.loop-end.at source))
-          (sym (last-word source old new tail.0 more c.in_ok-whole.whole tail.1 (c.in_ok-whole.ensures.first ∙ c.count-before.ensures) (c.in_ok-whole.ensures.len ∙ ap (λ n. length new - n) (sym c.in_ok-whole.ensures.first)))),
-    )
-
-pub returns-clause-adds : goal.returns-clause-adds
-returns-clause-adds c =
-    let m = c.in_ok-end.ensures.adds in
-    added-both c.args.source.now c.args.parts.now.items c.loop-end.parts.items c.pieces.new.parts.items c.loop-end.invariant.added m
+    let w = word-read source c.args.start c.loop-end.at i.begun h.0 i.ends in
+    rw c.new.ensures (word-token source c.args.start c.args.first c.requires.here c.requires.inside c.requires.no_comment c.requires.no_line
+    c.loop-end.at (piece_left (range_bytes source c.args.start c.loop-end.at)) i.within w.0 w.1 h.1)

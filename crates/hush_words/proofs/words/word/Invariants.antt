@@ -1,15 +1,14 @@
-use Rattle.std.proofs.Common.{length, ◌-◌, ◌≡◌, ◌≤◌, ◌++◌, drop}
-use Rattle.hush_words.specs.Parts.{atoms_of}
-use Rattle.hush_words.specs.Steps.{Added, piece_left, piece_end}
+use Rattle.std.proofs.Common.{length, ◌-◌, ◌≡◌, ◌≤◌, drop, not, true}
+use Rattle.hush_words.specs.Words.{is_bare, next}
+use Rattle.hush_words.specs.Reading.{piece_end}
 use Rattle.hush_words.proofs.words.word.Given as goal
 
 abbrev pub invariant-loop-end : goal.invariant-loop-end
 invariant-loop-end l = record {
   begun : l.start ≤ l.at;
   within : l.at ≤ length l.source;
-  added : Added l.source l.fn.parts.items l.parts.items;
-  read : atoms_of l.source l.parts.items ++ piece_left (drop l.at l.source) ≡ atoms_of l.source l.fn.parts.items ++ piece_left (drop l.start l.source);
   ends : piece_end (drop l.at l.source) ≡ piece_end (drop l.start l.source);
+  behind : next (λ b. not (is_bare b)) (drop l.at l.source) ≡ true;
 }
 
 abbrev pub decreases-loop-end : goal.decreases-loop-end

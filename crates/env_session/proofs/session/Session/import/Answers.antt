@@ -1,6 +1,5 @@
 use Rattle.std.proofs.Common.{◌≡◌, ℕ, ◌+◌, ◌<◌, length, take, map, cond, refl, sym, ap, subst, ◌∙◌, arith}
 use Rattle.env_session.specs.Session.{Held}
-use Rattle.env_session.specs.Requests.{entry_in, tally, imported}
 use Rattle.env_session.proofs.LawLemmas.{imported_none, imported_more}
 use Rattle.env_session.proofs.session.Session.import.Goals as goal
 

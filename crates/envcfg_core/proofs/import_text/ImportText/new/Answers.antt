@@ -1,4 +1,4 @@
-use Rattle.std.proofs.Common.{◌≡◌, ℕ, List, Ok, sym, ap, ◌∙◌, arith}
+use Rattle.std.proofs.Common.{sym, ap, ◌∙◌, arith}
 use Rattle.std.proofs.lemmas.Bool.{cond-false}
 use Rattle.envcfg_core.specs.Entries.{with_first}
 use Rattle.envcfg_core.proofs.ImportLemmas.{passed_more, passed_all, is_whole, few_left}

@@ -1,6 +1,7 @@
 use Rattle.std.proofs.Common.{◌≡◌, List}
-use Rattle.envcfg_core.specs.Entries.{Entry, with_front}
-use Rattle.envcfg_core.specs.Lines.{numbered_lines}
+use Rattle.envcfg_core.specs.Entries.{Entry}
+use Rattle.envcfg_core.specs.ImportSteps.{with_front}
+use Rattle.text_parts.specs.Lines.{numbered_lines}
 use Rattle.envcfg_core.specs.SetScript.{entries_of_lines}
 use Rattle.envcfg_core.proofs.script_text.ScriptText.new.Given as goal
 

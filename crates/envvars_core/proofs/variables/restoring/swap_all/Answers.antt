@@ -2,8 +2,9 @@ use Rattle.std.proofs.Common.{◌≡◌, ◌%◌, ◌^◌, ◌<◌, subst, sym, 
 use Rattle.std.specs.FinMap as env
 use Rattle.envimg_core.specs.Environment.{Environment, used}
 use Rattle.envimg_core.specs.Pieces.{with_value}
-use Rattle.envvars_store.specs.Pairs.{unmarked}
-use Rattle.envvars_core.specs.Olds.{OldValues, restored, HavePlaces}
+use Rattle.envvars_store.specs.Tags.{untagged}
+use Rattle.envvars_core.specs.Olds.{OldValues, restored}
+use Rattle.envvars_core.specs.Steps.{HavePlaces}
 use Rattle.envvars_core.proofs.RestoreLemmas.{restored-empty, restored-taken, place-taken, places-taken, taken-fewer}
 use Rattle.envvars_core.proofs.variables.restoring.swap_all.Goals as goal
 
@@ -14,15 +15,15 @@ pub returns-in-None-clause-sized : goal.returns-in-None-clause-sized
 returns-in-None-clause-sized c = c.kept.invariant.sized ∙ ap (λ (m : Environment). used m % 2 ^ 64) (returns-in-None-clause-restored c)
 
 pub swap_one-size-requires-clause-place : goal.swap_one-size-requires-clause-place
-swap_one-size-requires-clause-place c = place-taken c.kept.variables c.kept.olds c.in-Some.text.0 (unmarked c.in-Some.text.1) c.kept.invariant.places c.in-Some.ensures.0
+swap_one-size-requires-clause-place c = place-taken c.kept.variables c.kept.olds c.in-Some.variable.0 (untagged c.in-Some.variable.1) c.kept.invariant.places c.in-Some.ensures.0
 
 pub kept-smaller : goal.kept-smaller
-kept-smaller c = subst (λ (o : OldValues). env.len o < env.len c.kept.olds) (sym c.in-Some.ensures.1) (taken-fewer c.kept.olds c.in-Some.text.0 (unmarked c.in-Some.text.1) c.in-Some.ensures.0)
+kept-smaller c = subst (λ (o : OldValues). env.len o < env.len c.kept.olds) (sym c.in-Some.ensures.1) (taken-fewer c.kept.olds c.in-Some.variable.0 (untagged c.in-Some.variable.1) c.in-Some.ensures.0)
 
 pub kept-preserved : goal.kept-preserved
 kept-preserved c =
-    let n = c.in-Some.text.0 in
-    let old = unmarked c.in-Some.text.1 in
+    let n = c.in-Some.variable.0 in
+    let old = untagged c.in-Some.variable.1 in
     let swapped : c.swap_one-size.new.variables ≡ with_value c.kept.variables n old = c.swap_one-size.ensures.swapped in
     let taken : c.pop.new.self ≡ env.remove c.kept.olds n = c.in-Some.ensures.1 in
     record {

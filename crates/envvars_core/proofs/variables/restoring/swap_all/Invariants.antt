@@ -1,7 +1,8 @@
 use Rattle.std.proofs.Common.{◌≡◌, ◌%◌, ◌^◌}
 use Rattle.std.specs.FinMap as env
 use Rattle.envimg_core.specs.Environment.{used}
-use Rattle.envvars_core.specs.Olds.{restored, HavePlaces}
+use Rattle.envvars_core.specs.Olds.{restored}
+use Rattle.envvars_core.specs.Steps.{HavePlaces}
 use Rattle.envvars_core.proofs.variables.restoring.swap_all.Given as goal
 
 abbrev pub invariant-kept : goal.invariant-kept

@@ -12,7 +12,7 @@ use Rattle.hush_commands.proofs.field_buffer.FieldBuffer.expand.Goals as goal
 pub returns-in_err-add_word : goal.returns-in_err-add_word
 returns-in_err-add_word c =
     let same : c.from_residual.result ≡ Err c.in_err-add_word.field-0.0 = search rules in
-    let d : Range = record { first = 0; len = 0 } in
+    let d : Range = record { start = 0; end = 0 } in
     rw same (word-refused (known c.args.scope.now) c.args.limit c.args.scope.now.text.now c.args.words.now c.loop-word.word-index d c.loop-word.self c.add_word.new.self c.in_err-add_word.field-0.0 (omega (arith, c.loop-word-test.true)) c.in_err-add_word.ensures)
 
 pub loop-word-preserved : goal.loop-word-preserved
@@ -21,7 +21,7 @@ loop-word-preserved c =
     let text = c.args.scope.now.text.now in
     let ws = c.args.words.now in
     let i = c.loop-word.word-index in
-    let d : Range = record { first = 0; len = 0 } in
+    let d : Range = record { start = 0; end = 0 } in
     let done = map (word_atoms text) (take i ws) in
     let word = word_atoms text (get_or ws i d) in
     let more = sym (next-word text ws i d (omega (arith, c.loop-word-test.true))) in

@@ -10,4 +10,4 @@ returns-in_ok-node-in-None c =
     let s = c.args.self.text.now in
     let w = c.in_ok-words-in-None.ensures in
     simple-built s (word_atoms s c.in-Some.first) (behind (left_in s c.args.tokens.now)) (left_in s c.args.tokens.now) (left_in s c.take_words.new.tokens) c.args.builder.now c.take_words.new.self c.put.new.self
-    c.in_ok-words-in-None.words c.in_ok-node-in-None.node (c.in-Some.ensures s) (sym c.in-None.ensures) (w.words s) w.grows w.waits (w.left s) c.in_ok-node-in-None.ensures
+    c.in_ok-words-in-None.words c.in_ok-node-in-None.node (c.in-Some.ensures s) (sym c.in-None.ensures) w.words w.grows w.waits w.left c.in_ok-node-in-None.ensures

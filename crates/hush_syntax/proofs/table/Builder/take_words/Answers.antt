@@ -1,15 +1,15 @@
 use Rattle.std.proofs.Common.{sym, ap, append-nil, ◌∙◌, ◌-◌, length, []}
 use Rattle.hush_syntax.specs.Answers.{left_in}
-use Rattle.hush_syntax.specs.Builders.{only_words}
 use Rattle.hush_syntax.specs.Reading.{words_at}
-use Rattle.hush_syntax.proofs.Building.{same-members}
+use Rattle.hush_syntax.proofs.Building.{same-members, only_words}
 use Rattle.hush_syntax.proofs.CommandExits.{block-told}
 use Rattle.hush_syntax.proofs.table.Builder.take_words.Goals as goal
 
 pub returns-clause-words : goal.returns-clause-words
-returns-clause-words c = λ text more.
+returns-clause-words c = λ more.
+    let text = c.args.text.now in
     let grown = c.in_ok-words.ensures.grown in
-    block-told text c.args.self.now.table.words.items c.words.new.words.items grown.0 (words_at (left_in text c.args.tokens.now)) c.in_ok-block.block more.words grown.1 (c.in_ok-words.ensures.taken text)
+    block-told text c.args.self.now.table.words.items c.words.new.words.items grown.0 (words_at (left_in text c.args.tokens.now)) c.in_ok-block.block more.words grown.1 c.in_ok-words.ensures.taken
     (c.in_ok-block.ensures.first ∙ c.count-first.ensures) (c.in_ok-block.ensures.len ∙ ap (λ n. length c.words.new.words.items - n) (sym c.in_ok-block.ensures.first))
 
 pub returns-clause-grows : goal.returns-clause-grows

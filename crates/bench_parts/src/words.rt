@@ -1,0 +1,22 @@
+//! The words of a text.
+use hush_words::{Text, TokenKind, Word};
+use std::alloc::{AllocError, Global};
+
+/// The words that stand before the end of a text, or before its first fault.
+///
+/// # Errors
+///
+/// Memory ran out.
+pub fn words_of(alloc: Global, text: &Text) -> Result<Vec<Word>, AllocError> {
+    let mut words = Vec::new(alloc);
+    let mut next = text.first_token();
+    for _ in 0..text.survey().tokens {
+        if let Ok(Some(read)) = next {
+            if let TokenKind::Word(word) = read.token.kind {
+                words.push(word)?;
+            }
+            next = text.next_token(read.end);
+        }
+    }
+    Ok(words)
+}

@@ -1,0 +1,114 @@
+-- How a text for import may spell entries: what may stand around them, each byte of a value with or without `\`, and how the text ends.
+use Rattle.std.specs.Prelude.{◌≡◌, ℕ, ◌+◌, Bool, true, false, ◌||◌, not, List, [], ◌∷◌, ◌++◌, map, None, if◌then◌else◌}
+use Rattle.std.specs.List.{list_all, list_any, flat_map, count_by}
+use Rattle.envimg_core.specs.Bytes.{equals}
+use Rattle.envimg_core.specs.Environment.{is_name}
+use Rattle.text_parts.specs.Bytes.{hash, newline, is_blank, is_newline}
+use Rattle.envcfg_core.specs.Bytes.{backslash, is_marked, some_unless_empty}
+use Rattle.envcfg_core.specs.Entries.{Entry}
+use Rattle.envcfg_core.specs.Export.{is_unreadable}
+
+-- a byte of a value, and whether `\` stands before it
+pub record SpelledByte : Type 0 where
+  pub byte : ℕ
+  pub escaped : Bool
+
+abbrev pub byte_text : SpelledByte → List ℕ
+byte_text b = if b.escaped then backslash ∷ b.byte ∷ [] else b.byte ∷ []
+
+-- `\` and a newline need the `\`; before any other byte it may stand too
+abbrev pub is_spelling : SpelledByte → Bool
+is_spelling b = b.escaped || not (is_marked b.byte)
+
+abbrev pub value_text : List SpelledByte → List ℕ
+value_text value = flat_map byte_text value
+
+abbrev pub value_of : List SpelledByte → List ℕ
+value_of value = map (λ b. b.byte) value
+
+-- what a text is made of, each but a blank with the newline that ends it
+pub data Part : Type 0 where
+  Blank : ℕ → Part
+  EmptyLine : Part
+  Comment : List ℕ → Part
+  Deletion : List ℕ → Part
+  Assignment : List ℕ → List SpelledByte → Part
+
+abbrev pub part_text : Part → List ℕ
+part_text (Blank b) = b ∷ []
+part_text EmptyLine = newline ∷ []
+part_text (Comment text) = hash ∷ (text ++ newline ∷ [])
+part_text (Deletion name) = name ++ newline ∷ []
+part_text (Assignment name value) = name ++ equals ∷ (value_text value ++ newline ∷ [])
+
+-- the name is one, and stands where an import reads it
+pub record IsReadable (name : List ℕ) : Type 0 where
+  pub name_is : is_name name ≡ true
+  pub readable : is_unreadable name ≡ false
+
+abbrev pub IsPart : Part → Type 0
+IsPart (Blank b) = is_blank b ≡ true
+IsPart EmptyLine = Unit {0}
+IsPart (Comment text) = list_any is_newline text ≡ false
+IsPart (Deletion name) = IsReadable name
+IsPart (Assignment name value) = IsReadable name × (list_all is_spelling value ≡ true)
+
+-- the entry that an assignment is: without a byte in its value it deletes
+abbrev pub assigned : ℕ → List ℕ → List ℕ → Entry
+assigned line name value = record { name = name; value = some_unless_empty value; line = line }
+
+abbrev pub deleted : ℕ → List ℕ → Entry
+deleted line name = record { name = name; value = None; line = line }
+
+-- the entry that a part is, if it is one, where it begins in this line
+abbrev pub part_entries : ℕ → Part → List Entry
+part_entries line (Blank b) = []
+part_entries line EmptyLine = []
+part_entries line (Comment text) = []
+part_entries line (Deletion name) = deleted line name ∷ []
+part_entries line (Assignment name value) = assigned line name (value_of value) ∷ []
+
+-- the line behind it
+abbrev pub line_after : ℕ → Part → ℕ
+line_after line (Blank b) = line
+line_after line EmptyLine = line + 1
+line_after line (Comment text) = line + 1
+line_after line (Deletion name) = line + 1
+line_after line (Assignment name value) = line + (count_by is_newline (value_of value) + 1)
+
+-- how a text ends behind its parts: there, or in a line without a newline, perhaps with a `\` that stands for itself
+pub data Ending : Type 0 where
+  BehindParts : Ending
+  InComment : List ℕ → Ending
+  InName : List ℕ → Ending
+  InValue : List ℕ → List SpelledByte → Ending
+  AtBackslash : List ℕ → List SpelledByte → Ending
+
+abbrev pub ending_text : Ending → List ℕ
+ending_text BehindParts = []
+ending_text (InComment text) = hash ∷ text
+ending_text (InName name) = name
+ending_text (InValue name value) = name ++ equals ∷ value_text value
+ending_text (AtBackslash name value) = name ++ equals ∷ (value_text value ++ backslash ∷ [])
+
+abbrev pub IsEnding : Ending → Type 0
+IsEnding BehindParts = Unit {0}
+IsEnding (InComment text) = list_any is_newline text ≡ false
+IsEnding (InName name) = IsReadable name
+IsEnding (InValue name value) = IsReadable name × (list_all is_spelling value ≡ true)
+IsEnding (AtBackslash name value) = IsReadable name × (list_all is_spelling value ≡ true)
+
+abbrev pub ending_entries : ℕ → Ending → List Entry
+ending_entries line BehindParts = []
+ending_entries line (InComment text) = []
+ending_entries line (InName name) = deleted line name ∷ []
+ending_entries line (InValue name value) = assigned line name (value_of value) ∷ []
+ending_entries line (AtBackslash name value) = assigned line name (value_of value ++ backslash ∷ []) ∷ []
+
+-- the text, and the entries that it spells, the first part of which begins in this line
+abbrev pub spelled_text : List Part → Ending → List ℕ
+spelled_text parts ending = flat_map part_text parts ++ ending_text ending
+
+abbrev pub spelled_entries : ℕ → List Part → Ending → List Entry
+spelled_entries line [] ending = ending_entries line ending
+spelled_entries line (part ∷ parts) ending = part_entries line part ++ spelled_entries (line_after line part) parts ending

@@ -1,0 +1,12 @@
+use Rattle.std.proofs.Common.{arith, drop}
+use Rattle.hush_words.proofs.PieceLemmas.{piece-none}
+use Rattle.hush_words.proofs.QuoteLemmas.{double-opens}
+use Rattle.hush_words.proofs.walk.double_opens.Goals as goal
+
+pub returns-in-Ok : goal.returns-in-Ok
+returns-in-Ok c =
+    let opens = double-opens c.args.source.now c.args.at _ c.requires.here c.in-Ok.ensures.2 in
+    (omega arith, omega (arith, c.requires.here.0), opens.0, tt, opens.1)
+
+pub returns-in-Err : goal.returns-in-Err
+returns-in-Err c = (piece-none (drop c.args.at c.args.source.now) c.in-Err.ensures).0

@@ -1,0 +1,4 @@
+pub mod CutLemmas
+pub mod LineLemmas
+pub mod WordLemmas
+pub mod NumeralLemmas

@@ -1,0 +1,14 @@
+//! What several text forms share: where a text is cut, its lines, and numbers by their digits.
+//!
+//! To read in this order: cuts, lines; digits, numerals.
+#![tactic(auto)]
+
+mod cuts;
+mod digits;
+mod lines;
+mod numerals;
+
+pub use cuts::{begins_with_byte, contains_byte, strip_carriage_return, without_blanks};
+pub use digits::{Base, digit_value, digits_in_front, number};
+pub use lines::{Lines, numbered_lines};
+pub use numerals::{base_of, behind_0x, numeral};
