@@ -36,23 +36,32 @@ without_trailing_blanks text = take (length text - suffix_len is_blank text) tex
 abbrev pub trimmed : List ℕ → List ℕ
 trimmed text = without_trailing_blanks (without_leading_blanks text)
 
+-- what a letter means by a table; an unknown one means the other thing
+abbrev pub meaning : {A : Type 0} → List (ℕ × A) → A → ℕ → A
+meaning [] other c = other
+meaning ((letter, meant) ∷ rows) other c = if c == letter then meant else meaning rows other c
+
+abbrev pub kinds : List (ℕ × Kind)
+kinds =
+    (decimal_letter, Decimal) ∷
+    (hexadecimal_letter, Hexadecimal) ∷
+    (boolean_letter, Boolean) ∷
+    (ip_address_letter, IpAddress) ∷
+    (mac_address_letter, MacAddress) ∷ []
+
+abbrev pub accesses : List (ℕ × Access)
+accesses =
+    (read_only_letter, ReadOnly) ∷
+    (write_once_letter, WriteOnce) ∷
+    (change_default_letter, ChangeDefault) ∷ []
+
 -- the type that a letter means: an unknown one means a string
 abbrev pub kind_of : ℕ → Kind
-kind_of c =
-    if c == decimal_letter then Decimal
-    else if c == hexadecimal_letter then Hexadecimal
-    else if c == boolean_letter then Boolean
-    else if c == ip_address_letter then IpAddress
-    else if c == mac_address_letter then MacAddress
-    else String
+kind_of = meaning kinds String
 
 -- the access that a letter means: an unknown one means any
 abbrev pub access_of : ℕ → Access
-access_of c =
-    if c == read_only_letter then ReadOnly
-    else if c == write_once_letter then WriteOnce
-    else if c == change_default_letter then ChangeDefault
-    else Any
+access_of = meaning accesses Any
 
 -- what a variable has that no item names
 abbrev pub plain : Attr

@@ -1,5 +1,5 @@
 //! The names of the commands that a run has itself (docs/runs.md, "Names of builtins").
-ghost use Rattle.std.specs.Prelude.{◌≡◌, is_some};
+ghost use Rattle.std.specs.Prelude.{◌≡◌};
 ghost use Rattle.std.specs.Str.{bytes_eq};
 
 /// A command that a run has itself.

@@ -1,7 +1,7 @@
 //! Commands that write variables (docs/runs.md, "Commands").
-ghost use Rattle.std.specs.Prelude.{◌≡◌, ◌++◌, ◌∷◌, OnOk, IfOk, map};
+ghost use Rattle.std.specs.Prelude.{◌≡◌, ◌++◌, OnOk, IfOk};
 ghost use Rattle.hush_commands.specs.Commands.{spaced, behind_spaces};
-ghost use Rattle.hush_commands.specs.Writing.{CarriesOut, message_of, write_of, set_by, forced_setting, set_of, calculated_of};
+ghost use Rattle.hush_commands.specs.Writing.{CarriesOut, message_of, write_of, set_of, calculated_of};
 
 use crate::builtins::is_text;
 use crate::messages::Message;

@@ -1,8 +1,8 @@
 //! The steps of a run (docs/runs.md, "Steps"). Each counts one, or stops with nothing changed.
-ghost use Rattle.std.specs.Prelude.{◌≡◌, ℕ, List, [], ◌∷◌, map, if◌then◌else◌};
+ghost use Rattle.std.specs.Prelude.{ℕ, List, ◌∷◌, map, if◌then◌else◌};
 ghost use Rattle.hush_words.specs.Parts.{word_atoms};
 ghost use Rattle.hush_syntax.specs.Trees.{name_in};
-ghost use Rattle.hush_run.specs.Meaning.{Rules, Begin, State, Out, Goes, ◌then◌, simple, follows, fields_of, step, assigned, for, bindings, deletions};
+ghost use Rattle.hush_run.specs.Meaning.{Goes, ◌then◌, simple, follows, fields_of, step, assigned, for, bindings, deletions};
 ghost use Rattle.hush_run.specs.Steps.{state_of, rules_of, Meant, Did, Started};
 
 use crate::ending::{Reason, Stop};

@@ -9,7 +9,7 @@ use Rattle.hush_words.specs.Words.Atom.{Plain, Quoted, Mark, Value, Status}
 use Rattle.hush_words.specs.Forms.{is_plain, first_plain, name_of, assignment_of, split_of}
 use Rattle.hush_words.specs.Parts.{range_bytes, part_atoms}
 use Rattle.hush_words.specs.Ranges.{Fits}
-use Rattle.hush_words.specs.Reading.{piece_left}
+use Rattle.hush_words.specs.Reading.{piece_atoms_left}
 use Rattle.hush_words.specs.Steps.{begins_otherwise, PlainRest, FirstIs, SplitsAt}
 use Rattle.hush_words.specs.declared.parts.Part.{Part}
 use Rattle.hush_words.proofs.RangeLemmas.{front-drop, front-range}
@@ -73,29 +73,29 @@ nothing-plain (t ∷ text) = sym (ne_eqb (length (t ∷ text)) 0 (λ e. omega ar
 -- a word's two sides, as ranges of the same text
 pub sides : (source : List ℕ) (start end at : ℕ) → SplitsAt (take end source) start (Some at) →
     ◌≡◌ {A = Option (Option (List ℕ) × List Atom)}
-    (Some (name_of (piece_left (range_bytes source start at)), piece_left (range_bytes source (at + 1) end)))
-    (split_of (piece_left (range_bytes source start end)))
+    (Some (name_of (piece_atoms_left (range_bytes source start at)), piece_atoms_left (range_bytes source (at + 1) end)))
+    (split_of (piece_atoms_left (range_bytes source start end)))
 sides source start end at (ordered, within, n, read, split) =
     let low : at < end = omega (arith, within, length-take end source) in
     let word : drop start (take end source) ≡ range_bytes source start end = front-drop source start end in
     let name : range_bytes (take end source) start at ≡ range_bytes source start at = front-range source start at end (omega arith) in
     let value : drop (at + 1) (take end source) ≡ range_bytes source (at + 1) end = front-drop source (at + 1) end in
-    let split' : assignment_of (piece_left (range_bytes source start end)) ≡ Some (n, piece_left (range_bytes source (at + 1) end)) =
-    sym (ap (λ l. assignment_of (piece_left l)) word) ∙ split ∙ ap (λ l. Some (n, piece_left l)) value in
-    let is = (assignment-told n (piece_left (range_bytes source (at + 1) end)) (piece_left (range_bytes source start end))).0 split' in
-    let named : name_of (piece_left (range_bytes source start at)) ≡ Some n =
-    (name-told n (piece_left (range_bytes source start at))).1 (is.0, sym (ap piece_left name) ∙ read) in
-    ap (λ o. Some (o, piece_left (range_bytes source (at + 1) end))) named
+    let split' : assignment_of (piece_atoms_left (range_bytes source start end)) ≡ Some (n, piece_atoms_left (range_bytes source (at + 1) end)) =
+    sym (ap (λ l. assignment_of (piece_atoms_left l)) word) ∙ split ∙ ap (λ l. Some (n, piece_atoms_left l)) value in
+    let is = (assignment-told n (piece_atoms_left (range_bytes source (at + 1) end)) (piece_atoms_left (range_bytes source start end))).0 split' in
+    let named : name_of (piece_atoms_left (range_bytes source start at)) ≡ Some n =
+    (name-told n (piece_atoms_left (range_bytes source start at))).1 (is.0, sym (ap piece_atoms_left name) ∙ read) in
+    ap (λ o. Some (o, piece_atoms_left (range_bytes source (at + 1) end))) named
     ∙ ap (λ o. option_map (λ f. (Some f.0, f.1)) o) (sym split')
 
 pub no-sides : (source : List ℕ) (start end : ℕ) → SplitsAt (take end source) start None →
-    assignment_of (piece_left (range_bytes source start end)) ≡ None
-no-sides source start end none = sym (ap (λ l. assignment_of (piece_left l)) (front-drop source start end)) ∙ none
+    assignment_of (piece_atoms_left (range_bytes source start end)) ≡ None
+no-sides source start end none = sym (ap (λ l. assignment_of (piece_atoms_left l)) (front-drop source start end)) ∙ none
 
 pub some-sides : (source : List ℕ) (start end at : ℕ) → SplitsAt (take end source) start (Some at) →
-    true ≡ is_some (assignment_of (piece_left (range_bytes source start end)))
+    true ≡ is_some (assignment_of (piece_atoms_left (range_bytes source start end)))
 some-sides source start end at (ordered, within, n, read, split) =
-    sym (ap (λ l. is_some (assignment_of (piece_left l))) (sym (front-drop source start end)) ∙ ap (λ o. is_some o) split)
+    sym (ap (λ l. is_some (assignment_of (piece_atoms_left l))) (sym (front-drop source start end)) ∙ ap (λ o. is_some o) split)
 
 -- through the parts of a word, which are those of this source
 pub fits-in : (left source : List ℕ) (p : Part) → left ≡ source → Fits left p → Fits source p

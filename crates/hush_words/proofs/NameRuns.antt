@@ -10,7 +10,7 @@ use Rattle.hush_words.specs.Words.Atom.{Plain}
 use Rattle.hush_words.specs.Words.Dollar.{Name, Braces, LastStatus, Alone}
 use Rattle.hush_words.specs.Words.Piece.{Bare, Joined, Single, Double}
 use Rattle.hush_words.specs.Forms.{goes_on, with_byte, name_from, name_of, value_from, assignment_from, assignment_of}
-use Rattle.hush_words.specs.Reading.{Found, found, front, behind, all, as_piece, closed, dollar_at, inner_at, escape_at, single_at, double_at, piece_at, piece_left}
+use Rattle.hush_words.specs.Reading.{Found, found, front, behind, all, as_piece, closed, dollar_at, inner_at, escape_at, single_at, double_at, piece_at, piece_atoms_left}
 use Rattle.hush_words.specs.Parts.{range_bytes}
 use Rattle.hush_words.specs.Steps.{begins, behind_front, behind_name, StandsAt, IsRun, GoesOn, ReadsPlain, NameStops, SplitsAt}
 use Rattle.hush_words.proofs.ClassLemmas.{name-bare}
@@ -90,7 +90,7 @@ none-range source at =
 
 pub both-read : (r s xs ys : List ℕ) → ReadsPlain r xs → ReadsPlain s ys → ReadsPlain (r ++ s) (xs ++ ys)
 both-read r s xs ys f g rest =
-    ap piece_left (append_assoc r s rest) ∙ f (s ++ rest) ∙ ap (λ l. map Plain xs ++ l) (g rest) ∙ sym (plain-both xs ys (piece_left rest))
+    ap piece_atoms_left (append_assoc r s rest) ∙ f (s ++ rest) ∙ ap (λ l. map Plain xs ++ l) (g rest) ∙ sym (plain-both xs ys (piece_atoms_left rest))
 
 all-bare : (bs : List ℕ) → list_all is_in_name bs ≡ true → list_all is_bare bs ≡ true
 all-bare [] e = refl
@@ -200,22 +200,22 @@ piece-other begun b bs stops =
     (λ q. on_test (b == 34) (Other begun b) _ _ (λ w. double-other begun b bs) (λ w. tt)))))
 
 stopped-by : (begun : Bool) (b : ℕ) (bs : List ℕ) (o : Found Piece) → piece_at (b ∷ bs) ≡ o → Other begun b o →
-    (is_some o ≡ true → name_from begun (piece_left (b ∷ bs)) ≡ None) ×
-    (begun && b == 61 ≡ false → assignment_from begun (piece_left (b ∷ bs)) ≡ None)
+    (is_some o ≡ true → name_from begun (piece_atoms_left (b ∷ bs)) ≡ None) ×
+    (begun && b == 61 ≡ false → assignment_from begun (piece_atoms_left (b ∷ bs)) ≡ None)
 stopped-by begun b bs None e other =
     let none = (piece-none (b ∷ bs) e).0 in
     (λ h. absurd (both_ways false refl h), λ h. ap (assignment_from begun) none)
 stopped-by begun b bs (Some f) e other =
     let one = (piece-one (b ∷ bs) f.0 f.1 e).0 in
-    let o = other (piece_left f.1) in
+    let o = other (piece_atoms_left f.1) in
     (λ h. ap (name_from begun) one ∙ o.0, λ h. ap (assignment_from begun) one ∙ o.1 h)
 
 -- a name is one where no piece stands behind it
-pub name-not : (begun : Bool) (text : List ℕ) → NameStops begun text → is_some (piece_at text) ≡ true → name_from begun (piece_left text) ≡ None
+pub name-not : (begun : Bool) (text : List ℕ) → NameStops begun text → is_some (piece_at text) ≡ true → name_from begun (piece_atoms_left text) ≡ None
 name-not begun [] stops e = absurd (both_ways (is_some (piece_at [])) (ap (λ o. is_some o) nothing-left) e)
 name-not begun (b ∷ bs) stops e = (stopped-by begun b bs (piece_at (b ∷ bs)) refl (piece-other begun b bs stops)).0 e
 
-none-by : (text : List ℕ) (o : Found Piece) → piece_at text ≡ o → is_some o ≡ false → piece_left text ≡ []
+none-by : (text : List ℕ) (o : Found Piece) → piece_at text ≡ o → is_some o ≡ false → piece_atoms_left text ≡ []
 none-by text None e h = (piece-none text e).0
 none-by text (Some f) e h = absurd (both_ways true h refl)
 
@@ -229,16 +229,16 @@ some-behind front (Some n) = refl
 
 -- through a name
 name-through : (source : List ℕ) (start at : ℕ) (bytes : List ℕ) (begun : Bool) → start ≤ at → ReadsPlain (range_bytes source start at) bytes →
-    GoesOn false bytes begun → is_some (name_of (piece_left (drop start source))) ≡ is_some (name_from begun (piece_left (drop at source)))
+    GoesOn false bytes begun → is_some (name_of (piece_atoms_left (drop start source))) ≡ is_some (name_from begun (piece_atoms_left (drop at source)))
 unfolding name_of
 name-through source start at bytes begun ordered reads goes =
-    ap (λ l. is_some (name_from false l)) (ap piece_left (range-rest source start at ordered) ∙ reads (drop at source))
-    ∙ ap (λ o. is_some o) (goes.0 (piece_left (drop at source))) ∙ some-behind bytes (name_from begun (piece_left (drop at source)))
+    ap (λ l. is_some (name_from false l)) (ap piece_atoms_left (range-rest source start at ordered) ∙ reads (drop at source))
+    ∙ ap (λ o. is_some o) (goes.0 (piece_atoms_left (drop at source))) ∙ some-behind bytes (name_from begun (piece_atoms_left (drop at source)))
 
 pub name-told-by : (source : List ℕ) (start at : ℕ) (bytes : List ℕ) (begun goes : Bool) → start ≤ at → NameStops begun (drop at source) →
     ReadsPlain (range_bytes source start at) bytes → GoesOn false bytes begun → goes ≡ is_some (piece_at (drop at source)) →
-    (goes ≡ true → false ≡ is_some (name_of (piece_left (drop start source)))) ×
-    (goes ≡ false → begun ≡ is_some (name_of (piece_left (drop start source))))
+    (goes ≡ true → false ≡ is_some (name_of (piece_atoms_left (drop start source)))) ×
+    (goes ≡ false → begun ≡ is_some (name_of (piece_atoms_left (drop start source))))
 name-told-by source start at bytes begun goes ordered stops reads on is = (
   λ e. sym (name-through source start at bytes begun ordered reads on
       ∙ ap (λ o. is_some o) (name-not begun (drop at source) stops (sym is ∙ e))),
@@ -248,12 +248,12 @@ name-told-by source start at bytes begun goes ordered stops reads on is = (
 
 -- and through an assignment
 assignment-through : (source : List ℕ) (start at : ℕ) (bytes : List ℕ) (begun : Bool) → start ≤ at → ReadsPlain (range_bytes source start at) bytes →
-    GoesOn false bytes begun → assignment_of (piece_left (drop start source)) ≡ behind_front bytes (assignment_from begun (piece_left (drop at source)))
+    GoesOn false bytes begun → assignment_of (piece_atoms_left (drop start source)) ≡ behind_front bytes (assignment_from begun (piece_atoms_left (drop at source)))
 unfolding assignment_of
 assignment-through source start at bytes begun ordered reads goes =
-    ap (assignment_from false) (ap piece_left (range-rest source start at ordered) ∙ reads (drop at source)) ∙ goes.1 (piece_left (drop at source))
+    ap (assignment_from false) (ap piece_atoms_left (range-rest source start at ordered) ∙ reads (drop at source)) ∙ goes.1 (piece_atoms_left (drop at source))
 
-stops-assigning : (begun : Bool) (text : List ℕ) → NameStops begun text → begun && begins 61 text ≡ false → assignment_from begun (piece_left text) ≡ None
+stops-assigning : (begun : Bool) (text : List ℕ) → NameStops begun text → begun && begins 61 text ≡ false → assignment_from begun (piece_atoms_left text) ≡ None
 stops-assigning begun [] stops e = ap (assignment_from begun) nothing
 stops-assigning begun (b ∷ bs) stops e = (stopped-by begun b bs (piece_at (b ∷ bs)) refl (piece-other begun b bs stops)).1 e
 
@@ -272,7 +272,7 @@ equals-bare : is_bare 61 ≡ true
 unfolding is_bare ends_word is_special is_blank
 equals-bare = refl
 
-equals-piece : (bs : List ℕ) → piece_left (61 ∷ bs) ≡ Plain 61 ∷ piece_left bs
+equals-piece : (bs : List ℕ) → piece_atoms_left (61 ∷ bs) ≡ Plain 61 ∷ piece_atoms_left bs
 equals-piece bs = (piece-one (61 ∷ bs) (Bare 61) bs (piece-bare 61 bs equals-bare)).0
 
 equals-value : (rest : List Atom) → assignment_from true (Plain 61 ∷ rest) ≡ Some ([], rest)
@@ -283,13 +283,13 @@ pub equals-there : (source : List ℕ) (start at : ℕ) (bytes : List ℕ) (begu
     GoesOn false bytes begun → begun ≡ true → begins 61 (drop at source) ≡ true → SplitsAt source start (Some at)
 equals-there source start at bytes begun ordered reads goes is e =
     let here = begins-here 61 source at e in
-    let rest : List Atom = piece_left (drop (at + 1) source) in (
+    let rest : List Atom = piece_atoms_left (drop (at + 1) source) in (
       ordered,
       here.0,
       bytes,
-      sym (ap piece_left (append-nil (range_bytes source start at))) ∙ reads [] ∙ ap (λ l. map Plain bytes ++ l) nothing ∙ append-nil (map Plain bytes),
+      sym (ap piece_atoms_left (append-nil (range_bytes source start at))) ∙ reads [] ∙ ap (λ l. map Plain bytes ++ l) nothing ∙ append-nil (map Plain bytes),
       assignment-through source start at bytes begun ordered reads goes
-          ∙ ap (λ t. behind_front bytes (assignment_from t (piece_left (drop at source)))) is
-          ∙ ap (λ l. behind_front bytes (assignment_from true l)) (ap piece_left here.1 ∙ equals-piece (drop (at + 1) source))
+          ∙ ap (λ t. behind_front bytes (assignment_from t (piece_atoms_left (drop at source)))) is
+          ∙ ap (λ l. behind_front bytes (assignment_from true l)) (ap piece_atoms_left here.1 ∙ equals-piece (drop (at + 1) source))
           ∙ ap (behind_front bytes) (equals-value rest) ∙ ap (λ l. Some (l, rest)) (append-nil bytes),
     )

@@ -11,20 +11,20 @@ use Rattle.hush_words.specs.Words.Atom.{Plain}
 use Rattle.hush_words.specs.Words.Dollar.{Name, Braces, LastStatus, Alone}
 use Rattle.hush_words.specs.Words.Inner.{Byte, Backslash, EscapedInner, JoinedInner, DollarInner}
 use Rattle.hush_words.specs.Words.Piece.{Bare, Escaped, Joined, Single, Double, DollarPiece}
-use Rattle.hush_words.specs.Reading.{Found, found, all, piece_at, piece_left, piece_end}
+use Rattle.hush_words.specs.Reading.{Found, found, all, piece_at, piece_atoms_left, piece_end}
 use Rattle.hush_words.specs.Parts.{range_bytes}
 use Rattle.hush_words.proofs.Many.{all-some, all-none, many-list, many-fits, Fitting}
 use Rattle.hush_words.proofs.Pieces.{piece-shortens, piece-bare, piece-heads, piece-takes, piece-finds}
 
 pub piece-one : (bs : List ℕ) (p : Piece) (r : List ℕ) → piece_at bs ≡ found p r →
-    (piece_left bs ≡ piece_atoms p ++ piece_left r) × (piece_end bs ≡ piece_end r)
-unfolding piece_left piece_end
+    (piece_atoms_left bs ≡ piece_atoms p ++ piece_atoms_left r) × (piece_end bs ≡ piece_end r)
+unfolding piece_atoms_left piece_end
 piece-one bs p r e =
     let q = all-some piece_at piece-shortens bs p r e in
     (ap (λ w. flat_map piece_atoms w.0) q, ap (λ w. w.1) q)
 
-pub piece-none : (bs : List ℕ) → piece_at bs ≡ None → (piece_left bs ≡ []) × (piece_end bs ≡ bs)
-unfolding piece_left piece_end
+pub piece-none : (bs : List ℕ) → piece_at bs ≡ None → (piece_atoms_left bs ≡ []) × (piece_end bs ≡ bs)
+unfolding piece_atoms_left piece_end
 piece-none bs e =
     let q = all-none piece_at bs e in
     (ap (λ w. flat_map piece_atoms w.0) q, ap (λ w. w.1) q)
@@ -33,12 +33,12 @@ pub nothing-left : piece_at [] ≡ None
 unfolding piece_at
 nothing-left = refl
 
-pub nothing : piece_left [] ≡ []
+pub nothing : piece_atoms_left [] ≡ []
 nothing = (piece-none [] nothing-left).0
 
 -- bytes that stand for themselves, one piece each
 pub piece-run : (run rest : List ℕ) → list_all is_bare run ≡ true →
-    (piece_left (run ++ rest) ≡ map Plain run ++ piece_left rest) × (piece_end (run ++ rest) ≡ piece_end rest)
+    (piece_atoms_left (run ++ rest) ≡ map Plain run ++ piece_atoms_left rest) × (piece_end (run ++ rest) ≡ piece_end rest)
 piece-run [] rest all = (refl, refl)
 piece-run (b ∷ bs) rest all =
     let p = and_parts (is_bare b) (list_all is_bare bs) all in
@@ -75,12 +75,12 @@ range-join source start mid end low high =
 
 -- a run of bare bytes
 pub run-read : (source : List ℕ) (start end : ℕ) → start ≤ end → list_all is_bare (range_bytes source start end) ≡ true →
-    (piece_left (drop start source) ≡ map Plain (range_bytes source start end) ++ piece_left (drop end source)) ×
+    (piece_atoms_left (drop start source) ≡ map Plain (range_bytes source start end) ++ piece_atoms_left (drop end source)) ×
     (piece_end (drop end source) ≡ piece_end (drop start source))
 run-read source start end ordered bare =
     let r = piece-run (range_bytes source start end) (drop end source) bare in
     let whole = range-rest source start end ordered in
-    (ap piece_left whole ∙ r.0, sym r.1 ∙ ap piece_end (sym whole))
+    (ap piece_atoms_left whole ∙ r.0, sym r.1 ∙ ap piece_end (sym whole))
 
 -- what fits before a text fits before its front alone, since it looks at the byte behind it and no further
 next-front : (test : ℕ → Bool) (front rest : List ℕ) → next test (front ++ rest) ≡ true → next test front ≡ true
@@ -121,8 +121,8 @@ all-again ps rest fit =
     (many-list piece_text FitsPiece piece_at piece-heads piece-takes ps [] (length (flat_map piece_text ps ++ []))
     (all-front piece_text FitsPiece piece-front ps [] rest fit) nothing-left (omega arith))
 
-pub read-again : (text bytes : List ℕ) → text ≡ bytes ++ piece_end text → piece_left bytes ≡ piece_left text
-unfolding piece_left piece_end
+pub read-again : (text bytes : List ℕ) → text ≡ bytes ++ piece_end text → piece_atoms_left bytes ≡ piece_atoms_left text
+unfolding piece_atoms_left piece_end
 read-again text bytes e =
     let f : Fitting piece_text FitsPiece text (all piece_at text) = many-fits piece_text FitsPiece piece_at piece-finds (length text) text in
     let ps : List Piece = (all piece_at text).0 in

@@ -3,7 +3,7 @@ use Rattle.std.specs.Prelude.{◌≡◌, ℕ, ◌+◌, ◌<◌, ◌≤◌, true,
 use Rattle.std.specs.Option.{option_map}
 use Rattle.std.proofs.Common.{refl, sym, ◌∙◌, ap, subst, arith, length-append, length-drop}
 use Rattle.hush_words.specs.Tokens.{Token, Lexeme, lexeme_text, lexeme_tokens, FitsLexeme, has_no_nul}
-use Rattle.hush_words.specs.Reading.{Found, found, all, lexeme_at, places_from, places_left, token_places, lexeme_left, lexeme_end, tokens_of, tokens_before_fault}
+use Rattle.hush_words.specs.Reading.{Found, found, all, lexeme_at, places_from, places_left, token_places, tokens_left, lexeme_end, tokens_of, tokens_before_fault}
 use Rattle.hush_words.specs.Parts.{Written, written}
 use Rattle.hush_words.specs.Steps.{StandsAt, lexeme_read, optional_token}
 use Rattle.hush_words.specs.Views.{kind_token, NextToken, FirstToken}
@@ -59,12 +59,12 @@ places-whole source clean = rw clean refl
 pub token-behind : (source : List ℕ) (place at end : ℕ) (kind : TokenKind) (r : TokenRead) → r.token.kind ≡ kind → r.token.place ≡ at → r.end ≡ end →
     place ≤ at → at < end → end ≤ length source →
     option_map lexeme_read (lexeme_at (drop at source)) ≡ Some (optional_token (written source) (Some kind), drop end source) →
-    lexeme_left (drop at source) ≡ lexeme_left (drop place source) → lexeme_end (drop at source) ≡ lexeme_end (drop place source) →
+    tokens_left (drop at source) ≡ tokens_left (drop place source) → lexeme_end (drop at source) ≡ lexeme_end (drop place source) →
     places_left at (drop at source) ≡ places_left place (drop place source) → NextToken (written source) place (Ok (Some r))
 token-behind source place at end kind r ek ep ee begun lt within h left ends places =
     let t = read-lexeme (drop at source) (optional_token (written source) (Some kind)) (drop end source) h in (
-      sym left ∙ t.0 ∙ ap (λ k. kind_token (written source) k ∷ lexeme_left (drop end source)) (sym ek)
-          ∙ ap (λ n. kind_token (written source) r.token.kind ∷ lexeme_left (drop n source)) (sym ee),
+      sym left ∙ t.0 ∙ ap (λ k. kind_token (written source) k ∷ tokens_left (drop end source)) (sym ek)
+          ∙ ap (λ n. kind_token (written source) r.token.kind ∷ tokens_left (drop n source)) (sym ee),
       sym ends ∙ t.1 ∙ ap (λ n. lexeme_end (drop n source)) (sym ee),
       sym places ∙ places-read source (written source) at end (Some kind) lt within h
           ∙ ap (λ n. n ∷ places_left end (drop end source)) (sym ep) ∙ ap (λ n. r.token.place ∷ places_left n (drop n source)) (sym ee),
@@ -75,7 +75,7 @@ token-behind source place at end kind r ek ep ee begun lt within h left ends pla
 -- what is passed over
 pub passed-over : (source : List ℕ) (at end : ℕ) → at < end → end ≤ length source →
     option_map lexeme_read (lexeme_at (drop at source)) ≡ Some (optional_token (written source) None, drop end source) →
-    (lexeme_left (drop end source) ≡ lexeme_left (drop at source)) × (lexeme_end (drop end source) ≡ lexeme_end (drop at source)) ×
+    (tokens_left (drop end source) ≡ tokens_left (drop at source)) × (lexeme_end (drop end source) ≡ lexeme_end (drop at source)) ×
     (places_left end (drop end source) ≡ places_left at (drop at source))
 passed-over source at end lt within h =
     let t = read-lexeme (drop at source) (optional_token (written source) None) (drop end source) h in
@@ -83,7 +83,7 @@ passed-over source at end lt within h =
 
 -- no token up to a fault, or to the end
 pub no-token : (source : List ℕ) (place at b : ℕ) (f : Fault) → StandsAt source at b → lexeme_at (drop at source) ≡ None →
-    lexeme_left (drop at source) ≡ lexeme_left (drop place source) → lexeme_end (drop at source) ≡ lexeme_end (drop place source) →
+    tokens_left (drop at source) ≡ tokens_left (drop place source) → lexeme_end (drop at source) ≡ lexeme_end (drop place source) →
     NextToken (written source) place (Err f)
 no-token source place at b f here none left ends =
     let n = lexeme-none (drop at source) none in (
@@ -92,18 +92,18 @@ no-token source place at b f here none left ends =
     )
 
 pub end-of-tokens : (source : List ℕ) (place at : ℕ) → drop at source ≡ [] →
-    lexeme_left (drop at source) ≡ lexeme_left (drop place source) → lexeme_end (drop at source) ≡ lexeme_end (drop place source) →
+    tokens_left (drop at source) ≡ tokens_left (drop place source) → lexeme_end (drop at source) ≡ lexeme_end (drop place source) →
     NextToken (written source) place (Ok None)
 end-of-tokens source place at e left ends =
     let n = lexeme-none [] nothing-at-end in
-    (sym left ∙ ap lexeme_left e ∙ n.0, sym ends ∙ ap lexeme_end e ∙ n.1)
+    (sym left ∙ ap tokens_left e ∙ n.0, sym ends ∙ ap lexeme_end e ∙ n.1)
 
 -- tokens that are counted, up to the end or to a fault
 pub count-step : (count : ℕ) (token : Token) (left rest : List Token) (whole : ℕ) → count + length left ≡ whole → left ≡ token ∷ rest → count + 1 + length rest ≡ whole
 count-step count token left rest whole e f = omega (arith, e, ap length f)
 
-pub count-end : (source : List ℕ) (at count : ℕ) → has_no_nul source ≡ true → count + length (lexeme_left (drop at source)) ≡ length (lexeme_left source) →
-    lexeme_left (drop at source) ≡ [] → count ≡ length (tokens_before_fault source)
+pub count-end : (source : List ℕ) (at count : ℕ) → has_no_nul source ≡ true → count + length (tokens_left (drop at source)) ≡ length (tokens_left source) →
+    tokens_left (drop at source) ≡ [] → count ≡ length (tokens_before_fault source)
 count-end source at count clean e none =
     omega (arith, e, ap length none, ap length (front-left source clean))
 
@@ -123,7 +123,7 @@ first-token source (Ok (Some read)) clean n = (
   places-whole source clean ∙ n.2,
   n.4,
   (
-    λ none end. absurd (let both : ◌≡◌ {A = Option (List Token)} None (Some (lexeme_left source)) = sym none ∙ text-whole source clean (n.1 ∙ end) in cc),
+    λ none end. absurd (let both : ◌≡◌ {A = Option (List Token)} None (Some (tokens_left source)) = sym none ∙ text-whole source clean (n.1 ∙ end) in cc),
     λ h. text-not source clean (λ e. h (sym n.1 ∙ e)),
   ),
 )

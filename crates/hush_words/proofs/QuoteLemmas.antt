@@ -8,7 +8,7 @@ use Rattle.std.proofs.lemmas.List.{drop_all, drop-drop}
 use Rattle.hush_words.specs.Words.{Atom, Piece, piece_atoms, next}
 use Rattle.hush_words.specs.Words.Atom.{Quoted, Mark}
 use Rattle.hush_words.specs.Words.Piece.{Single, Double}
-use Rattle.hush_words.specs.Reading.{found, front, behind, all, closed, inner_at, single_at, double_at, piece_at, piece_left}
+use Rattle.hush_words.specs.Reading.{found, front, behind, all, closed, inner_at, single_at, double_at, piece_at, piece_atoms_left}
 use Rattle.hush_words.specs.Steps.{StandsAt, IsRun, begins, inner_left, inner_end, atoms_left, Closes}
 use Rattle.hush_words.specs.Parts.{range_bytes}
 use Rattle.hush_words.specs.declared.steps.Inside.TheVariants as inside
@@ -106,7 +106,7 @@ closed-is k p (b ∷ bs) e = rw e refl
 -- into a pair of quotes that is closed
 pub single-opens : (source : List ℕ) (at : ℕ) (rest : List ℕ) → StandsAt source at 39 →
     option_map (λ (f : Piece × List ℕ). f.1) (piece_at (drop at source)) ≡ Some rest →
-    Closes inside.Single (drop (at + 1) source) × (piece_left (drop at source) ≡ Mark ∷ atoms_left inside.Single (drop (at + 1) source))
+    Closes inside.Single (drop (at + 1) source) × (piece_atoms_left (drop at source) ≡ Mark ∷ atoms_left inside.Single (drop (at + 1) source))
 single-opens source at rest here h =
     let bs : List ℕ = drop (at + 1) source in
     let p : Piece = Single (front (λ b. not (b == 39)) bs) in
@@ -114,13 +114,13 @@ single-opens source at rest here h =
     let shut = closed-some 39 p (behind (λ b. not (b == 39)) bs) rest (ap (λ o. option_map (λ (f : Piece × List ℕ). f.1) o) (sym e) ∙ h) in
     (shut, (piece-one (drop at source) p (drop 1 (behind (λ b. not (b == 39)) bs)) (e ∙ closed-is 39 p (behind (λ b. not (b == 39)) bs) shut)).0)
 
-double-atoms : (text rest : List ℕ) → piece_atoms (Double (all inner_at text).0) ++ piece_left rest ≡ Mark ∷ (inner_left text ++ piece_left rest)
+double-atoms : (text rest : List ℕ) → piece_atoms (Double (all inner_at text).0) ++ piece_atoms_left rest ≡ Mark ∷ (inner_left text ++ piece_atoms_left rest)
 unfolding inner_left
 double-atoms text rest = refl
 
 pub double-opens : (source : List ℕ) (at : ℕ) (rest : List ℕ) → StandsAt source at 34 →
     option_map (λ (f : Piece × List ℕ). f.1) (piece_at (drop at source)) ≡ Some rest →
-    Closes inside.Double (drop (at + 1) source) × (piece_left (drop at source) ≡ Mark ∷ atoms_left inside.Double (drop (at + 1) source))
+    Closes inside.Double (drop (at + 1) source) × (piece_atoms_left (drop at source) ≡ Mark ∷ atoms_left inside.Double (drop (at + 1) source))
 double-opens source at rest here h =
     let bs : List ℕ = drop (at + 1) source in
     let p : Piece = Double (all inner_at bs).0 in
@@ -133,32 +133,32 @@ double-opens source at rest here h =
 -- the rest of a pair of single quotes
 pub single-left : (source : List ℕ) (at end : ℕ) → IsRun (λ b. not (b == 39)) source at end →
     begins 39 (behind (λ b. not (b == 39)) (drop at source)) ≡ true →
-    (end < length source) × (atoms_left inside.Single (drop at source) ≡ map Quoted (range_bytes source at end) ++ piece_left (drop (end + 1) source))
+    (end < length source) × (atoms_left inside.Single (drop at source) ≡ map Quoted (range_bytes source at end) ++ piece_atoms_left (drop (end + 1) source))
 single-left source at end run shut =
     let here = begins-here 39 source end (ap (begins 39) run.3 ∙ shut) in (
       here.0,
-      ap (λ l. map Quoted l ++ piece_left (drop 1 (behind (λ b. not (b == 39)) (drop at source)))) (sym run.2)
-          ∙ ap (λ l. map Quoted (range_bytes source at end) ++ piece_left l)
+      ap (λ l. map Quoted l ++ piece_atoms_left (drop 1 (behind (λ b. not (b == 39)) (drop at source)))) (sym run.2)
+          ∙ ap (λ l. map Quoted (range_bytes source at end) ++ piece_atoms_left l)
           (ap (drop 1) (sym run.3) ∙ drop-drop 1 end source),
     )
 
 -- the quote that closes a pair of double quotes
 pub double-left : (source : List ℕ) (at : ℕ) → inner_at (drop at source) ≡ None → begins 34 (inner_end (drop at source)) ≡ true →
-    (at < length source) × (atoms_left inside.Double (drop at source) ≡ piece_left (drop (at + 1) source))
+    (at < length source) × (atoms_left inside.Double (drop at source) ≡ piece_atoms_left (drop (at + 1) source))
 double-left source at none shut =
     let e = inner-none (drop at source) none in
     let here = begins-here 34 source at (ap (begins 34) (sym e.1) ∙ shut) in (
       here.0,
-      ap (λ l. l ++ piece_left (drop 1 (inner_end (drop at source)))) e.0
-          ∙ ap (λ l. piece_left (drop 1 l)) e.1 ∙ ap piece_left (drop-drop 1 at source),
+      ap (λ l. l ++ piece_atoms_left (drop 1 (inner_end (drop at source)))) e.0
+          ∙ ap (λ l. piece_atoms_left (drop 1 l)) e.1 ∙ ap piece_atoms_left (drop-drop 1 at source),
     )
 
 -- what stands before it
 pub double-on : (left more rest : List Atom) (end after : List ℕ) → left ≡ more ++ rest → end ≡ after →
-    (left ++ piece_left (drop 1 end) ≡ more ++ (rest ++ piece_left (drop 1 after)))
+    (left ++ piece_atoms_left (drop 1 end) ≡ more ++ (rest ++ piece_atoms_left (drop 1 after)))
 double-on left more rest end after e f =
-    ap (λ l. l ++ piece_left (drop 1 end)) e ∙ append_assoc more rest (piece_left (drop 1 end))
-    ∙ ap (λ l. more ++ (rest ++ piece_left (drop 1 l))) f
+    ap (λ l. l ++ piece_atoms_left (drop 1 end)) e ∙ append_assoc more rest (piece_atoms_left (drop 1 end))
+    ∙ ap (λ l. more ++ (rest ++ piece_atoms_left (drop 1 l))) f
 
 -- a quote is there to be closed
 pub single-within : (source : List ℕ) (at : ℕ) → begins 39 (behind (λ b. not (b == 39)) (drop at source)) ≡ true → at < length source

@@ -10,7 +10,7 @@ use Rattle.hush_words.proofs.Runs.{found-none}
 use Rattle.hush_words.specs.Words.{is_blank, ends_word}
 use Rattle.hush_words.specs.Tokens.{Token, Lexeme, lexeme_tokens, has_no_nul}
 use Rattle.hush_words.specs.Tokens.Lexeme.{And, Or}
-use Rattle.hush_words.specs.Reading.{Found, found, front, all, closed, passed_at, lexeme_at, tokens_if_whole, tokens_of, tokens_before_fault, lexeme_left, lexeme_end}
+use Rattle.hush_words.specs.Reading.{Found, found, front, all, closed, passed_at, lexeme_at, tokens_if_whole, tokens_of, tokens_before_fault, tokens_left, lexeme_end}
 use Rattle.hush_words.specs.Steps.{begins, StandsAt, IsRun, lexeme_read}
 use Rattle.hush_words.proofs.Fronts.{front-all}
 use Rattle.hush_words.proofs.Many.{all-some, all-none}
@@ -19,28 +19,28 @@ use Rattle.hush_words.proofs.DollarLemmas.{begins-here}
 use Rattle.hush_words.proofs.QuoteLemmas.{closed-here, closed-not}
 
 pub lexeme-one : (bs : List ℕ) (l : Lexeme) (r : List ℕ) → lexeme_at bs ≡ found l r →
-    (lexeme_left bs ≡ lexeme_tokens l ++ lexeme_left r) × (lexeme_end bs ≡ lexeme_end r)
-unfolding lexeme_left lexeme_end
+    (tokens_left bs ≡ lexeme_tokens l ++ tokens_left r) × (lexeme_end bs ≡ lexeme_end r)
+unfolding tokens_left lexeme_end
 lexeme-one bs l r e =
     let q = all-some lexeme_at lexeme-shortens bs l r e in
     (ap (λ w. flat_map lexeme_tokens w.0) q, ap (λ w. w.1) q)
 
-pub lexeme-none : (bs : List ℕ) → lexeme_at bs ≡ None → (lexeme_left bs ≡ []) × (lexeme_end bs ≡ bs)
-unfolding lexeme_left lexeme_end
+pub lexeme-none : (bs : List ℕ) → lexeme_at bs ≡ None → (tokens_left bs ≡ []) × (lexeme_end bs ≡ bs)
+unfolding tokens_left lexeme_end
 lexeme-none bs e =
     let q = all-none lexeme_at bs e in
     (ap (λ w. flat_map lexeme_tokens w.0) q, ap (λ w. w.1) q)
 
 lexeme-found : (bs : List ℕ) (ts : List Token) (rest : List ℕ) (o : Found Lexeme) → lexeme_at bs ≡ o →
-    option_map lexeme_read o ≡ Some (ts, rest) → (lexeme_left bs ≡ ts ++ lexeme_left rest) × (lexeme_end bs ≡ lexeme_end rest)
+    option_map lexeme_read o ≡ Some (ts, rest) → (tokens_left bs ≡ ts ++ tokens_left rest) × (lexeme_end bs ≡ lexeme_end rest)
 lexeme-found bs ts rest None e h = absurd (cc)
 lexeme-found bs ts rest (Some f) e h =
     let w : ◌≡◌ {A = List Token × List ℕ} (lexeme_tokens f.0, f.1) (ts, rest) = cc in
     let one = lexeme-one bs f.0 f.1 e in
-    (one.0 ∙ ap (λ v. v.0 ++ lexeme_left v.1) w, one.1 ∙ ap (λ v. lexeme_end v.1) w)
+    (one.0 ∙ ap (λ v. v.0 ++ tokens_left v.1) w, one.1 ∙ ap (λ v. lexeme_end v.1) w)
 
 pub read-lexeme : (bs : List ℕ) (ts : List Token) (rest : List ℕ) → option_map lexeme_read (lexeme_at bs) ≡ Some (ts, rest) →
-    (lexeme_left bs ≡ ts ++ lexeme_left rest) × (lexeme_end bs ≡ lexeme_end rest)
+    (tokens_left bs ≡ ts ++ tokens_left rest) × (lexeme_end bs ≡ lexeme_end rest)
 read-lexeme bs ts rest h = lexeme-found bs ts rest (lexeme_at bs) refl h
 
 -- the lexemes of one byte and of two, as the code reads them
@@ -152,8 +152,8 @@ if_not_whole : (q : List Lexeme × List ℕ) (b : ℕ) (bs : List ℕ) → q.1 �
 if_not_whole (ls, []) b bs e = absurd (cc)
 if_not_whole (ls, c ∷ cs) b bs e = refl
 
-tokens-whole : (text : List ℕ) → has_no_nul text ≡ true → lexeme_end text ≡ [] → tokens_of text ≡ Some (lexeme_left text)
-unfolding tokens_of lexeme_left lexeme_end
+tokens-whole : (text : List ℕ) → has_no_nul text ≡ true → lexeme_end text ≡ [] → tokens_of text ≡ Some (tokens_left text)
+unfolding tokens_of tokens_left lexeme_end
 tokens-whole text clean e = rw clean (if_whole (all lexeme_at text) e)
 
 tokens-not : (text : List ℕ) (b : ℕ) (bs : List ℕ) → has_no_nul text ≡ true → lexeme_end text ≡ b ∷ bs → tokens_of text ≡ None
@@ -165,7 +165,7 @@ unfolding lexeme_at passed_at
 nothing-at-end = refl
 
 -- a text that is read to its end, and one that is not
-pub text-whole : (source : List ℕ) → has_no_nul source ≡ true → lexeme_end source ≡ [] → tokens_of source ≡ Some (lexeme_left source)
+pub text-whole : (source : List ℕ) → has_no_nul source ≡ true → lexeme_end source ≡ [] → tokens_of source ≡ Some (tokens_left source)
 text-whole source clean e = tokens-whole source clean e
 
 not-by : (source rest : List ℕ) → has_no_nul source ≡ true → lexeme_end source ≡ rest → (rest ≡ [] → ⊥) → tokens_of source ≡ None
@@ -175,7 +175,7 @@ not-by source (b ∷ bs) clean e h = tokens-not source b bs clean e
 pub text-not : (source : List ℕ) → has_no_nul source ≡ true → (lexeme_end source ≡ [] → ⊥) → tokens_of source ≡ None
 text-not source clean h = not-by source (lexeme_end source) clean refl h
 
-pub front-left : (source : List ℕ) → has_no_nul source ≡ true → tokens_before_fault source ≡ lexeme_left source
+pub front-left : (source : List ℕ) → has_no_nul source ≡ true → tokens_before_fault source ≡ tokens_left source
 unfolding tokens_before_fault
 front-left source clean = rw clean refl
 

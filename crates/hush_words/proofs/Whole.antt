@@ -5,7 +5,7 @@ use Rattle.std.proofs.Common.{refl, sym, ◌∙◌, ap, subst, arith, append-nil
 use Rattle.hush_words.specs.Words.{FitAll}
 use Rattle.hush_words.specs.Tokens.{Token, Lexeme, lexeme_text, FitsLexeme, HasTokens, has_no_nul}
 use Rattle.hush_words.specs.Laws.{FrontIsRead}
-use Rattle.hush_words.specs.Reading.{all, lexeme_at, passed_at, tokens_if_whole, tokens_of, tokens_before_fault, token_places, lexeme_left, places_left}
+use Rattle.hush_words.specs.Reading.{all, lexeme_at, passed_at, tokens_if_whole, tokens_of, tokens_before_fault, token_places, tokens_left, places_left}
 use Rattle.hush_words.proofs.Fronts.{on_test}
 use Rattle.hush_words.proofs.Many.{many-list, many-fits, many-stops, Fitting}
 use Rattle.hush_words.proofs.Lexemes.{lexeme-heads, lexeme-takes, lexeme-finds, lexeme-shortens}
@@ -45,7 +45,7 @@ both-lists text ts us h k =
     cc
 
 pub front-told : FrontIsRead
-unfolding tokens_before_fault token_places lexeme_left places_left
+unfolding tokens_before_fault token_places tokens_left places_left
 front-told text clean =
     let q : List Lexeme × List ℕ = all lexeme_at text in
     let fit : Fitting lexeme_text FitsLexeme text q = many-fits lexeme_text FitsLexeme lexeme_at lexeme-finds (length text) text in

@@ -7,7 +7,7 @@ use Rattle.std.proofs.lemmas.Bool.{ne_eqb, not_from_false, or_from, or_cases, eq
 use Rattle.hush_words.specs.Words.{Atom, Piece, Dollar, dollar_atom, is_bare, is_special, ends_word, next}
 use Rattle.hush_words.specs.Words.Atom.{Quoted}
 use Rattle.hush_words.specs.Words.Piece.{Bare, Escaped, Joined, DollarPiece}
-use Rattle.hush_words.specs.Reading.{Found, found, as_piece, dollar_at, escape_at, piece_at, piece_left, piece_end}
+use Rattle.hush_words.specs.Reading.{Found, found, as_piece, dollar_at, escape_at, piece_at, piece_atoms_left, piece_end}
 use Rattle.hush_words.specs.Forms.{first_plain}
 use Rattle.hush_words.specs.Parts.{range_bytes}
 use Rattle.hush_words.specs.Steps.{StandsAt, IsRun, dollar_read}
@@ -22,9 +22,9 @@ bare-by b e f = not_from_false _ (or_from (ends_word b) (is_special b) e f)
 pub bare-here : (source : List ℕ) (at b : ℕ) → StandsAt source at b → is_bare b ≡ true → is_some (piece_at (drop at source)) ≡ true
 bare-here source at b here bare = ap (λ l. is_some (piece_at l)) here.1 ∙ ap (λ o. is_some o) (piece-bare b (drop (at + 1) source) bare)
 
-pub bare-first : (source : List ℕ) (at b : ℕ) → StandsAt source at b → is_bare b ≡ true → first_plain (piece_left (drop at source)) ≡ Some b
+pub bare-first : (source : List ℕ) (at b : ℕ) → StandsAt source at b → is_bare b ≡ true → first_plain (piece_atoms_left (drop at source)) ≡ Some b
 bare-first source at b here bare =
-    ap (λ l. first_plain (piece_left l)) here.1
+    ap (λ l. first_plain (piece_atoms_left l)) here.1
     ∙ ap first_plain (piece-one (b ∷ drop (at + 1) source) (Bare b) (drop (at + 1) source) (piece-bare b (drop (at + 1) source) bare)).0
 
 -- a run of plain bytes
@@ -47,18 +47,18 @@ special-by b bare inside =
 -- what a `$` begins, as a piece
 dollar-found : (bs : List ℕ) (o : Found Dollar) (atoms : List Atom) (rest : List ℕ) → piece_at bs ≡ option_map as_piece o →
     option_map (dollar_read false) o ≡ Some (atoms, rest) →
-    (option_map (λ (f : Piece × List ℕ). f.1) (piece_at bs) ≡ Some rest) × (piece_left bs ≡ atoms ++ piece_left rest)
+    (option_map (λ (f : Piece × List ℕ). f.1) (piece_at bs) ≡ Some rest) × (piece_atoms_left bs ≡ atoms ++ piece_atoms_left rest)
 dollar-found bs None atoms rest e h = absurd (cc)
 dollar-found bs (Some f) atoms rest e h =
     let w : ◌≡◌ {A = List Atom × List ℕ} (dollar_atom false f.0 ∷ [], f.1) (atoms, rest) = cc in (
       ap (λ o. option_map (λ (g : Piece × List ℕ). g.1) o) e ∙ ap (λ v. Some v.1) w,
-      (piece-one bs (DollarPiece f.0) f.1 e).0 ∙ ap (λ v. v.0 ++ piece_left v.1) w,
+      (piece-one bs (DollarPiece f.0) f.1 e).0 ∙ ap (λ v. v.0 ++ piece_atoms_left v.1) w,
     )
 
 pub read-dollar-piece : (source : List ℕ) (at end : ℕ) (atoms : List Atom) → StandsAt source at 36 →
     option_map (dollar_read false) (dollar_at (drop (at + 1) source)) ≡ Some (atoms, drop end source) →
     (option_map (λ (f : Piece × List ℕ). f.1) (piece_at (drop at source)) ≡ Some (drop end source)) ×
-    (piece_left (drop at source) ≡ atoms ++ piece_left (drop end source))
+    (piece_atoms_left (drop at source) ≡ atoms ++ piece_atoms_left (drop end source))
 read-dollar-piece source at end atoms here h =
     dollar-found (drop at source) (dollar_at (drop (at + 1) source)) atoms (drop end source)
     (ap piece_at here.1 ∙ piece-dollar (drop (at + 1) source)) h
@@ -99,12 +99,12 @@ escape-ends source at b here next' =
     ]
 
 pub escaped-left : (source : List ℕ) (at b : ℕ) → StandsAt source at 92 → StandsAt source (at + 1) b → (b ≡ 10 → ⊥) →
-    piece_left (drop at source) ≡ Quoted b ∷ piece_left (drop (at + 2) source)
+    piece_atoms_left (drop at source) ≡ Quoted b ∷ piece_atoms_left (drop (at + 2) source)
 escaped-left source at b here next' ne =
     (piece-one (drop at source) (Escaped b) (drop (at + 2) source) (escape-there source at b here next' ne)).0
 
 pub joined-left : (source : List ℕ) (at b : ℕ) → StandsAt source at 92 → StandsAt source (at + 1) b → b ≡ 10 →
-    piece_left (drop at source) ≡ piece_left (drop (at + 2) source)
+    piece_atoms_left (drop at source) ≡ piece_atoms_left (drop (at + 2) source)
 joined-left source at b here next' e =
     (piece-one (drop at source) Joined (drop (at + 2) source) (joined-there source at b here next' e)).0
 
@@ -120,7 +120,7 @@ last-special b e d s q =
 
 -- where a word ends, all of its range is read
 pub word-read : (source : List ℕ) (start at : ℕ) → start ≤ at → piece_at (drop at source) ≡ None → piece_end (drop at source) ≡ piece_end (drop start source) →
-    (piece_left (range_bytes source start at) ≡ piece_left (drop start source)) × (piece_end (drop start source) ≡ drop at source)
+    (piece_atoms_left (range_bytes source start at) ≡ piece_atoms_left (drop start source)) × (piece_end (drop start source) ≡ drop at source)
 word-read source start at ordered none ends =
     let end : piece_end (drop start source) ≡ drop at source = sym ends ∙ (piece-none (drop at source) none).1 in (
       read-again (drop start source) (range_bytes source start at)

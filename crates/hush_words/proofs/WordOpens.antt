@@ -8,7 +8,7 @@ use Rattle.hush_words.specs.Words.{Atom, Piece, Dollar, piece_atoms, is_blank, e
 use Rattle.hush_words.specs.Words.Piece.{Single, Double}
 use Rattle.hush_words.specs.Tokens.{Token, Lexeme, lexeme_tokens, opens_word}
 use Rattle.hush_words.specs.Tokens.Token.{Word}
-use Rattle.hush_words.specs.Reading.{Found, found, front, behind, all, closed, as_piece, dollar_at, inner_at, escape_at, single_at, double_at, piece_at, word_of, joined_line, passed_at, lexeme_at, piece_left, piece_end}
+use Rattle.hush_words.specs.Reading.{Found, found, front, behind, all, closed, as_piece, dollar_at, inner_at, escape_at, single_at, double_at, piece_at, word_of, joined_line, passed_at, lexeme_at, piece_atoms_left, piece_end}
 use Rattle.hush_words.specs.Steps.{begins, StandsAt, lexeme_read}
 use Rattle.hush_words.proofs.Fronts.{on_test}
 use Rattle.hush_words.proofs.Many.{all-some, Shorter}
@@ -103,8 +103,8 @@ word_unread : (ps : List Piece) (rest : List ℕ) → next ends_word rest ≡ fa
 word_unread ps rest e = rw e refl
 
 pub word-of : (text rest : List ℕ) (o : Found Piece) → piece_at text ≡ o → Opens o → piece_end text ≡ rest → next ends_word rest ≡ true →
-    next ends_word text ≡ false → option_map lexeme_read (lexeme_at text) ≡ Some (Word (piece_left text) ∷ [], rest)
-unfolding piece_left piece_end
+    next ends_word text ≡ false → option_map lexeme_read (lexeme_at text) ≡ Some (Word (piece_atoms_left text) ∷ [], rest)
+unfolding piece_atoms_left piece_end
 word-of text rest None e h ends stop going =
     absurd (both_ways (next ends_word text) going (ap (next ends_word) (sym (piece-none text e).1 ∙ ends) ∙ stop))
 word-of text rest (Some f) e h ends stop going =
@@ -132,7 +132,7 @@ goes-on source at end ts within e =
 -- a word that is read, and one that isn't
 pub word-token : (source : List ℕ) (at b : ℕ) → StandsAt source at b → ends_word b ≡ false → (b ≡ 35 → ⊥) →
     begins 92 (drop at source) && begins 10 (drop (at + 1) source) ≡ false → (end : ℕ) (atoms : List Atom) → end ≤ length source →
-    atoms ≡ piece_left (drop at source) → piece_end (drop at source) ≡ drop end source → next ends_word (drop end source) ≡ true →
+    atoms ≡ piece_atoms_left (drop at source) → piece_end (drop at source) ≡ drop end source → next ends_word (drop end source) ≡ true →
     (at < end) × (end ≤ length source) × (option_map lexeme_read (lexeme_at (drop at source)) ≡ Some (Word atoms ∷ [], drop end source))
 word-token source at b here inside comment line end atoms within read ends stop =
     let bs : List ℕ = drop (at + 1) source in

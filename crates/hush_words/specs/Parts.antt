@@ -2,7 +2,7 @@
 use Rattle.std.specs.Prelude.{ℕ, ◌-◌, List, [], ◌∷◌, map, take, drop}
 use Rattle.hush_words.specs.Words.{Atom}
 use Rattle.hush_words.specs.Words.Atom.{Plain, Quoted, Mark, Value, Status}
-use Rattle.hush_words.specs.Reading.{piece_left}
+use Rattle.hush_words.specs.Reading.{piece_atoms_left}
 use Rattle.hush_words.specs.declared.parts.Span.{Span}
 use Rattle.hush_words.specs.declared.parts.Part.{Part}
 use Rattle.hush_words.specs.declared.parts.Part.TheVariants as part
@@ -37,4 +37,4 @@ written source = record { source = source }
 
 -- what a word stands for: what the pieces do that its bytes are read as
 abbrev pub word_atoms : Written → Word → List Atom
-word_atoms text word = piece_left (range_bytes text.source word.start word.end)
+word_atoms text word = piece_atoms_left (range_bytes text.source word.start word.end)

@@ -107,9 +107,9 @@ piece_at (b ∷ bs) =
     else if b == double_quote then double_at bs
     else None
 
--- what the pieces at the front stand for, as far as there are any, and the text behind them
-unfoldable pub piece_left : List ℕ → List Atom
-piece_left text = flat_map piece_atoms (all piece_at text).0
+-- what the pieces at the front stand for, as far as there are any, and, below, the text behind them
+unfoldable pub piece_atoms_left : List ℕ → List Atom
+piece_atoms_left text = flat_map piece_atoms (all piece_at text).0
 
 unfoldable pub piece_end : List ℕ → List ℕ
 piece_end text = (all piece_at text).1
@@ -142,16 +142,16 @@ abbrev pub tokens_if_whole : List Lexeme × List ℕ → Option (List Token)
 tokens_if_whole (ls, []) = Some (flat_map lexeme_tokens ls)
 tokens_if_whole (ls, b ∷ bs) = None
 
--- the tokens at the front, up to the end or to where no lexeme can stand, and the text behind them
-unfoldable pub lexeme_left : List ℕ → List Token
-lexeme_left text = flat_map lexeme_tokens (all lexeme_at text).0
+-- the tokens at the front, up to the end or to where no lexeme can stand, and, below, the text behind them
+unfoldable pub tokens_left : List ℕ → List Token
+tokens_left text = flat_map lexeme_tokens (all lexeme_at text).0
 
 unfoldable pub lexeme_end : List ℕ → List ℕ
 lexeme_end text = (all lexeme_at text).1
 
 -- the tokens of a text up to its end or its first fault; a byte 0 is looked for before all else
 unfoldable pub tokens_before_fault : List ℕ → List Token
-tokens_before_fault text = if has_no_nul text then lexeme_left text else []
+tokens_before_fault text = if has_no_nul text then tokens_left text else []
 
 -- how many bytes stand before each token of these lexemes, where so many stand before the lexemes
 abbrev pub places_from : ℕ → List Lexeme → List ℕ

@@ -7,7 +7,7 @@ use Rattle.hush_words.specs.Bytes.{newline, double_quote, single_quote, equals, 
 use Rattle.hush_words.specs.Words.{Atom, Dollar, byte_atom, dollar_atom, inner_atoms, ends_word, is_in_name, is_in_braces, is_bare, is_inner, next}
 use Rattle.hush_words.specs.Tokens.{Lexeme, lexeme_tokens}
 use Rattle.hush_words.specs.Tokens as tokens
-use Rattle.hush_words.specs.Reading.{Found, front, behind, all, braces, dollar_at, inner_at, piece_at, lexeme_at, piece_left, piece_end}
+use Rattle.hush_words.specs.Reading.{Found, front, behind, all, braces, dollar_at, inner_at, piece_at, lexeme_at, piece_atoms_left, piece_end}
 use Rattle.hush_words.specs.Words.Atom.{Plain, Quoted, Mark, Value, Status}
 use Rattle.hush_words.specs.Forms.{is_plain, first_plain, goes_on, name_from, assignment_from, assignment_of}
 use Rattle.hush_words.specs.Parts.{Written, written, range_bytes, span_bytes, part_atoms}
@@ -134,10 +134,10 @@ EndsPlain source (Err f) = Unit {0}
 
 -- what is left to read of a word from inside a pair of quotes, or from outside of them
 abbrev pub atoms_left : Inside → List ℕ → List Atom
-atoms_left inside.Nothing text = piece_left text
+atoms_left inside.Nothing text = piece_atoms_left text
 atoms_left inside.Single text =
-    map Quoted (front (λ b. not (b == single_quote)) text) ++ piece_left (drop 1 (behind (λ b. not (b == single_quote)) text))
-atoms_left inside.Double text = inner_left text ++ piece_left (drop 1 (inner_end text))
+    map Quoted (front (λ b. not (b == single_quote)) text) ++ piece_atoms_left (drop 1 (behind (λ b. not (b == single_quote)) text))
+atoms_left inside.Double text = inner_left text ++ piece_atoms_left (drop 1 (inner_end text))
 
 -- the pair of quotes is closed
 abbrev pub Closes : Inside → List ℕ → Type 0
@@ -215,7 +215,7 @@ GoesOn begun bytes now =
 
 -- a range that is read as these plain bytes, whatever stands behind it
 abbrev pub ReadsPlain : List ℕ → List ℕ → Type 0
-ReadsPlain range bytes = (rest : List ℕ) → piece_left (range ++ rest) ≡ map Plain bytes ++ piece_left rest
+ReadsPlain range bytes = (rest : List ℕ) → piece_atoms_left (range ++ rest) ≡ map Plain bytes ++ piece_atoms_left rest
 
 -- a place where nothing goes on with a name that has begun or not
 abbrev pub NameStops : (begun : Bool) → List ℕ → Type 0
@@ -237,7 +237,7 @@ NameFrom source start p =
 
 -- the `=` of an assignment
 abbrev pub SplitsAt : List ℕ → ℕ → Option ℕ → Type 0
-SplitsAt source start None = assignment_of (piece_left (drop start source)) ≡ None
+SplitsAt source start None = assignment_of (piece_atoms_left (drop start source)) ≡ None
 SplitsAt source start (Some at) =
-    (start ≤ at) × (at < length source) × (name : List ℕ) × (piece_left (range_bytes source start at) ≡ map Plain name) ×
-    (assignment_of (piece_left (drop start source)) ≡ Some (name, piece_left (drop (at + 1) source)))
+    (start ≤ at) × (at < length source) × (name : List ℕ) × (piece_atoms_left (range_bytes source start at) ≡ map Plain name) ×
+    (assignment_of (piece_atoms_left (drop start source)) ≡ Some (name, piece_atoms_left (drop (at + 1) source)))

@@ -3,7 +3,7 @@ use Rattle.std.specs.Prelude.{◌≡◌, ◌↔◌, ℕ, ◌<◌, ◌≤◌, Lis
 use Rattle.hush_words.specs.Words.{Atom}
 use Rattle.hush_words.specs.Tokens as tokens
 use Rattle.hush_words.specs.Forms.{name_of}
-use Rattle.hush_words.specs.Reading.{lexeme_left, lexeme_end, places_left, tokens_of, tokens_before_fault, token_places}
+use Rattle.hush_words.specs.Reading.{tokens_left, lexeme_end, places_left, tokens_of, tokens_before_fault, token_places}
 use Rattle.hush_words.specs.Parts.{Written, word_atoms}
 use Rattle.hush_words.specs.declared.forms.Assignment.{Assignment}
 use Rattle.hush_words.specs.declared.tokens.TokenKind.{TokenKind}
@@ -21,19 +21,19 @@ kind_token text kind.OrIf = tokens.Token.OrIf
 -- the token behind a place where no word is open, where it ends, and what stands behind it; or none up to the end of the
 -- text, or up to a fault
 abbrev pub NextToken : Written → ℕ → Result (Option TokenRead) Fault → Type 0
-NextToken text at (Ok None) = (lexeme_left (drop at text.source) ≡ []) × (lexeme_end (drop at text.source) ≡ [])
+NextToken text at (Ok None) = (tokens_left (drop at text.source) ≡ []) × (lexeme_end (drop at text.source) ≡ [])
 NextToken text at (Ok (Some read)) =
-    (lexeme_left (drop at text.source) ≡ kind_token text read.token.kind ∷ lexeme_left (drop read.end text.source)) ×
+    (tokens_left (drop at text.source) ≡ kind_token text read.token.kind ∷ tokens_left (drop read.end text.source)) ×
     (lexeme_end (drop at text.source) ≡ lexeme_end (drop read.end text.source)) ×
     (places_left at (drop at text.source) ≡ read.token.place ∷ places_left read.end (drop read.end text.source)) ×
     (at < read.end) × (read.end ≤ length text.source)
-NextToken text at (Err fault) = (lexeme_left (drop at text.source) ≡ []) × (lexeme_end (drop at text.source) ≡ [] → ⊥)
+NextToken text at (Err fault) = (tokens_left (drop at text.source) ≡ []) × (lexeme_end (drop at text.source) ≡ [] → ⊥)
 
 -- the first token of a text, where it ends, and what stands behind it; or none up to the end, or up to a fault
 abbrev pub FirstToken : Written → Result (Option TokenRead) Fault → Type 0
 FirstToken text (Ok None) = (tokens_of text.source ≡ Some []) × (tokens_before_fault text.source ≡ [])
 FirstToken text (Ok (Some read)) =
-    (tokens_before_fault text.source ≡ kind_token text read.token.kind ∷ lexeme_left (drop read.end text.source)) ×
+    (tokens_before_fault text.source ≡ kind_token text read.token.kind ∷ tokens_left (drop read.end text.source)) ×
     (token_places text.source ≡ read.token.place ∷ places_left read.end (drop read.end text.source)) × (read.end ≤ length text.source) ×
     ((tokens_of text.source ≡ None) ↔ (lexeme_end (drop read.end text.source) ≡ [] → ⊥))
 FirstToken text (Err fault) = (tokens_of text.source ≡ None) × (tokens_before_fault text.source ≡ [])

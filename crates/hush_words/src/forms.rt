@@ -4,7 +4,7 @@ ghost use Rattle.std.specs.Prelude.{◌≡◌, ◌<◌, take, drop, is_some, IfS
 ghost use Rattle.std.specs.Option.{option_map};
 ghost use Rattle.hush_words.specs.Forms.{is_plain, first_plain, goes_on, name_of, assignment_of, split_of};
 ghost use Rattle.hush_words.specs.Parts.{part_atoms, word_atoms};
-ghost use Rattle.hush_words.specs.Reading.{piece_left, piece_at};
+ghost use Rattle.hush_words.specs.Reading.{piece_atoms_left, piece_at};
 ghost use Rattle.hush_words.specs.Views.{assignment_view};
 ghost use Rattle.hush_words.specs.Steps.{FirstIs, PlainRest, NameStep, NameFrom, SplitsAt, StandsAt};
 ghost use Rattle.hush_words.specs.Ranges.{Fits, IsShort};
@@ -89,7 +89,7 @@ fn front(source: &[u8], end: u32) -> &[u8]
 
 /// The byte at a place of a word, if it stands for itself: mostly it does, and the parts needn't be read.
 fn bare_at(source: &[u8], at: usize) -> Option<u8>
-    ensures { IfSome result (λ first. first_plain (piece_left (drop at source.now)) ≡ Some first) }
+    ensures { IfSome result (λ first. first_plain (piece_atoms_left (drop at source.now)) ≡ Some first) }
 {
     match byte_at(source, at) {
         Some(first) => { if is_bare(first) { Some(first) } else { None } }
@@ -163,7 +163,7 @@ fn plain_rest<'a>(part: Part, source: &[u8], text: &'a [u8]) -> Option<&'a [u8]>
 /// Whether a word that begins at the place is a name.
 fn is_name_at(source: &[u8], start: usize) -> bool
     requires { IsShort source.now }
-    ensures { result ≡ is_some (name_of (piece_left (drop start source.now))) }
+    ensures { result ≡ is_some (name_of (piece_atoms_left (drop start source.now))) }
 {
     let name = name_from(source, start);
     if is_piece_at(source, name.at) {

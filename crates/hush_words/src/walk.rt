@@ -41,13 +41,13 @@ impl<'t> Model for Parts<'t> {
 }
 
 impl<'t> Parts<'t> {
-    ghost use Rattle.hush_words.specs.Reading.{piece_left};
+    ghost use Rattle.hush_words.specs.Reading.{piece_atoms_left};
 
     /// The parts of these bytes of the source, as far as there are such bytes.
     pub(crate) fn new(source: &'t [u8], start: usize, end: usize) -> Parts<'t>
         requires { IsShort source.now }
         ensures source { result.source ≡ source.now }
-        ensures atoms { result.atoms ≡ piece_left (range_bytes source.now start end) }
+        ensures atoms { result.atoms ≡ piece_atoms_left (range_bytes source.now start end) }
         ensures bytes { result.bytes ≤ length source.now }
     {
         Parts {

@@ -161,9 +161,9 @@ fn printenv_over_a_writer_that_takes_a_part_and_fails(rt: HostRuntime) -> Result
                     assert_eq!(rt; end, wanted.end);
                     assert!(rt; output.taken == wanted.output);
                     assert!(rt; errors.taken == wanted.errors);
-                    let calls = output.calls.wrapping_add(errors.calls);
-                    let taken = output.taken.len().wrapping_add(errors.taken.len()) as u32;
-                    let failed = u32::from(end.fault.is_some());
+                    let calls = output.calls.wrapping_add(errors.calls) as usize;
+                    let taken = output.taken.len().wrapping_add(errors.taken.len());
+                    let failed = usize::from(end.fault.is_some());
                     assert!(rt;
                         way.0 != 1 || calls == taken.wrapping_add(failed),
                         "a write that failed is not tried again"

@@ -1,7 +1,7 @@
 use Rattle.std.proofs.Common.{arith, sym, ◌∙◌, ap, subst, ◌++◌, ◌+◌, drop, true, refl}
 use Rattle.std.proofs.lemmas.Bool.{both_ways}
 use Rattle.hush_words.specs.Ranges.{FitsSome}
-use Rattle.hush_words.specs.Reading.{piece_left}
+use Rattle.hush_words.specs.Reading.{piece_atoms_left}
 use Rattle.hush_words.specs.Steps.{optional_atoms}
 use Rattle.hush_words.proofs.WordLemmas.{escaped-left, joined-left}
 use Rattle.hush_words.proofs.walk.backslash_before.Goals as goal
@@ -12,7 +12,7 @@ returns c =
     let source = c.args.source.now in
     let at = c.args.at in
     let next = c.args.next in
-    let rest = piece_left (drop (at + 2) source) in
+    let rest = piece_atoms_left (drop (at + 2) source) in
     rw c.outside.ensures (
       omega arith,
       omega (arith, c.requires.next.0),

@@ -1,5 +1,5 @@
 use Rattle.std.proofs.Common.{arith, sym, ap, ◌∙◌, ◌++◌, ◌+◌, drop}
-use Rattle.hush_words.specs.Reading.{piece_left}
+use Rattle.hush_words.specs.Reading.{piece_atoms_left}
 use Rattle.hush_words.proofs.QuoteLemmas.{single-left, single-within}
 use Rattle.hush_words.proofs.walk.single_rest.Goals as goal
 
@@ -13,7 +13,7 @@ returns c =
       omega (arith, left.0),
       tt,
       c.quoted_part.ensures.fits source run.1,
-      left.1 ∙ ap (λ l. l ++ piece_left (drop (c.place_of-end.result + 1) source)) (sym (c.quoted_part.ensures.atoms source)),
+      left.1 ∙ ap (λ l. l ++ piece_atoms_left (drop (c.place_of-end.result + 1) source)) (sym (c.quoted_part.ensures.atoms source)),
     )
 
 pub place_of-end-requires : goal.place_of-end-requires

@@ -1,6 +1,6 @@
 use Rattle.std.proofs.Common.{rules, arith, refl, sym, ◌∙◌, ap, ◌≡◌, Err, drop}
 use Rattle.hush_words.specs.Words.{ends_word, next}
-use Rattle.hush_words.specs.Reading.{piece_left}
+use Rattle.hush_words.specs.Reading.{piece_atoms_left}
 use Rattle.hush_words.specs.Parts.{range_bytes}
 use Rattle.hush_words.proofs.PieceLemmas.{piece-none}
 use Rattle.hush_words.proofs.WordLemmas.{word-read, plain-read}
@@ -44,4 +44,4 @@ returns c =
     let h = rw c.in_default.is at c.in_ok-end.ensures.reads in
     let w = word-read source c.args.start c.loop-end.at i.begun h.0 i.ends in
     rw c.new.ensures (word-token source c.args.start c.args.first c.requires.here c.requires.inside c.requires.no_comment c.requires.no_line
-    c.loop-end.at (piece_left (range_bytes source c.args.start c.loop-end.at)) i.within w.0 w.1 h.1)
+    c.loop-end.at (piece_atoms_left (range_bytes source c.args.start c.loop-end.at)) i.within w.0 w.1 h.1)
