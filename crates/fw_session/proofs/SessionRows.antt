@@ -1,7 +1,7 @@
 -- How inputs are cut into blocks and dot lines, and what dot lines ask for: rows that the checker computes
 -- (docs/dry-runs.md).
 use Rattle.std.specs.Prelude.{◌≡◌, ℕ, ◌++◌, List, [], ◌∷◌, codes, replicate, refl}
-use Rattle.fw_session.specs.Input.{Item, Block, Dot, items_of, to_last_dot}
+use Rattle.fw_session.specs.Input.{Block, Dot, items_of, to_last_dot}
 use Rattle.fw_session.specs.Replies.{Undo, Save, Print, Mark, UndoTo, Unknown, request_of}
 
 abbrev input : List ℕ

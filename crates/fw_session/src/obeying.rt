@@ -9,7 +9,7 @@ ghost use Rattle.fw_session.specs.NamedSessions.{named_session, names_of};
 use crate::marks::{Names, mark, standing};
 use crate::names::last_named;
 use crate::requests::Request;
-use crate::streams::write_text;
+use crate::streams::{write_both, write_text};
 use env_session::{Session, Side, UndoFault};
 use std::io::Write;
 
@@ -88,5 +88,5 @@ fn write_lines<W: Write>(session: &Session, output: &mut W, written: &mut u64) -
 fn write_line<W: Write>(line: &[u8], output: &mut W, written: &mut u64) -> bool
     ensures { Writes (W.contents output.old) (W.contents output.new) written.old written.new (line.now ++ 10 ∷ []) result }
 {
-    write_text(output, line, written) && write_text(output, b"\n", written)
+    write_both(output, line, b"\n", written)
 }

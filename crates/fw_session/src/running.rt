@@ -7,10 +7,10 @@ ghost use Rattle.fw_session.specs.Streams.{Writes};
 ghost use Rattle.fw_session.specs.NamedSessions.{named_session};
 ghost use Rattle.hush_run.specs.Runs.{rules};
 
-use crate::streams::write_text;
+use crate::streams::{write_both, write_text};
 use arrayvec::ArrayVec;
 use env_session::Session;
-use hush_run::{Ending, Limits, Outcome, StandIns, run};
+use hush_run::{Ending, Limits, Outcome, Runner, StandIns};
 use hush_syntax::{FaultKind, Script};
 use itoa::Buffer;
 use std::alloc::Global;
@@ -19,6 +19,7 @@ use std::io::Write;
 /// Runs a block, and writes what it has to say.
 pub(crate) fn run_block<W: Write>(
     alloc: Global,
+    runner: &mut Runner,
     session: &mut Session,
     stand_ins: &StandIns,
     limits: &Limits,
@@ -32,7 +33,7 @@ pub(crate) fn run_block<W: Write>(
 {
     match Script::parse(alloc, block) {
         Ok(script) => {
-            let outcome = run(alloc, session, &script, stand_ins, limits);
+            let outcome = runner.run(session, &script, stand_ins, limits);
             write_outcome(&outcome, output, written)
         }
         Err(fault) => match fault.kind {
@@ -42,13 +43,23 @@ pub(crate) fn run_block<W: Write>(
     }
 }
 
+/// The text of a run and the line of its ending are one write where they have no more bytes together.
+const ONE_WRITE: usize = 512;
+
 /// Writes the text of a run, and how it ended.
 fn write_outcome<W: Write>(outcome: &Outcome, output: &mut W, written: &mut u64) -> bool
     ensures { Writes (W.contents output.old) (W.contents output.new) written.old written.new
         (outcome.now.text.items ++ ending_line outcome.now.ending outcome.now.status outcome.now.steps) result }
 {
     let line = ending_line(outcome);
-    write_text(output, &outcome.text, written) && write_text(output, &line, written)
+    let mut whole: ArrayVec<u8, ONE_WRITE> = ArrayVec::new();
+    if whole.try_extend_from_slice(&outcome.text).is_ok()
+        && whole.try_extend_from_slice(&line).is_ok()
+    {
+        write_text(output, &whole, written)
+    } else {
+        write_both(output, &outcome.text, &line, written)
+    }
 }
 
 /// `[ENDING STATUS STEPS]` and a newline.
@@ -71,9 +82,9 @@ fn put(line: &mut ArrayVec<u8, 64>, text: &[u8])
     requires { length line.old.items + length text.now ≤ 64 }
     ensures { line.new.items ≡ line.old.items ++ text.now }
 {
-    for byte in text {
-        line.push(*byte);
-    }
+    let appended = line.try_extend_from_slice(text);
+    // It tells the prover that the text fits, so this isn't refused.
+    prove!(appended.is_ok());
 }
 
 /// The name of an ending.

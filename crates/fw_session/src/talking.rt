@@ -13,7 +13,7 @@ use crate::obeying::obey;
 use crate::requests::request_of;
 use crate::running::run_block;
 use env_session::Session;
-use hush_run::{Limits, StandIns};
+use hush_run::{Limits, Runner, StandIns};
 use std::alloc::Global;
 use std::io::{Read, Write};
 use std::mem;
@@ -29,6 +29,8 @@ const PIECE: usize = 4_096;
 pub(crate) struct Talk {
     alloc: Global,
     session: Session,
+    /// What runs its blocks.
+    runner: Runner,
     /// The names of its marks.
     names: Names,
     /// The block that is being read, and behind it the line that is being read.
@@ -90,6 +92,7 @@ fn begun(alloc: Global, session: Session) -> Talk
     Talk {
         alloc,
         session,
+        runner: Runner::new(alloc),
         names,
         bytes: Vec::new(alloc),
         start: 0,
@@ -197,6 +200,7 @@ fn answer_block<W: Write>(
     let block = mem::replace(&mut talk.bytes, Vec::new(talk.alloc));
     run_block(
         talk.alloc,
+        &mut talk.runner,
         &mut talk.session,
         stand_ins,
         limits,

@@ -9,6 +9,7 @@ use Rattle.hush_run.specs.declared.frames.Frame.{Frame}
 use Rattle.hush_run.specs.declared.frames.Frame.TheVariants as frame
 use Rattle.hush_run.specs.declared.turns.Due.{Due}
 use Rattle.hush_run.specs.declared.turns.Due.TheVariants as due
+use Rattle.hush_run.specs.declared.ending.Reason.TheVariants.{Finished}
 use Rattle.hush_run.specs.declared.ending.Stop.{Stop}
 use Rattle.hush_run.specs.declared.ending.Stop.TheVariants as stop
 use Rattle.hush_run.specs.Meaning.{Rules, Begin, State, Out, Goes, ◌>>=◌, ◌then◌, with_status, if_ok, in_turn, bindings, deletions, ended, script, chains, start, run_from, within}
@@ -16,7 +17,7 @@ use Rattle.hush_run.specs.Resume.{begin_in, at_in, behind, levels, resume, subtr
 use Rattle.hush_run.specs.Turns.{IsDue, IsPart, due_does, due_room}
 use Rattle.hush_run.specs.Rises.{IsLeft}
 use Rattle.hush_run.specs.Steps.{Did, Started}
-use Rattle.hush_run.specs.Advances.{IsReady, Advances, Ran, due_left}
+use Rattle.hush_run.specs.Advances.{IsReady, Advances, Ran, RanOn, due_left}
 use Rattle.hush_run.specs.Stacks.{script_frames}
 use Rattle.hush_run.proofs.Parts.{bind_goes, bind_assoc}
 use Rattle.hush_run.proofs.Descends.{stack-frame}
@@ -170,33 +171,47 @@ rise_then rules calls calls1 calls2 old frames1 new status1 depth due1 s t (Ok d
 rise_then rules calls calls1 calls2 old frames1 new status1 depth due1 s t (Err (stop.Ended e)) le l a = ap ended (l.5 rules s le) ∙ a
 rise_then rules calls calls1 calls2 old frames1 new status1 depth due1 s t (Err stop.Memory) le l a = (a.0, ap (λ (o : Out). (ended o).1) (l.5 (within s.steps rules) s (omega arith)) ∙ a.1)
 
--- the run from a state is what is due, and the frames behind it
-abbrev pub Same : Rules → Option Chains → State → List Parsed → List Frame → Due → State → Type 0
-Same rules tree s calls frames d now = (n : ℕ) → now.steps ≤ n → script (within n rules) (start (within n rules) rules.limits.depth) tree s ≡ due_left (within n rules) calls frames d now
+-- what was due, and the frames behind it, is what is due now, and the frames behind that
+abbrev pub Same : Rules → List Parsed → List Frame → Due → State → List Parsed → List Frame → Due → State → Type 0
+Same rules calls frames d s calls' frames' d' now = (n : ℕ) → now.steps ≤ n → due_left (within n rules) calls frames d s ≡ due_left (within n rules) calls' frames' d' now
 
-pub same_ends : (rules : Rules) (tree : Option Chains) (s now t : State) (calls after : List Parsed) (frames new : List Frame) (depth : ℕ) (d : Due) (halt : Stop) → now.steps ≤ rules.limits.steps → Same rules tree s calls frames d now → Advances rules calls frames d now after new depth t (Err halt) → Ran rules tree s t halt
-same_ends rules tree s now t calls after frames new depth d (stop.Ended e) le same a = ap ended (same rules.limits.steps le) ∙ a
-same_ends rules tree s now t calls after frames new depth d stop.Memory le same a =
-    (omega (arith, a.0, le), ap (λ (n : ℕ). (run_from (within n rules) tree s).1) a.0 ∙ ap (λ (o : Out). (ended o).1) (same now.steps (omega arith)) ∙ a.1)
+pub same_none : (rules : Rules) (calls : List Parsed) (frames : List Frame) (d : Due) (s : State) → Same rules calls frames d s calls frames d s
+same_none rules calls frames d s n le = refl
 
-pub same_on : (rules : Rules) (tree : Option Chains) (s now t : State) (calls after : List Parsed) (frames new : List Frame) (depth : ℕ) (d next : Due) → Same rules tree s calls frames d now → Advances rules calls frames d now after new depth t (Ok next) → Same rules tree s after new next t
-same_on rules tree s now t calls after frames new depth d next same a n le = same n (omega (arith, a.0.0, le)) ∙ a.2 n (omega (arith, a.0.0, le))
+pub same_ends : (rules : Rules) (calls calls1 after : List Parsed) (frames frames1 new : List Frame) (depth : ℕ) (d d1 : Due) (s now t : State) (halt : Stop) → now.steps ≤ rules.limits.steps → Same rules calls frames d s calls1 frames1 d1 now → Advances rules calls1 frames1 d1 now after new depth t (Err halt) → RanOn rules calls frames d s t halt
+same_ends rules calls calls1 after frames frames1 new depth d d1 s now t (stop.Ended e) le same a = ap ended (same rules.limits.steps le) ∙ a
+same_ends rules calls calls1 after frames frames1 new depth d d1 s now t stop.Memory le same a =
+    (omega (arith, a.0, le), ap (λ (n : ℕ). (ended (due_left (within n rules) calls frames d s)).1) a.0 ∙ ap (λ (o : Out). (ended o).1) (same now.steps (omega arith)) ∙ a.1)
 
-pub same_root : (rules : Rules) (p : Parsed) (root : NodeId) (s : State) → RootIs p (Some root) → Same rules (tree_of p) s (p ∷ []) [] (due.Node root) s
-same_root rules p root s r n le =
+pub same_on : (rules : Rules) (calls calls1 after : List Parsed) (frames frames1 new : List Frame) (depth : ℕ) (d d1 next : Due) (s now t : State) → Same rules calls frames d s calls1 frames1 d1 now → Advances rules calls1 frames1 d1 now after new depth t (Ok next) → Same rules calls frames d s after new next t
+same_on rules calls calls1 after frames frames1 new depth d d1 next s now t same a n le = same n (omega (arith, a.0.0, le)) ∙ a.2 n (omega (arith, a.0.0, le))
+
+-- a run is what is due at its root
+IsRun : Rules → Parsed → NodeId → State → Type 0
+IsRun rules p root s = (n : ℕ) → script (within n rules) (start (within n rules) rules.limits.depth) (tree_of p) s ≡ due_left (within n rules) (p ∷ []) [] (due.Node root) s
+
+is_run : (rules : Rules) (p : Parsed) (root : NodeId) (s : State) → RootIs p (Some root) → IsRun rules p root s
+unfolding IsRun
+is_run rules p root s r = λ n.
     ap (λ (o : Option Chains). script (within n rules) (start (within n rules) rules.limits.depth) o s) r.2
     ∙ ap (λ (k : ℕ). chains (within n rules) (start (within n rules) k) r.0 s) (let e : rules.limits.depth ≡ rules.limits.depth - 0 = omega arith in e)
     ∙ ap (λ (o : Option Subtree). subtree_does (within n rules) (begin_in (within n rules) (p ∷ [])) o s) (sym r.1)
     ∙ sym (bind_goes (subtree_does (within n rules) (begin_in (within n rules) (p ∷ [])) (subtree_at p root) s))
 
-pub same_empty : (rules : Rules) (p : Parsed) (s : State) → RootIs p None → Same rules (tree_of p) s (p ∷ []) [] due.Over s
-same_empty rules p s r n le = ap (λ (o : Option Chains). script (within n rules) (start (within n rules) rules.limits.depth) o s) r
+as_run : (rules : Rules) (p : Parsed) (root : NodeId) (s t : State) (halt : Stop) → IsRun rules p root s → RanOn rules (p ∷ []) [] (due.Node root) s t halt → Ran rules (tree_of p) s t halt
+unfolding IsRun
+as_run rules p root s t (stop.Ended e) is ran = ap ended (is rules.limits.steps) ∙ ran
+as_run rules p root s t stop.Memory is ran = (ran.0, ap (λ (o : Out). (ended o).1) (is t.steps) ∙ ran.1)
+
+pub ran_root : (rules : Rules) (p : Parsed) (root : NodeId) (s t : State) (halt : Stop) → RootIs p (Some root) → RanOn rules (p ∷ []) [] (due.Node root) s t halt → Ran rules (tree_of p) s t halt
+ran_root rules p root s t halt r = as_run rules p root s t halt (is_run rules p root s r)
+
+-- without a root there is nothing to do
+pub ran_empty : (rules : Rules) (p : Parsed) (s : State) → RootIs p None → Ran rules (tree_of p) s s (stop.Ended Finished)
+ran_empty rules p s r = ap (λ (o : Option Chains). run_from rules o s) r
 
 pub ready_root : (rules : Rules) (p : Parsed) (root : NodeId) → RootIs p (Some root) → IsReady rules (p ∷ []) [] rules.limits.depth (due.Node root)
 ready_root rules p root r = record { stack = tt; is_due = ap (λ (o : Option Subtree). is_some o) r.1; some = omega arith; calls_fit = omega arith; frames_fit = omega (arith, ap room r.1, r.3); same_depth = refl }
-
-pub ready_empty : (rules : Rules) (p : Parsed) → IsReady rules (p ∷ []) [] rules.limits.depth due.Over
-ready_empty rules p = record { stack = tt; is_due = tt; some = omega arith; calls_fit = omega arith; frames_fit = omega arith; same_depth = refl }
 
 -- before the first step
 pub none_counted : (rules : Rules) (tree : Option Chains) (s : State) → s.steps ≤ rules.limits.steps → Ran rules tree s s stop.Memory

@@ -4,6 +4,7 @@ use Rattle.hush_syntax.specs.Scripts.{Parsed}
 use Rattle.hush_syntax.specs.Grammar.{Chains}
 use Rattle.hush_run.specs.declared.frames.Frame.{Frame}
 use Rattle.hush_run.specs.declared.turns.Due.{Due}
+use Rattle.hush_run.specs.declared.ending.Reason.{Reason}
 use Rattle.hush_run.specs.declared.ending.Stop.{Stop}
 use Rattle.hush_run.specs.declared.ending.Stop.TheVariants as stop
 use Rattle.hush_run.specs.Meaning.{Rules, State, Out, ◌>>=◌, ended, run_from, within}
@@ -33,7 +34,16 @@ Advances rules calls old due s after new depth t (Ok next) =
 Advances rules calls old due s after new depth t (Err (stop.Ended e)) = ended (due_left rules calls old due s) ≡ (e, t)
 Advances rules calls old due s after new depth t (Err stop.Memory) = (t.steps ≡ s.steps) × ((ended (due_left (within s.steps rules) calls old due s)).1 ≡ t)
 
+-- what comes to an end by the rules came to this one; or memory was refused, and the state is the end's by the rules that
+-- allow no more steps than were counted
+abbrev pub StopsAs : (Rules → Reason × State) → Rules → State → Stop → Type 0
+StopsAs end rules t (stop.Ended e) = end rules ≡ (e, t)
+StopsAs end rules t stop.Memory = (t.steps ≤ rules.limits.steps) × ((end (within t.steps rules)).1 ≡ t)
+
 -- a run from a state has stopped so
 abbrev pub Ran : Rules → Option Chains → State → State → Stop → Type 0
-Ran rules tree s t (stop.Ended e) = run_from rules tree s ≡ (e, t)
-Ran rules tree s t stop.Memory = (t.steps ≤ rules.limits.steps) × ((run_from (within t.steps rules) tree s).1 ≡ t)
+Ran rules tree s t halt = StopsAs (λ r. run_from r tree s) rules t halt
+
+-- what was due there, and the frames behind it, have stopped so
+abbrev pub RanOn : Rules → List Parsed → List Frame → Due → State → State → Stop → Type 0
+RanOn rules calls frames due s t halt = StopsAs (λ r. ended (due_left r calls frames due s)) rules t halt

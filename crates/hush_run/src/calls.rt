@@ -5,7 +5,7 @@ ghost use Rattle.hush_run.specs.Resume.{behind};
 
 use hush_commands::MOST_DEPTH;
 use hush_syntax::Script;
-use std::alloc::{AllocError, Global};
+use std::alloc::AllocError;
 use std::marker::Model;
 
 /// The scripts that run, the innermost first.
@@ -30,11 +30,19 @@ impl<'s> Model for Calls<'s> {
 
 impl<'s> Calls<'s> {
     /// The first alone, and room for those of the most starts inside one another that limits may give ([`MOST_DEPTH`]).
-    pub(crate) fn new(alloc: Global, first: &'s Script) -> Result<Calls<'s>, AllocError>
+    /// It is taken where `kept` hasn't got it.
+    pub(crate) fn new(first: &'s Script, kept: Vec<Script>) -> Result<Calls<'s>, AllocError>
         ensures { IfOk result (λ calls. calls ≡ first.entry.now ∷ []) }
     {
-        let started = Vec::with_capacity(alloc, MOST_DEPTH as usize)?;
+        let mut started = kept;
+        started.clear();
+        started.reserve(MOST_DEPTH as usize)?;
         Ok(Calls { first, started })
+    }
+
+    /// Those that were started, and their room.
+    pub(crate) fn into_started(self) -> Vec<Script> {
+        self.started
     }
 
     /// The innermost.

@@ -99,6 +99,25 @@ impl Frames {
         Ok(Frames { items, depth })
     }
 
+    /// No frames, in the room of those that are handed in where that is for as many starts, else in new room.
+    pub(crate) fn emptied(
+        kept: Option<Frames>,
+        alloc: Global,
+        depth: u32,
+    ) -> Result<Frames, AllocError>
+        requires { depth ≤ most_depth }
+        ensures { IfOk result (λ frames. frames ≡ record { frames = []; depth = depth }) }
+    {
+        match kept {
+            Some(frames) if frames.depth == depth => {
+                let mut frames = frames;
+                frames.items.clear();
+                Ok(frames)
+            }
+            _ => Frames::new(alloc, depth),
+        }
+    }
+
     /// Puts a frame on top, where the room isn't full. It takes no memory.
     pub fn push(&mut self, frame: Frame)
         requires { length self.old.frames < frame_limit self.old.depth }

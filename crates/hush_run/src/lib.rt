@@ -2,7 +2,7 @@
 //! docs/runs.md states the rules.
 //!
 //! To read in this order: ending, outcome; progress, calls, machine, advancing; names, node_step, steps; members, descent, rising,
-//! turns; frames.
+//! turns; frames; runner.
 #![tactic(auto)]
 
 mod advancing;
@@ -17,6 +17,7 @@ mod node_step;
 mod outcome;
 mod progress;
 mod rising;
+mod runner;
 mod steps;
 mod turns;
 
@@ -24,4 +25,5 @@ pub use ending::Ending;
 pub use hush_commands::{
     Limits, MOST_DEPTH, MOST_OUTPUT, MOST_STEPS, MOST_WORD, StandInFault, StandIns,
 };
-pub use outcome::{Outcome, run};
+pub use outcome::Outcome;
+pub use runner::{Runner, run};

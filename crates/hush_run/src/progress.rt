@@ -36,8 +36,8 @@ pub(crate) struct Progress {
 impl Progress {
     ghost use Rattle.hush_run.specs.Steps.{state_of, rules_of, value_of, FieldsAre, MayStep, Did};
 
-    /// Status 0, no local variables and no text. It takes no memory.
-    pub(crate) fn new(given: &Given<'_>) -> Progress
+    /// Status 0, no local variables and no text. What the buffer for fields holds is of no account. It takes no memory.
+    pub(crate) fn new(given: &Given<'_>, fields: FieldBuffer) -> Progress
         ensures { (held : Held) → state_of held result ≡ first_state (rules_of given.now) held }
     {
         Progress {
@@ -45,7 +45,7 @@ impl Progress {
             status: 0,
             output: Output::new(given.alloc, given.limits.output()),
             steps: 0,
-            fields: FieldBuffer::new(given.alloc),
+            fields,
             name: Vec::new(given.alloc),
         }
     }

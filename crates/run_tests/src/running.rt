@@ -3,7 +3,7 @@
 use env_session::{Session, Stored};
 use envimg_core::{Geometry, Layout};
 use envvars_core::Vars;
-use hush_run::{Ending, Limits, Outcome, StandIns, run};
+use hush_run::{Ending, Limits, Outcome, Runner, StandIns, run};
 use hush_syntax::Script;
 use std::alloc::{AllocError, Global};
 use std::test::Fail;
@@ -47,17 +47,34 @@ fn session(alloc: Global) -> Result<Option<Session>, AllocError> {
     Ok(Session::start(alloc, stored, defaults).ok())
 }
 
-/// Runs a script with 20 steps, where `mmc` is a stand-in with status 3; none where one of what it needs is refused.
-fn ran(alloc: Global, session: &mut Session, script: &[u8]) -> Result<Option<Outcome>, AllocError> {
+/// What a run is given: a script, `mmc` as a stand-in with status 3, and limits.
+#[derive(Drop)]
+struct Given {
+    script: Script,
+    stand_ins: StandIns,
+    limits: Limits,
+}
+
+/// A script with 20 steps and so many starts inside one another; none where one of what it needs is refused.
+fn prepare(alloc: Global, script: &[u8], depth: u32) -> Result<Option<Given>, AllocError> {
     let script = Script::parse(alloc, Vec::from_slice(alloc, script)?).ok();
     let stand_ins = StandIns::parse(alloc, b"mmc 3\n").ok();
-    let limits = Limits::new(20, 1, 256, 4096);
+    let limits = Limits::new(20, depth, 256, 4096);
     match (script, stand_ins, limits) {
-        (Some(script), Some(stand_ins), Some(limits)) => {
-            Ok(Some(run(alloc, session, &script, &stand_ins, &limits)))
-        }
+        (Some(script), Some(stand_ins), Some(limits)) => Ok(Some(Given {
+            script,
+            stand_ins,
+            limits,
+        })),
         _ => Ok(None),
     }
+}
+
+/// Whether a run over a session with one mark came to what its row says.
+fn is_row(row: Row, outcome: &Outcome, session: &Session) -> bool {
+    let (_, ending, status, steps, text) = row;
+    let came_to = (outcome.ending, outcome.status, outcome.steps);
+    outcome.text.as_slice() == text && came_to == (ending, status, steps) && session.marks() == 1
 }
 
 #[test]
@@ -67,19 +84,46 @@ fn a_session_goes_on_behind_each_ending(rt: HostRuntime) -> Result<(), Fail> {
         return Ok(());
     };
     let mark = session.mark().ok();
-    for (script, ending, status, steps, text) in ROWS {
-        let Some(outcome) = ran(rt.alloc(), &mut session, script)? else {
-            assert!(rt; false, "{script:?} runs");
+    for row in ROWS {
+        let Some(given) = prepare(rt.alloc(), row.0, 1)? else {
+            assert!(rt; false, "{:?} is given", row.0);
             return Ok(());
         };
-        assert!(rt; outcome.text.as_slice() == text, "{script:?}");
-        let came_to = (
-            outcome.ending,
-            outcome.status,
-            outcome.steps,
-            session.marks(),
+        let outcome = run(
+            rt.alloc(),
+            &mut session,
+            &given.script,
+            &given.stand_ins,
+            &given.limits,
         );
-        assert!(rt; came_to == (ending, status, steps, 1), "{script:?}");
+        assert!(rt; is_row(row, &outcome, &session), "{:?}", row.0);
+    }
+    assert!(rt; mark == Some(1) && session.vars().get(b"n").is_none());
+    Ok(())
+}
+
+#[test]
+fn a_runner_sees_nothing_of_the_runs_before(rt: HostRuntime) -> Result<(), Fail> {
+    let Some(mut session) = session(rt.alloc())? else {
+        assert!(rt; false, "a session");
+        return Ok(());
+    };
+    let mark = session.mark().ok();
+    let mut runner = Runner::new(rt.alloc());
+    // Between the rows it has another depth, and nothing to run.
+    let between: [Row; 2] = [
+        (b"echo a b", Ending::Finished, 0, 1, b"a b\n"),
+        (b"# none\n", Ending::Finished, 0, 0, b""),
+    ];
+    for row in ROWS {
+        for (row, depth) in [(row, 1), (between[0], 16), (between[1], 0)] {
+            let Some(given) = prepare(rt.alloc(), row.0, depth)? else {
+                assert!(rt; false, "{:?} is given", row.0);
+                return Ok(());
+            };
+            let outcome = runner.run(&mut session, &given.script, &given.stand_ins, &given.limits);
+            assert!(rt; is_row(row, &outcome, &session), "{:?}", row.0);
+        }
     }
     assert!(rt; mark == Some(1) && session.vars().get(b"n").is_none());
     Ok(())

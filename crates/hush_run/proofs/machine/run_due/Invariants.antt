@@ -1,14 +1,13 @@
 use Rattle.std.proofs.Common.{◌≤◌, ◌-◌}
-use Rattle.hush_syntax.specs.Scripts.{tree_of}
 use Rattle.hush_run.specs.Advances.{IsReady}
 use Rattle.hush_run.specs.Steps.{state_of, rules_of}
 use Rattle.hush_run.proofs.AdvanceLemmas.{Same}
-use Rattle.hush_run.proofs.machine.run_script.Given as goal
+use Rattle.hush_run.proofs.machine.run_due.Given as goal
 
 abbrev pub invariant-loop-next : goal.invariant-loop-next
 invariant-loop-next l = record {
   ready : IsReady (rules_of l.given) l.calls l.frames.frames l.frames.depth l.due;
-  same : Same (rules_of l.given) (tree_of l.script) (state_of l.initial.session l.initial.progress) l.calls l.frames.frames l.due (state_of l.session l.progress);
+  same : Same (rules_of l.given) l.initial.calls l.initial.frames.frames l.initial.due (state_of l.initial.session l.initial.progress) l.calls l.frames.frames l.due (state_of l.session l.progress);
   steps : l.progress.steps ≤ l.given.limits.steps;
 }
 

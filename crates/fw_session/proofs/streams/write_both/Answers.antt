@@ -1,6 +1,6 @@
 use Rattle.std.proofs.Common.{refl}
 use Rattle.fw_session.proofs.StreamLemmas.{writes_two, writes_one}
-use Rattle.fw_session.proofs.obeying.write_line.Goals as goal
+use Rattle.fw_session.proofs.streams.write_both.Goals as goal
 
 pub returns-then-write_text : goal.returns-then-write_text
 returns-then-write_text g c = writes_two _ _ _ _ _ _ _ _ _ _ c.write_text-then-write_text.result refl refl c.if-write_text.ensures c.write_text-then-write_text.ensures

@@ -4,7 +4,7 @@ use Rattle.hush_run.specs.Meaning.{State}
 use Rattle.hush_run.specs.Runs.{rules}
 use Rattle.hush_run.specs.Steps.{state_of}
 use Rattle.hush_run.proofs.OutcomeLemmas.{runs_so}
-use Rattle.hush_run.proofs.outcome.run.Goals as goal
+use Rattle.hush_run.proofs.runner.Runner.run.Goals as goal
 
 pub run_script-stop-requires-clause-steps : goal.run_script-stop-requires-clause-steps
 run_script-stop-requires-clause-steps c = let e = ap (λ (s : State). s.steps) (c.new-progress.ensures c.args.session.now) in omega (arith, e)
