@@ -6,5 +6,6 @@ mod HandlingLemmas
 mod MarkLemmas
 mod NameLemmas
 mod RequestLemmas
+mod SayingLemmas
 mod SessionRows
 mod StreamLemmas

@@ -1,5 +1,5 @@
 -- How a session over a reader and a writer ends.
-use Rattle.std.specs.Prelude.{◌≡◌, ◌⊎◌, ℕ, ◌<◌, ◌≤◌, Bool, true, false, List, [], ◌∷◌, ◌++◌, Option, length}
+use Rattle.std.specs.Prelude.{◌≡◌, ◌⊎◌, ℕ, ◌<◌, ◌≤◌, List, [], ◌∷◌, ◌++◌, Option, length}
 use Rattle.std.specs.Io.KnownBytes.{Appends, Consumes, IsAtEnd}
 use Rattle.fw_session.specs.Input.{Item, items_of, to_last_dot}
 use Rattle.fw_session.specs.Streams.{Counts}
@@ -35,11 +35,6 @@ pub record CutShort (rules : Rules) (h : NamedSession) (items : List Item) (out 
   pub wrote : Appends out out' ((replies rules h before notes).text ++ front)
   pub count : Counts n n' ((replies rules h before notes).text ++ front)
   pub session : h' ≡ (reply rules (replies rules h before notes).session item note).session
-
-abbrev pub AnsweredOrCut : Rules → NamedSession → List Item → Option (List ℕ) → Option (List ℕ) → ℕ → ℕ →
-    NamedSession → Bool → Type 0
-AnsweredOrCut rules h items out out' n n' h' true = AllAnswered rules h items out out' n n' h'
-AnsweredOrCut rules h items out out' n n' h' false = CutShort rules h items out out' n n' h'
 
 -- the most bytes that are handled
 abbrev pub input_limit : ℕ

@@ -1,53 +1,75 @@
-//! Dot lines: what each asks for is done, and what it has to say written.
+//! Dot lines: what each asks for is done, and what it has to say is added to the answers.
 ghost use Rattle.std.specs.Prelude.{◌≡◌, ◌<◌, ◌++◌, [], ◌∷◌, Some, length};
 ghost use Rattle.fw_session.specs.Replies.{listing};
-ghost use Rattle.fw_session.specs.Handling.{RequestAnswered, UndoAnswered};
-ghost use Rattle.fw_session.specs.Requests.{request_view};
-ghost use Rattle.fw_session.specs.Streams.{Writes};
+ghost use Rattle.fw_session.specs.Saying.{RequestAnswered, UndoAnswered, SaysRequest};
+ghost use Rattle.fw_session.specs.Requests.{request_view, change_view};
+ghost use Rattle.fw_session.specs.Streams.{Adds};
+ghost use Rattle.fw_session.specs.Waiting.{sink};
 ghost use Rattle.fw_session.specs.NamedSessions.{named_session, names_of};
 
+use crate::answers::Answers;
 use crate::marks::{Names, mark, standing};
 use crate::names::last_named;
-use crate::requests::Request;
-use crate::streams::{write_both, write_text};
+use crate::requests::{Change, Request};
 use env_session::{Session, Side, UndoFault};
 use std::io::Write;
 
-/// Obeys a dot line, and writes what it has to say.
+/// Obeys a dot line, and adds what it has to say. What waits is written before anything is changed.
 pub(crate) fn obey<W: Write>(
     session: &mut Session,
     names: &mut Names,
     request: Request,
+    answers: &mut Answers,
     output: &mut W,
-    written: &mut u64,
 ) -> bool
-    ensures { RequestAnswered (named_session session.old (names_of names.old.items)) (request_view request) (W.contents output.old)
-        (W.contents output.new) written.old written.new (named_session session.new (names_of names.new.items)) result }
+    ensures { SaysRequest (named_session session.old (names_of names.old.items)) (request_view request)
+        (sink (W.contents output.old) answers.old) (sink (W.contents output.new) answers.new)
+        (named_session session.new (names_of names.new.items)) result }
 {
     match request {
-        Request::Undo => {
+        Request::Print => add_lines(session, answers, output),
+        Request::Unknown => answers.add(b"[Unknown]\n", output),
+        Request::Change(change) => {
+            answers.write_out(output) && apply(session, names, change, answers, output)
+        }
+    }
+}
+
+/// Does what changes the session, where nothing waits.
+fn apply<W: Write>(
+    session: &mut Session,
+    names: &mut Names,
+    change: Change,
+    answers: &mut Answers,
+    output: &mut W,
+) -> bool
+    requires { answers.old.waiting.items ≡ [] }
+    ensures { RequestAnswered (named_session session.old (names_of names.old.items)) (change_view change)
+        (sink (W.contents output.old) answers.old) (sink (W.contents output.new) answers.new)
+        (named_session session.new (names_of names.new.items)) result }
+{
+    match change {
+        Change::Undo => {
             // Does nothing: it tells the prover that the opening stands.
             let _marks = session.marks();
-            undo(session, names, 0, output, written)
+            undo(session, names, 0, answers, output)
         }
-        Request::Save => match session.save() {
-            Ok(Side::First) => write_text(output, b"Saved copy 1\n", written),
-            Ok(Side::Second) => write_text(output, b"Saved copy 2\n", written),
-            Err(_refused) => write_text(output, b"[Memory]\n", written),
+        Change::Save => match session.save() {
+            Ok(Side::First) => answers.add(b"Saved copy 1\n", output),
+            Ok(Side::Second) => answers.add(b"Saved copy 2\n", output),
+            Err(_refused) => answers.add(b"[Memory]\n", output),
         },
-        Request::Print => write_lines(session, output, written),
-        Request::Mark(name) => {
+        Change::Mark(name) => {
             if mark(session, names, name) {
-                write_text(output, b"[Marked]\n", written)
+                answers.add(b"[Marked]\n", output)
             } else {
-                write_text(output, b"[Full]\n", written)
+                answers.add(b"[Full]\n", output)
             }
         }
-        Request::UndoTo(name) => match last_named(standing(names, session), &name) {
-            Some(found) => undo(session, names, found, output, written),
-            None => write_text(output, b"[Gone]\n", written),
+        Change::UndoTo(name) => match last_named(standing(names, session), &name) {
+            Some(found) => undo(session, names, found, answers, output),
+            None => answers.add(b"[Gone]\n", output),
         },
-        Request::Unknown => write_text(output, b"[Unknown]\n", written),
     }
 }
 
@@ -56,37 +78,38 @@ fn undo<W: Write>(
     session: &mut Session,
     names: &Names,
     found: usize,
+    answers: &mut Answers,
     output: &mut W,
-    written: &mut u64,
 ) -> bool
     requires { found < length session.old.marks }
-    ensures { UndoAnswered (named_session session.old (names_of names.now.items)) (Some found) (W.contents output.old)
-        (W.contents output.new) written.old written.new (named_session session.new (names_of names.now.items)) result }
+    ensures { UndoAnswered (named_session session.old (names_of names.now.items)) (Some found)
+        (sink (W.contents output.old) answers.old) (sink (W.contents output.new) answers.new)
+        (named_session session.new (names_of names.now.items)) result }
 {
     // Does nothing: it tells the prover that there are at most 65 marks.
     let _marks = session.marks();
     match session.undo_to(found as u32) {
-        Ok(()) => write_text(output, b"[Undone]\n", written),
+        Ok(()) => answers.add(b"[Undone]\n", output),
         Err(UndoFault::Gone) => unreachable!(),
-        Err(UndoFault::Memory) => write_text(output, b"[Memory]\n", written),
+        Err(UndoFault::Memory) => answers.add(b"[Memory]\n", output),
     }
 }
 
-/// Writes every variable.
-fn write_lines<W: Write>(session: &Session, output: &mut W, written: &mut u64) -> bool
-    ensures { Writes (W.contents output.old) (W.contents output.new) written.old written.new (listing session.now.now.env) result }
+/// Adds every variable.
+fn add_lines<W: Write>(session: &Session, answers: &mut Answers, output: &mut W) -> bool
+    ensures { Adds (sink (W.contents output.old) answers.old) (sink (W.contents output.new) answers.new) (listing session.now.now.env) result }
 {
     for line in session.vars().lines() {
-        if !write_line(line, output, written) {
+        if !add_line(line, answers, output) {
             return false;
         }
     }
     true
 }
 
-/// Writes a line, and the newline that ends it.
-fn write_line<W: Write>(line: &[u8], output: &mut W, written: &mut u64) -> bool
-    ensures { Writes (W.contents output.old) (W.contents output.new) written.old written.new (line.now ++ 10 ∷ []) result }
+/// Adds a line, and the newline that ends it.
+fn add_line<W: Write>(line: &[u8], answers: &mut Answers, output: &mut W) -> bool
+    ensures { Adds (sink (W.contents output.old) answers.old) (sink (W.contents output.new) answers.new) (line.now ++ 10 ∷ []) result }
 {
-    write_both(output, line, b"\n", written)
+    answers.add(line, output) && answers.add(b"\n", output)
 }

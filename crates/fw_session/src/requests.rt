@@ -8,18 +8,25 @@ use crate::names::{Name, name_in};
 /// What a dot line asks for.
 #[derive(Drop)]
 pub(crate) enum Request {
+    /// `.print`
+    Print,
+    /// What may change the session.
+    Change(Change),
+    /// Any other.
+    Unknown,
+}
+
+/// What a dot line asks for that may change the session.
+#[derive(Drop)]
+pub(crate) enum Change {
     /// `.undo`
     Undo,
     /// `.save`
     Save,
-    /// `.print`
-    Print,
     /// `.mark NAME`
     Mark(Name),
     /// `.undo NAME`
     UndoTo(Name),
-    /// Any other.
-    Unknown,
 }
 
 /// What a dot line asks for.
@@ -38,9 +45,9 @@ fn request_in(word: &[u8]) -> Request
     ensures { request_view result ≡ request_in word.now }
 {
     if word == b".undo".as_slice() {
-        Request::Undo
+        Request::Change(Change::Undo)
     } else if word == b".save".as_slice() {
-        Request::Save
+        Request::Change(Change::Save)
     } else if word == b".print".as_slice() {
         Request::Print
     } else {
@@ -55,12 +62,12 @@ fn named_request_in(word: &[u8]) -> Request
     let front = front_of(word);
     if front == b".mark".as_slice() {
         match name_in(behind_of(word)) {
-            Some(name) => Request::Mark(name),
+            Some(name) => Request::Change(Change::Mark(name)),
             None => Request::Unknown,
         }
     } else if front == b".undo".as_slice() {
         match name_in(behind_of(word)) {
-            Some(name) => Request::UndoTo(name),
+            Some(name) => Request::Change(Change::UndoTo(name)),
             None => Request::Unknown,
         }
     } else {

@@ -1,13 +1,15 @@
-//! Blocks: a script is read, run, and what it comes to is written.
-ghost use Rattle.std.specs.Prelude.{◌≡◌, ℕ, List, Option, ◌+◌, ◌≤◌, ◌++◌, [], length};
+//! Blocks: a script is read, run, and what it comes to is added to the answers.
+ghost use Rattle.std.specs.Prelude.{◌≡◌, ℕ, List, Option, ◌+◌, ◌≤◌, ◌++◌, [], ◌∷◌, length};
+ghost use Rattle.hush_syntax.specs.Scripts.{tree_of};
 ghost use Rattle.fw_session.specs.Input.{Block};
 ghost use Rattle.fw_session.specs.Replies.{ending_name, ending_line};
-ghost use Rattle.fw_session.specs.Handling.{ItemAnswered};
-ghost use Rattle.fw_session.specs.Streams.{Writes};
+ghost use Rattle.fw_session.specs.Saying.{Says, SaysScript};
+ghost use Rattle.fw_session.specs.Streams.{Adds};
+ghost use Rattle.fw_session.specs.Waiting.{sink};
 ghost use Rattle.fw_session.specs.NamedSessions.{named_session};
 ghost use Rattle.hush_run.specs.Runs.{rules};
 
-use crate::streams::{write_both, write_text};
+use crate::answers::Answers;
 use arrayvec::ArrayVec;
 use env_session::Session;
 use hush_run::{Ending, Limits, Outcome, Runner, StandIns};
@@ -16,7 +18,7 @@ use itoa::Buffer;
 use std::alloc::Global;
 use std::io::Write;
 
-/// Runs a block, and writes what it has to say.
+/// Runs a block, and adds what it has to say.
 pub(crate) fn run_block<W: Write>(
     alloc: Global,
     runner: &mut Runner,
@@ -24,42 +26,54 @@ pub(crate) fn run_block<W: Write>(
     stand_ins: &StandIns,
     limits: &Limits,
     block: Vec<u8>,
+    answers: &mut Answers,
     output: &mut W,
-    written: &mut u64,
 ) -> bool
-    ensures { (names : List (Option (List ℕ))) → ItemAnswered (rules stand_ins.now limits.now) (named_session session.old names)
-        (Block block.items) (W.contents output.old) (W.contents output.new) written.old written.new
-        (named_session session.new names) result }
+    ensures { (names : List (Option (List ℕ))) → Says (rules stand_ins.now limits.now)
+        (sink (W.contents output.old) answers.old) (named_session session.old names) (Block block.items ∷ [])
+        (sink (W.contents output.new) answers.new) (named_session session.new names) result }
 {
     match Script::parse(alloc, block) {
-        Ok(script) => {
-            let outcome = runner.run(session, &script, stand_ins, limits);
-            write_outcome(&outcome, output, written)
-        }
+        Ok(script) => run_script(
+            runner, session, stand_ins, limits, &script, answers, output,
+        ),
         Err(fault) => match fault.kind {
-            FaultKind::Memory => write_text(output, b"[Memory]\n", written),
-            _ => write_text(output, b"[Syntax]\n", written),
+            FaultKind::Memory => answers.add(b"[Memory]\n", output),
+            _ => answers.add(b"[Syntax]\n", output),
         },
     }
 }
 
-/// The text of a run and the line of its ending are one write where they have no more bytes together.
-const ONE_WRITE: usize = 512;
+/// Runs a script, and adds what it has to say. What waits is written before, if the script has a command.
+fn run_script<W: Write>(
+    runner: &mut Runner,
+    session: &mut Session,
+    stand_ins: &StandIns,
+    limits: &Limits,
+    script: &Script,
+    answers: &mut Answers,
+    output: &mut W,
+) -> bool
+    ensures { SaysScript (rules stand_ins.now limits.now) (tree_of script.now) session.old session.new
+        (sink (W.contents output.old) answers.old) (sink (W.contents output.new) answers.new) result }
+{
+    if script.root().is_none() {
+        return answers.add(b"[Finished 0 0]\n", output);
+    }
+    if !answers.write_out(output) {
+        return false;
+    }
+    let outcome = runner.run(session, script, stand_ins, limits);
+    add_outcome(&outcome, answers, output)
+}
 
-/// Writes the text of a run, and how it ended.
-fn write_outcome<W: Write>(outcome: &Outcome, output: &mut W, written: &mut u64) -> bool
-    ensures { Writes (W.contents output.old) (W.contents output.new) written.old written.new
+/// Adds the text of a run, and how it ended.
+fn add_outcome<W: Write>(outcome: &Outcome, answers: &mut Answers, output: &mut W) -> bool
+    ensures { Adds (sink (W.contents output.old) answers.old) (sink (W.contents output.new) answers.new)
         (outcome.now.text.items ++ ending_line outcome.now.ending outcome.now.status outcome.now.steps) result }
 {
     let line = ending_line(outcome);
-    let mut whole: ArrayVec<u8, ONE_WRITE> = ArrayVec::new();
-    if whole.try_extend_from_slice(&outcome.text).is_ok()
-        && whole.try_extend_from_slice(&line).is_ok()
-    {
-        write_text(output, &whole, written)
-    } else {
-        write_both(output, &outcome.text, &line, written)
-    }
+    answers.add(&outcome.text, output) && answers.add(&line, output)
 }
 
 /// `[ENDING STATUS STEPS]` and a newline.

@@ -1,5 +1,5 @@
 //! Writing a whole text, counted.
-ghost use Rattle.std.specs.Prelude.{◌≡◌, ◌++◌, ℕ, List};
+ghost use Rattle.std.specs.Prelude.{◌≡◌, ℕ, List};
 ghost use Rattle.fw_session.specs.Streams.{Writes};
 
 use std::io::Write;
@@ -20,16 +20,4 @@ pub(crate) fn write_text<W: Write>(writer: &mut W, text: &[u8], written: &mut u6
         }
     }
     true
-}
-
-/// Writes a text and another behind it, if the first was written whole.
-pub(crate) fn write_both<W: Write>(
-    writer: &mut W,
-    first: &[u8],
-    second: &[u8],
-    written: &mut u64,
-) -> bool
-    ensures { Writes (W.contents writer.old) (W.contents writer.new) written.old written.new (first.now ++ second.now) result }
-{
-    write_text(writer, first, written) && write_text(writer, second, written)
 }

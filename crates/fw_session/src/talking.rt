@@ -2,11 +2,14 @@
 ghost use Rattle.std.specs.Prelude.{◌≡◌, ◌+◌, ◌≤◌, ◌<◌, ◌++◌, [], ◌∷◌, ℕ, List, Option, length, take, drop};
 ghost use Rattle.fw_session.specs.Input.{Block, Dot, items_of};
 ghost use Rattle.fw_session.specs.NamedSessions.{named_session, session_of, names_of, unnamed};
-ghost use Rattle.fw_session.specs.Ends.{AnsweredOrCut, Ends};
+ghost use Rattle.fw_session.specs.Ends.{Ends};
 ghost use Rattle.fw_session.specs.Handling.{IsPending, IsLine, block_items};
-ghost use Rattle.fw_session.specs.Talks.{HandlesPiece, HandlesByte, HandlesLine, Finishes};
+ghost use Rattle.fw_session.specs.Saying.{Says};
+ghost use Rattle.fw_session.specs.Streams.{Sink};
+ghost use Rattle.fw_session.specs.Talks.{sink_of, AnswersPiece, HandlesPiece, HandlesByte, HandlesLine, Finishes};
 ghost use Rattle.hush_run.specs.Runs.{rules};
 
+use crate::answers::Answers;
 use crate::ending::{SessionEnd, SessionEnding, Stop};
 use crate::marks::{Names, unnamed};
 use crate::obeying::obey;
@@ -37,8 +40,8 @@ pub(crate) struct Talk {
     bytes: Vec<u8>,
     /// Where that line begins.
     start: usize,
-    /// How many bytes the writer took, 2^64 - 1 where there are more.
-    written: u64,
+    /// What the writer took, and the texts that wait.
+    answers: Answers,
 }
 
 /// Answers the blocks of script and the dot lines of `input` on `output`, each before more is read, until the reader ends,
@@ -66,7 +69,7 @@ pub fn session<R: Read, W: Write>(
             Ok(0) => return finished(talk, stand_ins, limits, output, read),
             Ok(count) => {
                 read += count;
-                match handle_piece(&mut talk, stand_ins, limits, output, &piece[..count]) {
+                match answer_piece(&mut talk, stand_ins, limits, output, &piece[..count]) {
                     Ok(()) => {}
                     Err(Stop::Write) => return ended(talk, SessionEnding::WriteFault, read),
                     Err(Stop::Memory) => return ended(talk, SessionEnding::Memory, read),
@@ -86,7 +89,8 @@ fn begun(alloc: Global, session: Session) -> Talk
     ensures session { session_of result ≡ unnamed session }
     ensures bytes { result.bytes.items ≡ [] }
     ensures start { result.start ≡ 0 }
-    ensures written { result.written ≡ 0 }
+    ensures waiting { result.answers.waiting.items ≡ [] }
+    ensures written { result.answers.written ≡ 0 }
 {
     let names = unnamed(&session);
     Talk {
@@ -96,7 +100,7 @@ fn begun(alloc: Global, session: Session) -> Talk
         names,
         bytes: Vec::new(alloc),
         start: 0,
-        written: 0,
+        answers: Answers::none(),
     }
 }
 
@@ -105,13 +109,13 @@ fn ended(talk: Talk, ending: SessionEnding, read: usize) -> SessionEnd
     ensures session { result.session ≡ talk.session }
     ensures ending { result.ending ≡ ending }
     ensures read { result.read ≡ read }
-    ensures written { result.written ≡ talk.written }
+    ensures written { result.written ≡ talk.answers.written }
 {
     SessionEnd {
         session: talk.session,
         ending,
         read: read as u64,
-        written: talk.written,
+        written: talk.answers.written,
     }
 }
 
@@ -125,16 +129,18 @@ fn finished<W: Write>(
 ) -> SessionEnd
     requires { IsPending talk.bytes.items talk.start }
     ensures read { result.read ≡ read }
-    ensures ends { (names : List (Option (List ℕ))) × Finishes (rules stand_ins.now limits.now) (session_of talk)
-        talk.bytes.items (W.contents output.old) (W.contents output.new) talk.written result.written
-        (named_session result.session names) result.ending }
+    ensures ends { (names : List (Option (List ℕ))) × (s : Sink) × (s.taken ≡ W.contents output.new) × (s.count ≡ result.written)
+        × Finishes (rules stand_ins.now limits.now) (sink_of (W.contents output.old) talk) (session_of talk) talk.bytes.items
+        s (named_session result.session names) result.ending }
 {
     let mut talk = talk;
-    if answer_rest(&mut talk, stand_ins, limits, output) {
-        ended(talk, SessionEnding::Done, read)
-    } else {
-        ended(talk, SessionEnding::WriteFault, read)
+    if !answer_rest(&mut talk, stand_ins, limits, output) {
+        return ended(talk, SessionEnding::WriteFault, read);
     }
+    if !talk.answers.write_out(output) {
+        return ended(talk, SessionEnding::WriteFault, read);
+    }
+    ended(talk, SessionEnding::Done, read)
 }
 
 /// Answers what waits at the end of the input.
@@ -145,8 +151,8 @@ fn answer_rest<W: Write>(
     output: &mut W,
 ) -> bool
     requires { IsPending talk.old.bytes.items talk.old.start }
-    ensures { AnsweredOrCut (rules stand_ins.now limits.now) (session_of talk.old) (items_of talk.old.bytes.items)
-        (W.contents output.old) (W.contents output.new) talk.old.written talk.new.written (session_of talk.new) result }
+    ensures { Says (rules stand_ins.now limits.now) (sink_of (W.contents output.old) talk.old) (session_of talk.old)
+        (items_of talk.old.bytes.items) (sink_of (W.contents output.new) talk.new) (session_of talk.new) result }
 {
     if talk.start < talk.bytes.len() && talk.bytes[talk.start] == b'.' {
         answer_dot(talk, stand_ins, limits, output)
@@ -165,9 +171,9 @@ fn answer_dot<W: Write>(
     requires { talk.old.start ≤ length talk.old.bytes.items }
     ensures empty { talk.new.bytes.items ≡ [] }
     ensures start { talk.new.start ≡ 0 }
-    ensures answers { AnsweredOrCut (rules stand_ins.now limits.now) (session_of talk.old)
+    ensures answers { Says (rules stand_ins.now limits.now) (sink_of (W.contents output.old) talk.old) (session_of talk.old)
         (block_items (take talk.old.start talk.old.bytes.items) ++ Dot (drop talk.old.start talk.old.bytes.items) ∷ [])
-        (W.contents output.old) (W.contents output.new) talk.old.written talk.new.written (session_of talk.new) result }
+        (sink_of (W.contents output.new) talk.new) (session_of talk.new) result }
 {
     let request = request_of(&talk.bytes[talk.start..]);
     talk.bytes.truncate(talk.start);
@@ -177,8 +183,8 @@ fn answer_dot<W: Write>(
             &mut talk.session,
             &mut talk.names,
             request,
+            &mut talk.answers,
             output,
-            &mut talk.written,
         )
 }
 
@@ -191,8 +197,8 @@ fn answer_block<W: Write>(
 ) -> bool
     ensures empty { talk.new.bytes.items ≡ [] }
     ensures start { talk.new.start ≡ talk.old.start }
-    ensures answers { AnsweredOrCut (rules stand_ins.now limits.now) (session_of talk.old) (block_items talk.old.bytes.items)
-        (W.contents output.old) (W.contents output.new) talk.old.written talk.new.written (session_of talk.new) result }
+    ensures answers { Says (rules stand_ins.now limits.now) (sink_of (W.contents output.old) talk.old) (session_of talk.old)
+        (block_items talk.old.bytes.items) (sink_of (W.contents output.new) talk.new) (session_of talk.new) result }
 {
     if talk.bytes.is_empty() {
         return true;
@@ -205,9 +211,39 @@ fn answer_block<W: Write>(
         stand_ins,
         limits,
         block,
+        &mut talk.answers,
         output,
-        &mut talk.written,
     )
+}
+
+/// Handles a piece of the input, and writes what waits.
+fn answer_piece<W: Write>(
+    talk: &mut Talk,
+    stand_ins: &StandIns,
+    limits: &Limits,
+    output: &mut W,
+    piece: &[u8],
+) -> Result<(), Stop>
+    requires { IsPending talk.old.bytes.items talk.old.start }
+    ensures { AnswersPiece (rules stand_ins.now limits.now) piece.now talk.old talk.new (W.contents output.old) (W.contents output.new) result }
+{
+    match handle_piece(talk, stand_ins, limits, output, piece) {
+        Ok(()) => {
+            if talk.answers.write_out(output) {
+                Ok(())
+            } else {
+                Err(Stop::Write)
+            }
+        }
+        Err(Stop::Memory) => {
+            if talk.answers.write_out(output) {
+                Err(Stop::Memory)
+            } else {
+                Err(Stop::Write)
+            }
+        }
+        Err(Stop::Write) => Err(Stop::Write),
+    }
 }
 
 /// Handles a piece of the input.

@@ -1,12 +1,18 @@
-use Rattle.fw_session.proofs.BlockLemmas.{no_room, no_script, block_ran}
+use Rattle.fw_session.specs.Waiting.{sink}
+use Rattle.fw_session.specs.NamedSessions.{named_session}
+use Rattle.hush_run.specs.Runs.{rules}
+use Rattle.fw_session.proofs.BlockLemmas.{says_no_room, says_no_script, read_as}
 use Rattle.fw_session.proofs.running.run_block.Goals as goal
 
 pub returns-in-Ok : goal.returns-in-Ok
-returns-in-Ok g c = λ names.
-    block_ran _ _ _ _ names c.args.block.items _ c.run-outcome.result _ _ _ _ c.write_outcome.result c.in-Ok.ensures.read c.in-Ok.ensures.kept c.run-outcome.ensures c.write_outcome.ensures
+returns-in-Ok g c = λ names. c.run_script.ensures names c.args.block.items (read_as _ _ _ c.in-Ok.ensures.read c.in-Ok.ensures.kept)
 
 pub returns-in-Memory : goal.returns-in-Memory
-returns-in-Memory g c = λ names. no_room _ _ c.args.block.items _ _ _ _ c.write_text.result c.write_text.ensures
+returns-in-Memory g c = λ names.
+    says_no_room (rules c.args.stand_ins.now c.args.limits.now) (named_session c.args.session.now names) c.args.block.items (sink (g.W.Write.contents c.args.output.now) c.args.answers.now)
+        (sink (g.W.Write.contents c.add.new.output) c.add.new.self) c.add.result c.add.ensures
 
 pub returns-in_default : goal.returns-in_default
-returns-in_default g c = λ names. no_script _ _ c.args.block.items _ _ _ _ c.write_text-in_default.result (c.in-Err.ensures.unread c.in_default.not-Memory) c.write_text-in_default.ensures
+returns-in_default g c = λ names.
+    says_no_script (rules c.args.stand_ins.now c.args.limits.now) (named_session c.args.session.now names) c.args.block.items (sink (g.W.Write.contents c.args.output.now) c.args.answers.now)
+        (sink (g.W.Write.contents c.add-in_default.new.output) c.add-in_default.new.self) c.add-in_default.result (c.in-Err.ensures.unread c.in_default.not-Memory) c.add-in_default.ensures

@@ -13,5 +13,5 @@ returns-then-index-eq46 g c =
 pub returns-else-index-eq46 : goal.returns-else-index-eq46
 returns-else-index-eq46 g c = (
   subst (λ k. IsPending c.args.talk.now.bytes.items k) (long c.args.talk.now.bytes ∙ sym c.len-talk.ensures) (line_joins _ _ c.requires (is_plain _ _ c.index.result.now c.requires.within c.index.ensures c.if-index-eq46.false)),
-  handled_none _ _ _ _ _,
+  handled_none _ _ _ _,
 )

@@ -3,7 +3,7 @@ use Rattle.fw_session.proofs.HandlingLemmas.{handled_none, handles_more, handles
 use Rattle.fw_session.proofs.talking.handle_piece.Goals as goal
 
 pub loop-byte-init : goal.loop-byte-init
-loop-byte-init g c = (c.requires, handled_none _ _ _ _ _)
+loop-byte-init g c = (c.requires, handled_none _ _ _ _)
 
 pub returns-in-Err : goal.returns-in-Err
 returns-in-Err g c =

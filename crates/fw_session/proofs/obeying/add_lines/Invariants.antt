@@ -1,0 +1,11 @@
+use Rattle.std.proofs.Common.{◌≡◌, ◌++◌, ◌∷◌, [], ℕ, List, true}
+use Rattle.std.specs.List.{flat_map}
+use Rattle.fw_session.specs.Streams.{Adds}
+use Rattle.fw_session.specs.Waiting.{sink}
+use Rattle.fw_session.specs.Replies.{listing}
+use Rattle.fw_session.proofs.obeying.add_lines.Given as goal
+
+abbrev pub invariant-loop-line : goal.invariant-loop-line
+invariant-loop-line g l =
+    (front : List ℕ) × (listing l.session.now.env ≡ front ++ flat_map (λ x. x ++ 10 ∷ []) l.line-iterator)
+    × Adds (sink (g.W.Write.contents l.initial.output) l.initial.answers) (sink (g.W.Write.contents l.output) l.answers) front true
