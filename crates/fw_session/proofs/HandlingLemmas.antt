@@ -9,7 +9,7 @@ use Rattle.fw_session.specs.Saying.{Says}
 use Rattle.fw_session.specs.Ends.{AllAnswered, CutShort}
 use Rattle.fw_session.specs.Handling.{Handled, HandledUntilCut, IsPending, IsLine, block_items}
 use Rattle.std.proofs.lemmas.List.{take_more, take-append-drop}
-use Rattle.fw_session.specs.Talks.{sink_of, first_sink, HandlesAll, HandlesUntilCut, HandlesSome, HandlesLine, HandlesByte, HandlesPiece, AnswersPiece, IsWrittenOut}
+use Rattle.fw_session.specs.Talks.{sink_of, first_sink, HandlesAll, HandlesLine, HandlesByte, HandlesPiece, AnswersPiece, IsWrittenOut}
 use Rattle.fw_session.specs.declared.talking.Talk.{Talk}
 use Rattle.fw_session.specs.declared.ending.Stop.{Stop}
 use Rattle.fw_session.proofs.CutLemmas.{end_none, end_then, line_cuts, line_whole, whole_is, pending_more, pending_none, line_ended}

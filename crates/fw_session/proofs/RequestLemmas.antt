@@ -17,7 +17,7 @@ use Rattle.fw_session.specs.Requests.{request_view}
 use Rattle.fw_session.specs.Streams.{Sink, Adds}
 use Rattle.fw_session.specs.NamedSessions.{named_session, MarksNamed}
 use Rattle.fw_session.specs.Replies.{NamedSession, Through, Refused, Stopped, Request, Undo, Save, Print, Mark, UndoTo, Unknown, with_newline, listing, standing, last_named, trimmed, onto_trimmed, is_end_blank, request_in, request_of}
-use Rattle.fw_session.specs.Saying.{IsQuiet, RequestAnswered, UndoAnswered}
+use Rattle.fw_session.specs.Saying.{RequestAnswered, UndoAnswered}
 use Rattle.fw_session.specs.declared.requests.Request as code
 
 -- an undo to a mark that stands

@@ -1,5 +1,5 @@
 -- Items whose texts may wait: what is done behind others, and where the writer fails.
-use Rattle.std.proofs.Common.{◌≡◌, ℕ, ◌+◌, ◌-◌, ◌<◌, ◌≤◌, ◌++◌, List, [], ◌∷◌, length, take, drop, Option, Bool, true, false, refl, sym, ap, subst, ◌∙◌, inl, inr, ◌⊎◌, arith, append_assoc, append-nil, length-append, length-take-le}
+use Rattle.std.proofs.Common.{◌≡◌, ℕ, ◌-◌, ◌<◌, ◌≤◌, ◌++◌, List, [], ◌∷◌, length, take, drop, Option, Bool, true, false, refl, sym, ap, subst, ◌∙◌, inl, inr, arith, append_assoc, append-nil, length-append}
 use Rattle.std.specs.Prelude.{nat_lt}
 use Rattle.std.proofs.lemmas.List.{take-append-le, drop-append-le, take-append-drop}
 use Rattle.std.proofs.Math.Seq.{take-append_seam, drop-append_seam}
@@ -8,7 +8,7 @@ use Rattle.std.proofs.KnownBytes.{Appends-trans, Appends-nil}
 use Rattle.std.specs.Io.KnownBytes.{Appends}
 use Rattle.hush_run.specs.Meaning.{Rules}
 use Rattle.fw_session.specs.Input.{Item, Dot}
-use Rattle.fw_session.specs.Streams.{Counts, Sink, Moves, Adds, with_text}
+use Rattle.fw_session.specs.Streams.{Counts, Sink, Moves, with_text}
 use Rattle.fw_session.specs.Replies.{NamedSession, Note, Request, request_of, reply, replies, MayStand, AllStand}
 use Rattle.fw_session.specs.Ends.{AllAnswered, CutShort}
 use Rattle.fw_session.specs.Saying.{IsSafe, Told, ToldOrCut, Says, IsQuiet, ItemAnswered, RequestAnswered, SaysRequest}
@@ -195,8 +195,8 @@ cut_in rules t now (i ∷ is) (n ∷ ns) whole rest gone m e left le s =
           let behind : more ≡ drop (length r.text) whole ++ rest = sym (drop-append_seam r.text more) ∙ ap (drop (length r.text)) e ∙ drop-append-le (length r.text) whole rest (omega (arith, ge)) in
           let parts : whole ≡ r.text ++ drop (length r.text) whole = sym (take-append-drop (length r.text) whole) ∙ ap (λ v. v ++ drop (length r.text) whole) (sym front) in
           cut_behind rules t now i is n whole (drop (length r.text) whole) m.0 parts
-              (cut_in rules r.session now is ns (drop (length r.text) whole) rest (gone - length r.text) m.1 behind left
-              (omega (arith, le, ge, ap length parts, length-append r.text (drop (length r.text) whole))) s.1)
+          (cut_in rules r.session now is ns (drop (length r.text) whole) rest (gone - length r.text) m.1 behind left
+          (omega (arith, le, ge, ap length parts, length-append r.text (drop (length r.text) whole))) s.1)
     ] refl
 
 -- the writer fails

@@ -3,7 +3,7 @@ ghost use Rattle.std.specs.Prelude.{◌≡◌, ℕ, List, Option, ◌+◌, ◌�
 ghost use Rattle.hush_syntax.specs.Scripts.{tree_of};
 ghost use Rattle.fw_session.specs.Input.{Block};
 ghost use Rattle.fw_session.specs.Replies.{ending_name, ending_line};
-ghost use Rattle.fw_session.specs.Saying.{Says, SaysScript};
+ghost use Rattle.fw_session.specs.Saying.{Says, SaysScript, RanAnswered};
 ghost use Rattle.fw_session.specs.Streams.{Adds};
 ghost use Rattle.fw_session.specs.Waiting.{sink};
 ghost use Rattle.fw_session.specs.NamedSessions.{named_session};
@@ -12,7 +12,7 @@ ghost use Rattle.hush_run.specs.Runs.{rules};
 use crate::answers::Answers;
 use arrayvec::ArrayVec;
 use env_session::Session;
-use hush_run::{Ending, Limits, Outcome, Runner, StandIns};
+use hush_run::{Ending, Limits, Outcome, Runner, StandIns, leaves_session};
 use hush_syntax::{FaultKind, Script};
 use itoa::Buffer;
 use std::alloc::Global;
@@ -34,9 +34,7 @@ pub(crate) fn run_block<W: Write>(
         (sink (W.contents output.new) answers.new) (named_session session.new names) result }
 {
     match Script::parse(alloc, block) {
-        Ok(script) => run_script(
-            runner, session, stand_ins, limits, &script, answers, output,
-        ),
+        Ok(script) => run_script(runner, session, stand_ins, limits, &script, answers, output),
         Err(fault) => match fault.kind {
             FaultKind::Memory => answers.add(b"[Memory]\n", output),
             _ => answers.add(b"[Syntax]\n", output),
@@ -44,7 +42,7 @@ pub(crate) fn run_block<W: Write>(
     }
 }
 
-/// Runs a script, and adds what it has to say. What waits is written before, if the script has a command.
+/// Runs a script, and adds what it has to say. What waits is written before, if the script may change the session.
 fn run_script<W: Write>(
     runner: &mut Runner,
     session: &mut Session,
@@ -60,9 +58,28 @@ fn run_script<W: Write>(
     if script.root().is_none() {
         return answers.add(b"[Finished 0 0]\n", output);
     }
+    if leaves_session(script) {
+        return add_run(runner, session, stand_ins, limits, script, answers, output);
+    }
     if !answers.write_out(output) {
         return false;
     }
+    add_run(runner, session, stand_ins, limits, script, answers, output)
+}
+
+/// Runs a script, and adds what it has to say.
+fn add_run<W: Write>(
+    runner: &mut Runner,
+    session: &mut Session,
+    stand_ins: &StandIns,
+    limits: &Limits,
+    script: &Script,
+    answers: &mut Answers,
+    output: &mut W,
+) -> bool
+    ensures { RanAnswered (rules stand_ins.now limits.now) (tree_of script.now) session.old session.new
+        (sink (W.contents output.old) answers.old) (sink (W.contents output.new) answers.new) result }
+{
     let outcome = runner.run(session, script, stand_ins, limits);
     add_outcome(&outcome, answers, output)
 }

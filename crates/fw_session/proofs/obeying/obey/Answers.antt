@@ -28,9 +28,9 @@ returns-then-write_out g c =
     let s' = sink (g.W.Write.contents c.write_out.new.output) c.write_out.new.self in
     let s'' = sink (g.W.Write.contents c.apply.new.output) c.apply.new.answers in
     says_line_behind t t' (request_view c.args.request) (sink (g.W.Write.contents c.args.output.now) c.args.answers.now) s' s'' c.write_out.result c.apply.result c.if-write_out.true c.write_out.ensures.moves
-        (obeyed_as t t' _ (request_view c.args.request) s' s'' c.apply.result (ap request_view c.in-Change.is) c.apply.ensures)
+    (obeyed_as t t' _ (request_view c.args.request) s' s'' c.apply.result (ap request_view c.in-Change.is) c.apply.ensures)
 
 pub returns-else-write_out : goal.returns-else-write_out
 returns-else-write_out g c =
     says_line_not_begun (named_session c.args.session.now (names_of c.args.names.now.items)) (request_view c.args.request) (sink (g.W.Write.contents c.args.output.now) c.args.answers.now)
-        (sink (g.W.Write.contents c.write_out.new.output) c.write_out.new.self) c.write_out.result c.if-write_out.false c.write_out.ensures.moves
+    (sink (g.W.Write.contents c.write_out.new.output) c.write_out.new.self) c.write_out.result c.if-write_out.false c.write_out.ensures.moves

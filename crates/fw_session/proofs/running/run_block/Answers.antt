@@ -10,9 +10,9 @@ returns-in-Ok g c = λ names. c.run_script.ensures names c.args.block.items (rea
 pub returns-in-Memory : goal.returns-in-Memory
 returns-in-Memory g c = λ names.
     says_no_room (rules c.args.stand_ins.now c.args.limits.now) (named_session c.args.session.now names) c.args.block.items (sink (g.W.Write.contents c.args.output.now) c.args.answers.now)
-        (sink (g.W.Write.contents c.add.new.output) c.add.new.self) c.add.result c.add.ensures
+    (sink (g.W.Write.contents c.add.new.output) c.add.new.self) c.add.result c.add.ensures
 
 pub returns-in_default : goal.returns-in_default
 returns-in_default g c = λ names.
     says_no_script (rules c.args.stand_ins.now c.args.limits.now) (named_session c.args.session.now names) c.args.block.items (sink (g.W.Write.contents c.args.output.now) c.args.answers.now)
-        (sink (g.W.Write.contents c.add-in_default.new.output) c.add-in_default.new.self) c.add-in_default.result (c.in-Err.ensures.unread c.in_default.not-Memory) c.add-in_default.ensures
+    (sink (g.W.Write.contents c.add-in_default.new.output) c.add-in_default.new.self) c.add-in_default.result (c.in-Err.ensures.unread c.in_default.not-Memory) c.add-in_default.ensures

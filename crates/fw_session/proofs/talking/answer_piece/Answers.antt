@@ -44,4 +44,3 @@ returns-else-write_out-2 g c =
     let after = record talk { answers = c.write_out-in-Err-Memory.new.self } in
     let moves : Moves (sink_of mid talk) (sink_of new after) false = subst (λ v. Moves (sink_of mid talk) (sink_of new after) v) c.if-write_out-2.false c.write_out-in-Err-Memory.ensures.moves in
     some_cut (rules c.args.stand_ins.now c.args.limits.now) c.args.piece.now c.args.talk.now talk after old mid new refl c.in-Err-Memory.field-0 c.in-Err-Memory.field-0-is c.in-Err-Memory.ensures moves
-
