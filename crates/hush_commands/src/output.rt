@@ -49,6 +49,14 @@ impl Output {
         }
     }
 
+    /// No text, with room for `limit` bytes, in the memory of a text whose bytes are of no account.
+    pub fn in_room(mut text: Vec<u8>, limit: u32) -> Output
+        ensures { result ≡ printed [] limit }
+    {
+        text.clear();
+        Output { text, limit }
+    }
+
     /// What was printed.
     pub fn text(&self) -> &[u8]
         ensures text { result.now ≡ self.now.text }
