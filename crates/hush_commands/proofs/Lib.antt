@@ -1,4 +1,5 @@
 pub mod BlankLemmas
+pub mod BuiltinLemmas
 pub mod EntryLemmas
 pub mod StandInLemmas
 pub mod Rows

@@ -1,5 +1,5 @@
 //! The names of the commands that a run has itself (docs/runs.md, "Names of builtins").
-ghost use Rattle.std.specs.Prelude.{◌≡◌};
+ghost use Rattle.std.specs.Prelude.{◌≡◌, ℕ, List, ◌∷◌, find};
 ghost use Rattle.std.specs.Str.{bytes_eq};
 
 /// A command that a run has itself.
@@ -21,29 +21,39 @@ pub(crate) enum Builtin {
 impl Builtin {
     ghost use Rattle.hush_commands.specs.Builtins.{builtin_of, is_called};
 
-    const ALL: [Builtin; 11] = [
-        Builtin::True,
-        Builtin::False,
-        Builtin::Echo,
-        Builtin::SetEnv,
-        Builtin::PrintEnv,
-        Builtin::SaveEnv,
-        Builtin::Run,
-        Builtin::Env,
-        Builtin::Test,
-        Builtin::SetExpr,
-        Builtin::Exit,
-    ];
-
     /// The builtin of a name.
-    #[tactic(auto, unfolding(crate::specs::Builtins::builtin_of))]
     pub(crate) fn of(name: &[u8]) -> Option<Builtin>
         ensures { result ≡ builtin_of name.now }
     {
-        Builtin::ALL
+        match name.first() {
+            Some(initial) => Builtin::among(Builtin::with_initial(*initial), name),
+            None => None,
+        }
+    }
+
+    /// The first of these builtins that a command of the name is.
+    fn among(builtins: &[Builtin], name: &[u8]) -> Option<Builtin>
+        ensures { result ≡ find (λ builtin. is_called builtin name.now) builtins.now }
+    {
+        builtins
             .iter()
             .copied()
             .find(|builtin| builtin.is_called(name))
+    }
+
+    /// The builtins whose names begin with this byte.
+    fn with_initial(initial: u8) -> &'static [Builtin]
+        ensures { (rest : List ℕ) → find (λ builtin. is_called builtin (initial ∷ rest)) result.now ≡ builtin_of (initial ∷ rest) }
+    {
+        match initial {
+            b't' => &[Builtin::True, Builtin::Test],
+            b'f' => &[Builtin::False],
+            b'e' => &[Builtin::Echo, Builtin::Env, Builtin::Exit],
+            b's' => &[Builtin::SetEnv, Builtin::SaveEnv, Builtin::SetExpr],
+            b'p' => &[Builtin::PrintEnv],
+            b'r' => &[Builtin::Run],
+            _ => &[],
+        }
     }
 
     /// Whether a command of this name is it. The suffixes of `setexpr` say how much memory an address reads.

@@ -1,5 +1,6 @@
 //! The text that a run prints.
-ghost use Rattle.std.specs.Prelude.{◌≡◌, ◌≤◌, [], ◌++◌, length, take};
+ghost use Rattle.std.specs.Prelude.{◌≡◌, ◌≤◌, [], ◌+◌, ◌++◌, length, take, vec_len, vec_capacity};
+ghost use Rattle.std.specs.Option.{SomeIff};
 ghost use Rattle.hush_commands.specs.Output.{printed, Prints};
 ghost use Rattle.hush_commands.specs.Saving.{saved_line, Saves};
 
@@ -48,6 +49,14 @@ impl Output {
         }
     }
 
+    /// No text, with room for `limit` bytes, in the memory of a text whose bytes are of no account.
+    pub fn in_room(mut text: Vec<u8>, limit: u32) -> Output
+        ensures { result ≡ printed [] limit }
+    {
+        text.clear();
+        Output { text, limit }
+    }
+
     /// What was printed.
     pub fn text(&self) -> &[u8]
         ensures text { result.now ≡ self.now.text }
@@ -83,7 +92,7 @@ impl Output {
         self.text.truncate(len);
     }
 
-    /// Prints three texts.
+    /// Prints three texts. Room for all three is had before the first is printed.
     pub(crate) fn print_parts(
         &mut self,
         front: &[u8],
@@ -92,9 +101,17 @@ impl Output {
     ) -> Result<(), PrintFault>
         ensures { Prints (front.now ++ (middle.now ++ back.now)) self.old self.new result }
     {
-        self.print(front)?;
-        self.print(middle)?;
-        self.print(back)
+        let room = self.limit as usize - self.text.len();
+        let Some(len) = len_within(room, front, middle, back) else {
+            return Err(PrintFault::Output);
+        };
+        if self.text.reserve(len).is_err() {
+            return Err(PrintFault::Memory);
+        }
+        append(&mut self.text, front);
+        append(&mut self.text, middle);
+        append(&mut self.text, back);
+        Ok(())
     }
 
     /// `saveenv`: saves the session, and prints which copy was written. Its room is had before anything is saved.
@@ -110,14 +127,35 @@ impl Output {
         }
         match session.save() {
             Ok(side) => {
-                let appended = self.text.extend_from_slice(saved_line(side));
-                // It tells the prover that room was reserved, so this isn't refused.
-                prove!(appended.is_ok());
+                append(&mut self.text, saved_line(side));
                 Ok(())
             }
             Err(_) => Err(PrintFault::Memory),
         }
     }
+}
+
+/// How many bytes three texts have together, where that is at most `room`.
+fn len_within(room: usize, front: &[u8], middle: &[u8], back: &[u8]) -> Option<usize>
+    ensures { SomeIff result (length front.now + (length middle.now + length back.now) ≤ room) (length front.now + (length middle.now + length back.now)) }
+{
+    let left = room
+        .checked_sub(front.len())?
+        .checked_sub(middle.len())?
+        .checked_sub(back.len())?;
+    Some(room - left)
+}
+
+/// Appends a text for which there is room.
+fn append(output: &mut Vec<u8>, text: &[u8])
+    requires { vec_len output.old + length text.now ≤ vec_capacity output.old }
+    ensures items { output.new.items ≡ output.old.items ++ text.now }
+    ensures len { vec_len output.new ≡ vec_len output.old + length text.now }
+    ensures capacity { vec_capacity output.old ≤ vec_capacity output.new }
+{
+    let appended = output.extend_from_slice(text);
+    // It tells the prover that there is room, so this isn't refused.
+    prove!(appended.is_ok());
 }
 
 /// The length of the line that a save prints.
