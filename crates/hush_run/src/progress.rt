@@ -36,14 +36,15 @@ pub(crate) struct Progress {
 impl Progress {
     ghost use Rattle.hush_run.specs.Steps.{state_of, rules_of, value_of, FieldsAre, MayStep, Did};
 
-    /// Status 0, no local variables and no text. What the buffer for fields holds is of no account. It takes no memory.
-    pub(crate) fn new(given: &Given<'_>, fields: FieldBuffer) -> Progress
+    /// Status 0, no local variables and no text, in the room of a buffer for fields and of a text: what they hold is of no
+    /// account. It takes no memory.
+    pub(crate) fn new(given: &Given<'_>, fields: FieldBuffer, text: Vec<u8>) -> Progress
         ensures { (held : Held) → state_of held result ≡ first_state (rules_of given.now) held }
     {
         Progress {
             locals: Locals::new(given.alloc),
             status: 0,
-            output: Output::new(given.alloc, given.limits.output()),
+            output: Output::in_room(text, given.limits.output()),
             steps: 0,
             fields,
             name: Vec::new(given.alloc),

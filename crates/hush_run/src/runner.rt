@@ -35,6 +35,7 @@ pub struct Runner {
     alloc: Global,
     kept: Kept,
     fields: FieldBuffer,
+    text: Vec<u8>,
 }
 
 impl Runner {
@@ -44,7 +45,13 @@ impl Runner {
             alloc,
             kept: Kept::nothing(alloc),
             fields: FieldBuffer::new(alloc),
+            text: Vec::new(alloc),
         }
+    }
+
+    /// Takes the text of an outcome back that is read no more: the next run prints in its memory.
+    pub fn take_back(&mut self, text: Vec<u8>) {
+        self.text = text;
     }
 
     /// Runs a script as [`run`] does. It sees nothing of the runs before it, and takes less memory behind one.
@@ -65,7 +72,8 @@ impl Runner {
         // Does nothing: it tells the prover that the depth is at most MOST_DEPTH.
         let _depth = limits.depth();
         let fields = mem::replace(&mut self.fields, FieldBuffer::new(self.alloc));
-        let mut progress = Progress::new(&given, fields);
+        let text = mem::replace(&mut self.text, Vec::new(self.alloc));
+        let mut progress = Progress::new(&given, fields, text);
         let stop = run_script(&given, session, &mut progress, &mut self.kept, script);
         let Progress {
             locals: _,
