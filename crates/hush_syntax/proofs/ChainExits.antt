@@ -32,7 +32,7 @@ keeps-link : Keeps LinkAt
 keeps-link at more e x l h = link-longer at more e x l h
 
 -- what waits is not changed by a command
-pub mark-kept : (old after : Builder) (mark : ℕ) → waiting after ≡ waiting old → mark ≡ length after.links.items → mark ≡ length old.links.items
+pub mark-kept : (old after : Builder) (mark : ℕ) → waiting after ≡ waiting old → mark ≡ length after.waiting.links.items → mark ≡ length old.waiting.links.items
 mark-kept old after mark same at = at ∙ ap (λ (w : Waiting). length w.links) same
 
 -- an operator that is asked for, and passed where it is there
@@ -120,7 +120,7 @@ module _ (text : Written) (room : ℕ) where
       }
 
   pub chain-built : (found : Option (Chain × List Token)) (old mid settled new : Builder) (b : Block) (id : NodeId) (mark : ℕ) (next : Option Operator) (now : List Token) → Joining found old mid next now → next ≡ None →
-      mark ≡ length old.links.items → SettlesLinks mid settled mark b → Put settled new (node.Chain b) id → Found ChainAt text found old new now id
+      mark ≡ length old.waiting.links.items → SettlesLinks mid settled mark b → Put settled new (node.Chain b) id → Found ChainAt text found old new now id
   chain-built found old mid settled new b id mark next now j none at h p =
       let s = j.so_far in
       let kept_left : now ≡ j.before = j.passed ∙ ap (λ (n : Option Operator). after_operator n j.before) none in

@@ -64,7 +64,7 @@ module _ (text : Written) (room : ℕ) where
 
   pub if-built : (found : Option (Command × List Token)) (old mid after settled new : Builder) (b : Block) (o : Option NodeId) (id : NodeId) (mark : ℕ) (now r : List Token) →
       SoFar (IfGoes found now) BranchAt add_branches text old mid → begins (is (codes "elif")) now ≡ false → Found OtherwiseAt text (otherwise (command room) now) mid after r o →
-      mark ≡ length old.branches.items → SettlesBranches after settled mark b → Put settled new (if_stored b o) id → Found CommandAt text found old new r id
+      mark ≡ length old.waiting.branches.items → SettlesBranches after settled mark b → Put settled new (if_stored b o) id → Found CommandAt text found old new r id
   if-built found old mid after settled new b o id mark now r s test f at h p =
       let k = settled-branches old after settled s.ys mark b (f.4 ∙ s.waits) at h in
       let grows = grows-both mid.table after.table settled.table f.2 k.1 in

@@ -28,7 +28,7 @@ WholeList text cs old settled b =
     ((more : Members) → built (later text settled.table more) text (followed (members_of settled.table) more) (node.List b) ≡ Some (OfChains (chains_from cs)))
 
 list-whole : (text : Written) (Goes : List Chain → Type 0) (old mid after pushed settled : Builder) (b : Block) (id : NodeId) (c : Chain) (mark : ℕ) → (s : SoFar Goes ChainAt add_chains text old mid) →
-    Grows mid.table after.table → ((more : Members) → ChainAt (later text after.table more) c id) → waiting after ≡ waiting mid → Adds add_chains after pushed id → mark ≡ length old.chains.items →
+    Grows mid.table after.table → ((more : Members) → ChainAt (later text after.table more) c id) → waiting after ≡ waiting mid → Adds add_chains after pushed id → mark ≡ length old.waiting.chains.items →
     SettlesChains pushed settled mark b → WholeList text (s.xs ++ c ∷ []) old settled b
 list-whole text Goes old mid after pushed settled b id c mark s grows is same add at h =
     let ys : List NodeId = s.ys ++ id ∷ [] in
@@ -44,10 +44,10 @@ list-whole text Goes old mid after pushed settled b id c mark s grows is same ad
 
 -- the mark of a list is within what waits once one more chain does
 pub pushed-within : (old mid after pushed : Builder) (ys : List NodeId) (id : NodeId) (mark : ℕ) → waiting mid ≡ add_chains (waiting old) ys → waiting after ≡ waiting mid → Adds add_chains after pushed id →
-    mark ≡ length old.chains.items → mark ≤ length pushed.chains.items
+    mark ≡ length old.waiting.chains.items → mark ≤ length pushed.waiting.chains.items
 pushed-within old mid after pushed ys id mark e f add at =
     let whole : waiting pushed ≡ add_chains (waiting old) (ys ++ id ∷ []) = add.1 ∙ ap (λ w. add_chains w (id ∷ [])) (f ∙ e) ∙ chains-up (waiting old) ys (id ∷ []) in
-    mark-within old.chains.items (ys ++ id ∷ []) pushed.chains.items mark (ap (λ (w : Waiting). w.chains) whole) at
+    mark-within old.waiting.chains.items (ys ++ id ∷ []) pushed.waiting.chains.items mark (ap (λ (w : Waiting). w.chains) whole) at
 
 module _ (text : Written) (room : ℕ) where
   -- a list
@@ -75,7 +75,7 @@ module _ (text : Written) (room : ℕ) where
       (list-goes_on room found s.xs f.0 now m r s.goes f.1 seps still)
 
   pub list-built : (found : Option (Chains × List Token)) (old mid after pushed settled new : Builder) (b : Block) (id list_id : NodeId) (mark : ℕ) (now m r : List Token) → SoFar (ListGoes found now) ChainAt add_chains text old mid →
-      Found ChainAt text (chain (command room) now) mid after m id → separators m ≡ Some (tt, r) → closes r ≡ true → Adds add_chains after pushed id → mark ≡ length old.chains.items →
+      Found ChainAt text (chain (command room) now) mid after m id → separators m ≡ Some (tt, r) → closes r ≡ true → Adds add_chains after pushed id → mark ≡ length old.waiting.chains.items →
       SettlesChains pushed settled mark b → Put settled new (node.List b) list_id → Found ChainsAt text found old new r list_id
   list-built found old mid after pushed settled new b id list_id mark now m r s f seps closed add at h p =
       let all = list-whole text (ListGoes found now) old mid after pushed settled b id f.0 mark s f.2 f.3 f.4 add at h in
@@ -118,7 +118,7 @@ module _ (text : Written) where
       script-unseparated found s.xs f.0 now m s.goes f.1 (ap is_end (sym skipped) ∙ more) begun
 
   pub script-built : (found : Option (Option Chains)) (old mid after pushed settled new : Builder) (b : Block) (id list_id : NodeId) (mark : ℕ) (now m r : List Token) → SoFar (ScriptGoes found now) ChainAt add_chains text old mid →
-      Found ChainAt text (chain (command nest_limit) now) mid after m id → is_end r ≡ true → r ≡ skip is_separator m → Adds add_chains after pushed id → mark ≡ length old.chains.items →
+      Found ChainAt text (chain (command nest_limit) now) mid after m id → is_end r ≡ true → r ≡ skip is_separator m → Adds add_chains after pushed id → mark ≡ length old.waiting.chains.items →
       SettlesChains pushed settled mark b → Put settled new (node.List b) list_id → (x : Option Chains) × (found ≡ Some x) × ((more : Members) → RootAt (later text new.table more) x (Some list_id))
   script-built found old mid after pushed settled new b id list_id mark now m r s f done skipped add at h p =
       let all = list-whole text (ScriptGoes found now) old mid after pushed settled b id f.0 mark s f.2 f.3 f.4 add at h in (

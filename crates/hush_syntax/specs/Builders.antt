@@ -1,5 +1,5 @@
 -- What a function of the parser puts into the tables.
-use Rattle.std.specs.Prelude.{◌≡◌, ℕ, ◌-◌, ◌/◌, length, vec_capacity, take, drop, List, [], ◌∷◌, ◌++◌, Option, Some, None, Result, Ok, Err, ◌≤◌}
+use Rattle.std.specs.Prelude.{◌≡◌, ℕ, ◌-◌, ◌/◌, length, vec_capacity, take, drop, List, [], ◌∷◌, ◌++◌, max, Option, Some, None, Result, Ok, Err, ◌≤◌}
 use Rattle.hush_words.specs.Parts.{Written, word_atoms}
 use Rattle.hush_words.specs.Tokens.{Token}
 use Rattle.hush_words.specs.declared.parts.Word.{Word}
@@ -12,6 +12,7 @@ use Rattle.hush_syntax.specs.declared.stored.Stored.{Stored}
 use Rattle.hush_syntax.specs.declared.stored.Stored.TheVariants as stored
 use Rattle.hush_syntax.specs.declared.table.Table.{Table}
 use Rattle.hush_syntax.specs.declared.table.Builder.{Builder}
+use Rattle.hush_syntax.specs.declared.table.Room.{Room}
 use Rattle.hush_syntax.specs.declared.cursor.Tokens.{Tokens}
 use Rattle.hush_syntax.specs.Answers.{Refuses, left_in}
 use Rattle.hush_syntax.specs.Grammar.{Command, Simple, Assign, If, For, While, Until, Branches, Elif, Chain, Chains}
@@ -52,7 +53,7 @@ abbrev pub waits_of : List NodeId → List link.Link → List branch.Branch → 
 waits_of chains links branches = record { chains = chains; links = links; branches = branches }
 
 abbrev pub waiting : Builder → Waiting
-waiting b = waits_of b.chains.items b.links.items b.branches.items
+waiting b = waits_of b.waiting.chains.items b.waiting.links.items b.waiting.branches.items
 
 abbrev pub add_chains : Waiting → List NodeId → Waiting
 add_chains w xs = waits_of (w.chains ++ xs) w.links w.branches
@@ -67,11 +68,24 @@ add_branches w xs = waits_of w.chains w.links (w.branches ++ xs)
 abbrev pub IsEmpty : Builder → Type 0
 IsEmpty b = (b.table.nodes.items ≡ []) × (members_of b.table ≡ none) × (waiting b ≡ waits_of [] [] [])
 
--- room for what so many tokens of ordinary commands need, before a table grows
-abbrev pub HasRoom : ℕ → Builder → Type 0
-HasRoom tokens b =
-    (vec_capacity b.table.nodes ≡ tokens / 3) × (vec_capacity b.table.words ≡ tokens) × (vec_capacity b.table.chains ≡ tokens / 5) ×
-    (vec_capacity b.table.links ≡ tokens / 16) × (vec_capacity b.table.branches ≡ tokens / 32) × (vec_capacity b.chains ≡ tokens / 8)
+-- no memory
+abbrev pub IsBare : Room → Type 0
+IsBare room =
+    (vec_capacity room.table.nodes ≡ 0) × (vec_capacity room.table.words ≡ 0) × (vec_capacity room.table.chains ≡ 0) ×
+    (vec_capacity room.table.links ≡ 0) × (vec_capacity room.table.branches ≡ 0) × (vec_capacity room.waiting.chains ≡ 0) ×
+    (vec_capacity room.waiting.links ≡ 0) × (vec_capacity room.waiting.branches ≡ 0)
+
+-- the room that was there, and at least what so many tokens of ordinary commands need, before a table grows
+abbrev pub HasRoom : Room → ℕ → Builder → Type 0
+HasRoom room tokens b =
+    (vec_capacity b.table.nodes ≡ max (vec_capacity room.table.nodes) (tokens / 3)) ×
+    (vec_capacity b.table.words ≡ max (vec_capacity room.table.words) tokens) ×
+    (vec_capacity b.table.chains ≡ max (vec_capacity room.table.chains) (tokens / 5)) ×
+    (vec_capacity b.table.links ≡ max (vec_capacity room.table.links) (tokens / 16)) ×
+    (vec_capacity b.table.branches ≡ max (vec_capacity room.table.branches) (tokens / 32)) ×
+    (vec_capacity b.waiting.chains ≡ max (vec_capacity room.waiting.chains) (tokens / 8)) ×
+    (vec_capacity b.waiting.links ≡ max (vec_capacity room.waiting.links) 0) ×
+    (vec_capacity b.waiting.branches ≡ max (vec_capacity room.waiting.branches) 0)
 
 -- a member waits, and the table stays
 abbrev pub Adds : {X : Type 0} → (Waiting → List X → Waiting) → Builder → Builder → X → Type 0
@@ -86,24 +100,24 @@ Put old new n id =
 -- the members that waited, from the mark on, are in the table, as this block
 abbrev pub SettlesChains : Builder → Builder → ℕ → Block → Type 0
 SettlesChains old new mark block =
-    (block.first ≡ length old.table.chains.items) × (block.len ≡ length old.chains.items - mark) ×
+    (block.first ≡ length old.table.chains.items) × (block.len ≡ length old.waiting.chains.items - mark) ×
     (new.table.nodes.items ≡ old.table.nodes.items) ×
-    (members_of new.table ≡ followed (members_of old.table) (only_chains (drop mark old.chains.items))) ×
-    (waiting new ≡ waits_of (take mark old.chains.items) old.links.items old.branches.items)
+    (members_of new.table ≡ followed (members_of old.table) (only_chains (drop mark old.waiting.chains.items))) ×
+    (waiting new ≡ waits_of (take mark old.waiting.chains.items) old.waiting.links.items old.waiting.branches.items)
 
 abbrev pub SettlesLinks : Builder → Builder → ℕ → Block → Type 0
 SettlesLinks old new mark block =
-    (block.first ≡ length old.table.links.items) × (block.len ≡ length old.links.items - mark) ×
+    (block.first ≡ length old.table.links.items) × (block.len ≡ length old.waiting.links.items - mark) ×
     (new.table.nodes.items ≡ old.table.nodes.items) ×
-    (members_of new.table ≡ followed (members_of old.table) (only_links (drop mark old.links.items))) ×
-    (waiting new ≡ waits_of old.chains.items (take mark old.links.items) old.branches.items)
+    (members_of new.table ≡ followed (members_of old.table) (only_links (drop mark old.waiting.links.items))) ×
+    (waiting new ≡ waits_of old.waiting.chains.items (take mark old.waiting.links.items) old.waiting.branches.items)
 
 abbrev pub SettlesBranches : Builder → Builder → ℕ → Block → Type 0
 SettlesBranches old new mark block =
-    (block.first ≡ length old.table.branches.items) × (block.len ≡ length old.branches.items - mark) ×
+    (block.first ≡ length old.table.branches.items) × (block.len ≡ length old.waiting.branches.items - mark) ×
     (new.table.nodes.items ≡ old.table.nodes.items) ×
-    (members_of new.table ≡ followed (members_of old.table) (only_branches (drop mark old.branches.items))) ×
-    (waiting new ≡ waits_of old.chains.items old.links.items (take mark old.branches.items))
+    (members_of new.table ≡ followed (members_of old.table) (only_branches (drop mark old.waiting.branches.items))) ×
+    (waiting new ≡ waits_of old.waiting.chains.items old.waiting.links.items (take mark old.waiting.branches.items))
 
 -- what the nodes of a table stand for where its members go on with more
 abbrev pub later : Written → Table → Members → At

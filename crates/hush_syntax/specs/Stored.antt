@@ -1,5 +1,5 @@
 -- Which part of the grammar's tree each node of a table stands for, as the table holds it.
-use Rattle.std.specs.Prelude.{◌≡◌, take, drop, List, [], ◌∷◌, ◌++◌, Option, Some, None, slice_get}
+use Rattle.std.specs.Prelude.{take, drop, List, [], ◌∷◌, ◌++◌, Option, Some, None, slice_get}
 use Rattle.std.specs.Option.{option_map}
 use Rattle.hush_words.specs.Parts.{Written, word_atoms}
 use Rattle.hush_words.specs.declared.parts.Word.{Word}

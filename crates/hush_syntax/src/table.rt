@@ -1,6 +1,6 @@
 //! The tables that hold a script's nodes.
 
-ghost use Rattle.std.specs.Prelude.{◌≡◌, ◌≤◌, ◌-◌, ◌++◌, [], ◌∷◌, length, take, drop, IfOk, IfErr, OnOk};
+ghost use Rattle.std.specs.Prelude.{◌≡◌, ◌≤◌, ◌-◌, ◌++◌, [], ◌∷◌, length, take, drop, max, vec_capacity, IfOk, IfErr, OnOk, IsOk};
 ghost use Rattle.hush_syntax.specs.declared.faults.FaultKind.TheVariants.{Memory};
 
 use crate::SyntaxFault;
@@ -20,14 +20,50 @@ pub(crate) struct Table {
     pub(crate) branches: Vec<Branch>,
 }
 
-/// A table that is made, and the members of the nodes that aren't whole yet: those of an inner node behind those of the
-/// node that it stands in.
+/// The members of the nodes that aren't whole yet: those of an inner node behind those of the node that it stands in.
 #[derive(Debug, Drop)]
-pub(crate) struct Builder {
-    pub(crate) table: Table,
+pub(crate) struct Waiting {
     pub(crate) chains: Vec<NodeId>,
     pub(crate) links: Vec<Link>,
     pub(crate) branches: Vec<Branch>,
+}
+
+/// A table that is made, and the members that wait.
+#[derive(Debug, Drop)]
+pub(crate) struct Builder {
+    pub(crate) table: Table,
+    pub(crate) waiting: Waiting,
+}
+
+/// The room of a script that is read no more, for one that is parsed next: tables whose contents are of no account.
+#[derive(Debug, Drop)]
+pub struct Room {
+    pub(crate) table: Table,
+    pub(crate) waiting: Waiting,
+}
+
+impl Room {
+    ghost use Rattle.hush_syntax.specs.Builders.{IsBare};
+
+    /// No room: what is parsed in it takes its own. It takes no memory.
+    pub fn new(alloc: Global) -> Room
+        ensures { IsBare result }
+    {
+        Room {
+            table: Table {
+                nodes: Vec::new(alloc),
+                words: Vec::new(alloc),
+                chains: Vec::new(alloc),
+                links: Vec::new(alloc),
+                branches: Vec::new(alloc),
+            },
+            waiting: Waiting {
+                chains: Vec::new(alloc),
+                links: Vec::new(alloc),
+                branches: Vec::new(alloc),
+            },
+        }
+    }
 }
 
 impl Builder {
@@ -38,23 +74,27 @@ impl Builder {
     ghost use Rattle.hush_syntax.specs.Reading.{skip, is_word, words_at};
     ghost use Rattle.hush_syntax.specs.Trees.{words_in};
 
-    /// Tables without members. They have the room that so many tokens of ordinary commands need, which spares them growths:
-    /// no more words than tokens, a third as many nodes, a fifth as many chains, and few links and branches.
-    pub(crate) fn new(alloc: Global, tokens: usize) -> Result<Builder, AllocError>
+    /// Tables without members, in the room of those that are handed in. They have the room that so many tokens of ordinary
+    /// commands need, which spares them growths: no more words than tokens, a third as many nodes, a fifth as many chains,
+    /// and few links and branches. Where the room handed in is enough, that takes no memory.
+    pub(crate) fn new(room: Room, tokens: usize) -> Result<Builder, AllocError>
         ensures empty { IfOk result IsEmpty }
-        ensures room { IfOk result (HasRoom tokens) }
+        ensures room { IfOk result (HasRoom room tokens) }
     {
+        let Room { table, waiting } = room;
         Ok(Builder {
             table: Table {
-                nodes: Vec::with_capacity(alloc, tokens / 3)?,
-                words: Vec::with_capacity(alloc, tokens)?,
-                chains: Vec::with_capacity(alloc, tokens / 5)?,
-                links: Vec::with_capacity(alloc, tokens / 16)?,
-                branches: Vec::with_capacity(alloc, tokens / 32)?,
+                nodes: emptied(table.nodes, tokens / 3)?,
+                words: emptied(table.words, tokens)?,
+                chains: emptied(table.chains, tokens / 5)?,
+                links: emptied(table.links, tokens / 16)?,
+                branches: emptied(table.branches, tokens / 32)?,
             },
-            chains: Vec::with_capacity(alloc, tokens / 8)?,
-            links: Vec::new(alloc),
-            branches: Vec::new(alloc),
+            waiting: Waiting {
+                chains: emptied(waiting.chains, tokens / 8)?,
+                links: emptied(waiting.links, 0)?,
+                branches: emptied(waiting.branches, 0)?,
+            },
         })
     }
 
@@ -123,30 +163,30 @@ impl Builder {
 
     /// How many chains wait for their list.
     pub(crate) fn waiting_chains(&self) -> usize
-        ensures { result ≡ length self.now.chains.items }
+        ensures { result ≡ length self.now.waiting.chains.items }
     {
-        self.chains.len()
+        self.waiting.chains.len()
     }
 
     /// How many links wait for their chain.
     pub(crate) fn waiting_links(&self) -> usize
-        ensures { result ≡ length self.now.links.items }
+        ensures { result ≡ length self.now.waiting.links.items }
     {
-        self.links.len()
+        self.waiting.links.len()
     }
 
     /// How many branches wait for their `if`.
     pub(crate) fn waiting_branches(&self) -> usize
-        ensures { result ≡ length self.now.branches.items }
+        ensures { result ≡ length self.now.waiting.branches.items }
     {
-        self.branches.len()
+        self.waiting.branches.len()
     }
 
     /// Lets a chain wait for its list.
     pub(crate) fn push_chain(&mut self, chain: NodeId) -> Result<(), AllocError>
         ensures { OnOk result (Adds add_chains self.old self.new chain) }
     {
-        self.chains.push(chain)?;
+        self.waiting.chains.push(chain)?;
         Ok(())
     }
 
@@ -154,7 +194,7 @@ impl Builder {
     pub(crate) fn push_link(&mut self, link: Link) -> Result<(), AllocError>
         ensures { OnOk result (Adds add_links self.old self.new link) }
     {
-        self.links.push(link)?;
+        self.waiting.links.push(link)?;
         Ok(())
     }
 
@@ -162,36 +202,52 @@ impl Builder {
     pub(crate) fn push_branch(&mut self, branch: Branch) -> Result<(), AllocError>
         ensures { OnOk result (Adds add_branches self.old self.new branch) }
     {
-        self.branches.push(branch)?;
+        self.waiting.branches.push(branch)?;
         Ok(())
     }
 
     /// Puts the chains that wait, from this one on, into the table.
     pub(crate) fn settle_chains(&mut self, mark: usize) -> Result<Block, AllocError>
-        requires { mark ≤ length self.old.chains.items }
+        requires { mark ≤ length self.old.waiting.chains.items }
         ensures { IfOk result (λ block. SettlesChains self.old self.new mark block) }
     {
-        let block = settle(&mut self.table.chains, &mut self.chains, mark)?;
+        let block = settle(&mut self.table.chains, &mut self.waiting.chains, mark)?;
         Ok(block)
     }
 
     /// Puts the links that wait, from this one on, into the table.
     pub(crate) fn settle_links(&mut self, mark: usize) -> Result<Block, AllocError>
-        requires { mark ≤ length self.old.links.items }
+        requires { mark ≤ length self.old.waiting.links.items }
         ensures { IfOk result (λ block. SettlesLinks self.old self.new mark block) }
     {
-        let block = settle(&mut self.table.links, &mut self.links, mark)?;
+        let block = settle(&mut self.table.links, &mut self.waiting.links, mark)?;
         Ok(block)
     }
 
     /// Puts the branches that wait, from this one on, into the table.
     pub(crate) fn settle_branches(&mut self, mark: usize) -> Result<Block, AllocError>
-        requires { mark ≤ length self.old.branches.items }
+        requires { mark ≤ length self.old.waiting.branches.items }
         ensures { IfOk result (λ block. SettlesBranches self.old self.new mark block) }
     {
-        let block = settle(&mut self.table.branches, &mut self.branches, mark)?;
+        let block = settle(&mut self.table.branches, &mut self.waiting.branches, mark)?;
         Ok(block)
     }
+}
+
+/// A table without members, in the room of the one that is handed in where that is enough, else in new room for so many.
+fn emptied<T: Copy>(kept: Vec<T>, members: usize) -> Result<Vec<T>, AllocError>
+    ensures empty { IfOk result (λ table. table.items ≡ []) }
+    ensures room { IfOk result (λ table. vec_capacity table ≡ max (vec_capacity kept) members) }
+
+    // Room that is enough is taken, and asks for no memory.
+    ensures enough { members ≤ vec_capacity kept → IsOk result }
+{
+    if kept.capacity() < members {
+        return Vec::with_capacity(*kept.allocator(), members);
+    }
+    let mut table = kept;
+    table.clear();
+    Ok(table)
 }
 
 /// How many members a table has.

@@ -48,6 +48,13 @@ impl Text {
         self.source.as_slice()
     }
 
+    /// The text's bytes, in the memory in which they were handed in.
+    pub fn into_source(self) -> Vec<u8>
+        ensures { result.items ≡ self.source }
+    {
+        self.source
+    }
+
     /// The parts of a word of this text, or of any other range of it that is read as one.
     pub fn parts(&self, word: Word) -> Parts<'_>
         ensures source { result.source ≡ self.now.source }

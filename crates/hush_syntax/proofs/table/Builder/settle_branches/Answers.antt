@@ -9,5 +9,5 @@ returns c = (
   c.in_ok-block.ensures.len,
   refl,
   same-members _ _ _ _ _ _ _ _ (sym (append-nil c.args.self.now.table.words.items)) (sym (append-nil c.args.self.now.table.chains.items)) (sym (append-nil c.args.self.now.table.links.items)) c.in_ok-block.ensures.table,
-  ap (λ l. waits_of c.args.self.now.chains.items c.args.self.now.links.items l) c.in_ok-block.ensures.waiting,
+  ap (λ l. waits_of c.args.self.now.waiting.chains.items c.args.self.now.waiting.links.items l) c.in_ok-block.ensures.waiting,
 )

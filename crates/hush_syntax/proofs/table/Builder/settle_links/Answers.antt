@@ -9,5 +9,5 @@ returns c = (
   c.in_ok-block.ensures.len,
   refl,
   same-members _ _ _ _ _ _ _ _ (sym (append-nil c.args.self.now.table.words.items)) (sym (append-nil c.args.self.now.table.chains.items)) c.in_ok-block.ensures.table (sym (append-nil c.args.self.now.table.branches.items)),
-  ap (λ l. waits_of c.args.self.now.chains.items l c.args.self.now.branches.items) c.in_ok-block.ensures.waiting,
+  ap (λ l. waits_of c.args.self.now.waiting.chains.items l c.args.self.now.waiting.branches.items) c.in_ok-block.ensures.waiting,
 )
