@@ -13,28 +13,59 @@ use crate::answers::Answers;
 use arrayvec::ArrayVec;
 use env_session::Session;
 use hush_run::{Ending, Limits, Outcome, Runner, StandIns, leaves_session};
-use hush_syntax::{FaultKind, Script};
+use hush_syntax::{FaultKind, Room, Script};
 use itoa::Buffer;
 use std::alloc::Global;
 use std::io::Write;
+use std::mem;
 
-/// Runs a block, and adds what it has to say.
-pub(crate) fn run_block<W: Write>(
+/// What a session keeps from one block for the next: the room in which a script is parsed, and what runs it.
+#[derive(Drop)]
+pub(crate) struct Workshop {
     alloc: Global,
-    runner: &mut Runner,
+    room: Room,
+    runner: Runner,
+}
+
+impl Workshop {
+    /// Without any room: the first block takes it. It takes no memory.
+    pub(crate) fn new(alloc: Global) -> Workshop {
+        Workshop {
+            alloc,
+            room: Room::new(alloc),
+            runner: Runner::new(alloc),
+        }
+    }
+}
+
+/// Runs a block, and adds what it has to say. It is empty then, and keeps its memory where it was a script.
+pub(crate) fn run_block<W: Write>(
+    workshop: &mut Workshop,
     session: &mut Session,
     stand_ins: &StandIns,
     limits: &Limits,
-    block: Vec<u8>,
+    block: &mut Vec<u8>,
     answers: &mut Answers,
     output: &mut W,
 ) -> bool
-    ensures { (names : List (Option (List ℕ))) → Says (rules stand_ins.now limits.now)
-        (sink (W.contents output.old) answers.old) (named_session session.old names) (Block block.items ∷ [])
+    ensures empty { block.new.items ≡ [] }
+    ensures says { (names : List (Option (List ℕ))) → Says (rules stand_ins.now limits.now)
+        (sink (W.contents output.old) answers.old) (named_session session.old names) (Block block.old.items ∷ [])
         (sink (W.contents output.new) answers.new) (named_session session.new names) result }
 {
-    match Script::parse(alloc, block) {
-        Ok(script) => run_script(runner, session, stand_ins, limits, &script, answers, output),
+    let alloc = workshop.alloc;
+    let room = mem::replace(&mut workshop.room, Room::new(alloc));
+    let source = mem::replace(block, Vec::new(alloc));
+    match Script::parse_in(room, source) {
+        Ok(script) => {
+            let runner = &mut workshop.runner;
+            let said = run_script(runner, session, stand_ins, limits, &script, answers, output);
+            let (source, room) = script.into_parts();
+            workshop.room = room;
+            *block = source;
+            block.clear();
+            said
+        }
         Err(fault) => match fault.kind {
             FaultKind::Memory => answers.add(b"[Memory]\n", output),
             _ => answers.add(b"[Syntax]\n", output),
@@ -81,7 +112,9 @@ fn add_run<W: Write>(
         (sink (W.contents output.old) answers.old) (sink (W.contents output.new) answers.new) result }
 {
     let outcome = runner.run(session, script, stand_ins, limits);
-    add_outcome(&outcome, answers, output)
+    let added = add_outcome(&outcome, answers, output);
+    runner.take_back(outcome.text);
+    added
 }
 
 /// Adds the text of a run, and how it ended.

@@ -14,12 +14,11 @@ use crate::ending::{SessionEnd, SessionEnding, Stop};
 use crate::marks::{Names, unnamed};
 use crate::obeying::obey;
 use crate::requests::request_of;
-use crate::running::run_block;
+use crate::running::{Workshop, run_block};
 use env_session::Session;
-use hush_run::{Limits, Runner, StandIns};
+use hush_run::{Limits, StandIns};
 use std::alloc::Global;
 use std::io::{Read, Write};
-use std::mem;
 
 /// The most bytes that are handled.
 const INPUT_LIMIT: usize = 16_777_216;
@@ -30,10 +29,9 @@ const PIECE: usize = 4_096;
 /// A session with the part of its input that waits.
 #[derive(Drop)]
 pub(crate) struct Talk {
-    alloc: Global,
     session: Session,
     /// What runs its blocks.
-    runner: Runner,
+    workshop: Workshop,
     /// The names of its marks.
     names: Names,
     /// The block that is being read, and behind it the line that is being read.
@@ -94,9 +92,8 @@ fn begun(alloc: Global, session: Session) -> Talk
 {
     let names = unnamed(&session);
     Talk {
-        alloc,
         session,
-        runner: Runner::new(alloc),
+        workshop: Workshop::new(alloc),
         names,
         bytes: Vec::new(alloc),
         start: 0,
@@ -203,14 +200,12 @@ fn answer_block<W: Write>(
     if talk.bytes.is_empty() {
         return true;
     }
-    let block = mem::replace(&mut talk.bytes, Vec::new(talk.alloc));
     run_block(
-        talk.alloc,
-        &mut talk.runner,
+        &mut talk.workshop,
         &mut talk.session,
         stand_ins,
         limits,
-        block,
+        &mut talk.bytes,
         &mut talk.answers,
         output,
     )
