@@ -7,6 +7,7 @@ mod lengths;
 mod marks;
 mod rows;
 mod turns;
+mod waiting;
 
 use env_session::{Session, Side, Stored};
 use envimg_core::{Geometry, Layout};
