@@ -17,7 +17,8 @@ pub record AllAnswered (rules : Rules) (h : NamedSession) (items : List Item) (o
   pub count : Counts n n' (replies rules h items notes).text
   pub session : h' ≡ (replies rules h items notes).session
 
--- some were answered, and of the next one's text a front went out and no more; it was done, and nothing after it was begun
+-- some were answered, and of the next one's text a front went out and no more; it was done, and nothing after it has changed
+-- the session
 pub record CutShort (rules : Rules) (h : NamedSession) (items : List Item) (out out' : Option (List ℕ)) (n n' : ℕ)
     (h' : NamedSession) : Type 0 where
   pub before : List Item
