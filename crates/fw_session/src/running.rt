@@ -1,5 +1,5 @@
 //! Blocks: a script is read, run, and what it comes to is added to the answers.
-ghost use Rattle.std.specs.Prelude.{◌≡◌, ℕ, List, Option, ◌+◌, ◌≤◌, ◌++◌, [], ◌∷◌, length};
+ghost use Rattle.std.specs.Prelude.{◌≡◌, ℕ, List, Option, ◌+◌, ◌≤◌, ◌++◌, [], ◌∷◌, codes, length};
 ghost use Rattle.hush_syntax.specs.Scripts.{tree_of};
 ghost use Rattle.fw_session.specs.Input.{Block};
 ghost use Rattle.fw_session.specs.Replies.{ending_name, ending_line};
@@ -23,7 +23,7 @@ use std::mem;
 #[derive(Drop)]
 pub(crate) struct Workshop {
     alloc: Global,
-    room: Room,
+    room: Option<Room>,
     runner: Runner,
 }
 
@@ -32,7 +32,7 @@ impl Workshop {
     pub(crate) fn new(alloc: Global) -> Workshop {
         Workshop {
             alloc,
-            room: Room::new(alloc),
+            room: None,
             runner: Runner::new(alloc),
         }
     }
@@ -54,14 +54,17 @@ pub(crate) fn run_block<W: Write>(
         (sink (W.contents output.new) answers.new) (named_session session.new names) result }
 {
     let alloc = workshop.alloc;
-    let room = mem::replace(&mut workshop.room, Room::new(alloc));
+    let room = match workshop.room.take() {
+        Some(room) => room,
+        None => Room::new(alloc),
+    };
     let source = mem::replace(block, Vec::new(alloc));
     match Script::parse_in(room, source) {
         Ok(script) => {
             let runner = &mut workshop.runner;
             let said = run_script(runner, session, stand_ins, limits, &script, answers, output);
             let (source, room) = script.into_parts();
-            workshop.room = room;
+            workshop.room = Some(room);
             *block = source;
             block.clear();
             said
@@ -131,9 +134,7 @@ fn ending_line(outcome: &Outcome) -> ArrayVec<u8, 64>
     ensures { result.items ≡ ending_line outcome.now.ending outcome.now.status outcome.now.steps }
 {
     let mut line = ArrayVec::new();
-    put(&mut line, b"[");
-    put(&mut line, name_of(outcome.ending));
-    put(&mut line, b" ");
+    put(&mut line, front_of(outcome.ending));
     put(&mut line, Buffer::new().format(outcome.status).as_bytes());
     put(&mut line, b" ");
     put(&mut line, Buffer::new().format(outcome.steps).as_bytes());
@@ -151,18 +152,18 @@ fn put(line: &mut ArrayVec<u8, 64>, text: &[u8])
     prove!(appended.is_ok());
 }
 
-/// The name of an ending.
-fn name_of(ending: Ending) -> &'static [u8]
-    ensures name { result.now ≡ ending_name ending }
-    ensures short { length result.now ≤ 8 }
+/// What stands before the status: the name of an ending, between `[` and a space.
+fn front_of(ending: Ending) -> &'static [u8]
+    ensures front { result.now ≡ codes "[" ++ ending_name ending ++ codes " " }
+    ensures short { length result.now ≤ 10 }
 {
     match ending {
-        Ending::Finished => b"Finished",
-        Ending::Exited => b"Exited",
-        Ending::Steps => b"Steps",
-        Ending::Depth => b"Depth",
-        Ending::Word => b"Word",
-        Ending::Output => b"Output",
-        Ending::Memory => b"Memory",
+        Ending::Finished => b"[Finished ",
+        Ending::Exited => b"[Exited ",
+        Ending::Steps => b"[Steps ",
+        Ending::Depth => b"[Depth ",
+        Ending::Word => b"[Word ",
+        Ending::Output => b"[Output ",
+        Ending::Memory => b"[Memory ",
     }
 }
