@@ -1,6 +1,6 @@
 /* Reads standard input in pieces of 4,096 bytes and for each newline writes `[Unknown]` and a newline, each with a write of its
-   own: what a session owes for an input of dot lines, since each answer is out before the next line is handled, and nothing else.
-   Answers 1 where a read or a write fails. */
+   own, and does nothing else: what the answers to an input of dot lines would take if none waited for another. Answers 1 where a
+   read or a write fails. */
 #include <string.h>
 #include <unistd.h>
 
