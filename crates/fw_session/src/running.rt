@@ -13,32 +13,29 @@ use crate::answers::Answers;
 use arrayvec::ArrayVec;
 use env_session::Session;
 use hush_run::{Ending, Limits, Outcome, Runner, StandIns, leaves_session};
-use hush_syntax::{FaultKind, Room, Script};
+use hush_syntax::{FaultKind, Script};
 use itoa::Buffer;
 use std::alloc::Global;
 use std::io::Write;
-use std::mem;
 
-/// What a session keeps from one block for the next: the room in which a script is parsed, and what runs it.
+/// What a session keeps from one block for the next: the script that a block is read into, and what runs it.
 #[derive(Drop)]
 pub(crate) struct Workshop {
-    alloc: Global,
-    room: Option<Room>,
+    script: Script,
     runner: Runner,
 }
 
 impl Workshop {
-    /// Without any room: the first block takes it. It takes no memory.
+    /// Without room: the first block takes it. It takes no memory.
     pub(crate) fn new(alloc: Global) -> Workshop {
         Workshop {
-            alloc,
-            room: None,
+            script: Script::empty(alloc),
             runner: Runner::new(alloc),
         }
     }
 }
 
-/// Runs a block, and adds what it has to say. It is empty then, and keeps its memory where it was a script.
+/// Runs a block, and adds what it has to say. It is empty then, in the memory of the block before.
 pub(crate) fn run_block<W: Write>(
     workshop: &mut Workshop,
     session: &mut Session,
@@ -53,22 +50,16 @@ pub(crate) fn run_block<W: Write>(
         (sink (W.contents output.old) answers.old) (named_session session.old names) (Block block.old.items ∷ [])
         (sink (W.contents output.new) answers.new) (named_session session.new names) result }
 {
-    let alloc = workshop.alloc;
-    let room = match workshop.room.take() {
-        Some(room) => room,
-        None => Room::new(alloc),
-    };
-    let source = mem::replace(block, Vec::new(alloc));
-    match Script::parse_in(room, source) {
-        Ok(script) => {
-            let runner = &mut workshop.runner;
-            let said = run_script(runner, session, stand_ins, limits, &script, answers, output);
-            let (source, room) = script.into_parts();
-            workshop.room = Some(room);
-            *block = source;
-            block.clear();
-            said
-        }
+    match workshop.script.read_again(block) {
+        Ok(()) => run_script(
+            &mut workshop.runner,
+            session,
+            stand_ins,
+            limits,
+            &workshop.script,
+            answers,
+            output,
+        ),
         Err(fault) => match fault.kind {
             FaultKind::Memory => answers.add(b"[Memory]\n", output),
             _ => answers.add(b"[Syntax]\n", output),

@@ -12,7 +12,6 @@ use Rattle.hush_syntax.specs.declared.stored.Stored.{Stored}
 use Rattle.hush_syntax.specs.declared.stored.Stored.TheVariants as stored
 use Rattle.hush_syntax.specs.declared.table.Table.{Table}
 use Rattle.hush_syntax.specs.declared.table.Builder.{Builder}
-use Rattle.hush_syntax.specs.declared.table.Room.{Room}
 use Rattle.hush_syntax.specs.declared.cursor.Tokens.{Tokens}
 use Rattle.hush_syntax.specs.Answers.{Refuses, left_in}
 use Rattle.hush_syntax.specs.Grammar.{Command, Simple, Assign, If, For, While, Until, Branches, Elif, Chain, Chains}
@@ -69,23 +68,23 @@ abbrev pub IsEmpty : Builder → Type 0
 IsEmpty b = (b.table.nodes.items ≡ []) × (members_of b.table ≡ none) × (waiting b ≡ waits_of [] [] [])
 
 -- no memory
-abbrev pub IsBare : Room → Type 0
-IsBare room =
-    (vec_capacity room.table.nodes ≡ 0) × (vec_capacity room.table.words ≡ 0) × (vec_capacity room.table.chains ≡ 0) ×
-    (vec_capacity room.table.links ≡ 0) × (vec_capacity room.table.branches ≡ 0) × (vec_capacity room.waiting.chains ≡ 0) ×
-    (vec_capacity room.waiting.links ≡ 0) × (vec_capacity room.waiting.branches ≡ 0)
+abbrev pub IsBare : Builder → Type 0
+IsBare b =
+    (vec_capacity b.table.nodes ≡ 0) × (vec_capacity b.table.words ≡ 0) × (vec_capacity b.table.chains ≡ 0) ×
+    (vec_capacity b.table.links ≡ 0) × (vec_capacity b.table.branches ≡ 0) × (vec_capacity b.waiting.chains ≡ 0) ×
+    (vec_capacity b.waiting.links ≡ 0) × (vec_capacity b.waiting.branches ≡ 0)
 
 -- the room that was there, and at least what so many tokens of ordinary commands need, before a table grows
-abbrev pub HasRoom : Room → ℕ → Builder → Type 0
-HasRoom room tokens b =
-    (vec_capacity b.table.nodes ≡ max (vec_capacity room.table.nodes) (tokens / 3)) ×
-    (vec_capacity b.table.words ≡ max (vec_capacity room.table.words) tokens) ×
-    (vec_capacity b.table.chains ≡ max (vec_capacity room.table.chains) (tokens / 5)) ×
-    (vec_capacity b.table.links ≡ max (vec_capacity room.table.links) (tokens / 16)) ×
-    (vec_capacity b.table.branches ≡ max (vec_capacity room.table.branches) (tokens / 32)) ×
-    (vec_capacity b.waiting.chains ≡ max (vec_capacity room.waiting.chains) (tokens / 8)) ×
-    (vec_capacity b.waiting.links ≡ max (vec_capacity room.waiting.links) 0) ×
-    (vec_capacity b.waiting.branches ≡ max (vec_capacity room.waiting.branches) 0)
+abbrev pub HasRoom : Builder → ℕ → Builder → Type 0
+HasRoom old tokens b =
+    (vec_capacity b.table.nodes ≡ max (vec_capacity old.table.nodes) (tokens / 3)) ×
+    (vec_capacity b.table.words ≡ max (vec_capacity old.table.words) tokens) ×
+    (vec_capacity b.table.chains ≡ max (vec_capacity old.table.chains) (tokens / 5)) ×
+    (vec_capacity b.table.links ≡ max (vec_capacity old.table.links) (tokens / 16)) ×
+    (vec_capacity b.table.branches ≡ max (vec_capacity old.table.branches) (tokens / 32)) ×
+    (vec_capacity b.waiting.chains ≡ max (vec_capacity old.waiting.chains) (tokens / 8)) ×
+    (vec_capacity b.waiting.links ≡ max (vec_capacity old.waiting.links) 0) ×
+    (vec_capacity b.waiting.branches ≡ max (vec_capacity old.waiting.branches) 0)
 
 -- a member waits, and the table stays
 abbrev pub Adds : {X : Type 0} → (Waiting → List X → Waiting) → Builder → Builder → X → Type 0

@@ -35,21 +35,20 @@ pub(crate) struct Builder {
     pub(crate) waiting: Waiting,
 }
 
-/// The room of a script that is read no more, for one that is parsed next: tables whose contents are of no account.
-#[derive(Debug, Drop)]
-pub struct Room {
-    pub(crate) table: Table,
-    pub(crate) waiting: Waiting,
-}
+impl Builder {
+    ghost use Rattle.hush_words.specs.Parts.{word_atoms};
+    ghost use Rattle.hush_syntax.specs.Answers.{left_in};
+    ghost use Rattle.hush_syntax.specs.Builders.{Put, Adds, SettlesChains, SettlesLinks, SettlesBranches, Grows, IsEmpty, IsBare, HasRoom, waiting, add_chains, add_links, add_branches};
+    ghost use Rattle.hush_syntax.specs.Stored.{Members, block_of};
+    ghost use Rattle.hush_syntax.specs.Reading.{skip, is_word, words_at};
+    ghost use Rattle.hush_syntax.specs.Trees.{words_in};
 
-impl Room {
-    ghost use Rattle.hush_syntax.specs.Builders.{IsBare};
-
-    /// No room: what is parsed in it takes its own. It takes no memory.
-    pub fn new(alloc: Global) -> Room
-        ensures { IsBare result }
+    /// Tables without members and without room. It takes no memory.
+    pub(crate) fn new(alloc: Global) -> Builder
+        ensures empty { IsEmpty result }
+        ensures bare { IsBare result }
     {
-        Room {
+        Builder {
             table: Table {
                 nodes: Vec::new(alloc),
                 words: Vec::new(alloc),
@@ -64,38 +63,23 @@ impl Room {
             },
         }
     }
-}
 
-impl Builder {
-    ghost use Rattle.hush_words.specs.Parts.{word_atoms};
-    ghost use Rattle.hush_syntax.specs.Answers.{left_in};
-    ghost use Rattle.hush_syntax.specs.Builders.{Put, Adds, SettlesChains, SettlesLinks, SettlesBranches, Grows, IsEmpty, HasRoom, waiting, add_chains, add_links, add_branches};
-    ghost use Rattle.hush_syntax.specs.Stored.{Members, block_of};
-    ghost use Rattle.hush_syntax.specs.Reading.{skip, is_word, words_at};
-    ghost use Rattle.hush_syntax.specs.Trees.{words_in};
-
-    /// Tables without members, in the room of those that are handed in. They have the room that so many tokens of ordinary
-    /// commands need, which spares them growths: no more words than tokens, a third as many nodes, a fifth as many chains,
-    /// and few links and branches. Where the room handed in is enough, that takes no memory.
-    pub(crate) fn new(room: Room, tokens: usize) -> Result<Builder, AllocError>
-        ensures empty { IfOk result IsEmpty }
-        ensures room { IfOk result (HasRoom room tokens) }
+    /// Tables without members again. They have the room that they had, and at least what so many tokens of ordinary commands
+    /// need, which spares them growths: no more words than tokens, a third as many nodes, a fifth as many chains, and few
+    /// links and branches. Where the room is enough, that takes no memory.
+    pub(crate) fn empty(&mut self, tokens: usize) -> Result<(), AllocError>
+        ensures empty { OnOk result (IsEmpty self.new) }
+        ensures room { OnOk result (HasRoom self.old tokens self.new) }
     {
-        let Room { table, waiting } = room;
-        Ok(Builder {
-            table: Table {
-                nodes: emptied(table.nodes, tokens / 3)?,
-                words: emptied(table.words, tokens)?,
-                chains: emptied(table.chains, tokens / 5)?,
-                links: emptied(table.links, tokens / 16)?,
-                branches: emptied(table.branches, tokens / 32)?,
-            },
-            waiting: Waiting {
-                chains: emptied(waiting.chains, tokens / 8)?,
-                links: emptied(waiting.links, 0)?,
-                branches: emptied(waiting.branches, 0)?,
-            },
-        })
+        empty(&mut self.table.nodes, tokens / 3)?;
+        empty(&mut self.table.words, tokens)?;
+        empty(&mut self.table.chains, tokens / 5)?;
+        empty(&mut self.table.links, tokens / 16)?;
+        empty(&mut self.table.branches, tokens / 32)?;
+        empty(&mut self.waiting.chains, tokens / 8)?;
+        empty(&mut self.waiting.links, 0)?;
+        empty(&mut self.waiting.branches, 0)?;
+        Ok(())
     }
 
     /// Puts a node behind the others.
@@ -234,20 +218,20 @@ impl Builder {
     }
 }
 
-/// A table without members, in the room of the one that is handed in where that is enough, else in new room for so many.
-fn emptied<T: Copy>(kept: Vec<T>, members: usize) -> Result<Vec<T>, AllocError>
-    ensures empty { IfOk result (λ table. table.items ≡ []) }
-    ensures room { IfOk result (λ table. vec_capacity table ≡ max (vec_capacity kept) members) }
+/// Takes the members out of a table, which has room for so many then.
+fn empty<T: Copy>(table: &mut Vec<T>, members: usize) -> Result<(), AllocError>
+    ensures empty { OnOk result (table.new.items ≡ []) }
+    ensures room { OnOk result (vec_capacity table.new ≡ max (vec_capacity table.old) members) }
 
-    // Room that is enough is taken, and asks for no memory.
-    ensures enough { members ≤ vec_capacity kept → IsOk result }
+    // Room that is enough stays, and no memory is asked for.
+    ensures enough { members ≤ vec_capacity table.old → IsOk result }
 {
-    if kept.capacity() < members {
-        return Vec::with_capacity(*kept.allocator(), members);
+    if table.capacity() < members {
+        *table = Vec::with_capacity(*table.allocator(), members)?;
+    } else {
+        table.clear();
     }
-    let mut table = kept;
-    table.clear();
-    Ok(table)
+    Ok(())
 }
 
 /// How many members a table has.

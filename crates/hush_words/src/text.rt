@@ -1,10 +1,10 @@
 //! A script's bytes, which its words are ranges of.
-ghost use Rattle.std.specs.Prelude.{◌≡◌, ◌≤◌, ◌<◌, IfOk, OnErr, length};
+ghost use Rattle.std.specs.Prelude.{◌≡◌, ◌≤◌, ◌<◌, [], IfOk, OnErr, length};
 ghost use Rattle.hush_words.specs.Parts.{written, span_bytes, word_atoms};
 ghost use Rattle.hush_words.specs.Ranges.{IsWithin};
 
 use crate::{Parts, Span, Word};
-use std::alloc::AllocError;
+use std::alloc::{AllocError, Global};
 use std::marker::Model;
 
 /// A text, of which tokens, words and parts are read. It keeps its bytes alone.
@@ -38,6 +38,15 @@ impl Text {
             return Err(AllocError);
         }
         Ok(Text { source })
+    }
+
+    /// A text of no bytes. It takes no memory.
+    pub fn empty(alloc: Global) -> Text
+        ensures { result ≡ written [] }
+    {
+        Text {
+            source: Vec::new(alloc),
+        }
     }
 
     /// The text, byte for byte.

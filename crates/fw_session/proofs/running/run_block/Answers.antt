@@ -1,5 +1,3 @@
-use Rattle.std.proofs.Common.{sym, ap, ◌∙◌}
-use Rattle.hush_syntax.specs.Reading.{read}
 use Rattle.fw_session.specs.Waiting.{sink}
 use Rattle.fw_session.specs.NamedSessions.{named_session}
 use Rattle.hush_run.specs.Runs.{rules}
@@ -7,7 +5,7 @@ use Rattle.fw_session.proofs.BlockLemmas.{says_no_room, says_no_script, read_as}
 use Rattle.fw_session.proofs.running.run_block.Goals as goal
 
 pub returns-in-Ok-clause-says : goal.returns-in-Ok-clause-says
-returns-in-Ok-clause-says g c = λ names. c.run_script-said.ensures names c.args.block.now.items (read_as _ _ _ c.in-Ok.ensures.read (c.in-Ok.ensures.kept ∙ ap (λ v. v.items) c.replace-source.ensures.value))
+returns-in-Ok-clause-says g c = λ names. c.run_script.ensures names c.args.block.now.items (read_as _ _ _ c.in-Ok.ensures.read c.in-Ok.ensures.kept)
 
 pub returns-in-Memory-clause-says : goal.returns-in-Memory-clause-says
 returns-in-Memory-clause-says g c = λ names.
@@ -17,4 +15,4 @@ returns-in-Memory-clause-says g c = λ names.
 pub returns-in_default-clause-says : goal.returns-in_default-clause-says
 returns-in_default-clause-says g c = λ names.
     says_no_script (rules c.args.stand_ins.now c.args.limits.now) (named_session c.args.session.now names) c.args.block.now.items (sink (g.W.Write.contents c.args.output.now) c.args.answers.now)
-    (sink (g.W.Write.contents c.add-in_default.new.output) c.add-in_default.new.self) c.add-in_default.result (ap (λ v. read v.items) (sym c.replace-source.ensures.value) ∙ c.in-Err.ensures.unread c.in_default.not-Memory) c.add-in_default.ensures
+    (sink (g.W.Write.contents c.add-in_default.new.output) c.add-in_default.new.self) c.add-in_default.result (c.in-Err.ensures.unread c.in_default.not-Memory) c.add-in_default.ensures
