@@ -7,6 +7,7 @@ ghost use Rattle.hush_commands.specs.Saving.{saved_line, Saves};
 use env_session::{Session, Side};
 use std::alloc::Global;
 use std::marker::Model;
+use std::mem;
 use thiserror::Error;
 
 /// Why a text isn't printed.
@@ -57,6 +58,14 @@ impl Output {
         Output { text, limit }
     }
 
+    /// No text any more, with room for `limit` bytes, in the memory of the text before.
+    pub fn reset(&mut self, limit: u32)
+        ensures { self.new ≡ printed [] limit }
+    {
+        self.text.clear();
+        self.limit = limit;
+    }
+
     /// What was printed.
     pub fn text(&self) -> &[u8]
         ensures text { result.now ≡ self.now.text }
@@ -70,6 +79,14 @@ impl Output {
         ensures { result.items ≡ self.text }
     {
         self.text
+    }
+
+    /// What was printed, for its owner: no text is left here.
+    pub fn take_text(&mut self, alloc: Global) -> Vec<u8>
+        ensures text { result.items ≡ self.old.text }
+        ensures left { self.new ≡ printed [] self.old.limit }
+    {
+        mem::replace(&mut self.text, Vec::new(alloc))
     }
 
     /// Prints a text. Where it can't be printed, what was printed before stands.

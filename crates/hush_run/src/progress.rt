@@ -36,19 +36,27 @@ pub(crate) struct Progress {
 impl Progress {
     ghost use Rattle.hush_run.specs.Steps.{state_of, rules_of, value_of, FieldsAre, MayStep, Did};
 
-    /// Status 0, no local variables and no text, in the room of a buffer for fields and of a text: what they hold is of no
-    /// account. It takes no memory.
-    pub(crate) fn new(given: &Given<'_>, fields: FieldBuffer, text: Vec<u8>) -> Progress
-        ensures { (held : Held) → state_of held result ≡ first_state (rules_of given.now) held }
-    {
+    /// That of no run. It takes no memory.
+    pub(crate) fn nothing(alloc: Global) -> Progress {
         Progress {
-            locals: Locals::new(given.alloc),
+            locals: Locals::new(alloc),
             status: 0,
-            output: Output::in_room(text, given.limits.output()),
+            output: Output::new(alloc, 0),
             steps: 0,
-            fields,
-            name: Vec::new(given.alloc),
+            fields: FieldBuffer::new(alloc),
+            name: Vec::new(alloc),
         }
+    }
+
+    /// Begins a run in the room of the one before: status 0, no local variables, no text and no steps. What the buffers for
+    /// the fields and the name hold is of no account. It takes no memory.
+    pub(crate) fn begin(&mut self, given: &Given<'_>)
+        ensures { (held : Held) → state_of held self.new ≡ first_state (rules_of given.now) held }
+    {
+        self.locals = Locals::new(given.alloc);
+        self.status = 0;
+        self.output.reset(given.limits.output());
+        self.steps = 0;
     }
 
     /// Where one more step may be counted, expands words to the fields of that step.

@@ -7,10 +7,9 @@ use crate::machine::{Kept, run_script};
 use crate::outcome::Outcome;
 use crate::progress::{Given, Progress};
 use env_session::Session;
-use hush_commands::{FieldBuffer, Limits, StandIns};
+use hush_commands::{Limits, Output, StandIns};
 use hush_syntax::Script;
 use std::alloc::Global;
-use std::mem;
 
 /// Runs a script over a session under limits: what docs/runs.md, "Meaning", gives for it, whatever the session holds.
 ///
@@ -34,8 +33,7 @@ pub fn run(
 pub struct Runner {
     alloc: Global,
     kept: Kept,
-    fields: FieldBuffer,
-    text: Vec<u8>,
+    progress: Progress,
 }
 
 impl Runner {
@@ -44,14 +42,13 @@ impl Runner {
         Runner {
             alloc,
             kept: Kept::nothing(alloc),
-            fields: FieldBuffer::new(alloc),
-            text: Vec::new(alloc),
+            progress: Progress::nothing(alloc),
         }
     }
 
     /// Takes the text of an outcome back that is read no more: the next run prints in its memory.
     pub fn take_back(&mut self, text: Vec<u8>) {
-        self.text = text;
+        self.progress.output = Output::in_room(text, 0);
     }
 
     /// Runs a script as [`run`] does. It sees nothing of the runs before it, and takes less memory behind one.
@@ -71,24 +68,13 @@ impl Runner {
         };
         // Does nothing: it tells the prover that the depth is at most MOST_DEPTH.
         let _depth = limits.depth();
-        let fields = mem::replace(&mut self.fields, FieldBuffer::new(self.alloc));
-        let text = mem::replace(&mut self.text, Vec::new(self.alloc));
-        let mut progress = Progress::new(&given, fields, text);
-        let stop = run_script(&given, session, &mut progress, &mut self.kept, script);
-        let Progress {
-            locals: _,
-            status,
-            output,
-            steps,
-            fields,
-            name: _,
-        } = progress;
-        self.fields = fields;
+        self.progress.begin(&given);
+        let stop = run_script(&given, session, &mut self.progress, &mut self.kept, script);
         Outcome {
             ending: Ending::of(stop),
-            status,
-            steps,
-            text: output.into_text(),
+            status: self.progress.status,
+            steps: self.progress.steps,
+            text: self.progress.output.take_text(self.alloc),
         }
     }
 }
