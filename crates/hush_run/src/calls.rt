@@ -12,7 +12,7 @@ use std::marker::Model;
 #[derive(Drop)]
 pub(crate) struct Calls<'s> {
     first: &'s Script,
-    started: Vec<Script>,
+    started: &'s mut Vec<Script>,
 }
 
 impl<'s> Model for Calls<'s> {
@@ -23,26 +23,23 @@ impl<'s> Model for Calls<'s> {
 
     ghost Value = { List Parsed };
 
-    ghost view = { λ a. calls_of a.first.now a.started.items };
+    ghost view = { λ a. calls_of a.first.now a.started.now.items };
 
-    ghost invariant = { λ a. most_depth ≤ vec_capacity a.started };
+    ghost invariant = { λ a. most_depth ≤ vec_capacity a.started.now };
 }
 
 impl<'s> Calls<'s> {
     /// The first alone, and room for those of the most starts inside one another that limits may give ([`MOST_DEPTH`]).
-    /// It is taken where `kept` hasn't got it.
-    pub(crate) fn new(first: &'s Script, kept: Vec<Script>) -> Result<Calls<'s>, AllocError>
+    /// It is taken where `started` hasn't got it; what that holds is dropped.
+    pub(crate) fn new(
+        first: &'s Script,
+        started: &'s mut Vec<Script>,
+    ) -> Result<Calls<'s>, AllocError>
         ensures { IfOk result (λ calls. calls ≡ first.entry.now ∷ []) }
     {
-        let mut started = kept;
         started.clear();
         started.reserve(MOST_DEPTH as usize)?;
         Ok(Calls { first, started })
-    }
-
-    /// Those that were started, and their room.
-    pub(crate) fn into_started(self) -> Vec<Script> {
-        self.started
     }
 
     /// The innermost.

@@ -99,23 +99,17 @@ impl Frames {
         Ok(Frames { items, depth })
     }
 
-    /// No frames, in the room of those that are handed in where that is for as many starts, else in new room.
-    pub(crate) fn emptied(
-        kept: Option<Frames>,
-        alloc: Global,
-        depth: u32,
-    ) -> Result<Frames, AllocError>
+    /// No frames any more, in the room that is here where that is for as many starts, else in new room.
+    pub(crate) fn clear_for(&mut self, alloc: Global, depth: u32) -> Result<(), AllocError>
         requires { depth ≤ most_depth }
-        ensures { IfOk result (λ frames. frames ≡ record { frames = []; depth = depth }) }
+        ensures { IfOk result (λ u. self.new ≡ record { frames = []; depth = depth }) }
     {
-        match kept {
-            Some(frames) if frames.depth == depth => {
-                let mut frames = frames;
-                frames.items.clear();
-                Ok(frames)
-            }
-            _ => Frames::new(alloc, depth),
+        if self.depth == depth {
+            self.items.clear();
+            return Ok(());
         }
+        *self = Frames::new(alloc, depth)?;
+        Ok(())
     }
 
     /// Puts a frame on top, where the room isn't full. It takes no memory.

@@ -15,7 +15,6 @@ use crate::turns::Due;
 use env_session::Session;
 use hush_syntax::{NodeId, Script};
 use std::alloc::Global;
-use std::mem;
 
 /// The room of a run that is done, for the next one.
 #[derive(Drop)]
@@ -50,25 +49,25 @@ pub(crate) fn run_script(
     let Some(root) = script.root() else {
         return Stop::Ended(Reason::Finished);
     };
-    let started = mem::replace(&mut kept.started, Vec::new(given.alloc));
-    let Ok(mut calls) = Calls::new(script, started) else {
+    let Ok(mut calls) = Calls::new(script, &mut kept.started) else {
         return Stop::Memory;
     };
-    let Ok(mut frames) = Frames::emptied(kept.frames.take(), given.alloc, given.limits.depth())
-    else {
-        return Stop::Memory;
-    };
-    let stop = run_due(
-        given,
-        session,
-        progress,
-        &mut calls,
-        &mut frames,
-        Due::Node(root),
-    );
-    kept.started = calls.into_started();
-    kept.frames = Some(frames);
-    stop
+    let depth = given.limits.depth();
+    let due = Due::Node(root);
+    match &mut kept.frames {
+        Some(frames) => match frames.clear_for(given.alloc, depth) {
+            Ok(()) => run_due(given, session, progress, &mut calls, frames, due),
+            Err(_) => Stop::Memory,
+        },
+        None => {
+            let Ok(mut frames) = Frames::new(given.alloc, depth) else {
+                return Stop::Memory;
+            };
+            let stop = run_due(given, session, progress, &mut calls, &mut frames, due);
+            kept.frames = Some(frames);
+            stop
+        }
+    }
 }
 
 /// Does one step after the other, as long as one is due: why there is none.

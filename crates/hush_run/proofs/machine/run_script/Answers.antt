@@ -6,5 +6,8 @@ use Rattle.hush_run.proofs.machine.run_script.Goals as goal
 pub returns-in_default-new : goal.returns-in_default-new
 returns-in_default-new c = none_counted (rules_of c.args.given.now) (tree_of c.args.script.now) (state_of c.args.session.now c.args.progress.now) c.requires.steps
 
-pub returns-in_default-emptied : goal.returns-in_default-emptied
-returns-in_default-emptied c = none_counted (rules_of c.args.given.now) (tree_of c.args.script.now) (state_of c.args.session.now c.args.progress.now) c.requires.steps
+pub returns-in_default-new-2 : goal.returns-in_default-new-2
+returns-in_default-new-2 c = none_counted (rules_of c.args.given.now) (tree_of c.args.script.now) (state_of c.args.session.now c.args.progress.now) c.requires.steps
+
+pub returns-in-Err : goal.returns-in-Err
+returns-in-Err c = none_counted (rules_of c.args.given.now) (tree_of c.args.script.now) (state_of c.args.session.now c.args.progress.now) c.requires.steps
