@@ -67,18 +67,18 @@ impl Builder {
     /// Tables without members again. They have the room that they had, and at least what so many tokens of ordinary commands
     /// need, which spares them growths: no more words than tokens, a third as many nodes, a fifth as many chains, and few
     /// links and branches. Where the room is enough, that takes no memory.
-    pub(crate) fn empty(&mut self, tokens: usize) -> Result<(), AllocError>
+    pub(crate) fn clear_for(&mut self, tokens: usize) -> Result<(), AllocError>
         ensures empty { OnOk result (IsEmpty self.new) }
         ensures room { OnOk result (HasRoom self.old tokens self.new) }
     {
-        empty(&mut self.table.nodes, tokens / 3)?;
-        empty(&mut self.table.words, tokens)?;
-        empty(&mut self.table.chains, tokens / 5)?;
-        empty(&mut self.table.links, tokens / 16)?;
-        empty(&mut self.table.branches, tokens / 32)?;
-        empty(&mut self.waiting.chains, tokens / 8)?;
-        empty(&mut self.waiting.links, 0)?;
-        empty(&mut self.waiting.branches, 0)?;
+        clear_for(&mut self.table.nodes, tokens / 3)?;
+        clear_for(&mut self.table.words, tokens)?;
+        clear_for(&mut self.table.chains, tokens / 5)?;
+        clear_for(&mut self.table.links, tokens / 16)?;
+        clear_for(&mut self.table.branches, tokens / 32)?;
+        clear_for(&mut self.waiting.chains, tokens / 8)?;
+        clear_for(&mut self.waiting.links, 0)?;
+        clear_for(&mut self.waiting.branches, 0)?;
         Ok(())
     }
 
@@ -219,7 +219,7 @@ impl Builder {
 }
 
 /// Takes the members out of a table, which has room for so many then.
-fn empty<T: Copy>(table: &mut Vec<T>, members: usize) -> Result<(), AllocError>
+fn clear_for<T: Copy>(table: &mut Vec<T>, members: usize) -> Result<(), AllocError>
     ensures empty { OnOk result (table.new.items ≡ []) }
     ensures room { OnOk result (vec_capacity table.new ≡ max (vec_capacity table.old) members) }
 
