@@ -5,6 +5,8 @@
 #[cfg(test)]
 mod carrying;
 #[cfg(test)]
+mod changes;
+#[cfg(test)]
 mod commands;
 #[cfg(test)]
 mod expansions;
@@ -18,5 +20,7 @@ mod largest;
 mod limits;
 #[cfg(test)]
 mod messages;
+#[cfg(test)]
+mod outputs;
 #[cfg(test)]
 mod stand_ins;

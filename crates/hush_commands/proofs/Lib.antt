@@ -8,3 +8,4 @@ pub mod BufferLemmas
 pub mod WordLemmas
 pub mod OutputLemmas
 pub mod CommandRows
+pub mod ChangeLemmas

@@ -2,6 +2,9 @@
 ghost use Rattle.std.specs.Prelude.{◌≡◌, ℕ, List, ◌∷◌, find};
 ghost use Rattle.std.specs.Str.{bytes_eq};
 
+/// How many bytes the shortest of their names have: `env` and `run`.
+const SHORTEST: usize = 3;
+
 /// A command that a run has itself.
 #[derive(Clone, Copy, Debug, PartialEq, Eq)]
 pub(crate) enum Builtin {
@@ -25,6 +28,9 @@ impl Builtin {
     pub(crate) fn of(name: &[u8]) -> Option<Builtin>
         ensures { result ≡ builtin_of name.now }
     {
+        if name.len() < SHORTEST {
+            return None;
+        }
         match name.first() {
             Some(initial) => Builtin::among(Builtin::with_initial(*initial), name),
             None => None,

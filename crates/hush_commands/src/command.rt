@@ -77,7 +77,7 @@ impl Command {
     }
 
     /// The command that a builtin is, with the words behind its name; `env` takes one of them.
-    fn of_builtin(builtin: Builtin, words: &mut Fields<'_>) -> Command
+    pub(crate) fn of_builtin(builtin: Builtin, words: &mut Fields<'_>) -> Command
         ensures { (result, words.new) ≡ builtin_named builtin words.old }
     {
         match builtin {

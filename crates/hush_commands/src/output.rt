@@ -74,13 +74,6 @@ impl Output {
         self.text.as_slice()
     }
 
-    /// What was printed, for its owner.
-    pub fn into_text(self) -> Vec<u8>
-        ensures { result.items ≡ self.text }
-    {
-        self.text
-    }
-
     /// What was printed, for its owner: no text is left here.
     pub fn take_text(&mut self, alloc: Global) -> Vec<u8>
         ensures text { result.items ≡ self.old.text }
