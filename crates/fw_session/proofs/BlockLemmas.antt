@@ -1,23 +1,18 @@
 -- A block and what it prints.
-use Rattle.hush_run.specs.Quiet.{LeavesSession}
 use Rattle.std.proofs.Common.{◌⊎◌, ◌≡◌, ℕ, ◌++◌, List, [], ◌∷◌, inl, inr, true, false, Option, Some, None, Bool, refl, sym, ap, subst, ◌∙◌, codes}
-use Rattle.std.specs.Fmt.{digits}
 use Rattle.env_session.specs.Session.{Held}
 use Rattle.hush_syntax.specs.Grammar.{Chains}
 use Rattle.hush_syntax.specs.Reading.{read}
-use Rattle.hush_syntax.specs.Scripts.{Parsed, tree_of, RootIs}
-use Rattle.hush_syntax.specs.declared.nodes.NodeId.{NodeId}
-use Rattle.std.specs.Option.{is_some}
 use Rattle.hush_run.specs.declared.ending.Ending.{Ending}
 use Rattle.hush_run.specs.declared.ending.Ending.TheVariants.{Finished, Exited, Steps, Depth, Word, Output, Memory}
 use Rattle.hush_run.specs.declared.outcome.Outcome.{Outcome}
 use Rattle.hush_run.specs.Meaning.{Rules, State, meaning, within}
-use Rattle.hush_run.specs.Runs.{RunsBy, Shows, reason_of, ending_of}
+use Rattle.hush_run.specs.Runs.{Runs, RunsBy, Shows, reason_of, ending_of}
 use Rattle.fw_session.specs.Input.{Block}
 use Rattle.fw_session.specs.Streams.{Sink, Moves, Adds}
 use Rattle.fw_session.specs.NamedSessions.{named_session}
 use Rattle.fw_session.specs.Replies.{NamedSession, Through, Refused, Stopped, reply, MayStand, with_newline, tried, stopped_run, run_reply, ending_line, RunStops}
-use Rattle.fw_session.specs.Saying.{ItemAnswered, IsQuiet, RanAnswered, Says, SaysScript}
+use Rattle.fw_session.specs.Saying.{ItemAnswered, IsQuiet, Says, SaysScript}
 use Rattle.fw_session.proofs.SayingLemmas.{says_one, says_behind, says_not_begun}
 
 no_room : (rules : Rules) (t : NamedSession) (text : List ℕ) (a a' : Sink) (ok : Bool) → Adds a a' (with_newline (codes "[Memory]")) ok → ItemAnswered rules t (Block text) a a' t ok
@@ -93,51 +88,22 @@ ran_by Word rules tree h h' names text o a a' ok none is r w = ran_through rules
 ran_by Output rules tree h h' names text o a a' ok none is r w = ran_through rules Output tree h h' names text o a a' ok none is (ap ending_of r.0) r.1 w
 ran_by Memory rules tree h h' names text o a a' ok none is r w = ran_stopped rules tree h h' names text o a a' ok none is r w
 
--- a script that was run, before which what waits was written
-pub script_ran : (rules : Rules) (tree : Option Chains) (h h' : Held) (a a' a'' : Sink) (ok' ok : Bool) → ok' ≡ true → Moves a a' ok' → (ok' ≡ true → a'.waiting ≡ []) → RanAnswered rules tree h h' a' a'' ok → SaysScript rules tree h h' a a'' ok
-script_ran rules tree h h' a a' a'' ok' ok is m none r names text e =
+-- a script that was run and has left the session as it was
+pub quiet_script_ran : (rules : Rules) (tree : Option Chains) (h h' : Held) (o : Outcome) (a a' : Sink) (ok : Bool) → h' ≡ h → Runs rules tree h h' o → Adds a a' (o.text.items ++ ending_line o.ending o.status o.steps) ok → SaysScript rules tree h h' a a' ok
+quiet_script_ran rules tree h h' o a a' ok same r w names text e =
+    says_one rules (named_session h names) (named_session h' names) (Block text) a a' ok (ran_by o.ending rules tree h h' names text o a a' ok (inr same) e r w)
+
+-- a script that was run, in which what waits was written before the session was changed
+pub script_ran : (rules : Rules) (tree : Option Chains) (h h' : Held) (o : Outcome) (a a' a'' : Sink) (ok' ok : Bool) → ok' ≡ true → Moves a a' ok' → (ok' ≡ true → a'.waiting ≡ []) → Runs rules tree h h' o → Adds a' a'' (o.text.items ++ ending_line o.ending o.status o.steps) ok →
+    SaysScript rules tree h h' a a'' ok
+script_ran rules tree h h' o a a' a'' ok' ok is m none r w names text e =
     says_behind rules (named_session h names) (named_session h' names) (Block text ∷ []) a a' a'' ok (subst (λ v. Moves a a' v) is m)
-    (says_one rules (named_session h names) (named_session h' names) (Block text) a' a'' ok (ran_by r.0.ending rules tree h h' names text r.0 a' a'' ok (inl (none is)) e r.1 r.2))
+    (says_one rules (named_session h names) (named_session h' names) (Block text) a' a'' ok (ran_by o.ending rules tree h h' names text o a' a'' ok (inl (none is)) e r w))
 
-stays : (e : Ending) (rules : Rules) (tree : Option Chains) (h h' : Held) (o : Outcome) → LeavesSession tree → RunsBy (reason_of e) rules tree h h' o → h' ≡ h
-stays Finished rules tree h h' o q r = r.1.held ∙ q rules h
-stays Exited rules tree h h' o q r = r.1.held ∙ q rules h
-stays Steps rules tree h h' o q r = r.1.held ∙ q rules h
-stays Depth rules tree h h' o q r = r.1.held ∙ q rules h
-stays Word rules tree h h' o q r = r.1.held ∙ q rules h
-stays Output rules tree h h' o q r = r.1.held ∙ q rules h
-stays Memory rules tree h h' o q r = r.1.held ∙ q (within o.steps rules) h
-
--- a script that was run, and leaves the session as it is
-pub quiet_script_ran : (rules : Rules) (tree : Option Chains) (h h' : Held) (a a' : Sink) (ok : Bool) → LeavesSession tree → RanAnswered rules tree h h' a a' ok → SaysScript rules tree h h' a a' ok
-quiet_script_ran rules tree h h' a a' ok q r names text e =
-    says_one rules (named_session h names) (named_session h' names) (Block text) a a' ok
-    (ran_by r.0.ending rules tree h h' names text r.0 a a' ok (inr (stays r.0.ending rules tree h h' r.0 q r.1)) e r.1 r.2)
-
-pub script_not_begun : (rules : Rules) (tree : Option Chains) (h : Held) (a a' : Sink) (ok : Bool) → ok ≡ false → Moves a a' ok → SaysScript rules tree h h a a' false
-script_not_begun rules tree h a a' ok is m names text e = says_not_begun rules (named_session h names) (Block text ∷ []) a a' (subst (λ v. Moves a a' v) is m)
-
--- a text without a command
-no_command : (rules : Rules) (h : Held) (names : List (Option (List ℕ))) (text : List ℕ) (a a' : Sink) (ok : Bool) → read text ≡ Some None → Adds a a' (codes "[Finished 0 0]\n") ok →
-    ItemAnswered rules (named_session h names) (Block text) a a' (named_session h names) ok
-unfolding reply MayStand meaning digits
-no_command rules h names text a a' ok is w =
-    let t = named_session h names in
-    record {
-      note = Through;
-      may = tt;
-      adds = subst (λ v. Adds a a' (tried rules t v).text ok) (sym is) w;
-      session = subst (λ v. t ≡ (tried rules t v).session) (sym is) refl;
-      quiet = inr refl;
-    }
-
-pub script_without_command : (rules : Rules) (tree : Option Chains) (h : Held) (a a' : Sink) (ok : Bool) → tree ≡ None → Adds a a' (codes "[Finished 0 0]\n") ok → SaysScript rules tree h h a a' ok
-script_without_command rules tree h a a' ok none w names text e =
-    says_one rules (named_session h names) (named_session h names) (Block text) a a' ok (no_command rules h names text a a' ok (e ∙ ap Some none) w)
-
-pub no_root : (script : Parsed) (root : Option NodeId) → RootIs script root → is_some root ≡ false → tree_of script ≡ None
-no_root script None r e = r
-no_root script (Some id) r e = absurd (cc)
+-- what waits was not written before, and the session is as it was
+pub script_not_run : (rules : Rules) (tree : Option Chains) (h h' : Held) (a a' : Sink) (ok : Bool) → h' ≡ h → ok ≡ false → Moves a a' ok → SaysScript rules tree h h' a a' false
+script_not_run rules tree h h' a a' ok same is m names text e =
+    subst (λ (v : Held). Says rules a (named_session h names) (Block text ∷ []) a' (named_session v names) false) (sym same) (says_not_begun rules (named_session h names) (Block text ∷ []) a a' (subst (λ v. Moves a a' v) is m))
 
 pub says_no_room : (rules : Rules) (t : NamedSession) (text : List ℕ) (a a' : Sink) (ok : Bool) → Adds a a' (with_newline (codes "[Memory]")) ok → Says rules a t (Block text ∷ []) a' t ok
 says_no_room rules t text a a' ok w = says_one rules t t (Block text) a a' ok (no_room rules t text a a' ok w)

@@ -4,12 +4,10 @@ use Rattle.std.specs.Io.KnownBytes.{Appends}
 use Rattle.env_session.specs.Session.{Held}
 use Rattle.hush_syntax.specs.Grammar.{Chains}
 use Rattle.hush_syntax.specs.Reading.{read}
-use Rattle.hush_run.specs.declared.outcome.Outcome.{Outcome}
 use Rattle.hush_run.specs.Meaning.{Rules}
-use Rattle.hush_run.specs.Runs.{Runs}
 use Rattle.fw_session.specs.Input.{Item, Block, Dot}
 use Rattle.fw_session.specs.Streams.{Counts, Sink, Adds}
-use Rattle.fw_session.specs.Replies.{NamedSession, Note, Request, request_of, ending_line, reply, replies, undo_reply, request_reply, MayStand, AllStand, UndoNote, RequestNote}
+use Rattle.fw_session.specs.Replies.{NamedSession, Note, Request, request_of, reply, replies, undo_reply, request_reply, MayStand, AllStand, UndoNote, RequestNote}
 use Rattle.fw_session.specs.NamedSessions.{named_session}
 use Rattle.fw_session.specs.Ends.{CutShort}
 
@@ -80,8 +78,3 @@ abbrev pub SaysScript : Rules → Option Chains → Held → Held → Sink → S
 SaysScript rules tree held held' s s' ok =
     (names : List (Option (List ℕ))) → (text : List ℕ) → read text ≡ Some tree →
     Says rules s (named_session held names) (Block text ∷ []) s' (named_session held' names) ok
-
--- a script that was run
-abbrev pub RanAnswered : Rules → Option Chains → Held → Held → Sink → Sink → Bool → Type 0
-RanAnswered rules tree held held' s s' ok =
-    (o : Outcome) × Runs rules tree held held' o × Adds s s' (o.text.items ++ ending_line o.ending o.status o.steps) ok

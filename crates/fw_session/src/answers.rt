@@ -8,7 +8,7 @@ use arrayvec::ArrayVec;
 use std::io::Write;
 
 /// How many bytes of text may wait.
-const MOST_WAITING: usize = 4_096;
+const MOST_WAITING: usize = 65_536;
 
 /// Texts that wait behind those that were written. What waits is written before a line is handled that may change the
 /// session, and before more of the input is read.

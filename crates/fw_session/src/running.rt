@@ -3,7 +3,7 @@ ghost use Rattle.std.specs.Prelude.{◌≡◌, ℕ, List, Option, ◌+◌, ◌�
 ghost use Rattle.hush_syntax.specs.Scripts.{tree_of};
 ghost use Rattle.fw_session.specs.Input.{Block};
 ghost use Rattle.fw_session.specs.Replies.{ending_name, ending_line};
-ghost use Rattle.fw_session.specs.Saying.{Says, SaysScript, RanAnswered};
+ghost use Rattle.fw_session.specs.Saying.{Says, SaysScript};
 ghost use Rattle.fw_session.specs.Streams.{Adds};
 ghost use Rattle.fw_session.specs.Waiting.{sink};
 ghost use Rattle.fw_session.specs.NamedSessions.{named_session};
@@ -12,7 +12,7 @@ ghost use Rattle.hush_run.specs.Runs.{rules};
 use crate::answers::Answers;
 use arrayvec::ArrayVec;
 use env_session::Session;
-use hush_run::{Ending, Limits, Outcome, Runner, StandIns, leaves_session};
+use hush_run::{Ending, Limits, Outcome, Reached, Runner, StandIns};
 use hush_syntax::{FaultKind, Script};
 use itoa::Buffer;
 use std::alloc::Global;
@@ -35,7 +35,7 @@ impl Workshop {
     }
 }
 
-/// Runs a block, and adds what it has to say. It is empty then, in the memory of the block before.
+/// Runs a block, and adds what it has to say. The block is empty then, in the memory of the one before.
 pub(crate) fn run_block<W: Write>(
     workshop: &mut Workshop,
     session: &mut Session,
@@ -67,7 +67,7 @@ pub(crate) fn run_block<W: Write>(
     }
 }
 
-/// Runs a script, and adds what it has to say. What waits is written before, if the script may change the session.
+/// Runs a script, and adds what it has to say. What waits is written before the first step that may change the session.
 fn run_script<W: Write>(
     runner: &mut Runner,
     session: &mut Session,
@@ -80,32 +80,28 @@ fn run_script<W: Write>(
     ensures { SaysScript (rules stand_ins.now limits.now) (tree_of script.now) session.old session.new
         (sink (W.contents output.old) answers.old) (sink (W.contents output.new) answers.new) result }
 {
-    if script.root().is_none() {
-        return answers.add(b"[Finished 0 0]\n", output);
+    match runner.run_until_change(session, script, stand_ins, limits) {
+        Reached::End(outcome) => answer_run(runner, outcome, answers, output),
+        Reached::Change(run) => {
+            if !answers.write_out(output) {
+                return false;
+            }
+            let outcome = run.resume(session);
+            answer_run(runner, outcome, answers, output)
+        }
     }
-    if leaves_session(script) {
-        return add_run(runner, session, stand_ins, limits, script, answers, output);
-    }
-    if !answers.write_out(output) {
-        return false;
-    }
-    add_run(runner, session, stand_ins, limits, script, answers, output)
 }
 
-/// Runs a script, and adds what it has to say.
-fn add_run<W: Write>(
+/// Adds the text of a run, and how it ended. The memory of the text goes to the next run.
+fn answer_run<W: Write>(
     runner: &mut Runner,
-    session: &mut Session,
-    stand_ins: &StandIns,
-    limits: &Limits,
-    script: &Script,
+    outcome: Outcome,
     answers: &mut Answers,
     output: &mut W,
 ) -> bool
-    ensures { RanAnswered (rules stand_ins.now limits.now) (tree_of script.now) session.old session.new
-        (sink (W.contents output.old) answers.old) (sink (W.contents output.new) answers.new) result }
+    ensures { Adds (sink (W.contents output.old) answers.old) (sink (W.contents output.new) answers.new)
+        (outcome.text.items ++ ending_line outcome.ending outcome.status outcome.steps) result }
 {
-    let outcome = runner.run(session, script, stand_ins, limits);
     let added = add_outcome(&outcome, answers, output);
     runner.take_back(outcome.text);
     added
@@ -125,7 +121,7 @@ fn ending_line(outcome: &Outcome) -> ArrayVec<u8, 64>
     ensures { result.items ≡ ending_line outcome.now.ending outcome.now.status outcome.now.steps }
 {
     let mut line = ArrayVec::new();
-    put(&mut line, front_of(outcome.ending));
+    put(&mut line, opening_of(outcome.ending));
     put(&mut line, Buffer::new().format(outcome.status).as_bytes());
     put(&mut line, b" ");
     put(&mut line, Buffer::new().format(outcome.steps).as_bytes());
@@ -144,7 +140,7 @@ fn put(line: &mut ArrayVec<u8, 64>, text: &[u8])
 }
 
 /// What stands before the status: the name of an ending, between `[` and a space.
-fn front_of(ending: Ending) -> &'static [u8]
+fn opening_of(ending: Ending) -> &'static [u8]
     ensures front { result.now ≡ codes "[" ++ ending_name ending ++ codes " " }
     ensures short { length result.now ≤ 10 }
 {

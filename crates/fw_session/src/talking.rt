@@ -30,7 +30,7 @@ const PIECE: usize = 4_096;
 #[derive(Drop)]
 pub(crate) struct Talk {
     session: Session,
-    /// What runs its blocks.
+    /// What one block leaves for the next.
     workshop: Workshop,
     /// The names of its marks.
     names: Names,

@@ -9,15 +9,16 @@ use Rattle.hush_run.specs.declared.frames.Frame.{Frame}
 use Rattle.hush_run.specs.declared.frames.Frame.TheVariants as frame
 use Rattle.hush_run.specs.declared.turns.Due.{Due}
 use Rattle.hush_run.specs.declared.turns.Due.TheVariants as due
-use Rattle.hush_run.specs.declared.ending.Reason.TheVariants.{Finished}
 use Rattle.hush_run.specs.declared.ending.Stop.{Stop}
 use Rattle.hush_run.specs.declared.ending.Stop.TheVariants as stop
+use Rattle.hush_run.specs.declared.advancing.Halt.{Halt}
+use Rattle.hush_run.specs.declared.advancing.Halt.TheVariants as halt
 use Rattle.hush_run.specs.Meaning.{Rules, Begin, State, Out, Goes, ◌>>=◌, ◌then◌, with_status, if_ok, in_turn, bindings, deletions, ended, script, chains, start, run_from, within}
 use Rattle.hush_run.specs.Resume.{begin_in, at_in, behind, levels, resume, subtree_does, room, at_command, of_for, Leads}
 use Rattle.hush_run.specs.Turns.{IsDue, IsPart, due_does, due_room}
 use Rattle.hush_run.specs.Rises.{IsLeft}
 use Rattle.hush_run.specs.Steps.{Did, Started}
-use Rattle.hush_run.specs.Advances.{IsReady, Advances, Ran, RanOn, due_left}
+use Rattle.hush_run.specs.Advances.{IsReady, Advances, AdvancesOrWaits, Waits, RanOn, RanOrWaits, due_left}
 use Rattle.hush_run.specs.Stacks.{script_frames}
 use Rattle.hush_run.proofs.Parts.{bind_goes, bind_assoc}
 use Rattle.hush_run.proofs.Descends.{stack-frame}
@@ -56,6 +57,21 @@ node_advances rules calls top old new depth after id node s t result is ready le
     by : (r : Result Due Stop) → IsReady rules (top ∷ behind calls) old depth (due.Node id) → Did rules (λ r begin. subtree_does r begin (subtree_at top node)) (λ d r begin. due_does r begin (subtree_at top) d) s t r → IfOk r (λ (d : Due). IsDue (subtree_at top) d × (due_room (subtree_at top) d ≤ room (subtree_at top node))) → Advances rules (top ∷ behind calls) old (due.Node id) s (top ∷ behind calls) new after t r
     by (Ok next) now did fits = node-goes rules top (behind calls) old new depth after id node s t now le same down next did fits.0 fits.1
     by (Err halt) now did fits = node-stops rules top (behind calls) old new depth after id node s t now le same down halt did
+
+-- a node whose step waits
+pub node_waits : (rules : Rules) (calls : List Parsed) (top : Parsed) (old new : List Frame) (depth after : ℕ) (id node : NodeId) (s t : State) → calls ≡ top ∷ behind calls → IsReady rules calls old depth (due.Node id) → after ≡ depth → Leads top old new id node → t ≡ s → Waits rules calls old (due.Node id) s calls new after t (due.Node node)
+node_waits rules calls top old new depth after id node s t is ready same down still =
+    subst (λ (cs : List Parsed). Waits rules cs old (due.Node id) s cs new after t (due.Node node)) (sym is)
+    (subst (λ (u : State). Waits rules (top ∷ behind calls) old (due.Node id) s (top ∷ behind calls) new after u (due.Node node)) (sym still) (by (subst (λ (cs : List Parsed). IsReady rules cs old depth (due.Node id)) is ready)))
+  where
+    by : IsReady rules (top ∷ behind calls) old depth (due.Node id) → Waits rules (top ∷ behind calls) old (due.Node id) s (top ∷ behind calls) new after s (due.Node node)
+    by now =
+        let m = down.1 (behind calls) now.stack now.frames_fit in
+        record {
+          counted = refl;
+          ready = record { stack = m.0; is_due = down.0; some = now.some; calls_fit = now.calls_fit; frames_fit = m.1; same_depth = same ∙ now.same_depth };
+          same = λ n le. down.2 (within n rules) (behind calls) s le;
+        }
 
 -- a name of `env delete`
 pub delete_goes : (rules : Rules) (calls : List Parsed) (old : List Frame) (depth : ℕ) (force failed again : Bool) (name : List ℕ) (names left : List (List ℕ)) (next : Due) (s t : State) → names ≡ name ∷ left → IsReady rules calls old depth (due.Delete force failed names) → Did rules (λ r begin. deletions r force failed (name ∷ left)) (λ flag r begin. deletions r force flag left) s t (Ok again) → IsDue (at_in calls) next → due_room (at_in calls) next ≡ 0 → ((r : Rules) (begin : Begin) (u : State) → deletions r force again left u ≡ due_does r begin (at_in calls) next u) → Advances rules calls old (due.Delete force failed names) s calls old depth t (Ok next)
@@ -171,6 +187,13 @@ rise_then rules calls calls1 calls2 old frames1 new status1 depth due1 s t (Ok d
 rise_then rules calls calls1 calls2 old frames1 new status1 depth due1 s t (Err (stop.Ended e)) le l a = ap ended (l.5 rules s le) ∙ a
 rise_then rules calls calls1 calls2 old frames1 new status1 depth due1 s t (Err stop.Memory) le l a = (a.0, ap (λ (o : Out). (ended o).1) (l.5 (within s.steps rules) s (omega arith)) ∙ a.1)
 
+-- the same where it waits
+pub rise_or_wait : (may_change : Bool) (rules : Rules) (calls calls1 calls2 : List Parsed) (old frames1 new : List Frame) (status1 depth : ℕ) (due1 : Due) (s t : State) (r : Result Due Halt) → s.steps ≤ rules.limits.steps → IsLeft calls old s.status calls1 frames1 status1 due1 → AdvancesOrWaits may_change rules calls1 frames1 due1 (with_status status1 s) calls2 new depth t r → AdvancesOrWaits may_change rules calls old due.Over s calls2 new depth t r
+rise_or_wait may_change rules calls calls1 calls2 old frames1 new status1 depth due1 s t (Ok d) le l a = rise_then rules calls calls1 calls2 old frames1 new status1 depth due1 s t (Ok d) le l a
+rise_or_wait may_change rules calls calls1 calls2 old frames1 new status1 depth due1 s t (Err (halt.Stops reason)) le l a = rise_then rules calls calls1 calls2 old frames1 new status1 depth due1 s t (Err reason) le l a
+rise_or_wait may_change rules calls calls1 calls2 old frames1 new status1 depth due1 s t (Err (halt.Waits next)) le l a =
+    (a.0, record { counted = a.1.counted; ready = a.1.ready; same = λ n h. l.5 (within n rules) s h ∙ a.1.same n h })
+
 -- what was due, and the frames behind it, is what is due now, and the frames behind that
 abbrev pub Same : Rules → List Parsed → List Frame → Due → State → List Parsed → List Frame → Due → State → Type 0
 Same rules calls frames d s calls' frames' d' now = (n : ℕ) → now.steps ≤ n → due_left (within n rules) calls frames d s ≡ due_left (within n rules) calls' frames' d' now
@@ -178,42 +201,31 @@ Same rules calls frames d s calls' frames' d' now = (n : ℕ) → now.steps ≤ 
 pub same_none : (rules : Rules) (calls : List Parsed) (frames : List Frame) (d : Due) (s : State) → Same rules calls frames d s calls frames d s
 same_none rules calls frames d s n le = refl
 
-pub same_ends : (rules : Rules) (calls calls1 after : List Parsed) (frames frames1 new : List Frame) (depth : ℕ) (d d1 : Due) (s now t : State) (halt : Stop) → now.steps ≤ rules.limits.steps → Same rules calls frames d s calls1 frames1 d1 now → Advances rules calls1 frames1 d1 now after new depth t (Err halt) → RanOn rules calls frames d s t halt
-same_ends rules calls calls1 after frames frames1 new depth d d1 s now t (stop.Ended e) le same a = ap ended (same rules.limits.steps le) ∙ a
-same_ends rules calls calls1 after frames frames1 new depth d d1 s now t stop.Memory le same a =
-    (omega (arith, a.0, le), ap (λ (n : ℕ). (ended (due_left (within n rules) calls frames d s)).1) a.0 ∙ ap (λ (o : Out). (ended o).1) (same now.steps (omega arith)) ∙ a.1)
+pub same_ends : (rules : Rules) (calls calls1 after : List Parsed) (frames frames1 new : List Frame) (depth : ℕ) (d d1 : Due) (s now t : State) (halt : Stop) → s.steps ≤ now.steps → now.steps ≤ rules.limits.steps → Same rules calls frames d s calls1 frames1 d1 now → Advances rules calls1 frames1 d1 now after new depth t (Err halt) → RanOn rules calls frames d s t halt
+same_ends rules calls calls1 after frames frames1 new depth d d1 s now t (stop.Ended e) from le same a = (λ no. absurd (cc), ap ended (same rules.limits.steps le) ∙ a)
+same_ends rules calls calls1 after frames frames1 new depth d d1 s now t stop.Memory from le same a =
+    (λ yes. omega (arith, a.0, from), (omega (arith, a.0, le), ap (λ (n : ℕ). (ended (due_left (within n rules) calls frames d s)).1) a.0 ∙ ap (λ (o : Out). (ended o).1) (same now.steps (omega arith)) ∙ a.1))
 
 pub same_on : (rules : Rules) (calls calls1 after : List Parsed) (frames frames1 new : List Frame) (depth : ℕ) (d d1 next : Due) (s now t : State) → Same rules calls frames d s calls1 frames1 d1 now → Advances rules calls1 frames1 d1 now after new depth t (Ok next) → Same rules calls frames d s after new next t
 same_on rules calls calls1 after frames frames1 new depth d d1 next s now t same a n le = same n (omega (arith, a.0.0, le)) ∙ a.2 n (omega (arith, a.0.0, le))
 
+pub same_halts : (may_change : Bool) (rules : Rules) (calls calls1 after : List Parsed) (frames frames1 new : List Frame) (depth : ℕ) (d d1 : Due) (s now t : State) (h : Halt) → s.steps ≤ now.steps → now.steps ≤ rules.limits.steps → Same rules calls frames d s calls1 frames1 d1 now → AdvancesOrWaits may_change rules calls1 frames1 d1 now after new depth t (Err h) → RanOrWaits may_change rules calls frames d s after new depth t h
+same_halts may_change rules calls calls1 after frames frames1 new depth d d1 s now t (halt.Stops reason) from le same a = same_ends rules calls calls1 after frames frames1 new depth d d1 s now t reason from le same a
+same_halts may_change rules calls calls1 after frames frames1 new depth d d1 s now t (halt.Waits next) from le same a =
+    (a.0, omega (arith, a.1.counted, from), omega (arith, a.1.counted, le), a.1.ready, λ n more. same n (omega (arith, a.1.counted, more)) ∙ a.1.same n (omega (arith, a.1.counted, more)))
+
 -- a run is what is due at its root
-IsRun : Rules → Parsed → NodeId → State → Type 0
-IsRun rules p root s = (n : ℕ) → script (within n rules) (start (within n rules) rules.limits.depth) (tree_of p) s ≡ due_left (within n rules) (p ∷ []) [] (due.Node root) s
-
-is_run : (rules : Rules) (p : Parsed) (root : NodeId) (s : State) → RootIs p (Some root) → IsRun rules p root s
-unfolding IsRun
-is_run rules p root s r = λ n.
-    ap (λ (o : Option Chains). script (within n rules) (start (within n rules) rules.limits.depth) o s) r.2
-    ∙ ap (λ (k : ℕ). chains (within n rules) (start (within n rules) k) r.0 s) (let e : rules.limits.depth ≡ rules.limits.depth - 0 = omega arith in e)
-    ∙ ap (λ (o : Option Subtree). subtree_does (within n rules) (begin_in (within n rules) (p ∷ [])) o s) (sym r.1)
-    ∙ sym (bind_goes (subtree_does (within n rules) (begin_in (within n rules) (p ∷ [])) (subtree_at p root) s))
-
-as_run : (rules : Rules) (p : Parsed) (root : NodeId) (s t : State) (halt : Stop) → IsRun rules p root s → RanOn rules (p ∷ []) [] (due.Node root) s t halt → Ran rules (tree_of p) s t halt
-unfolding IsRun
-as_run rules p root s t (stop.Ended e) is ran = ap ended (is rules.limits.steps) ∙ ran
-as_run rules p root s t stop.Memory is ran = (ran.0, ap (λ (o : Out). (ended o).1) (is t.steps) ∙ ran.1)
-
-pub ran_root : (rules : Rules) (p : Parsed) (root : NodeId) (s t : State) (halt : Stop) → RootIs p (Some root) → RanOn rules (p ∷ []) [] (due.Node root) s t halt → Ran rules (tree_of p) s t halt
-ran_root rules p root s t halt r = as_run rules p root s t halt (is_run rules p root s r)
-
--- without a root there is nothing to do
-pub ran_empty : (rules : Rules) (p : Parsed) (s : State) → RootIs p None → Ran rules (tree_of p) s s (stop.Ended Finished)
-ran_empty rules p s r = ap (λ (o : Option Chains). run_from rules o s) r
+pub is_run : (rules : Rules) (p : Parsed) (root : NodeId) (s : State) → RootIs p (Some root) → (n : ℕ) → run_from (within n rules) (tree_of p) s ≡ ended (due_left (within n rules) (p ∷ []) [] (due.Node root) s)
+is_run rules p root s r n =
+    ap (λ (o : Option Chains). run_from (within n rules) o s) r.2
+    ∙ ap (λ (k : ℕ). ended (chains (within n rules) (start (within n rules) k) r.0 s)) (let e : rules.limits.depth ≡ rules.limits.depth - 0 = omega arith in e)
+    ∙ ap (λ (o : Option Subtree). ended (subtree_does (within n rules) (begin_in (within n rules) (p ∷ [])) o s)) (sym r.1)
+    ∙ ap ended (sym (bind_goes (subtree_does (within n rules) (begin_in (within n rules) (p ∷ [])) (subtree_at p root) s)))
 
 pub ready_root : (rules : Rules) (p : Parsed) (root : NodeId) → RootIs p (Some root) → IsReady rules (p ∷ []) [] rules.limits.depth (due.Node root)
 ready_root rules p root r = record { stack = tt; is_due = ap (λ (o : Option Subtree). is_some o) r.1; some = omega arith; calls_fit = omega arith; frames_fit = omega (arith, ap room r.1, r.3); same_depth = refl }
 
 -- before the first step
-pub none_counted : (rules : Rules) (tree : Option Chains) (s : State) → s.steps ≤ rules.limits.steps → Ran rules tree s s stop.Memory
-none_counted rules None s le = (le, refl)
-none_counted rules (Some cs) s le = (le, ap (λ (o : Out). (ended o).1) (chains-halt (within s.steps rules) (start (within s.steps rules) rules.limits.depth) cs s (omega arith)))
+pub none_counted : (rules : Rules) (tree : Option Chains) (s : State) → s.steps ≡ 0 → (run_from (within 0 rules) tree s).1 ≡ s
+none_counted rules None s none = refl
+none_counted rules (Some cs) s none = ap (λ (o : Out). (ended o).1) (chains-halt (within 0 rules) (start (within 0 rules) rules.limits.depth) cs s (omega (arith, none)))

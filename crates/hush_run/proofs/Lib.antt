@@ -9,5 +9,5 @@ mod NodeLemmas
 mod Halting
 mod AdvanceLemmas
 mod OutcomeLemmas
+mod RunLemmas
 mod MeaningRows
-mod QuietLemmas

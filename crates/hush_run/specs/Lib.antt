@@ -2,7 +2,6 @@
 pub mod Meaning
 pub mod Stacks
 pub mod Runs
-pub mod Quiet
 -- What the steps of the code do: no promise speaks of these.
 pub mod Stops
 pub mod Counting
@@ -13,3 +12,4 @@ pub mod Rises
 pub mod Steps
 pub mod Names
 pub mod Advances
+pub mod Underway

@@ -1,7 +1,7 @@
 //! One step, whatever is due.
-ghost use Rattle.std.specs.Prelude.{◌≡◌, ◌≤◌, ◌+◌, ◌-◌, length};
+ghost use Rattle.std.specs.Prelude.{◌≡◌, ◌≤◌, ◌+◌, ◌-◌, false, length};
 ghost use Rattle.hush_commands.specs.Limits.{most_depth};
-ghost use Rattle.hush_run.specs.Advances.{Advances, IsReady};
+ghost use Rattle.hush_run.specs.Advances.{Advances, AdvancesOrWaits, IsReady};
 ghost use Rattle.hush_run.specs.Rises.{IsEnd};
 ghost use Rattle.hush_run.specs.Steps.{state_of, rules_of};
 ghost use Rattle.hush_run.specs.declared.turns.Due.TheVariants as due;
@@ -19,6 +19,26 @@ use env_session::Session;
 use hush_commands::FieldQueue;
 use hush_syntax::{Node, NodeId};
 
+/// Why a run goes no further.
+#[derive(Drop)]
+pub(crate) enum Halt {
+    /// It stops.
+    Stops(Stop),
+    /// This is due, which may change the session, and nothing may change it yet. It isn't counted, and has changed nothing.
+    Waits(Due),
+}
+
+impl From<Stop> for Halt {
+    ghost use Rattle.std.specs.Prelude.{◌≡◌};
+    ghost use Rattle.hush_run.specs.declared.advancing.Halt.TheVariants as halt;
+
+    ghost from_gives = { λ stop given. given ≡ halt.Stops stop };
+
+    fn from(stop: Stop) -> Halt {
+        Halt::Stops(stop)
+    }
+}
+
 /// Does the next step: what is due then.
 pub(crate) fn advance(
     given: &Given<'_>,
@@ -27,12 +47,13 @@ pub(crate) fn advance(
     calls: &mut Calls<'_>,
     frames: &mut Frames,
     due: Due,
-) -> Result<Due, Stop>
+) -> Result<Due, Halt>
     requires depth { given.now.limits.depth ≤ most_depth }
     requires ready { IsReady (rules_of given.now) calls.old frames.old.frames frames.old.depth due }
     requires steps { progress.old.steps ≤ given.now.limits.steps }
-    ensures { Advances (rules_of given.now) calls.old frames.old.frames due (state_of session.old progress.old)
+    ensures goes { AdvancesOrWaits given.now.may_change (rules_of given.now) calls.old frames.old.frames due (state_of session.old progress.old)
         calls.new frames.new.frames frames.new.depth (state_of session.new progress.new) result }
+    ensures keeps { given.now.may_change ≡ false → session.new ≡ session.old }
 {
     match due {
         Due::Over => {
@@ -51,21 +72,22 @@ fn step_due(
     calls: &mut Calls<'_>,
     frames: &mut Frames,
     due: Due,
-) -> Result<Due, Stop>
+) -> Result<Due, Halt>
     requires depth { given.now.limits.depth ≤ most_depth }
     requires ready { IsReady (rules_of given.now) calls.old frames.old.frames frames.old.depth due }
     requires end { IsEnd due frames.old.frames }
     requires steps { progress.old.steps ≤ given.now.limits.steps }
-    ensures { Advances (rules_of given.now) calls.old frames.old.frames due (state_of session.old progress.old)
+    ensures goes { AdvancesOrWaits given.now.may_change (rules_of given.now) calls.old frames.old.frames due (state_of session.old progress.old)
         calls.new frames.new.frames frames.new.depth (state_of session.new progress.new) result }
+    ensures keeps { given.now.may_change ≡ false → session.new ≡ session.old }
 {
     match due {
-        Due::Over => Err(Stop::Ended(Reason::Finished)),
+        Due::Over => Err(Halt::Stops(Stop::Ended(Reason::Finished))),
         Due::Node(node) => node_due(given, session, progress, calls, frames, node),
         Due::Binding { node, fields } => {
-            binding_due(given, session, progress, calls, frames, node, fields)
+            Ok(binding_due(given, session, progress, calls, frames, node, fields)?)
         }
-        Due::Start { names } => start_due(given, session, progress, calls, frames, names),
+        Due::Start { names } => { Ok(start_due(given, session, progress, calls, frames, names)?) }
         Due::Delete {
             force,
             failed,
@@ -84,16 +106,21 @@ fn node_due(
     calls: &Calls<'_>,
     frames: &mut Frames,
     node: NodeId,
-) -> Result<Due, Stop>
+) -> Result<Due, Halt>
     requires ready { IsReady (rules_of given.now) calls.now frames.old.frames frames.old.depth (due.Node node) }
     requires steps { progress.old.steps ≤ given.now.limits.steps }
-    ensures { Advances (rules_of given.now) calls.now frames.old.frames (due.Node node)
+    ensures goes { AdvancesOrWaits given.now.may_change (rules_of given.now) calls.now frames.old.frames (due.Node node)
         (state_of session.old progress.old) calls.now frames.new.frames frames.new.depth
         (state_of session.new progress.new) result }
+    ensures keeps { given.now.may_change ≡ false → session.new ≡ session.old }
 {
     let script = calls.top();
     let step = descend(script, frames, node);
-    node_step(given, session, progress, script, step)
+    match node_step(given, session, progress, script, step) {
+        Ok(Some(due)) => Ok(due),
+        Ok(None) => Err(Halt::Waits(Due::Node(step))),
+        Err(stop) => Err(Halt::Stops(stop)),
+    }
 }
 
 /// A binding of a `for`, and then its body.
@@ -188,13 +215,21 @@ fn delete_due(
     force: bool,
     failed: bool,
     names: FieldQueue,
-) -> Result<Due, Stop>
+) -> Result<Due, Halt>
     requires ready { IsReady (rules_of given.now) calls.now frames.now.frames frames.now.depth (due.Delete force failed names) }
     requires steps { progress.old.steps ≤ given.now.limits.steps }
-    ensures { Advances (rules_of given.now) calls.now frames.now.frames (due.Delete force failed names)
+    ensures goes { AdvancesOrWaits given.now.may_change (rules_of given.now) calls.now frames.now.frames (due.Delete force failed names)
         (state_of session.old progress.old) calls.now frames.now.frames frames.now.depth
         (state_of session.new progress.new) result }
+    ensures keeps { given.now.may_change ≡ false → session.new ≡ session.old }
 {
+    if !given.may_change {
+        return Err(Halt::Waits(Due::Delete {
+            force,
+            failed,
+            names,
+        }));
+    }
     let mut left = names;
     let Some(name) = left.fields().next() else {
         unreachable!()
@@ -211,6 +246,6 @@ fn delete_due(
                 names: left,
             })
         }
-        Err(stop) => Err(stop),
+        Err(stop) => Err(Halt::Stops(stop)),
     }
 }

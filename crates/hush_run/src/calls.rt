@@ -1,5 +1,5 @@
 //! The scripts that run: the first, and those that were started inside one another.
-ghost use Rattle.std.specs.Prelude.{◌≡◌, ◌≤◌, [], ◌∷◌, IfOk, length};
+ghost use Rattle.std.specs.Prelude.{◌≡◌, ◌≤◌, [], ◌∷◌, OnOk, length, vec_capacity};
 ghost use Rattle.hush_commands.specs.Limits.{most_depth};
 ghost use Rattle.hush_run.specs.Resume.{behind};
 
@@ -29,17 +29,23 @@ impl<'s> Model for Calls<'s> {
 }
 
 impl<'s> Calls<'s> {
-    /// The first alone, and room for those of the most starts inside one another that limits may give ([`MOST_DEPTH`]).
-    /// It is taken where `started` hasn't got it; what that holds is dropped.
-    pub(crate) fn new(
-        first: &'s Script,
-        started: &'s mut Vec<Script>,
-    ) -> Result<Calls<'s>, AllocError>
-        ensures { IfOk result (λ calls. calls ≡ first.entry.now ∷ []) }
+    /// Drops the scripts of a run that is done, and takes room for those of the most starts inside one another that limits may
+    /// give ([`MOST_DEPTH`]), where there isn't room enough.
+    pub(crate) fn take_room(started: &mut Vec<Script>) -> Result<(), AllocError>
+        ensures none { started.new.items ≡ [] }
+        ensures room { OnOk result (most_depth ≤ vec_capacity started.new) }
     {
         started.clear();
-        started.reserve(MOST_DEPTH as usize)?;
-        Ok(Calls { first, started })
+        started.reserve(MOST_DEPTH as usize)
+    }
+
+    /// The first alone, with that room.
+    pub(crate) fn new(first: &'s Script, started: &'s mut Vec<Script>) -> Calls<'s>
+        requires none { started.old.items ≡ [] }
+        requires room { most_depth ≤ vec_capacity started.old }
+        ensures { result ≡ first.entry.now ∷ [] }
+    {
+        Calls { first, started }
     }
 
     /// The innermost.

@@ -99,17 +99,23 @@ impl Frames {
         Ok(Frames { items, depth })
     }
 
-    /// No frames any more, in the room that is here where that is for as many starts, else in new room.
-    pub(crate) fn clear_for(&mut self, alloc: Global, depth: u32) -> Result<(), AllocError>
+    /// The same in the room of other frames, where that is for as many starts. Then it takes no memory.
+    pub(crate) fn again(
+        before: Option<Frames>,
+        alloc: Global,
+        depth: u32,
+    ) -> Result<Frames, AllocError>
         requires { depth ≤ most_depth }
-        ensures { IfOk result (λ u. self.new ≡ record { frames = []; depth = depth }) }
+        ensures { IfOk result (λ frames. frames ≡ record { frames = []; depth = depth }) }
     {
-        if self.depth == depth {
-            self.items.clear();
-            return Ok(());
+        if let Some(frames) = before {
+            if frames.depth == depth {
+                let mut items = frames.items;
+                items.clear();
+                return Ok(Frames { items, depth });
+            }
         }
-        *self = Frames::new(alloc, depth)?;
-        Ok(())
+        Frames::new(alloc, depth)
     }
 
     /// Puts a frame on top, where the room isn't full. It takes no memory.

@@ -2,7 +2,7 @@
 //! docs/runs.md states the rules.
 //!
 //! To read in this order: ending, outcome; progress, calls, machine, advancing; names, node_step, steps; members, descent, rising,
-//! turns; frames; runner; quiet.
+//! turns; frames; running, runner.
 #![tactic(auto)]
 
 mod advancing;
@@ -16,9 +16,9 @@ mod names;
 mod node_step;
 mod outcome;
 mod progress;
-mod quiet;
 mod rising;
 mod runner;
+mod running;
 mod steps;
 mod turns;
 
@@ -27,5 +27,5 @@ pub use hush_commands::{
     Limits, MOST_DEPTH, MOST_OUTPUT, MOST_STEPS, MOST_WORD, StandInFault, StandIns,
 };
 pub use outcome::Outcome;
-pub use quiet::leaves_session;
 pub use runner::{Runner, run};
+pub use running::{Reached, Running};

@@ -1,12 +1,12 @@
 //! The step that a node is.
-ghost use Rattle.std.specs.Prelude.{◌≡◌, ℕ, List, ◌≤◌, Some, IfOk};
+ghost use Rattle.std.specs.Prelude.{◌≡◌, ℕ, List, ◌≤◌, Some, false, IfOk, IfSome, IfNone};
 ghost use Rattle.hush_words.specs.Words.{Atom};
 ghost use Rattle.hush_syntax.specs.Grammar.{For, Chains};
 ghost use Rattle.hush_syntax.specs.Nodes.{At, OfCommand};
 ghost use Rattle.hush_syntax.specs.Scripts.{subtree_at};
 ghost use Rattle.hush_run.specs.Meaning.{Rules, Begin, State, follows, bindings, chains};
 ghost use Rattle.hush_run.specs.Resume.{subtree_does, room, IsStep};
-ghost use Rattle.hush_run.specs.Steps.{state_of, rules_of, Did};
+ghost use Rattle.hush_run.specs.Steps.{state_of, rules_of, DidOrWaits};
 ghost use Rattle.hush_run.specs.Turns.{due_does, due_room, IsDue};
 
 use crate::ending::Stop;
@@ -17,36 +17,39 @@ use env_session::Session;
 use hush_commands::{FieldQueue, Follow};
 use hush_syntax::{Node, NodeId, Script};
 
-/// Does the step that a node is: what is due behind it.
+/// Does the step that a node is: what is due behind it; none where it has to wait, and nothing has changed.
 pub(crate) fn node_step(
     given: &Given<'_>,
     session: &mut Session,
     progress: &mut Progress,
     script: &Script,
     node: NodeId,
-) -> Result<Due, Stop>
+) -> Result<Option<Due>, Stop>
     requires { IsStep (subtree_at script.now node) }
-    ensures step { Did (rules_of given.now) (λ rules begin. subtree_does rules begin (subtree_at script.now node))
+    ensures step { DidOrWaits (rules_of given.now) (λ rules begin. subtree_does rules begin (subtree_at script.now node))
         (λ due rules begin. due_does rules begin (subtree_at script.now) due) (state_of session.old progress.old)
         (state_of session.new progress.new) result }
-    ensures due { IfOk result (λ due. IsDue (subtree_at script.now) due × (due_room (subtree_at script.now) due ≤ room (subtree_at script.now node))) }
+    ensures due { IfOk result (λ next. IfSome next (λ due. IsDue (subtree_at script.now) due × (due_room (subtree_at script.now) due ≤ room (subtree_at script.now node)))) }
+    ensures waits { IfOk result (λ next. IfNone next (given.now.may_change ≡ false)) }
+    ensures keeps { given.now.may_change ≡ false → session.new ≡ session.old }
 {
     match script.node(node) {
         Node::Simple { words } => {
             match simple_step(given, session, progress, script.text(), words) {
-                Ok(follow) => Ok(due_behind(follow)),
+                Ok(Some(follow)) => Ok(Some(due_behind(follow))),
+                Ok(None) => Ok(None),
                 Err(stop) => Err(stop),
             }
         }
         Node::Assign { name, value } => {
             match assign_step(given, session, progress, script.text(), name, value) {
-                Ok(()) => Ok(Due::Over),
+                Ok(()) => Ok(Some(Due::Over)),
                 Err(stop) => Err(stop),
             }
         }
         Node::For { words, .. } => {
             match head_step(given, session, progress, script.text(), words) {
-                Ok(fields) => Ok(due_binding(node, fields)),
+                Ok(fields) => Ok(Some(due_binding(node, fields))),
                 Err(stop) => Err(stop),
             }
         }

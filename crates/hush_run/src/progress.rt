@@ -1,22 +1,36 @@
 //! What a run is given, and what it changes.
-ghost use Rattle.std.specs.Prelude.{◌≡◌, ◌<◌, map, IfOk};
+ghost use Rattle.std.specs.Prelude.{◌≡◌, ◌<◌, ℕ, true, false, map, IfOk};
 ghost use Rattle.hush_words.specs.Parts.{word_atoms};
 ghost use Rattle.env_session.specs.Session.{Held};
+ghost use Rattle.hush_commands.specs.Carrying.{done_of};
 ghost use Rattle.hush_commands.specs.Limits.{most_steps};
 ghost use Rattle.hush_run.specs.Meaning.{Rules, Goes, step, fails, fields_of, first_state};
 
-use crate::ending::{Reason, Stop};
+use crate::ending::{Ending, Reason, Stop};
+use crate::outcome::Outcome;
 use env_session::Session;
-use hush_commands::{FieldBuffer, Limits, Locals, Message, Output, Scope, StandIns};
+use hush_commands::{FieldBuffer, Limits, Locals, Message, Output, Scope, StandIns, may_change};
 use hush_syntax::{Text, Word};
 use std::alloc::Global;
 
-/// What a run is given: what stands in for hardware, and its limits.
+/// What a run is given: what stands in for hardware, its limits, and whether it may change the session yet.
 #[derive(Clone, Copy)]
 pub(crate) struct Given<'a> {
     pub(crate) alloc: Global,
     pub(crate) stand_ins: &'a StandIns,
     pub(crate) limits: Limits,
+    pub(crate) may_change: bool,
+}
+
+impl<'a> Given<'a> {
+    /// Whether the simple command of these fields has to wait: it may change the session, and nothing may change it yet.
+    pub(crate) fn holds_back(&self, fields: &FieldBuffer) -> bool
+        ensures only { result ≡ true → self.now.may_change ≡ false }
+        ensures leaves { result ≡ false → self.now.may_change ≡ false → (status : ℕ) (held : Held) →
+            (done_of self.now.stand_ins.now fields.now.done status held).1 ≡ held }
+    {
+        !self.may_change && may_change(fields)
+    }
 }
 
 /// What a run changes, but for the session.
@@ -34,6 +48,7 @@ pub(crate) struct Progress {
 }
 
 impl Progress {
+    ghost use Rattle.hush_run.specs.Runs.{reason_of, stop_reason};
     ghost use Rattle.hush_run.specs.Steps.{state_of, rules_of, value_of, FieldsAre, MayStep, Did};
 
     /// That of no run. It takes no memory.
@@ -57,6 +72,21 @@ impl Progress {
         self.status = 0;
         self.output.reset(given.limits.output());
         self.steps = 0;
+    }
+
+    /// What a run comes to that stops so here. The text is taken.
+    pub(crate) fn outcome(&mut self, alloc: Global, stop: Stop) -> Outcome
+        ensures ending { reason_of result.ending ≡ stop_reason stop }
+        ensures status { result.status ≡ self.old.status }
+        ensures steps { result.steps ≡ self.old.steps }
+        ensures text { result.text.items ≡ self.old.output.text }
+    {
+        Outcome {
+            ending: Ending::of(stop),
+            status: self.status,
+            steps: self.steps,
+            text: self.output.take_text(alloc),
+        }
     }
 
     /// Where one more step may be counted, expands words to the fields of that step.

@@ -1,15 +1,22 @@
 //! Runs of scripts.
+ghost use Rattle.std.specs.Prelude.{◌≡◌, IfOk, IfErr};
+ghost use Rattle.env_session.specs.Session.{Held};
 ghost use Rattle.hush_syntax.specs.Scripts.{tree_of};
 ghost use Rattle.hush_run.specs.Runs.{rules, Runs};
+ghost use Rattle.hush_run.specs.Underway.{IsRun, Reaches};
 
-use crate::ending::Ending;
-use crate::machine::{Kept, run_script};
+use crate::calls::Calls;
+use crate::ending::{Reason, Stop};
+use crate::frames::Frames;
 use crate::outcome::Outcome;
 use crate::progress::{Given, Progress};
+use crate::running::{Reached, Running};
+use crate::turns::Due;
 use env_session::Session;
 use hush_commands::{Limits, Output, StandIns};
 use hush_syntax::Script;
 use std::alloc::Global;
+use std::mem;
 
 /// Runs a script over a session under limits: what docs/runs.md, "Meaning", gives for it, whatever the session holds.
 ///
@@ -28,11 +35,15 @@ pub fn run(
     Runner::new(alloc).run(session, script, stand_ins, limits)
 }
 
-/// Runs scripts one after the other, and keeps the room that a run takes for the next one.
+/// Runs scripts one after the other, and keeps the room that a run takes for the next one. What a run leaves in its local
+/// variables stays in memory until the next one begins.
 #[derive(Drop)]
 pub struct Runner {
     alloc: Global,
-    kept: Kept,
+    /// The frames of the run before, if there was one.
+    frames: Option<Frames>,
+    /// Room for the scripts that a run starts.
+    started: Vec<Script>,
     progress: Progress,
 }
 
@@ -41,7 +52,8 @@ impl Runner {
     pub fn new(alloc: Global) -> Runner {
         Runner {
             alloc,
-            kept: Kept::nothing(alloc),
+            frames: None,
+            started: Vec::new(alloc),
             progress: Progress::nothing(alloc),
         }
     }
@@ -61,20 +73,73 @@ impl Runner {
     ) -> Outcome
         ensures { Runs (rules stand_ins.now limits.now) (tree_of script.now) session.old session.new result }
     {
+        match self.begin(script, stand_ins, limits) {
+            Ok(run) => run.resume(session),
+            Err(outcome) => outcome,
+        }
+    }
+
+    /// The same, but only as far as to the first step that may change the session, if there is one: a `setenv`, `env set` or
+    /// `setexpr` with words, a `saveenv` or `env save` without, or the deletion of a name by `env delete`. The session is as
+    /// it was then, and [`Running::resume`] runs the rest.
+    pub fn run_until_change<'r>(
+        &'r mut self,
+        session: &mut Session,
+        script: &'r Script,
+        stand_ins: &'r StandIns,
+        limits: &Limits,
+    ) -> Reached<'r>
+        ensures reaches { Reaches (rules stand_ins.now limits.now) (tree_of script.now) session.old session.new result }
+        ensures keeps { session.new ≡ session.old }
+    {
+        match self.begin(script, stand_ins, limits) {
+            Ok(run) => run.go_on(session, false),
+            Err(outcome) => Reached::End(outcome),
+        }
+    }
+
+    /// Begins a run in the room of the one before, where that is enough. A script without a command needs none.
+    ///
+    /// # Errors
+    ///
+    /// The outcome, where the script has no command or room is refused.
+    fn begin<'r>(
+        &'r mut self,
+        script: &'r Script,
+        stand_ins: &'r StandIns,
+        limits: &Limits,
+    ) -> Result<Running<'r>, Outcome>
+        ensures begun { IfOk result (λ run. (held : Held) → IsRun (rules stand_ins.now limits.now) (tree_of script.now) held run) }
+        ensures over { IfErr result (λ outcome. (held : Held) → Runs (rules stand_ins.now limits.now) (tree_of script.now) held held outcome) }
+    {
         let given = Given {
             alloc: self.alloc,
             stand_ins,
             limits: *limits,
+            may_change: false,
         };
-        // Does nothing: it tells the prover that the depth is at most MOST_DEPTH.
-        let _depth = limits.depth();
+        let depth = limits.depth();
         self.progress.begin(&given);
-        let stop = run_script(&given, session, &mut self.progress, &mut self.kept, script);
-        Outcome {
-            ending: Ending::of(stop),
-            status: self.progress.status,
-            steps: self.progress.steps,
-            text: self.progress.output.take_text(self.alloc),
-        }
+        let Some(root) = script.root() else {
+            return Err(
+                self.progress
+                    .outcome(self.alloc, Stop::Ended(Reason::Finished)),
+            );
+        };
+        let Ok(frames) = Frames::again(mem::replace(&mut self.frames, None), self.alloc, depth)
+        else {
+            return Err(self.progress.outcome(self.alloc, Stop::Memory));
+        };
+        let Ok(()) = Calls::take_room(&mut self.started) else {
+            return Err(self.progress.outcome(self.alloc, Stop::Memory));
+        };
+        Ok(Running {
+            given,
+            progress: &mut self.progress,
+            calls: Calls::new(script, &mut self.started),
+            frames,
+            kept: &mut self.frames,
+            due: Due::Node(root),
+        })
     }
 }

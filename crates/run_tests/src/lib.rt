@@ -3,6 +3,10 @@
 #![tactic(auto)]
 
 #[cfg(test)]
+mod changes;
+#[cfg(test)]
+mod fixtures;
+#[cfg(test)]
 mod frames;
 #[cfg(test)]
 mod running;

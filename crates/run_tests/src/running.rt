@@ -1,11 +1,8 @@
 //! One run after another over a session, with ample memory.
 
-use env_session::{Session, Stored};
-use envimg_core::{Geometry, Layout};
-use envvars_core::Vars;
-use hush_run::{Ending, Limits, Outcome, Runner, StandIns, run};
-use hush_syntax::Script;
-use std::alloc::{AllocError, Global};
+use crate::fixtures::{prepare, session};
+use env_session::Session;
+use hush_run::{Ending, Outcome, Runner, run};
 use std::test::Fail;
 
 /// A script, and its ending, status, steps and text.
@@ -32,43 +29,6 @@ const ROWS: [Row; 6] = [
     ),
     (b"env delete n; echo $?$n", Ending::Finished, 0, 3, b"0\n"),
 ];
-
-/// A session without variables over a single image of 4,096 bytes, all of them FF.
-fn session(alloc: Global) -> Result<Option<Session>, AllocError> {
-    let Some(geometry) = Geometry::new(Layout::Single, 4096) else {
-        return Ok(None);
-    };
-    let stored = Stored {
-        geometry,
-        first: b"\xFF".repeat(alloc, 4096)?,
-        second: None,
-    };
-    let defaults = Vars::empty(alloc, geometry.room());
-    Ok(Session::start(alloc, stored, defaults).ok())
-}
-
-/// What a run is given: a script, `mmc` as a stand-in with status 3, and limits.
-#[derive(Drop)]
-struct Given {
-    script: Script,
-    stand_ins: StandIns,
-    limits: Limits,
-}
-
-/// A script with 20 steps and so many starts inside one another; none where one of what it needs is refused.
-fn prepare(alloc: Global, script: &[u8], depth: u32) -> Result<Option<Given>, AllocError> {
-    let script = Script::parse(alloc, Vec::from_slice(alloc, script)?).ok();
-    let stand_ins = StandIns::parse(alloc, b"mmc 3\n").ok();
-    let limits = Limits::new(20, depth, 256, 4096);
-    match (script, stand_ins, limits) {
-        (Some(script), Some(stand_ins), Some(limits)) => Ok(Some(Given {
-            script,
-            stand_ins,
-            limits,
-        })),
-        _ => Ok(None),
-    }
-}
 
 /// Whether a run over a session with one mark came to what its row says.
 fn is_row(row: Row, outcome: &Outcome, session: &Session) -> bool {

@@ -1,4 +1,4 @@
-use Rattle.std.proofs.Common.{◌≤◌, ◌-◌}
+use Rattle.std.proofs.Common.{◌≡◌, ◌≤◌, ◌-◌, false}
 use Rattle.hush_run.specs.Advances.{IsReady}
 use Rattle.hush_run.specs.Steps.{state_of, rules_of}
 use Rattle.hush_run.proofs.AdvanceLemmas.{Same}
@@ -9,6 +9,8 @@ invariant-loop-next l = record {
   ready : IsReady (rules_of l.given) l.calls l.frames.frames l.frames.depth l.due;
   same : Same (rules_of l.given) l.initial.calls l.initial.frames.frames l.initial.due (state_of l.initial.session l.initial.progress) l.calls l.frames.frames l.due (state_of l.session l.progress);
   steps : l.progress.steps ≤ l.given.limits.steps;
+  counts : l.initial.progress.steps ≤ l.progress.steps;
+  keeps : l.given.may_change ≡ false → l.session ≡ l.initial.session;
 }
 
 abbrev pub decreases-loop-next : goal.decreases-loop-next

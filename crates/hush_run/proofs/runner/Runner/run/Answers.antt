@@ -1,15 +1,9 @@
-use Rattle.std.proofs.Common.{arith, ap}
 use Rattle.hush_syntax.specs.Scripts.{tree_of}
-use Rattle.hush_run.specs.Meaning.{State}
 use Rattle.hush_run.specs.Runs.{rules}
-use Rattle.hush_run.specs.Steps.{state_of}
-use Rattle.hush_run.proofs.OutcomeLemmas.{runs_so}
 use Rattle.hush_run.proofs.runner.Runner.run.Goals as goal
 
-pub run_script-stop-requires-clause-steps : goal.run_script-stop-requires-clause-steps
-run_script-stop-requires-clause-steps c = let e = ap (λ (s : State). s.steps) (c.begin.ensures c.args.session.now) in omega (arith, e)
+pub resume-requires : goal.resume-requires
+resume-requires c = (c.in-Ok.ensures.begun c.args.session.now).underway
 
-pub returns : goal.returns
-returns c =
-    runs_so (rules c.args.stand_ins.now c.args.limits.now) (tree_of c.args.script.now) c.args.session.now (state_of c.args.session.now c.begin.new.self) (state_of c.run_script-stop.new.session c.run_script-stop.new.progress) c.of.result c.take_text.result c.run_script-stop.result
-    (c.begin.ensures c.args.session.now) c.run_script-stop.ensures c.of.ensures c.take_text.ensures.text
+pub returns-in-Ok : goal.returns-in-Ok
+returns-in-Ok c = c.resume.ensures (rules c.args.stand_ins.now c.args.limits.now) (tree_of c.args.script.now) (c.in-Ok.ensures.begun c.args.session.now)
