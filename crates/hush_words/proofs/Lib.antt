@@ -18,6 +18,7 @@ pub mod PlaceLemmas
 pub mod WordOpens
 pub mod NameRuns
 pub mod FormLemmas
+pub mod ShortWords
 pub mod Rows
 pub mod RangeLemmas
 pub mod WalkLemmas

@@ -30,6 +30,10 @@ impl Word {
     pub fn is_plain(self, text: &Text, bytes: &[u8]) -> bool
         ensures { result ≡ is_plain bytes.now (word_atoms text.now self) }
     {
+        // A word of fewer bytes can't be it, and its parts needn't be read.
+        if self.len() < bytes.len() {
+            return false;
+        }
         are_plain(text.parts(self), text.source(), bytes)
     }
 

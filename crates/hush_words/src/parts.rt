@@ -1,5 +1,5 @@
 //! Words, and the parts that they are made of.
-ghost use Rattle.std.specs.Prelude.{◌≡◌, ◌≤◌, IfSome};
+ghost use Rattle.std.specs.Prelude.{◌≡◌, ◌≤◌, ◌-◌, IfSome};
 ghost use Rattle.std.specs.Option.{option_map};
 ghost use Rattle.hush_words.specs.Parts.{span_of, word_between, part_atoms, span_bytes};
 ghost use Rattle.hush_words.specs.Ranges.{IsWithin, Fits};
@@ -73,6 +73,13 @@ impl Word {
             start: start as u32,
             end,
         }
+    }
+
+    /// How many bytes it is written in.
+    pub(crate) fn len(self) -> usize
+        ensures { result ≡ self.end - self.start }
+    {
+        self.end.saturating_sub(self.start) as usize
     }
 }
 

@@ -1,4 +1,4 @@
-use Rattle.std.proofs.Common.{rules, arith, refl, sym, ◌∙◌, ap, ◌≡◌, Err, drop}
+use Rattle.std.proofs.Common.{rules, arith, sym, ◌∙◌, ap, ◌≡◌, Err, drop}
 use Rattle.hush_words.specs.Words.{ends_word, next}
 use Rattle.hush_words.specs.Reading.{piece_atoms_left}
 use Rattle.hush_words.specs.Parts.{range_bytes}
