@@ -47,6 +47,7 @@ impl Answers {
 
     /// Lets a text wait behind the others. Where there is no room for it, these are written before; false where the writer
     /// fails.
+    #[inline(always)]
     pub(crate) fn add<W: Write>(&mut self, text: &[u8], output: &mut W) -> bool
         ensures { Adds (sink (W.contents output.old) self.old) (sink (W.contents output.new) self.new) text.now result }
     {

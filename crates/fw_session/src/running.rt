@@ -93,6 +93,7 @@ fn run_script<W: Write>(
 }
 
 /// Adds the text of a run, and how it ended. The memory of the text goes to the next run.
+#[inline(always)]
 fn answer_run<W: Write>(
     runner: &mut Runner,
     outcome: Outcome,
@@ -108,6 +109,7 @@ fn answer_run<W: Write>(
 }
 
 /// Adds the text of a run, and how it ended.
+#[inline(always)]
 fn add_outcome<W: Write>(outcome: &Outcome, answers: &mut Answers, output: &mut W) -> bool
     ensures { Adds (sink (W.contents output.old) answers.old) (sink (W.contents output.new) answers.new)
         (outcome.now.text.items ++ ending_line outcome.now.ending outcome.now.status outcome.now.steps) result }
@@ -117,6 +119,7 @@ fn add_outcome<W: Write>(outcome: &Outcome, answers: &mut Answers, output: &mut 
 }
 
 /// `[ENDING STATUS STEPS]` and a newline.
+#[inline(always)]
 fn ending_line(outcome: &Outcome) -> ArrayVec<u8, 64>
     ensures { result.items ≡ ending_line outcome.now.ending outcome.now.status outcome.now.steps }
 {

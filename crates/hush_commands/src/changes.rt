@@ -14,6 +14,7 @@ use hush_calc::Fields;
 /// behind it, or a `saveenv` or `env save` without. Whether it does lies with the session: a write may be refused.
 ///
 /// An `env delete` itself changes nothing: the deletions of its names are steps of their own.
+#[inline(always)]
 pub fn may_change(fields: &FieldBuffer) -> bool
     ensures may { result ≡ may_change fields.now.done }
 

@@ -18,6 +18,7 @@ impl FieldBuffer {
     /// Makes the fields of words in place of those that it holds. A word has at most `limit` items that aren't marks.
     ///
     /// Where they aren't made, what it holds then isn't said; the next expansion begins anew.
+    #[inline(always)]
     pub fn expand(
         &mut self,
         scope: &Scope<'_>,
@@ -52,6 +53,7 @@ impl FieldBuffer {
 
     /// Adds the items of a word, which is cut or not. Of those that aren't marks it may have `limit`; answers how many
     /// more it could have.
+    #[inline(always)]
     fn add_word(
         &mut self,
         scope: &Scope<'_>,
@@ -70,6 +72,7 @@ impl FieldBuffer {
     }
 
     /// Adds the items of a part.
+    #[inline(always)]
     fn add_part(
         &mut self,
         scope: &Scope<'_>,
@@ -120,6 +123,7 @@ impl FieldBuffer {
     }
 
     /// Adds bytes.
+    #[inline(always)]
     fn add_bytes(&mut self, bytes: &[u8], left: usize) -> Result<usize, ExpansionFault>
         ensures { AddsItems (map Byte bytes.now) left self.old self.new result }
     {

@@ -78,6 +78,7 @@ impl FieldBuffer {
     }
 
     /// Puts bytes behind the field that is begun, or begins one with them; no bytes begin none.
+    #[inline(always)]
     pub(crate) fn append(&mut self, bytes: &[u8]) -> Result<(), AllocError>
         ensures ok { OnOk result (self.new ≡ with_items self.old (map Byte bytes.now)) }
         ensures err { OnErr result (self.new ≡ self.old) }
@@ -102,6 +103,7 @@ impl FieldBuffer {
     }
 
     /// Ends the field that is begun, if one is.
+    #[inline(always)]
     pub(crate) fn end(&mut self) -> Result<(), AllocError>
         ensures ok { OnOk result (self.new ≡ ended self.old) }
         ensures err { OnErr result (self.new ≡ self.old) }

@@ -30,6 +30,7 @@ pub enum Follow {
 impl Follow {
     /// What comes behind the command of these fields, which had this status before it. The names are taken from the
     /// buffer, whose memory goes with them; it takes no memory.
+    #[inline(always)]
     pub fn of(alloc: Global, fields: &mut FieldBuffer, status: u8) -> Follow
         ensures { result ≡ follow_of fields.old.done status }
     {

@@ -104,6 +104,7 @@ fn counted(source: &[u8]) -> Survey
 }
 
 /// Reads the token that comes next behind a place; none up to the end of the text.
+#[inline(always)]
 fn token_from(source: &[u8], place: usize) -> Result<Option<TokenRead>, Fault>
     requires few { IsShort source.now }
     ensures { NextToken (written source.now) place result }
@@ -136,6 +137,7 @@ fn token_read(kind: TokenKind, place: usize, end: usize) -> TokenRead
 }
 
 /// Reads what begins with this byte where no word is open.
+#[inline(always)]
 fn lexeme(source: &[u8], at: usize, first: u8) -> Result<LexemeRead, Fault>
     requires few { IsShort source.now }
     requires here { StandsAt source.now at first }

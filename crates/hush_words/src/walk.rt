@@ -61,6 +61,7 @@ impl<'t> Parts<'t> {
     }
 
     /// Takes the part that comes next, if one is left.
+    #[inline(always)]
     pub fn next_part(&mut self) -> Option<Part>
         ensures { TakesPart self.old self.new result }
     {
@@ -75,6 +76,7 @@ impl<'t> Parts<'t> {
 }
 
 /// Reads the part that comes next at a place of a word, whose bytes end with this source.
+#[inline(always)]
 fn part_from(source: &[u8], place: Place) -> Option<(Part, Place)>
     requires few { IsShort source.now }
     requires closes { Closes place.inside (drop place.at source.now) }
@@ -98,6 +100,7 @@ fn found(part: Part, next: Place) -> Option<(Part, Place)>
 }
 
 /// Reads what stands at a place of a word; none where the word ends.
+#[inline(always)]
 fn step(source: &[u8], place: Place) -> Option<PlaceRead>
     requires few { IsShort source.now }
     requires closes { Closes place.inside (drop place.at source.now) }
@@ -114,6 +117,7 @@ fn step(source: &[u8], place: Place) -> Option<PlaceRead>
 }
 
 /// Reads what begins with this byte outside of quotes; none where it ends the word.
+#[inline(always)]
 fn step_from(source: &[u8], at: usize, first: u8) -> Option<PlaceRead>
     requires few { IsShort source.now }
     requires here { StandsAt source.now at first }

@@ -13,6 +13,7 @@ use crate::steps::LexemeRead;
 use crate::{Fault, FaultKind, TokenKind, Word};
 
 /// Reads a word, which opens with this byte.
+#[inline(always)]
 pub(crate) fn word(source: &[u8], start: usize, first: u8) -> Result<LexemeRead, Fault>
     requires few { IsShort source.now }
     requires here { StandsAt source.now start first }
