@@ -20,6 +20,7 @@ use Rattle.hush_run.specs.Rises.{IsLeft}
 use Rattle.hush_run.specs.Steps.{Did, Started}
 use Rattle.hush_run.specs.Advances.{IsReady, Advances, AdvancesOrWaits, Waits, RanOn, RanOrWaits, due_left}
 use Rattle.hush_run.specs.Stacks.{script_frames}
+use Rattle.hush_run.specs.Changing.{step_may_change}
 use Rattle.hush_run.proofs.Parts.{bind_goes, bind_assoc}
 use Rattle.hush_run.proofs.Descends.{stack-frame}
 use Rattle.hush_run.proofs.Halting.{due-halts, chains-halt}
@@ -59,8 +60,8 @@ node_advances rules calls top old new depth after id node s t result is ready le
     by (Err halt) now did fits = node-stops rules top (behind calls) old new depth after id node s t now le same down halt did
 
 -- a node whose step waits
-pub node_waits : (rules : Rules) (calls : List Parsed) (top : Parsed) (old new : List Frame) (depth after : ℕ) (id node : NodeId) (s t : State) → calls ≡ top ∷ behind calls → IsReady rules calls old depth (due.Node id) → after ≡ depth → Leads top old new id node → t ≡ s → Waits rules calls old (due.Node id) s calls new after t (due.Node node)
-node_waits rules calls top old new depth after id node s t is ready same down still =
+pub node_waits : (rules : Rules) (calls : List Parsed) (top : Parsed) (old new : List Frame) (depth after : ℕ) (id node : NodeId) (s t : State) → calls ≡ top ∷ behind calls → IsReady rules calls old depth (due.Node id) → after ≡ depth → Leads top old new id node → step_may_change rules (subtree_at top node) s ≡ true → t ≡ s → Waits rules calls old (due.Node id) s calls new after t (due.Node node)
+node_waits rules calls top old new depth after id node s t is ready same down changes still =
     subst (λ (cs : List Parsed). Waits rules cs old (due.Node id) s cs new after t (due.Node node)) (sym is)
     (subst (λ (u : State). Waits rules (top ∷ behind calls) old (due.Node id) s (top ∷ behind calls) new after u (due.Node node)) (sym still) (by (subst (λ (cs : List Parsed). IsReady rules cs old depth (due.Node id)) is ready)))
   where
@@ -70,6 +71,7 @@ node_waits rules calls top old new depth after id node s t is ready same down st
         record {
           counted = refl;
           ready = record { stack = m.0; is_due = down.0; some = now.some; calls_fit = now.calls_fit; frames_fit = m.1; same_depth = same ∙ now.same_depth };
+          changes = changes;
           same = λ n le. down.2 (within n rules) (behind calls) s le;
         }
 
@@ -192,7 +194,7 @@ pub rise_or_wait : (may_change : Bool) (rules : Rules) (calls calls1 calls2 : Li
 rise_or_wait may_change rules calls calls1 calls2 old frames1 new status1 depth due1 s t (Ok d) le l a = rise_then rules calls calls1 calls2 old frames1 new status1 depth due1 s t (Ok d) le l a
 rise_or_wait may_change rules calls calls1 calls2 old frames1 new status1 depth due1 s t (Err (halt.Stops reason)) le l a = rise_then rules calls calls1 calls2 old frames1 new status1 depth due1 s t (Err reason) le l a
 rise_or_wait may_change rules calls calls1 calls2 old frames1 new status1 depth due1 s t (Err (halt.Waits next)) le l a =
-    (a.0, record { counted = a.1.counted; ready = a.1.ready; same = λ n h. l.5 (within n rules) s h ∙ a.1.same n h })
+    (a.0, record { counted = a.1.counted; ready = a.1.ready; changes = a.1.changes; same = λ n h. l.5 (within n rules) s h ∙ a.1.same n h })
 
 -- what was due, and the frames behind it, is what is due now, and the frames behind that
 abbrev pub Same : Rules → List Parsed → List Frame → Due → State → List Parsed → List Frame → Due → State → Type 0
@@ -212,7 +214,7 @@ same_on rules calls calls1 after frames frames1 new depth d d1 next s now t same
 pub same_halts : (may_change : Bool) (rules : Rules) (calls calls1 after : List Parsed) (frames frames1 new : List Frame) (depth : ℕ) (d d1 : Due) (s now t : State) (h : Halt) → s.steps ≤ now.steps → now.steps ≤ rules.limits.steps → Same rules calls frames d s calls1 frames1 d1 now → AdvancesOrWaits may_change rules calls1 frames1 d1 now after new depth t (Err h) → RanOrWaits may_change rules calls frames d s after new depth t h
 same_halts may_change rules calls calls1 after frames frames1 new depth d d1 s now t (halt.Stops reason) from le same a = same_ends rules calls calls1 after frames frames1 new depth d d1 s now t reason from le same a
 same_halts may_change rules calls calls1 after frames frames1 new depth d d1 s now t (halt.Waits next) from le same a =
-    (a.0, omega (arith, a.1.counted, from), omega (arith, a.1.counted, le), a.1.ready, λ n more. same n (omega (arith, a.1.counted, more)) ∙ a.1.same n (omega (arith, a.1.counted, more)))
+    (a.0, omega (arith, a.1.counted, from), omega (arith, a.1.counted, le), a.1.ready, a.1.changes, λ n more. same n (omega (arith, a.1.counted, more)) ∙ a.1.same n (omega (arith, a.1.counted, more)))
 
 -- a run is what is due at its root
 pub is_run : (rules : Rules) (p : Parsed) (root : NodeId) (s : State) → RootIs p (Some root) → (n : ℕ) → run_from (within n rules) (tree_of p) s ≡ ended (due_left (within n rules) (p ∷ []) [] (due.Node root) s)

@@ -1,5 +1,5 @@
 -- One step of a run, whatever it is. (How the code goes about it; what a run means stands in Meaning.)
-use Rattle.std.specs.Prelude.{◌≡◌, ℕ, suc, ◌+◌, ◌*◌, ◌≤◌, Bool, false, List, length, Result, Ok, Err}
+use Rattle.std.specs.Prelude.{◌≡◌, ℕ, suc, ◌+◌, ◌*◌, ◌≤◌, Bool, true, false, List, length, Result, Ok, Err}
 use Rattle.hush_syntax.specs.Scripts.{Parsed}
 use Rattle.hush_run.specs.declared.frames.Frame.{Frame}
 use Rattle.hush_run.specs.declared.turns.Due.{Due}
@@ -12,6 +12,7 @@ use Rattle.hush_run.specs.Meaning.{Rules, State, Out, ◌>>=◌, ended, within}
 use Rattle.hush_run.specs.Resume.{begin_in, at_in, resume, IsStack}
 use Rattle.hush_run.specs.Turns.{due_does, due_room, IsDue}
 use Rattle.hush_run.specs.Steps.{Counted}
+use Rattle.hush_run.specs.Changing.{due_may_change}
 use Rattle.hush_run.specs.Stacks.{script_frames}
 
 -- what is due, and behind it the frames
@@ -35,11 +36,13 @@ Advances rules calls old due s after new depth t (Ok next) =
 Advances rules calls old due s after new depth t (Err (stop.Ended e)) = ended (due_left rules calls old due s) ≡ (e, t)
 Advances rules calls old due s after new depth t (Err stop.Memory) = (t.steps ≡ s.steps) × ((ended (due_left (within s.steps rules) calls old due s)).1 ≡ t)
 
--- what is due has come to this, which waits: nothing was counted, and what is left is the same under each limit on the steps
+-- what is due has come to this, which may change the session and waits: nothing was counted, and what is left is the same under
+-- each limit on the steps
 pub record Waits (rules : Rules) (calls : List Parsed) (old : List Frame) (due : Due) (s : State) (after : List Parsed)
     (new : List Frame) (depth : ℕ) (t : State) (next : Due) : Type 0 where
   pub counted : t.steps ≡ s.steps
   pub ready : IsReady rules after new depth next
+  pub changes : due_may_change rules (at_in after) next t ≡ true
   pub same : (n : ℕ) → s.steps ≤ n → due_left (within n rules) calls old due s ≡ due_left (within n rules) after new next t
 
 -- a step was done, or the run stops; or what is due waits, since nothing may change the session yet
@@ -63,4 +66,5 @@ abbrev pub RanOrWaits : (may_change : Bool) → Rules → List Parsed → List F
 RanOrWaits may_change rules calls frames due s after new depth t (halt.Stops reason) = RanOn rules calls frames due s t reason
 RanOrWaits may_change rules calls frames due s after new depth t (halt.Waits next) =
     (may_change ≡ false) × (s.steps ≤ t.steps) × (t.steps ≤ rules.limits.steps) × IsReady rules after new depth next
+    × (due_may_change rules (at_in after) next t ≡ true)
     × ((n : ℕ) → t.steps ≤ n → due_left (within n rules) calls frames due s ≡ due_left (within n rules) after new next t)

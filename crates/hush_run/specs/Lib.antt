@@ -12,4 +12,5 @@ pub mod Rises
 pub mod Steps
 pub mod Names
 pub mod Advances
+pub mod Changing
 pub mod Underway

@@ -1,5 +1,5 @@
 -- Runs on their way. (How the code goes about it; what a run means stands in Meaning.)
-use Rattle.std.specs.Prelude.{◌≡◌, ℕ, ◌≤◌, Option}
+use Rattle.std.specs.Prelude.{◌≡◌, ℕ, ◌≤◌, true, Option}
 use Rattle.env_session.specs.Session.{Held}
 use Rattle.hush_syntax.specs.Grammar.{Chains}
 use Rattle.hush_commands.specs.Limits.{most_depth}
@@ -9,7 +9,9 @@ use Rattle.hush_run.specs.declared.running.Reached.TheVariants as reached
 use Rattle.hush_run.specs.Meaning.{Rules, ended, run_from, first_state, within}
 use Rattle.hush_run.specs.Runs.{Runs}
 use Rattle.hush_run.specs.Steps.{state_of, rules_of}
+use Rattle.hush_run.specs.Resume.{at_in}
 use Rattle.hush_run.specs.Advances.{IsReady, due_left}
+use Rattle.hush_run.specs.Changing.{due_may_change}
 
 -- what it has in hand fits together
 pub record IsUnderway (run : Running) : Type 0 where
@@ -25,10 +27,14 @@ pub record IsRun (rules : Rules) (tree : Option Chains) (held : Held) (run : Run
       run_from (within n rules) tree (first_state rules held)
       ≡ ended (due_left (within n rules) run.calls run.frames.frames run.due (state_of held run.progress.now))
 
--- a run of the tree has ended, or it goes on from where it stands
+-- what is due in it may change the session
+abbrev pub MayChange : Held → Running → Type 0
+MayChange held run = due_may_change (rules_of run.given) (at_in run.calls) run.due (state_of held run.progress.now) ≡ true
+
+-- a run of the tree has ended, or it goes on from where it stands, before what may change the session
 abbrev pub Reaches : Rules → Option Chains → (old new : Held) → Reached → Type 0
 Reaches rules tree old new (reached.End outcome) = Runs rules tree old new outcome
-Reaches rules tree old new (reached.Change run) = IsRun rules tree new run
+Reaches rules tree old new (reached.Change run) = IsRun rules tree new run × MayChange new run
 
 abbrev pub IsOver : Reached → Type 0
 IsOver (reached.End outcome) = Unit {0}

@@ -40,6 +40,7 @@ impl From<Stop> for Halt {
 }
 
 /// Does the next step: what is due then.
+#[inline(always)]
 pub(crate) fn advance(
     given: &Given<'_>,
     session: &mut Session,
@@ -65,6 +66,7 @@ pub(crate) fn advance(
 }
 
 /// Does what is due, which is a step, or the end.
+#[inline(always)]
 fn step_due(
     given: &Given<'_>,
     session: &mut Session,
@@ -99,6 +101,7 @@ fn step_due(
 }
 
 /// The first step in a node.
+#[inline(always)]
 fn node_due(
     given: &Given<'_>,
     session: &mut Session,

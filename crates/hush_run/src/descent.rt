@@ -6,9 +6,11 @@ ghost use Rattle.hush_run.specs.Stacks.{frame_limit};
 
 use crate::frames::{Frame, Frames};
 use crate::members::member;
+use crate::turns::list_behind;
 use hush_syntax::{Node, NodeId, Script};
 
 /// Goes down from a node to the first step in it, and leaves a frame for each part that isn't done with that.
+#[inline(always)]
 pub(crate) fn descend(script: &Script, frames: &mut Frames, id: NodeId) -> NodeId
     requires known { IsSome (subtree_at script.now id) }
     requires room { length frames.old.frames + room (subtree_at script.now id) ≤ frame_limit frames.old.depth }
@@ -17,30 +19,38 @@ pub(crate) fn descend(script: &Script, frames: &mut Frames, id: NodeId) -> NodeI
     ensures height { length frames.new.frames + room (subtree_at script.now result) ≤ length frames.old.frames + room (subtree_at script.now id) }
 {
     let mut node = id;
-    while let Some((frame, part)) = first_part(script, node) {
-        frames.push(frame);
+    while let Some((behind, part)) = first_part(script, node) {
+        frames.keep(behind);
         node = part;
     }
     node
 }
 
-/// The first part of a node, and the frame that is left behind for the others; none where the node is a step.
-fn first_part(script: &Script, id: NodeId) -> Option<(Frame, NodeId)>
+/// The first part of a node, and the frame that is left behind for the others, if there are any; none where the node is a step.
+#[inline(always)]
+fn first_part(script: &Script, id: NodeId) -> Option<(Option<Frame>, NodeId)>
     requires { IsSome (subtree_at script.now id) }
     ensures { FirstPart (subtree_at script.now) id result }
 {
     match script.node(id) {
-        Node::List(chains) => Some((Frame::List { node: id, next: 1 }, member(chains, 0))),
-        Node::Chain(links) => Some((Frame::Chain { node: id, next: 1 }, member(links, 0).command)),
+        Node::List(chains) => Some((list_behind(id, 1, chains), member(chains, 0))),
+        Node::Chain(links) => Some((
+            Some(Frame::Chain { node: id, next: 1 }),
+            member(links, 0).command,
+        )),
         Node::If { branches, .. } => Some((
-            Frame::Branch {
+            Some(Frame::Branch {
                 node: id,
                 branch: 0,
-            },
+            }),
             member(branches, 0).condition,
         )),
-        Node::While { condition, .. } => Some((Frame::Condition { node: id, last: 0 }, condition)),
-        Node::Until { condition, .. } => Some((Frame::Condition { node: id, last: 0 }, condition)),
+        Node::While { condition, .. } => {
+            Some((Some(Frame::Condition { node: id, last: 0 }), condition))
+        }
+        Node::Until { condition, .. } => {
+            Some((Some(Frame::Condition { node: id, last: 0 }), condition))
+        }
         Node::For { .. } | Node::Assign { .. } | Node::Simple { .. } => None,
     }
 }

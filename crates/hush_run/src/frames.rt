@@ -84,6 +84,7 @@ impl Model for Frames {
 impl Frames {
     ghost use Rattle.hush_commands.specs.Limits.{most_depth};
     ghost use Rattle.hush_run.specs.Stacks.{frame_limit};
+    ghost use Rattle.hush_run.specs.Rises.{with_behind};
 
     /// No frames, and room for those of a script and of `depth` starts inside one another: (depth + 1) x 195, where 195
     /// is three for each of 64 levels of nesting, and three for a list, its chain and its command.
@@ -126,6 +127,18 @@ impl Frames {
         let pushed = self.items.push(frame);
         // It tells the prover that room was reserved, so this isn't refused.
         prove!(pushed.is_ok());
+    }
+
+    /// Puts the frame that is left behind on top, if one is. It takes no memory.
+    pub(crate) fn keep(&mut self, behind: Option<Frame>)
+        requires { length self.old.frames < frame_limit self.old.depth }
+        ensures frames { self.new.frames ≡ with_behind behind self.old.frames }
+        ensures depth { self.new.depth ≡ self.old.depth }
+    {
+        match behind {
+            Some(frame) => self.push(frame),
+            None => {}
+        }
     }
 
     /// Takes the frame on top, if there is one.

@@ -1,5 +1,5 @@
 //! The step that a node is.
-ghost use Rattle.std.specs.Prelude.{◌≡◌, ℕ, List, ◌≤◌, Some, false, IfOk, IfSome, IfNone};
+ghost use Rattle.std.specs.Prelude.{◌≡◌, ℕ, List, ◌≤◌, Some, true, false, IfOk, IfSome, IfNone};
 ghost use Rattle.hush_words.specs.Words.{Atom};
 ghost use Rattle.hush_syntax.specs.Grammar.{For, Chains};
 ghost use Rattle.hush_syntax.specs.Nodes.{At, OfCommand};
@@ -8,6 +8,7 @@ ghost use Rattle.hush_run.specs.Meaning.{Rules, Begin, State, follows, bindings,
 ghost use Rattle.hush_run.specs.Resume.{subtree_does, room, IsStep};
 ghost use Rattle.hush_run.specs.Steps.{state_of, rules_of, DidOrWaits};
 ghost use Rattle.hush_run.specs.Turns.{due_does, due_room, IsDue};
+ghost use Rattle.hush_run.specs.Changing.{step_may_change};
 
 use crate::ending::Stop;
 use crate::progress::{Given, Progress};
@@ -18,6 +19,7 @@ use hush_commands::{FieldQueue, Follow};
 use hush_syntax::{Node, NodeId, Script};
 
 /// Does the step that a node is: what is due behind it; none where it has to wait, and nothing has changed.
+#[inline(always)]
 pub(crate) fn node_step(
     given: &Given<'_>,
     session: &mut Session,
@@ -31,6 +33,8 @@ pub(crate) fn node_step(
         (state_of session.new progress.new) result }
     ensures due { IfOk result (λ next. IfSome next (λ due. IsDue (subtree_at script.now) due × (due_room (subtree_at script.now) due ≤ room (subtree_at script.now node)))) }
     ensures waits { IfOk result (λ next. IfNone next (given.now.may_change ≡ false)) }
+    ensures changes { IfOk result (λ next. IfNone next (step_may_change (rules_of given.now) (subtree_at script.now node)
+        (state_of session.old progress.old) ≡ true)) }
     ensures keeps { given.now.may_change ≡ false → session.new ≡ session.old }
 {
     match script.node(node) {
@@ -62,6 +66,7 @@ pub(crate) fn node_step(
 }
 
 /// What is due behind a simple command.
+#[inline(always)]
 fn due_behind(follow: Follow) -> Due
     ensures due { (at : At) → IsDue at result × (due_room at result ≤ 1) }
     ensures same { (rules : Rules) (begin : Begin) (at : At) (s : State) → follows rules begin follow s ≡ due_does rules begin at result s }

@@ -3,6 +3,7 @@ ghost use Rattle.std.specs.Prelude.{◌≡◌, ◌<◌, ℕ, true, false, map, I
 ghost use Rattle.hush_words.specs.Parts.{word_atoms};
 ghost use Rattle.env_session.specs.Session.{Held};
 ghost use Rattle.hush_commands.specs.Carrying.{done_of};
+ghost use Rattle.hush_commands.specs.Changes.{may_change};
 ghost use Rattle.hush_commands.specs.Limits.{most_steps};
 ghost use Rattle.hush_run.specs.Meaning.{Rules, Goes, step, fails, fields_of, first_state};
 
@@ -24,8 +25,10 @@ pub(crate) struct Given<'a> {
 
 impl<'a> Given<'a> {
     /// Whether the simple command of these fields has to wait: it may change the session, and nothing may change it yet.
+    #[inline(always)]
     pub(crate) fn holds_back(&self, fields: &FieldBuffer) -> bool
         ensures only { result ≡ true → self.now.may_change ≡ false }
+        ensures changes { result ≡ true → may_change fields.now.done ≡ true }
         ensures leaves { result ≡ false → self.now.may_change ≡ false → (status : ℕ) (held : Held) →
             (done_of self.now.stand_ins.now fields.now.done status held).1 ≡ held }
     {
@@ -90,6 +93,7 @@ impl Progress {
     }
 
     /// Where one more step may be counted, expands words to the fields of that step.
+    #[inline(always)]
     pub(crate) fn expand(
         &mut self,
         given: &Given<'_>,
@@ -167,6 +171,7 @@ impl Progress {
     }
 
     /// Whether one more step may be counted.
+    #[inline(always)]
     pub(crate) fn may_step(&self, given: &Given<'_>) -> Result<(), Stop>
         ensures may { MayStep (rules_of given.now) self.now.steps result }
         ensures counts { IfOk result (λ u. self.now.steps < most_steps) }

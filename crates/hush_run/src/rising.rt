@@ -1,7 +1,7 @@
 //! Up from where something is done to what is due next: the frames say it.
-ghost use Rattle.std.specs.Prelude.{◌≡◌, ◌≤◌, ◌<◌, ◌*◌, length};
+ghost use Rattle.std.specs.Prelude.{◌≡◌, ◌≤◌, ◌*◌, length};
 ghost use Rattle.hush_run.specs.Resume.{IsStack, owners};
-ghost use Rattle.hush_run.specs.Rises.{Rises, with_behind};
+ghost use Rattle.hush_run.specs.Rises.{Rises};
 ghost use Rattle.hush_run.specs.Stacks.{frame_limit, script_frames};
 
 use crate::calls::Calls;
@@ -9,6 +9,7 @@ use crate::frames::{Frame, Frames};
 use crate::turns::{Due, Turn, turn_of};
 
 /// Takes frames until one has something due. Where none has, nothing is due.
+#[inline(always)]
 pub(crate) fn rise_up(calls: &mut Calls<'_>, frames: &mut Frames, status: &mut u8) -> Due
     requires stack { IsStack calls.old frames.old.frames }
     requires some { 1 ≤ length calls.old }
@@ -25,7 +26,7 @@ pub(crate) fn rise_up(calls: &mut Calls<'_>, frames: &mut Frames, status: &mut u
             status: next,
         } = turn_of(calls.top(), frame, *status);
         *status = next;
-        keep(frames, behind);
+        frames.keep(behind);
         match due {
             Due::Over => {}
             due => return due,
@@ -41,17 +42,5 @@ fn leave(calls: &mut Calls<'_>, frame: &Frame)
 {
     if let Frame::Started { .. } = frame {
         calls.pop();
-    }
-}
-
-/// Puts the frame that is left behind on top.
-fn keep(frames: &mut Frames, behind: Option<Frame>)
-    requires { length frames.old.frames < frame_limit frames.old.depth }
-    ensures frames { frames.new.frames ≡ with_behind behind frames.old.frames }
-    ensures depth { frames.new.depth ≡ frames.old.depth }
-{
-    match behind {
-        Some(frame) => frames.push(frame),
-        None => {}
     }
 }

@@ -103,6 +103,7 @@ impl Runner {
     /// # Errors
     ///
     /// The outcome, where the script has no command or room is refused.
+    #[inline(always)]
     fn begin<'r>(
         &'r mut self,
         script: &'r Script,

@@ -48,6 +48,7 @@ impl<'r> Running<'r> {
     }
 
     /// Runs to the end, or, where nothing may change the session, to the first step that may change it.
+    #[inline(always)]
     pub(crate) fn go_on(self, session: &mut Session, may_change: bool) -> Reached<'r>
         requires { IsUnderway self }
         ensures reaches { (rules : Rules) (tree : Option Chains) → IsRun rules tree session.old self.entry → Reaches rules tree session.old session.new result }

@@ -3,7 +3,7 @@ ghost use Rattle.std.specs.Prelude.{◌≡◌, IsSome};
 ghost use Rattle.hush_syntax.specs.Scripts.{subtree_at};
 ghost use Rattle.hush_syntax.specs.Nodes.{At};
 ghost use Rattle.hush_run.specs.Resume.{IsFrame, joined};
-ghost use Rattle.hush_run.specs.Turns.{Turns, BranchesTurn};
+ghost use Rattle.hush_run.specs.Turns.{Turns, BranchesTurn, behind_chain};
 ghost use Rattle.hush_run.specs.declared.frames.Frame.TheVariants as frame;
 
 use crate::frames::Frame;
@@ -90,11 +90,19 @@ fn list_turn(script: &Script, node: NodeId, next: usize, status: u8) -> Turn
     if next >= chains.len() {
         return over(status);
     }
-    let behind = Frame::List {
-        node,
-        next: next + 1,
-    };
-    goes_to(member(chains, next), Some(behind), status)
+    let behind = list_behind(node, next + 1, chains);
+    goes_to(member(chains, next), behind, status)
+}
+
+/// The frame of a list whose chains from this one on are left; none where none is.
+pub(crate) fn list_behind(node: NodeId, next: usize, chains: &[NodeId]) -> Option<Frame>
+    ensures { result ≡ behind_chain node next chains.now }
+{
+    if next < chains.len() {
+        Some(Frame::List { node, next })
+    } else {
+        None
+    }
 }
 
 /// Whether a command behind this operator is run.

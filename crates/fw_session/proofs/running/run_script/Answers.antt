@@ -22,4 +22,4 @@ returns-else-not-write_out g c =
     let tree = tree_of c.args.script.now in
     script_ran r tree c.args.session.now c.resume-outcome.new.session c.resume-outcome.result (sink (g.W.Write.contents c.args.output.now) c.args.answers.now) (sink (g.W.Write.contents c.write_out.new.output) c.write_out.new.self)
     (sink (g.W.Write.contents c.answer_run-in-Change.new.output) c.answer_run-in-Change.new.answers) c.write_out.result c.answer_run-in-Change.result c.if-not-write_out.false c.write_out.ensures.moves c.write_out.ensures.empty
-    (subst (λ (h : Held). Runs r tree h c.resume-outcome.new.session c.resume-outcome.result) c.in-Change.ensures.keeps (c.resume-outcome.ensures r tree c.in-Change.ensures.reaches)) c.answer_run-in-Change.ensures
+    (subst (λ (h : Held). Runs r tree h c.resume-outcome.new.session c.resume-outcome.result) c.in-Change.ensures.keeps (c.resume-outcome.ensures r tree c.in-Change.ensures.reaches.0)) c.answer_run-in-Change.ensures

@@ -17,5 +17,5 @@ pub returns-in-Ok-None-clause-goes : goal.returns-in-Ok-None-clause-goes
 returns-in-Ok-None-clause-goes c = (
   rw c.in-Ok-None.field-0-is at c.in-Ok-None.ensures.waits,
   node_waits (rules_of c.args.given.now) c.args.calls.now c.top-script.result.now c.args.frames.now.frames c.descend-step.new.frames.frames c.args.frames.now.depth c.descend-step.new.frames.depth c.args.node c.descend-step.result (state_of c.args.session.now c.args.progress.now) (state_of c.node_step.new.session c.node_step.new.progress)
-      c.top-script.ensures c.requires.ready c.descend-step.ensures.depth c.descend-step.ensures.descends.1 (rw c.in-Ok-None.field-0-is at c.in-Ok-None.ensures.step),
+      c.top-script.ensures c.requires.ready c.descend-step.ensures.depth c.descend-step.ensures.descends.1 (rw c.in-Ok-None.field-0-is at c.in-Ok-None.ensures.changes) (rw c.in-Ok-None.field-0-is at c.in-Ok-None.ensures.step),
 )

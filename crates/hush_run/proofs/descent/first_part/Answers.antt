@@ -1,4 +1,6 @@
-use Rattle.std.proofs.Common.{rules}
+use Rattle.std.proofs.Common.{rules, Option, Some, sym, subst}
+use Rattle.hush_run.specs.Resume.{FirstPart}
+use Rattle.hush_run.specs.declared.frames.Frame.{Frame}
 use Rattle.hush_syntax.specs.Scripts.{subtree_at}
 use Rattle.hush_run.proofs.Parts.{list_first, chain_first, if_first, while_first, until_first, some_chain}
 use Rattle.hush_run.proofs.descent.first_part.Goals as goal
@@ -7,7 +9,10 @@ pub member-requires : goal.member-requires
 member-requires c = let h = rw c.in-List.is at c.node.ensures in let p = some_chain _ c.in-List.chains.now h.0 h.2 in search (rules, p)
 
 pub returns-in-List : goal.returns-in-List
-returns-in-List c = let h = rw c.in-List.is at c.node.ensures in list_first _ c.args.id c.member.result c.in-List.chains.now h.0 h.1 h.2 c.member.ensures
+returns-in-List c =
+    let h = rw c.in-List.is at c.node.ensures in
+    subst (λ (behind : Option Frame). FirstPart (subtree_at c.args.script.now) c.args.id (Some (behind, c.member.result))) (sym c.list_behind.ensures)
+    (list_first _ c.args.id c.member.result c.in-List.chains.now h.0 h.1 h.2 c.member.ensures)
 
 pub returns-in-Chain : goal.returns-in-Chain
 returns-in-Chain c = let h = rw c.in-Chain.is at c.node.ensures in chain_first _ c.args.id c.member-in-Chain.result c.in-Chain.links.now h.0 h.1 h.2 c.member-in-Chain.ensures
