@@ -1,5 +1,7 @@
 # What the measurements share; they read it with `source`. Sets top, the repository, and work, a folder for what they make.
 set -euo pipefail
+# (awk and printf write and read numbers with a point)
+export LC_ALL=C
 top=$(cd "$(dirname "${BASH_SOURCE[0]}")/.." && pwd)
 work=${TMPDIR:-/tmp}/fwenv-bench-$(id -u)
 mkdir -p "$work"
@@ -17,11 +19,11 @@ need() {
     fi
 }
 
-# compiled NAME [WORDS]: the program that bench/NAME.c makes, compiled where it is missing or old.
+# compiled NAME [WORDS]: the program that bench/NAME.c makes, compiled where it is missing or made of another text.
 compiled() {
-    local program=$work/$1
-    if [ ! "$program" -nt "$top/bench/$1.c" ]; then
-        gcc -O2 -Wall -o "$program" "$top/bench/$1.c" "${@:2}" >&2
+    local program=$work/$1 source=$top/bench/$1.c
+    if ! [ -x "$program" ] || ! cmp -s "$source" "$program.c"; then
+        "${CC:-cc}" -O2 -Wall -o "$program" "$source" "${@:2}" >&2 && cp "$source" "$program.c"
     fi
     echo "$program"
 }
@@ -64,7 +66,7 @@ ends() {
     "$measure" "$work/measured" "${@:3}" <"$2" >"$work/output"
     line=$(<"$work/output")
     taken=${line##* }
-    read -r _ memory <"$work/measured"
+    read -r _ memory _ <"$work/measured"
     if [ "$1" ] && [ "${line% *}" != "$1" ]; then
         echo "$(basename "$0"): ${*:4} ended with ${line% *}, not with $1" >&2
         exit 1
@@ -96,7 +98,7 @@ measured() {
 grows_within() {
     awk -v program="$(basename "$0")" -v name="$1" -v most="$2" -v first="$3" -v last="$4" -v rule="$5" 'BEGIN {
         if (last > 1.25 * most * first) {
-            print program ": " name " grows faster than " rule >"/dev/stderr"
+            print program ": " name " grows faster than " rule ", by more than a quarter" >"/dev/stderr"
             exit 1
         }
     }'

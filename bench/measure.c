@@ -1,10 +1,15 @@
-/* Runs a command with this process's streams and writes two numbers to a file: the nanoseconds that it took and the most
-   memory that it had at a time, in KiB. Usage: measure FILE COMMAND [WORDS]. Answers the command's exit status. */
+/* Runs a command with this process's streams and writes three numbers to a file: the nanoseconds that it took, the most
+   memory that it had at a time, in KiB, and the nanoseconds that processors worked for it, in the program and in the kernel.
+   Usage: measure FILE COMMAND [WORDS]. Answers the command's exit status. */
 #include <stdio.h>
 #include <sys/resource.h>
 #include <sys/wait.h>
 #include <time.h>
 #include <unistd.h>
+
+static long long nanoseconds(struct timeval time) {
+    return time.tv_sec * 1000000000LL + time.tv_usec * 1000LL;
+}
 
 int main(int count, char **words) {
     struct timespec start, end;
@@ -21,7 +26,8 @@ int main(int count, char **words) {
     clock_gettime(CLOCK_MONOTONIC, &end);
     FILE *file = fopen(words[1], "w");
     if (!file) return 2;
-    fprintf(file, "%lld %ld\n", (end.tv_sec - start.tv_sec) * 1000000000LL + end.tv_nsec - start.tv_nsec, used.ru_maxrss);
+    fprintf(file, "%lld %ld %lld\n", (end.tv_sec - start.tv_sec) * 1000000000LL + end.tv_nsec - start.tv_nsec, used.ru_maxrss,
+            nanoseconds(used.ru_utime) + nanoseconds(used.ru_stime));
     if (fclose(file) != 0) return 2;
     return WIFEXITED(status) ? WEXITSTATUS(status) : 1;
 }
