@@ -1,5 +1,5 @@
 -- What was handled, piece after piece.
-use Rattle.std.proofs.Common.{◌≡◌, ℕ, ◌+◌, ◌<◌, length, get_or, Ok, Err, ◌++◌, List, [], ◌∷◌, Option, Bool, true, false, refl, sym, ap, subst, ◌∙◌, append_assoc, append-nil, take, drop}
+use Rattle.std.proofs.Common.{◌≡◌, ℕ, ◌+◌, ◌<◌, length, get_or, Ok, Err, ◌++◌, List, [], ◌∷◌, Option, Bool, true, false, refl, sym, ap, subst, ◌∙◌, append_assoc, append-nil, take, drop, Result}
 use Rattle.fw_session.specs.Input.{Dot, items_of, to_last_dot, is_dot_line}
 use Rattle.hush_run.specs.Meaning.{Rules}
 use Rattle.fw_session.specs.Replies.{NamedSession}
@@ -146,7 +146,7 @@ handles_stopped rules piece i old mid new out out' out'' Stop.Write lt k m = (
 )
 
 -- what waits behind a piece is written
-pub piece_written : (rules : Rules) (piece : List ℕ) (old mid new : Talk) (out out' out'' : Option (List ℕ)) (u : Unit {0}) → new.bytes.items ≡ mid.bytes.items → new.start ≡ mid.start → session_of new ≡ session_of mid → IsWrittenOut new →
+piece_written : (rules : Rules) (piece : List ℕ) (old mid new : Talk) (out out' out'' : Option (List ℕ)) (u : Unit {0}) → new.bytes.items ≡ mid.bytes.items → new.start ≡ mid.start → session_of new ≡ session_of mid → IsWrittenOut new →
     HandlesPiece rules piece old mid out out' (Ok u) → Moves (sink_of out' mid) (sink_of out'' new) true → AnswersPiece rules piece old new out out'' (Ok u)
 piece_written rules piece old mid new out out' out'' u eb es et none k m = (
   none,
@@ -158,10 +158,9 @@ piece_written rules piece old mid new out out' out'' u eb es et none k m = (
   ),
 )
 
-pub some_written : (rules : Rules) (piece : List ℕ) (old mid new : Talk) (out out' out'' : Option (List ℕ)) → session_of new ≡ session_of mid → IsWrittenOut new →
-    (stop : Stop) → stop ≡ Stop.Memory → HandlesPiece rules piece old mid out out' (Err stop) → Moves (sink_of out' mid) (sink_of out'' new) true → AnswersPiece rules piece old new out out'' (Err Stop.Memory)
-some_written rules piece old mid new out out' out'' et none stop is handled m =
-    let k : HandlesPiece rules piece old mid out out' (Err Stop.Memory) = subst (λ v. HandlesPiece rules piece old mid out out' (Err v)) is handled in
+some_written : (rules : Rules) (piece : List ℕ) (old mid new : Talk) (out out' out'' : Option (List ℕ)) → session_of new ≡ session_of mid → IsWrittenOut new →
+    HandlesPiece rules piece old mid out out' (Err Stop.Memory) → Moves (sink_of out' mid) (sink_of out'' new) true → AnswersPiece rules piece old new out out'' (Err Stop.Memory)
+some_written rules piece old mid new out out' out'' et none k m =
     let s = k.3 in (
       none,
       (
@@ -178,7 +177,7 @@ some_written rules piece old mid new out out' out'' et none stop is handled m =
       ),
     )
 
-pub piece_cut : (rules : Rules) (piece : List ℕ) (old mid new : Talk) (out out' out'' : Option (List ℕ)) (u : Unit {0}) → session_of new ≡ session_of mid →
+piece_cut : (rules : Rules) (piece : List ℕ) (old mid new : Talk) (out out' out'' : Option (List ℕ)) (u : Unit {0}) → session_of new ≡ session_of mid →
     HandlesPiece rules piece old mid out out' (Ok u) → Moves (sink_of out' mid) (sink_of out'' new) false → AnswersPiece rules piece old new out out'' (Err Stop.Write)
 piece_cut rules piece old mid new out out' out'' u et k m = (
   piece,
@@ -193,10 +192,9 @@ piece_cut rules piece old mid new out out' out'' u et k m = (
   ),
 )
 
-pub some_cut : (rules : Rules) (piece : List ℕ) (old mid new : Talk) (out out' out'' : Option (List ℕ)) → session_of new ≡ session_of mid →
-    (stop : Stop) → stop ≡ Stop.Memory → HandlesPiece rules piece old mid out out' (Err stop) → Moves (sink_of out' mid) (sink_of out'' new) false → AnswersPiece rules piece old new out out'' (Err Stop.Write)
-some_cut rules piece old mid new out out' out'' et stop is handled m =
-    let k : HandlesPiece rules piece old mid out out' (Err Stop.Memory) = subst (λ v. HandlesPiece rules piece old mid out out' (Err v)) is handled in
+some_cut : (rules : Rules) (piece : List ℕ) (old mid new : Talk) (out out' out'' : Option (List ℕ)) → session_of new ≡ session_of mid →
+    HandlesPiece rules piece old mid out out' (Err Stop.Memory) → Moves (sink_of out' mid) (sink_of out'' new) false → AnswersPiece rules piece old new out out'' (Err Stop.Write)
+some_cut rules piece old mid new out out' out'' et k m =
     let s = k.3 in (
       k.0,
       k.1,
@@ -209,3 +207,17 @@ some_cut rules piece old mid new out out' out'' et stop is handled m =
             (handled_moves rules old.bytes.items k.0 s.0 (sink_of out old) (sink_of out' mid) (sink_of out'' new) (session_of old) (session_of mid) false s.3 m),
       ),
     )
+
+-- what waits is written behind it
+pub then_written : (rules : Rules) (piece : List ℕ) (old mid new : Talk) (out out' out'' : Option (List ℕ)) (handled : Result (Unit {0}) Stop) → (handled ≡ Err Stop.Write → ⊥) → new.bytes.items ≡ mid.bytes.items → new.start ≡ mid.start → session_of new ≡ session_of mid → IsWrittenOut new →
+    HandlesPiece rules piece old mid out out' handled → Moves (sink_of out' mid) (sink_of out'' new) true → AnswersPiece rules piece old new out out'' handled
+then_written rules piece old mid new out out' out'' (Ok u) not eb es et none k m = piece_written rules piece old mid new out out' out'' u eb es et none k m
+then_written rules piece old mid new out out' out'' (Err Stop.Memory) not eb es et none k m = some_written rules piece old mid new out out' out'' et none k m
+then_written rules piece old mid new out out' out'' (Err Stop.Write) not eb es et none k m = absurd (not refl)
+
+-- the same where the writer fails at it
+pub then_cut : (rules : Rules) (piece : List ℕ) (old mid new : Talk) (out out' out'' : Option (List ℕ)) (handled : Result (Unit {0}) Stop) → (handled ≡ Err Stop.Write → ⊥) → session_of new ≡ session_of mid →
+    HandlesPiece rules piece old mid out out' handled → Moves (sink_of out' mid) (sink_of out'' new) false → AnswersPiece rules piece old new out out'' (Err Stop.Write)
+then_cut rules piece old mid new out out' out'' (Ok u) not et k m = piece_cut rules piece old mid new out out' out'' u et k m
+then_cut rules piece old mid new out out' out'' (Err Stop.Memory) not et k m = some_cut rules piece old mid new out out' out'' et k m
+then_cut rules piece old mid new out out' out'' (Err Stop.Write) not et k m = absurd (not refl)

@@ -10,8 +10,8 @@ use std::io::Write;
 /// How many bytes of text may wait.
 const MOST_WAITING: usize = 65_536;
 
-/// Texts that wait behind those that were written. What waits is written before a line is handled that may change the
-/// session, and before more of the input is read.
+/// Texts that wait behind those that were written. What waits is written before a dot line that may change the session,
+/// before the first step of a block that may, and before more of the input is read.
 #[derive(Drop)]
 pub(crate) struct Answers {
     /// The texts that wait, one behind the other.

@@ -35,7 +35,7 @@ impl Workshop {
     }
 }
 
-/// Runs a block, and adds what it has to say. The block is empty then, in the memory of the one before.
+/// Runs a block, and adds what it has to say. The block is empty then, in the memory of the one before where that was a script.
 pub(crate) fn run_block<W: Write>(
     workshop: &mut Workshop,
     session: &mut Session,
@@ -67,7 +67,7 @@ pub(crate) fn run_block<W: Write>(
     }
 }
 
-/// Runs a script, and adds what it has to say. What waits is written before the first step that may change the session.
+/// Runs a script, and adds what it has to say. What waits is written before a step that may change the session.
 fn run_script<W: Write>(
     runner: &mut Runner,
     session: &mut Session,
@@ -108,7 +108,7 @@ fn answer_run<W: Write>(
     added
 }
 
-/// Adds the text of a run, and how it ended.
+/// The same of an outcome whose text stays where it is.
 #[inline(always)]
 fn add_outcome<W: Write>(outcome: &Outcome, answers: &mut Answers, output: &mut W) -> bool
     ensures { Adds (sink (W.contents output.old) answers.old) (sink (W.contents output.new) answers.new)
@@ -144,7 +144,7 @@ fn put(line: &mut ArrayVec<u8, 64>, text: &[u8])
 
 /// What stands before the status: the name of an ending, between `[` and a space.
 fn opening_of(ending: Ending) -> &'static [u8]
-    ensures front { result.now ≡ codes "[" ++ ending_name ending ++ codes " " }
+    ensures opening { result.now ≡ codes "[" ++ ending_name ending ++ codes " " }
     ensures short { length result.now ≤ 10 }
 {
     match ending {

@@ -222,22 +222,16 @@ fn answer_piece<W: Write>(
     requires { IsPending talk.old.bytes.items talk.old.start }
     ensures { AnswersPiece (rules stand_ins.now limits.now) piece.now talk.old talk.new (W.contents output.old) (W.contents output.new) result }
 {
-    match handle_piece(talk, stand_ins, limits, output, piece) {
-        Ok(()) => {
+    let handled = handle_piece(talk, stand_ins, limits, output, piece);
+    match handled {
+        Err(Stop::Write) => handled,
+        _ => {
             if talk.answers.write_out(output) {
-                Ok(())
+                handled
             } else {
                 Err(Stop::Write)
             }
         }
-        Err(Stop::Memory) => {
-            if talk.answers.write_out(output) {
-                Err(Stop::Memory)
-            } else {
-                Err(Stop::Write)
-            }
-        }
-        Err(Stop::Write) => Err(Stop::Write),
     }
 }
 

@@ -1,5 +1,5 @@
 -- Which simple commands may change the session (docs/runs.md, "Commands").
-use Rattle.std.specs.Prelude.{ℕ, Bool, true, false, List, [], ◌∷◌, Option, Some, None}
+use Rattle.std.specs.Prelude.{ℕ, Bool, true, false, not, List, [], ◌∷◌, Option, Some, None}
 use Rattle.hush_commands.specs.declared.builtins.Builtin.{Builtin}
 use Rattle.hush_commands.specs.declared.command.Command.TheVariants as command
 use Rattle.hush_commands.specs.Builtins.{builtin_of}
@@ -9,10 +9,6 @@ abbrev pub has_words : List (List ℕ) → Bool
 has_words [] = false
 has_words (word ∷ words) = true
 
-abbrev pub has_no_words : List (List ℕ) → Bool
-has_no_words [] = true
-has_no_words (word ∷ words) = false
-
 -- a write needs words, and a save has none
 abbrev pub named_may_change : Named → Bool
 named_may_change (command.True, words) = false
@@ -20,7 +16,7 @@ named_may_change (command.False, words) = false
 named_may_change (command.Echo, words) = false
 named_may_change (command.Set, words) = has_words words
 named_may_change (command.Print, words) = false
-named_may_change (command.Save, words) = has_no_words words
+named_may_change (command.Save, words) = not (has_words words)
 named_may_change (command.Run, words) = false
 named_may_change (command.Delete, words) = false
 named_may_change (command.Exists, words) = false

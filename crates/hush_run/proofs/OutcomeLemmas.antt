@@ -11,16 +11,16 @@ use Rattle.hush_run.specs.Advances.{StopsAs}
 use Rattle.hush_run.specs.Runs.{Runs, RunsBy, Shows, reason_of, stop_reason}
 
 -- an outcome tells a state
-pub record Tells (t : State) (halt : Stop) (outcome : Outcome) : Type 0 where
-  pub ending : reason_of outcome.ending ≡ stop_reason halt
+pub record Tells (t : State) (why : Stop) (outcome : Outcome) : Type 0 where
+  pub ending : reason_of outcome.ending ≡ stop_reason why
   pub status : outcome.status ≡ t.status
   pub steps : outcome.steps ≡ t.steps
   pub text : outcome.text.items ≡ t.printed.text
 
-shows : (t u : State) (halt : Stop) (o : Outcome) → u ≡ t → Tells t halt o → Shows u t.held o
-shows t u halt o is k = record { held = sym (ap (λ (x : State). x.held) is); status = k.status ∙ sym (ap (λ (x : State). x.status) is); steps = k.steps ∙ sym (ap (λ (x : State). x.steps) is); text = k.text ∙ sym (ap (λ (x : State). x.printed.text) is) }
+shows : (t u : State) (why : Stop) (o : Outcome) → u ≡ t → Tells t why o → Shows u t.held o
+shows t u why o is k = record { held = sym (ap (λ (x : State). x.held) is); status = k.status ∙ sym (ap (λ (x : State). x.status) is); steps = k.steps ∙ sym (ap (λ (x : State). x.steps) is); text = k.text ∙ sym (ap (λ (x : State). x.printed.text) is) }
 
-pub runs_so : (rules : Rules) (tree : Option Chains) (old : Held) (t : State) (halt : Stop) (o : Outcome) → StopsAs (λ r. run_from r tree (first_state rules old)) rules t halt → Tells t halt o → Runs rules tree old t.held o
+pub runs_so : (rules : Rules) (tree : Option Chains) (old : Held) (t : State) (why : Stop) (o : Outcome) → StopsAs (λ r. run_from r tree (first_state rules old)) rules t why → Tells t why o → Runs rules tree old t.held o
 unfolding meaning
 runs_so rules tree old t (stop.Ended e) o ran k =
     let m : meaning rules tree old ≡ (e, t) = ran in

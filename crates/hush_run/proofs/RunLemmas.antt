@@ -55,16 +55,16 @@ begun rules p root held run r ra cs fr du st le =
           ∙ ap (λ (d : Due). ended (due_left (within n rules) run.calls run.frames.frames d s)) (sym du);
     }
 
-stops_as : (rules : Rules) (tree : Option Chains) (held : Held) (run : Running) (t : State) (reason : Stop) → run.progress.now.steps ≤ rules.limits.steps → IsRun rules tree held run → RanOn rules run.calls run.frames.frames run.due (state_of held run.progress.now) t reason →
-    StopsAs (λ r. run_from r tree (first_state rules held)) rules t reason
+stops_as : (rules : Rules) (tree : Option Chains) (held : Held) (run : Running) (t : State) (why : Stop) → run.progress.now.steps ≤ rules.limits.steps → IsRun rules tree held run → RanOn rules run.calls run.frames.frames run.due (state_of held run.progress.now) t why →
+    StopsAs (λ r. run_from r tree (first_state rules held)) rules t why
 stops_as rules tree held run t (stop.Ended e) le k ran = k.same rules.limits.steps le ∙ ran.1
 stops_as rules tree held run t stop.Memory le k ran = (ran.1.0, ap (λ (p : Reason × State). p.1) (k.same t.steps (ran.0 refl)) ∙ ran.1.1)
 
 counted_by : (rules : Rules) (tree : Option Chains) (held : Held) (run : Running) → IsRun rules tree held run → run.progress.now.steps ≤ rules.limits.steps
 counted_by rules tree held run k = subst (λ (q : Rules). run.progress.now.steps ≤ q.limits.steps) k.rules_are k.underway.counted
 
-pub run_stops : (rules : Rules) (tree : Option Chains) (held : Held) (run : Running) (t : State) (reason : Stop) (o : Outcome) → IsRun rules tree held run → RanOn (rules_of run.given) run.calls run.frames.frames run.due (state_of held run.progress.now) t reason → Tells t reason o →
+pub run_stops : (rules : Rules) (tree : Option Chains) (held : Held) (run : Running) (t : State) (why : Stop) (o : Outcome) → IsRun rules tree held run → RanOn (rules_of run.given) run.calls run.frames.frames run.due (state_of held run.progress.now) t why → Tells t why o →
     Runs rules tree held t.held o
-run_stops rules tree held run t reason o k ran tells =
-    runs_so rules tree held t reason o
-    (stops_as rules tree held run t reason (counted_by rules tree held run k) k (subst (λ (q : Rules). RanOn q run.calls run.frames.frames run.due (state_of held run.progress.now) t reason) k.rules_are ran)) tells
+run_stops rules tree held run t why o k ran tells =
+    runs_so rules tree held t why o
+    (stops_as rules tree held run t why (counted_by rules tree held run k) k (subst (λ (q : Rules). RanOn q run.calls run.frames.frames run.due (state_of held run.progress.now) t why) k.rules_are ran)) tells

@@ -2,7 +2,9 @@
 pub mod Meaning
 pub mod Stacks
 pub mod Runs
--- What the steps of the code do: no promise speaks of these.
+pub mod Changing
+pub mod Underway
+-- What the steps of the code do: promises speak of these only through Underway.
 pub mod Stops
 pub mod Counting
 pub mod Calls
@@ -12,5 +14,3 @@ pub mod Rises
 pub mod Steps
 pub mod Names
 pub mod Advances
-pub mod Changing
-pub mod Underway

@@ -1,5 +1,5 @@
--- Runs on their way. (How the code goes about it; what a run means stands in Meaning.)
-use Rattle.std.specs.Prelude.{◌≡◌, ℕ, ◌≤◌, true, Option}
+-- Runs on their way: what is left of one, by its frames (Resume, Advances), and what it waits before.
+use Rattle.std.specs.Prelude.{◌≡◌, ℕ, ◌<◌, ◌≤◌, true, Option}
 use Rattle.env_session.specs.Session.{Held}
 use Rattle.hush_syntax.specs.Grammar.{Chains}
 use Rattle.hush_commands.specs.Limits.{most_depth}
@@ -27,9 +27,10 @@ pub record IsRun (rules : Rules) (tree : Option Chains) (held : Held) (run : Run
       run_from (within n rules) tree (first_state rules held)
       ≡ ended (due_left (within n rules) run.calls run.frames.frames run.due (state_of held run.progress.now))
 
--- what is due in it may change the session
+-- what is due in it may be counted, and may change the session
 abbrev pub MayChange : Held → Running → Type 0
-MayChange held run = due_may_change (rules_of run.given) (at_in run.calls) run.due (state_of held run.progress.now) ≡ true
+MayChange held run =
+    (run.progress.now.steps < run.given.limits.steps) × (due_may_change (rules_of run.given) (at_in run.calls) run.due (state_of held run.progress.now) ≡ true)
 
 -- a run of the tree has ended, or it goes on from where it stands, before what may change the session
 abbrev pub Reaches : Rules → Option Chains → (old new : Held) → Reached → Type 0

@@ -32,7 +32,7 @@ impl From<Stop> for Halt {
     ghost use Rattle.std.specs.Prelude.{◌≡◌};
     ghost use Rattle.hush_run.specs.declared.advancing.Halt.TheVariants as halt;
 
-    ghost from_gives = { λ stop given. given ≡ halt.Stops stop };
+    ghost from_gives = { λ stop made. made ≡ halt.Stops stop };
 
     fn from(stop: Stop) -> Halt {
         Halt::Stops(stop)
@@ -227,6 +227,7 @@ fn delete_due(
     ensures keeps { given.now.may_change ≡ false → session.new ≡ session.old }
 {
     if !given.may_change {
+        progress.may_step(given)?;
         return Err(Halt::Waits(Due::Delete {
             force,
             failed,

@@ -135,9 +135,8 @@ impl Frames {
         ensures frames { self.new.frames ≡ with_behind behind self.old.frames }
         ensures depth { self.new.depth ≡ self.old.depth }
     {
-        match behind {
-            Some(frame) => self.push(frame),
-            None => {}
+        if let Some(frame) = behind {
+            self.push(frame);
         }
     }
 

@@ -1,5 +1,4 @@
-//! Runs a script without recursion: a loop over its steps, with one stack of frames and one list of scripts, both of
-//! them in room that is taken at the start.
+//! Goes on with a run without recursion: a loop over its steps, with one stack of frames and one list of scripts.
 ghost use Rattle.std.specs.Prelude.{◌≡◌, ◌≤◌, false};
 ghost use Rattle.hush_commands.specs.Limits.{most_depth};
 ghost use Rattle.hush_run.specs.Advances.{IsReady, RanOrWaits};

@@ -35,12 +35,12 @@ pub fn run(
     Runner::new(alloc).run(session, script, stand_ins, limits)
 }
 
-/// Runs scripts one after the other, and keeps the room that a run takes for the next one. What a run leaves in its local
-/// variables stays in memory until the next one begins.
+/// Runs scripts one after the other, and keeps the room that a run takes for the next one. A run that is dropped on its way
+/// takes its frames with it. What a run leaves in its local variables stays in memory until the next one begins.
 #[derive(Drop)]
 pub struct Runner {
     alloc: Global,
-    /// The frames of the run before, if there was one.
+    /// The frames of the run before, where that came to its end.
     frames: Option<Frames>,
     /// Room for the scripts that a run starts.
     started: Vec<Script>,
@@ -79,9 +79,10 @@ impl Runner {
         }
     }
 
-    /// The same, but only as far as to the first step that may change the session, if there is one: a `setenv`, `env set` or
+    /// The same, but where it stops on its way, it waits before a step that may change the session: a `setenv`, `env set` or
     /// `setexpr` with words, a `saveenv` or `env save` without, or the deletion of a name by `env delete`. The session is as
-    /// it was then, and [`Running::resume`] runs the rest.
+    /// it was then, and [`Running::resume`] runs the rest. That it waits before the first such step, also where nothing comes
+    /// of it, tests show, and no contract says.
     pub fn run_until_change<'r>(
         &'r mut self,
         session: &mut Session,

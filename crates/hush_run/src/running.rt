@@ -47,7 +47,7 @@ impl<'r> Running<'r> {
         }
     }
 
-    /// Runs to the end, or, where nothing may change the session, to the first step that may change it.
+    /// Runs to the end, or, where nothing may change the session, as far as to a step that may change it.
     #[inline(always)]
     pub(crate) fn go_on(self, session: &mut Session, may_change: bool) -> Reached<'r>
         requires { IsUnderway self }

@@ -75,7 +75,7 @@ impl Word {
         }
     }
 
-    /// How many bytes it is written in.
+    /// How many bytes its range has: none where that ends before it begins.
     pub(crate) fn len(self) -> usize
         ensures { result ≡ self.end - self.start }
     {

@@ -1,11 +1,12 @@
 //! The parts of a word, read of its bytes one by one.
 
-ghost use Rattle.std.specs.Prelude.{◌≡◌, ℕ, ◌+◌, ◌≤◌, List, Some, true, length, drop, map};
+ghost use Rattle.std.specs.Prelude.{◌≡◌, ℕ, ◌+◌, ◌<◌, ◌≤◌, List, Some, true, length, drop, map};
 ghost use Rattle.hush_words.specs.Bytes.{double_quote, dollar, single_quote, backslash};
 ghost use Rattle.hush_words.specs.Words.{is_special};
 ghost use Rattle.hush_words.specs.Words.Atom.{Quoted};
 ghost use Rattle.hush_words.specs.Parts.{range_bytes};
 ghost use Rattle.hush_words.specs.Ranges.{IsShort, TakesPart, FitsSome};
+ghost use Rattle.hush_words.specs.declared.parts.Part.TheVariants as part;
 ghost use Rattle.hush_words.specs.Steps.{StandsAt, Closes, Steps, StepsTo, place_in, optional_atoms};
 
 use crate::classes::{byte_at, ends_word, is_special, place_of};
@@ -208,6 +209,17 @@ fn backslash_before(source: &[u8], at: usize, next: u8) -> PlaceRead
     }
 }
 
+/// The mark that a pair of quotes is, and the place behind the one that opens it.
+fn opened(at: usize, inside: Inside) -> PlaceRead
+    requires { at < u32.MAX }
+    ensures { result ≡ record { part = Some part.Mark; next = place_in inside (at + 1) } }
+{
+    PlaceRead {
+        part: Some(Part::Mark),
+        next: Place { at: at + 1, inside },
+    }
+}
+
 /// Goes into a pair of single quotes, if it is closed.
 fn single_opens(source: &[u8], at: usize) -> Option<PlaceRead>
     requires few { IsShort source.now }
@@ -215,13 +227,7 @@ fn single_opens(source: &[u8], at: usize) -> Option<PlaceRead>
     ensures { Steps source.now (place_in Inside.Nothing at) result }
 {
     match single(source, at) {
-        Ok(_) => Some(PlaceRead {
-            part: Some(Part::Mark),
-            next: Place {
-                at: at + 1,
-                inside: Inside::Single,
-            },
-        }),
+        Ok(_) => Some(opened(at, Inside::Single)),
         Err(_) => None,
     }
 }
@@ -233,13 +239,7 @@ fn double_opens(source: &[u8], at: usize) -> Option<PlaceRead>
     ensures { Steps source.now (place_in Inside.Nothing at) result }
 {
     match double(source, at) {
-        Ok(_) => Some(PlaceRead {
-            part: Some(Part::Mark),
-            next: Place {
-                at: at + 1,
-                inside: Inside::Double,
-            },
-        }),
+        Ok(_) => Some(opened(at, Inside::Double)),
         Err(_) => None,
     }
 }

@@ -1,8 +1,14 @@
-use Rattle.std.proofs.Common.{rules as allowed, ◌≡◌, ◌∷◌, ◌<◌, length, refl, eqb-true, drop, sym, ◌∙◌}
+use Rattle.std.proofs.Common.{rules as allowed, ◌≡◌, Err, ◌∷◌, ◌<◌, length, refl, eqb-true, drop, sym, ◌∙◌}
 use Rattle.hush_run.specs.declared.turns.Due.TheVariants as due
+use Rattle.hush_run.specs.declared.advancing.Halt.TheVariants as halt
 use Rattle.hush_run.specs.Steps.{state_of, rules_of}
-use Rattle.hush_run.proofs.AdvanceLemmas.{delete_goes, delete_over, delete_stops_so}
+use Rattle.hush_run.proofs.AdvanceLemmas.{no_step_left, delete_goes, delete_over, delete_stops_so}
 use Rattle.hush_run.proofs.advancing.delete_due.Goals as goal
+
+pub returns-in_err-may_step-clause-goes : goal.returns-in_err-may_step-clause-goes
+returns-in_err-may_step-clause-goes c =
+    let same : c.from_residual.result ≡ Err (halt.Stops c.in_err-may_step.field-0.0) = search allowed in
+    rw same (no_step_left (rules_of c.args.given.now) c.args.calls.now c.args.frames.now.frames c.args.frames.now.depth (due.Delete c.args.force c.args.failed c.args.names) (state_of c.args.session.now c.args.progress.now) c.in_err-may_step.field-0.0 c.requires.ready.is_due tt c.in_err-may_step.ensures.may)
 
 pub returns-then-is_empty-clause-goes : goal.returns-then-is_empty-clause-goes
 returns-then-is_empty-clause-goes c =

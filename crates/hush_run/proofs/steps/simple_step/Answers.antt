@@ -8,7 +8,7 @@ use Rattle.hush_run.proofs.StepLemmas.{made_fields, no_fields, simple_halts, sim
 use Rattle.hush_run.proofs.steps.simple_step.Goals as goal
 
 pub returns-then-holds_back-clause-step : goal.returns-then-holds_back-clause-step
-returns-then-holds_back-clause-step c = c.in_ok-expand.ensures.same c.args.session.now
+returns-then-holds_back-clause-step c = (c.in_ok-expand.ensures.same c.args.session.now, c.in_ok-expand.ensures.fields.0)
 
 pub returns-in_err-expand-clause-step : goal.returns-in_err-expand-clause-step
 returns-in_err-expand-clause-step c =
