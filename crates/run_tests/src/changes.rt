@@ -7,31 +7,37 @@ use std::alloc::{AllocError, Global};
 use std::process::Abort;
 use std::test::Fail;
 
-/// The variables that each run begins with.
-const BEFORE: &[&[u8]] = &[b"d=1", b"q=echo q", b"x=echo 1; setenv b 2; echo $b"];
+/// The lines of the variables that no script here changes.
+const STAY: &[&[u8]] = &[b"q=echo q", b"x=echo 1; setenv b 2; echo $b"];
 
-/// A session with these variables, over a single image of 4,096 bytes FF.
+/// Those that each run begins with in front of them.
+const BEFORE: &[&[u8]] = &[b"d=1"];
+
+/// A session with these variables, whose names have one byte, over a single image of 4,096 bytes FF.
 fn begun(alloc: Global) -> Result<Option<Session>, AllocError> {
     let Some(mut session) = session(alloc)? else {
         return Ok(None);
     };
-    let variables: [(&[u8], &[u8]); 3] = [
-        (b"d", b"1"),
-        (b"q", b"echo q"),
-        (b"x", b"echo 1; setenv b 2; echo $b"),
-    ];
-    for (name, value) in variables {
-        let _written = session.write(name, Some(value), false);
+    for line in BEFORE.iter().chain(STAY) {
+        if let [name, b'=', value @ ..] = *line {
+            let _written = session.write(&[*name], Some(value), false);
+        }
     }
     Ok(Some(session))
 }
 
-/// Whether these are the lines of the session's variables.
-fn holds(session: &Session, lines: &[&[u8]]) -> bool {
-    session.vars().lines().eq(lines.iter().copied())
+/// Whether the lines of the session's variables are these and, behind them, those that stay.
+fn holds(session: &Session, front: &[&[u8]]) -> bool {
+    session.vars().lines().eq(front.iter().chain(STAY).copied())
 }
 
-/// A script; its ending, status and steps; its text; and the variables behind it, where a step of it may change the session.
+/// Whether nothing was saved into the session's image.
+fn is_blank(session: &Session) -> bool {
+    session.copy(Side::First) == Some([0xFFu8; 4096].as_slice())
+}
+
+/// A script; its ending, status and steps; its text; and what stands in front of the variables that stay, where a step of
+/// it may change the session.
 type Row = (
     &'static [u8],
     (Ending, u8, u32),
@@ -39,33 +45,18 @@ type Row = (
     Option<&'static [&'static [u8]]>,
 );
 
-/// What the variables are where `b` is 1, 2 or 12 in the end.
-const ONE: &[&[u8]] = &[
-    b"b=1",
-    b"d=1",
-    b"q=echo q",
-    b"x=echo 1; setenv b 2; echo $b",
-];
+/// What stands in front of them where `b` is 1, 2 or 12 in the end.
+const ONE: &[&[u8]] = &[b"b=1", b"d=1"];
 
-const TWO: &[&[u8]] = &[
-    b"b=2",
-    b"d=1",
-    b"q=echo q",
-    b"x=echo 1; setenv b 2; echo $b",
-];
+const TWO: &[&[u8]] = &[b"b=2", b"d=1"];
 
-const TWELVE: &[&[u8]] = &[
-    b"b=12",
-    b"d=1",
-    b"q=echo q",
-    b"x=echo 1; setenv b 2; echo $b",
-];
+const TWELVE: &[&[u8]] = &[b"b=12", b"d=1"];
 
-/// What they are without `d`.
-const LESS: &[&[u8]] = &[b"q=echo q", b"x=echo 1; setenv b 2; echo $b"];
+/// What stands there without `d`.
+const LESS: &[&[u8]] = &[];
 
 /// Scripts without such a step, and then those with one.
-const ROWS: [Row; 18] = [
+const ROWS: [Row; 19] = [
     (b"# none\n", (Ending::Finished, 0, 0), b"", None),
     (
         b"a=1; echo $a; mmc dev",
@@ -99,6 +90,14 @@ const ROWS: [Row; 18] = [
     ),
     (
         b"while true; do true; done",
+        (Ending::Steps, 0, 20),
+        b"",
+        None,
+    ),
+    // The head, nine fields that are bound, nine `true` and the `env delete` itself are all 20 steps: none is left for the
+    // deletion.
+    (
+        b"for i in 1 2 3 4 5 6 7 8 9; do true; done; env delete d",
         (Ending::Steps, 0, 20),
         b"",
         None,
@@ -188,8 +187,10 @@ fn run_in_two(
     match runner.run_until_change(session, &given.script, &given.stand_ins, &given.limits) {
         Reached::End(outcome) => (false, outcome),
         Reached::Change(run) => {
-            let is_blank = session.copy(Side::First) == Some([0xFFu8; 4096].as_slice());
-            assert!(rt; is_blank && holds(session, BEFORE), "it is as it was");
+            assert!(rt;
+                is_blank(session) && holds(session, BEFORE),
+                "it is as it was"
+            );
             (true, run.resume(session))
         }
     }
@@ -213,6 +214,11 @@ fn goes_on(rt: &impl Abort, alloc: Global, runner: &mut Runner, row: Row) -> Res
     assert!(rt; is_row(row, &outcome, &halved), "{:?}", row.0);
     assert!(rt;
         halved.copy(Side::First) == whole.copy(Side::First),
+        "{:?}",
+        row.0
+    );
+    assert!(rt;
+        is_blank(&halved) != row.2.starts_with(b"Saved"),
         "{:?}",
         row.0
     );

@@ -4,7 +4,7 @@
 use crate::tests::{LARGE, USUAL, Wanted, comes_to, start, talked};
 use failing_streams::{Narrow, Slow};
 use fw_session::SessionEnding;
-use std::alloc::Global;
+use std::alloc::{AllocError, Global};
 use std::process::Abort;
 use std::test::Fail;
 
@@ -74,19 +74,35 @@ fn texts_go_out_before_more_is_read(rt: HostRuntime) -> Result<(), Fail> {
     takes_writes(&rt, rt.alloc(), b".x\n.y\n.z\n", 6, 2)
 }
 
-/// 15 bytes of `[Finished 0 1]` wait, and 203 of each `.print`: with 322 of them 65,381.
-#[test]
-fn what_waits_is_no_more_than_65536_bytes(rt: HostRuntime) -> Result<(), Fail> {
-    let mut input = Vec::new(rt.alloc());
+/// How many bytes wait behind the input of `filling`, without the word that `echo` prints: 15 of `[Finished 0 1]`, 203 of
+/// each of 322 `.print`, 1 of the newline behind the word, 15 of `[Finished 0 1]` and 10 of `[Unknown]`.
+const WITHOUT_ECHO: usize = 15 + 322 * 203 + 1 + 15 + 10;
+
+/// An input with an `echo` of a word of so many bytes. The rest is 2,473 bytes, so that one read takes it all.
+fn filling(alloc: Global, count: usize) -> Result<Vec<u8>, AllocError> {
+    let mut input = Vec::new(alloc);
     input.extend_from_slice(b"setenv a ")?;
     input.extend_from_slice(&[b'x'; 200])?;
     input.extend_from_slice(b"\n")?;
     for _line in 0..322u32 {
         input.extend_from_slice(b".print\n")?;
     }
-    takes_writes(&rt, rt.alloc(), &input, usize::MAX, 1)?;
-    input.extend_from_slice(b".print\n")?;
-    takes_writes(&rt, rt.alloc(), &input, usize::MAX, 2)
+    input.extend_from_slice(b"echo ")?;
+    for _byte in 0..count {
+        input.push(b'y')?;
+    }
+    input.extend_from_slice(b"\n.x\n")?;
+    Ok(input)
+}
+
+/// 65,407 bytes wait and the word of `echo`: where it has 129 bytes these are 65,536, and one more is too many.
+#[test]
+fn what_waits_is_no_more_than_65536_bytes(rt: HostRuntime) -> Result<(), Fail> {
+    assert_eq!(rt; WITHOUT_ECHO + 129, 65_536);
+    let full = filling(rt.alloc(), 129)?;
+    takes_writes(&rt, rt.alloc(), &full, usize::MAX, 1)?;
+    let too_full = filling(rt.alloc(), 130)?;
+    takes_writes(&rt, rt.alloc(), &too_full, usize::MAX, 2)
 }
 
 /// How many bytes a writer takes before it fails, and the variables then: the first write is the ten bytes of `.x`, and
