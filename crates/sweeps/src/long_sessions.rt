@@ -29,7 +29,7 @@ pub fn sweep<W: Write>(alloc: Global, out: &mut W, entries: &[TextEntry]) -> io:
 }
 
 /// A session over an image that holds nothing, without defaults; none where memory ran out.
-fn start(alloc: Global) -> Option<Session> {
+pub fn start(alloc: Global) -> Option<Session> {
     let stored = Stored {
         geometry: Geometry::new(Layout::Single, SIZE)?,
         first: vec![in alloc; 255u8; SIZE as usize].ok()?,

@@ -3,6 +3,7 @@
 
 use crate::lines::{refused, row, wrong};
 use crate::long_sessions;
+use crate::long_tools::{self, Given};
 use bench_parts::name;
 use envcfg_core::{
     Config, ConfigFault, ImportText, TextEntry, TextFault, parse_config, parse_import,
@@ -36,7 +37,13 @@ pub fn sweep<W: Write>(alloc: Global, out: &mut W) -> io::Result<()> {
         return Ok(());
     };
     sweep_defaults(alloc, out, &entries, &text)?;
-    long_sessions::sweep(alloc, out, &entries)
+    long_sessions::sweep(alloc, out, &entries)?;
+    let given = Given {
+        entries: &entries,
+        script: &words,
+        text: &text,
+    };
+    long_tools::sweep(alloc, out, &given)
 }
 
 /// The lines: `v` and six digits, the separator, `1` and a newline.

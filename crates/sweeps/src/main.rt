@@ -15,6 +15,7 @@ mod lines;
 mod long_blocks;
 mod long_sessions;
 mod long_texts;
+mod long_tools;
 mod many;
 mod pages;
 mod pairs;
