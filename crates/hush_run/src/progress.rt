@@ -1,5 +1,5 @@
 //! What a run is given, and what it changes.
-ghost use Rattle.std.specs.Prelude.{◌≡◌, ◌<◌, ℕ, true, false, map, IfOk};
+ghost use Rattle.std.specs.Prelude.{◌≡◌, ◌<◌, ℕ, false, not, ◌&&◌, map, IfOk};
 ghost use Rattle.hush_words.specs.Parts.{word_atoms};
 ghost use Rattle.env_session.specs.Session.{Held};
 ghost use Rattle.hush_commands.specs.Carrying.{done_of};
@@ -27,8 +27,7 @@ impl<'a> Given<'a> {
     /// Whether the simple command of these fields has to wait: it may change the session, and nothing may change it yet.
     #[inline(always)]
     pub(crate) fn holds_back(&self, fields: &FieldBuffer) -> bool
-        ensures only { result ≡ true → self.now.may_change ≡ false }
-        ensures changes { result ≡ true → may_change fields.now.done ≡ true }
+        ensures holds { result ≡ (not self.now.may_change && may_change fields.now.done) }
         ensures leaves { result ≡ false → self.now.may_change ≡ false → (status : ℕ) (held : Held) →
             (done_of self.now.stand_ins.now fields.now.done status held).1 ≡ held }
     {
