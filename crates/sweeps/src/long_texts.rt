@@ -3,7 +3,6 @@
 
 use crate::lines::{refused, row, wrong};
 use crate::long_sessions;
-use crate::long_tools::{self, Given};
 use bench_parts::name;
 use envcfg_core::{
     Config, ConfigFault, ImportText, TextEntry, TextFault, parse_config, parse_import,
@@ -37,13 +36,7 @@ pub fn sweep<W: Write>(alloc: Global, out: &mut W) -> io::Result<()> {
         return Ok(());
     };
     sweep_defaults(alloc, out, &entries, &text)?;
-    long_sessions::sweep(alloc, out, &entries)?;
-    let given = Given {
-        entries: &entries,
-        script: &words,
-        text: &text,
-    };
-    long_tools::sweep(alloc, out, &given)
+    long_sessions::sweep(alloc, out, &entries)
 }
 
 /// The lines: `v` and six digits, the separator, `1` and a newline.
@@ -57,7 +50,11 @@ fn lines(alloc: Global, separator: u8) -> Result<Vec<u8>, AllocError> {
 }
 
 /// The lines, made anew where memory ran out.
-fn lines_twice<W: Write>(alloc: Global, out: &mut W, separator: u8) -> io::Result<Option<Vec<u8>>> {
+pub fn lines_twice<W: Write>(
+    alloc: Global,
+    out: &mut W,
+    separator: u8,
+) -> io::Result<Option<Vec<u8>>> {
     if let Ok(text) = lines(alloc, separator) {
         return Ok(Some(text));
     }

@@ -2,23 +2,23 @@
 
 use crate::lines::{refused, row, wrong};
 use crate::long_sessions::start;
-use crate::long_texts::{COUNT, are_first};
+use crate::long_texts::{COUNT, are_first, lines_twice};
 use crate::pages::Page;
 use env_session::{Session, Side};
-use envcfg_core::{ImportText, ScriptText, TextEntry};
+use envcfg_core::{ImportText, ScriptText, TextEntry, TextFault, parse_import};
 use fw_tools::{ToolEnd, ToolFault, import, import_text, script_text, set_script};
 use std::alloc::Global;
 use std::io::{self, Write};
 
 /// The same entries in each form in which a tool takes them.
 #[derive(Clone, Copy)]
-pub struct Given<'a> {
+struct Given<'a> {
     /// Entries that were read before.
-    pub entries: &'a [TextEntry],
+    entries: &'a [TextEntry],
     /// A set script of them.
-    pub script: &'a [u8],
+    script: &'a [u8],
     /// A text of them for import.
-    pub text: &'a [u8],
+    text: &'a [u8],
 }
 
 /// A tool that takes entries or a text.
@@ -33,10 +33,10 @@ enum Tool {
 impl Tool {
     fn name(self) -> &'static str {
         match self {
-            Tool::Script => "500 lines by set_script",
-            Tool::ReadScript => "500 lines by script_text",
-            Tool::Import => "500 entries by import",
-            Tool::ReadImport => "500 entries by import_text",
+            Tool::Script => "entries by set_script",
+            Tool::ReadScript => "entries by script_text",
+            Tool::Import => "entries by import",
+            Tool::ReadImport => "entries by import_text",
         }
     }
 
@@ -72,7 +72,8 @@ fn is_blank(session: &Session) -> bool {
 
 /// Whether the variables are those of some first entries.
 fn has_some_first(session: &Session) -> bool {
-    (0..=COUNT).any(|count| are_first(session.vars(), count))
+    let count = session.vars().iter().count();
+    are_first(session.vars(), u32::try_from(count).unwrap_or(u32::MAX))
 }
 
 /// A call over a session. Refused for memory, it has printed nothing, the copy is as it was and some first entries stand; made
@@ -101,8 +102,22 @@ fn sweep_over<W: Write>(
     row(out, tool.name(), b"all")
 }
 
+/// The entries of a text, read again where memory ran out; none where that was not to be.
+fn entries_of<W: Write>(
+    alloc: Global,
+    out: &mut W,
+    text: &[u8],
+) -> io::Result<Option<Vec<TextEntry>>> {
+    let mut read = parse_import(alloc, text);
+    if matches!(&read, Err(TextFault::Memory)) {
+        refused(out, "entries for tools")?;
+        read = parse_import(alloc, text);
+    }
+    Ok(read.ok())
+}
+
 /// Each tool over a session of its own.
-pub fn sweep<W: Write>(alloc: Global, out: &mut W, given: &Given<'_>) -> io::Result<()> {
+fn sweep_tools<W: Write>(alloc: Global, out: &mut W, given: &Given<'_>) -> io::Result<()> {
     for tool in [
         Tool::Script,
         Tool::ReadScript,
@@ -111,13 +126,31 @@ pub fn sweep<W: Write>(alloc: Global, out: &mut W, given: &Given<'_>) -> io::Res
     ] {
         let mut started = start(alloc);
         if started.is_none() {
-            refused(out, "start for 500 entries by a tool")?;
+            refused(out, "start for entries by a tool")?;
             started = start(alloc);
         }
         match started {
             Some(mut session) => sweep_over(alloc, out, tool, given, &mut session)?,
-            None => return wrong(out, "start for 500 entries by a tool, made again"),
+            None => return wrong(out, "start for entries by a tool, made again"),
         }
     }
     Ok(())
+}
+
+/// The entries in each form, and each tool over them.
+pub fn sweep<W: Write>(alloc: Global, out: &mut W) -> io::Result<()> {
+    let text = lines_twice(alloc, out, b'=')?;
+    let script = lines_twice(alloc, out, b' ')?;
+    let (Some(text), Some(script)) = (text, script) else {
+        return wrong(out, "lines for tools, made again");
+    };
+    let Some(entries) = entries_of(alloc, out, &text)? else {
+        return wrong(out, "entries for tools, made again");
+    };
+    let given = Given {
+        entries: &entries,
+        script: &script,
+        text: &text,
+    };
+    sweep_tools(alloc, out, &given)
 }

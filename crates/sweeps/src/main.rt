@@ -4,7 +4,7 @@
 //! scripts/test runs this program once for each of its allocations, with that one refused. A line that begins with
 //! `refused:` says which call met the refusal; every other line is the same whichever allocation it was. A word on standard
 //! input chooses a part by its first letter, so that what is large isn't done again for each small allocation: `small`,
-//! `texts`, `wide` or `large`. In each module what is swept stands last, behind the steps that it takes.
+//! `texts`, `entries`, `wide` or `large`. In each module what is swept stands last, behind the steps that it takes.
 #![tactic(auto)]
 
 mod defaulting;
@@ -39,6 +39,7 @@ fn main(rt: HostRuntime) -> io::Result<()> {
     match word[0] {
         b's' => sweep_small(&rt),
         b't' => sweep_texts(&rt),
+        b'e' => long_tools::sweep(rt.alloc(), &mut rt.stdout()),
         b'w' => wide::sweep(rt.alloc(), &mut rt.stdout()),
         b'l' => large::sweep(rt.alloc(), &mut rt.stdout()),
         _ => sweep_all(&rt),
@@ -48,6 +49,7 @@ fn main(rt: HostRuntime) -> io::Result<()> {
 fn sweep_all(rt: &HostRuntime) -> io::Result<()> {
     sweep_small(rt)?;
     sweep_texts(rt)?;
+    long_tools::sweep(rt.alloc(), &mut rt.stdout())?;
     wide::sweep(rt.alloc(), &mut rt.stdout())?;
     large::sweep(rt.alloc(), &mut rt.stdout())
 }
