@@ -72,8 +72,11 @@ fn is_blank(session: &Session) -> bool {
 
 /// Whether the variables are those of some first entries.
 fn has_some_first(session: &Session) -> bool {
-    let count = session.vars().iter().count();
-    are_first(session.vars(), u32::try_from(count).unwrap_or(u32::MAX))
+    let mut count = 0u32;
+    for _variable in session.vars().iter() {
+        count = count.wrapping_add(1);
+    }
+    are_first(session.vars(), count)
 }
 
 /// A call over a session. Refused for memory, it has printed nothing, the copy is as it was and some first entries stand; made
