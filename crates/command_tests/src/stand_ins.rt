@@ -1,6 +1,8 @@
 //! Stand-in files.
 
+use crate::fixtures::repeated;
 use hush_commands::{StandInFault, StandIns};
+use std::alloc::{AllocError, Global};
 use std::test::Fail;
 
 #[test]
@@ -124,6 +126,54 @@ fn many_stand_ins_are_read(rt: HostRuntime) -> Result<(), Fail> {
     text.extend_from_slice(b"n54321")?;
     let fault = StandIns::parse(rt.alloc(), &text).err();
     assert_eq!(rt; fault, Some(StandInFault::Twice(100_001)));
+    Ok(())
+}
+
+/// The longest name of [`names_of_each_length`].
+const LONGEST: u8 = 40;
+
+/// A stand-in file with a name of each length, `n`, `nn` and so on, which has its length as status.
+fn names_of_each_length(alloc: Global) -> Result<Vec<u8>, AllocError> {
+    let mut text = Vec::new(alloc);
+    for length in 1..=LONGEST {
+        text.extend_from_slice(&repeated(alloc, b"n", u32::from(length))?)?;
+        text.extend_from_slice(format!(in alloc; " {length}\n")?.as_bytes())?;
+    }
+    Ok(text)
+}
+
+/// Two texts, one behind the other.
+fn joined(alloc: Global, first: &[u8], second: &[u8]) -> Result<Vec<u8>, AllocError> {
+    let mut text = Vec::from_slice(alloc, first)?;
+    text.extend_from_slice(second)?;
+    Ok(text)
+}
+
+#[test]
+fn names_of_each_length_are_told_apart(rt: HostRuntime) -> Result<(), Fail> {
+    let text = names_of_each_length(rt.alloc())?;
+    let stand_ins = match StandIns::parse(rt.alloc(), &text) {
+        Ok(stand_ins) => stand_ins,
+        Err(fault) => return assert!(rt; false, "{fault:?}"),
+    };
+    for length in 1..=LONGEST {
+        let name = repeated(rt.alloc(), b"n", u32::from(length))?;
+        assert_eq!(rt; stand_ins.status(&name), Some(length), "{length} bytes");
+        let front = repeated(rt.alloc(), b"n", u32::from(length).wrapping_sub(1))?;
+        let others = [
+            joined(rt.alloc(), &front, b"m")?,
+            joined(rt.alloc(), &front, b"\0")?,
+            joined(rt.alloc(), b"m", &front)?,
+            joined(rt.alloc(), &name, b"\0")?,
+            joined(rt.alloc(), b"\0", &name)?,
+        ];
+        for other in &others {
+            assert_eq!(rt; stand_ins.status(other), None, "{other:?}");
+        }
+        let twice = joined(rt.alloc(), &text, &name)?;
+        let fault = StandIns::parse(rt.alloc(), &twice).err();
+        assert_eq!(rt; fault, Some(StandInFault::Twice(41)), "{length} bytes");
+    }
     Ok(())
 }
 

@@ -23,7 +23,7 @@ abbrev pub is_called : List ℕ → Vec ℕ Global → Bool
 is_called n k = is_eq (order n k.items)
 
 -- a look-up
-lookup-entries : {V W : Type 0} (view : V → W) (n : List ℕ) (es : List (Entry V)) → option_map view (lookup (is_called n) es) ≡ find order n (entries_view view es)
+pub lookup-entries : {V W : Type 0} (view : V → W) (n : List ℕ) (es : List (Entry V)) → option_map view (lookup (is_called n) es) ≡ find order n (entries_view view es)
 lookup-entries view n [] = refl
 lookup-entries view n (e ∷ es) =
     elim (order n e.0.items) as (λ o. option_map view (cond (is_eq o) (Some e.1) (lookup (is_called n) es)) ≡ cond (is_eq o) (Some (view e.1)) (find order n (entries_view view es))) [
@@ -33,7 +33,7 @@ lookup-entries view n (e ∷ es) =
     ]
 
 -- one more
-insert-entries : {V W : Type 0} (view : V → W) (es : List (Entry V)) (k : Vec ℕ Global) (v : V) → entries_view view (insert_entry key_order es k v) ≡ put order k.items (view v) (entries_view view es)
+pub insert-entries : {V W : Type 0} (view : V → W) (es : List (Entry V)) (k : Vec ℕ Global) (v : V) → entries_view view (insert_entry key_order es k v) ≡ put order k.items (view v) (entries_view view es)
 insert-entries view [] k v = refl
 insert-entries view (e ∷ es) k v =
     elim (order k.items e.0.items) as (λ o. entries_view view (match_ordering o ((k, v) ∷ e ∷ es) ((e.0, v) ∷ es) (e ∷ insert_entry key_order es k v)) ≡ by_order o ((k.items, view v) ∷ entry_view view e ∷ entries_view view es) ((e.0.items, view v) ∷ entries_view view es) (entry_view view e ∷ put order k.items (view v) (entries_view view es))) [

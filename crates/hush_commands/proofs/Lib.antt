@@ -1,6 +1,7 @@
 pub mod BlankLemmas
 pub mod BuiltinLemmas
 pub mod EntryLemmas
+pub mod ShortNameLemmas
 pub mod StandInLemmas
 pub mod Rows
 pub mod ItemLemmas

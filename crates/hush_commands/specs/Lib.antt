@@ -3,6 +3,7 @@ pub mod Limits
 pub mod Builtins
 pub mod Statuses
 pub mod StandInLines
+pub mod ShortNames
 pub mod StandIns
 pub mod Messages
 pub mod Expansion

@@ -1,8 +1,10 @@
 //! Stand-ins: names of commands that need hardware, each with the status that it answers.
-ghost use Rattle.std.specs.Prelude.{◌≡◌, Ok, IfOk, IfErr};
+ghost use Rattle.std.specs.Prelude.{◌≡◌, Ok, IfOk, OnOk, IfErr};
 ghost use Rattle.std.specs.FinMap as names;
 ghost use Rattle.hush_commands.specs.StandIns.{stand_ins_of, with_line, with_stand_in, IsFaultOf};
+ghost use Rattle.hush_commands.specs.declared.stand_in_line.StandInFault.TheVariants.{Memory};
 
+use crate::short_names::{ShortName, packed};
 use crate::stand_in_line::{StandInFault, read_line};
 use std::alloc::Global;
 use std::collections::BTreeMap;
@@ -12,23 +14,22 @@ use text_parts::numbered_lines;
 /// The stand-ins of a run: the commands that only hardware has, each with the status that it answers here.
 #[derive(Drop)]
 pub struct StandIns {
-    statuses: BTreeMap<Vec<u8>, u8>,
+    short: BTreeMap<ShortName, u8>,
+    long: BTreeMap<Vec<u8>, u8>,
 }
 
 impl Model for StandIns {
-    ghost use Rattle.std.specs.Prelude.{T};
-    ghost use Rattle.std.specs.FinMap.Entries.{is_sorted};
     ghost use Rattle.std.specs.FinMap as names;
-    ghost use Rattle.hush_commands.specs.StandIns.{Statuses, name_order, statuses_code};
-    ghost use Rattle.hush_commands.specs.Entries.{entries_view, status_view};
+    ghost use Rattle.hush_commands.specs.StandIns.{Statuses, statuses_code};
+    ghost use Rattle.hush_commands.specs.ShortNames.{both, IsSplit};
 
     ghost Value = { Statuses };
 
     ghost coded = { statuses_code };
 
-    ghost view = { λ a. names.from_sorted (entries_view status_view a.statuses.entries) };
+    ghost view = { λ a. names.from_entries (both a.short.entries a.long.entries) };
 
-    ghost invariant = { λ a. T (is_sorted name_order (entries_view status_view a.statuses.entries)) };
+    ghost invariant = { λ a. IsSplit a.short.entries a.long.entries };
 }
 
 impl StandIns {
@@ -51,7 +52,10 @@ impl StandIns {
     pub fn status(&self, name: &[u8]) -> Option<u8>
         ensures { result ≡ names.get self.now name.now }
     {
-        self.statuses.get(name).copied()
+        match packed(name) {
+            Some(key) => self.short.get(&key).copied(),
+            None => self.long.get(name).copied(),
+        }
     }
 
     /// No stand-ins. It takes no memory.
@@ -59,7 +63,8 @@ impl StandIns {
         ensures { result ≡ names.empty }
     {
         StandIns {
-            statuses: BTreeMap::new(alloc),
+            short: BTreeMap::new(alloc),
+            long: BTreeMap::new(alloc),
         }
     }
 
@@ -86,10 +91,24 @@ impl StandIns {
         ensures read { IfOk result (λ _. with_stand_in number self.old name.now status ≡ Ok self.new) }
         ensures refused { IfErr result (IsFaultOf (with_stand_in number self.old name.now status)) }
     {
-        let name = Vec::from_slice(alloc, name)?;
-        match self.statuses.insert(name, status)? {
+        match self.insert(alloc, name, status)? {
             Some(_old) => Err(StandInFault::Twice(number)),
             None => Ok(()),
+        }
+    }
+
+    /// Gives a name a status, and answers the one that it had.
+    fn insert(&mut self, alloc: Global, name: &[u8], status: u8) -> Result<Option<u8>, StandInFault>
+        ensures old { IfOk result (λ old. old ≡ names.get self.old name.now) }
+        ensures inserted { OnOk result (self.new ≡ names.insert self.old name.now status) }
+        ensures refused { IfErr result (λ fault. fault ≡ Memory) }
+    {
+        match packed(name) {
+            Some(key) => Ok(self.short.insert(key, status)?),
+            None => {
+                let name = Vec::from_slice(alloc, name)?;
+                Ok(self.long.insert(name, status)?)
+            }
         }
     }
 }

@@ -104,12 +104,13 @@ pub const SET_SCRIPT_TOKENS: [&[u8]; 10] = [
 ];
 
 /// Stand-in files that are damaged.
-pub const STAND_INS: [&[u8]; 5] = [
+pub const STAND_INS: [&[u8]; 6] = [
     b"mmc/dev\nusb 1\n",
     b"# c\n\nusb  007 \r\nmmc\n \t\next4load 255\n",
     b"mmc 0\nusb 1\nmmc 1\n",
     b"mmc 3\nload 256\n",
     b"  # 3\nfdt 9\necho 0\nbootz 1\n",
+    b"fastboot_device 2\nfastboot_devices 4\n",
 ];
 
 /// Pieces that are put into stand-in files.
@@ -129,7 +130,7 @@ pub const STAND_IN_TOKENS: [&[u8]; 12] = [
 ];
 
 /// The names that are asked for behind a stand-in file.
-pub const STAND_IN_NAMES: [&[u8]; 8] = [
+pub const STAND_IN_NAMES: [&[u8]; 10] = [
     b"mmc",
     b"usb",
     b"ext4load",
@@ -138,6 +139,8 @@ pub const STAND_IN_NAMES: [&[u8]; 8] = [
     b"bootz",
     b"#",
     b"mmc/dev",
+    b"fastboot_device",
+    b"fastboot_devices",
 ];
 
 /// Scripts that are damaged.

@@ -28,7 +28,7 @@ pub fn sweep<W: Write>(alloc: Global, out: &mut W) -> io::Result<()> {
     let (Some(text), Some(words)) = (text, words) else {
         return wrong(out, "lines of a text, made again");
     };
-    sweep_stand_ins(alloc, out, &words)?;
+    sweep_stand_ins(alloc, out)?;
     sweep_script(alloc, out, &words)?;
     sweep_configuration(alloc, out)?;
     let _lines = sweep_entries(alloc, out, Form::SetScript, &words)?;
@@ -62,22 +62,49 @@ pub fn lines_twice<W: Write>(
     Ok(lines(alloc, separator).ok())
 }
 
-/// The stand-ins of a file, read again where memory ran out.
-fn sweep_stand_ins<W: Write>(alloc: Global, out: &mut W, text: &[u8]) -> io::Result<()> {
-    let mut read = StandIns::parse(alloc, text);
+/// A name that is longer than those that stand-ins keep in a number.
+fn long_name(i: u32) -> [u8; 24] {
+    let mut long = [b'l'; 24];
+    long[17..].copy_from_slice(&name(i));
+    long
+}
+
+/// A stand-in file: each name, and a long one behind it.
+fn stand_in_lines(alloc: Global) -> Result<Vec<u8>, AllocError> {
+    let mut text = Vec::new(alloc);
+    for i in 0..COUNT {
+        text.extend_from_slice(&name(i))?;
+        text.extend_from_slice(b" 1\n")?;
+        text.extend_from_slice(&long_name(i))?;
+        text.extend_from_slice(b" 2\n")?;
+    }
+    Ok(text)
+}
+
+/// The stand-ins of a file, which is made and read again where memory ran out.
+fn sweep_stand_ins<W: Write>(alloc: Global, out: &mut W) -> io::Result<()> {
+    let mut text = stand_in_lines(alloc);
+    if text.is_err() {
+        refused(out, "lines of stand-ins")?;
+        text = stand_in_lines(alloc);
+    }
+    let Ok(text) = text else {
+        return wrong(out, "1,000 stand-ins");
+    };
+    let mut read = StandIns::parse(alloc, &text);
     if matches!(&read, Err(StandInFault::Memory)) {
-        refused(out, "500 stand-ins")?;
-        read = StandIns::parse(alloc, text);
+        refused(out, "1,000 stand-ins")?;
+        read = StandIns::parse(alloc, &text);
     }
     let Ok(stand_ins) = read else {
-        return wrong(out, "500 stand-ins");
+        return wrong(out, "1,000 stand-ins");
     };
     for i in 0..COUNT {
-        if stand_ins.status(&name(i)) != Some(1) {
-            return wrong(out, "500 stand-ins");
+        if stand_ins.status(&name(i)) != Some(1) || stand_ins.status(&long_name(i)) != Some(2) {
+            return wrong(out, "1,000 stand-ins");
         }
     }
-    row(out, "500 stand-ins", b"all")
+    row(out, "1,000 stand-ins", b"all")
 }
 
 /// A script of its own copy of the text.
