@@ -6,7 +6,6 @@ use Rattle.std.specs.BTreeMap.{insert_entry}
 use Rattle.hush_commands.specs.Entries.{Entry}
 use Rattle.hush_commands.specs.StandIns.{Statuses}
 use Rattle.hush_commands.specs.ShortNames.{most}
-use Rattle.hush_commands.proofs.EntryLemmas.{is_called}
 use Rattle.hush_commands.proofs.StandInLemmas.{joined, short-get, long-get, short-insert, long-insert, short-split, long-splits}
 use Rattle.hush_commands.proofs.stand_ins.StandIns.insert.Goals as goal
 
