@@ -2,7 +2,8 @@ pub mod BlankLemmas
 pub mod BuiltinLemmas
 pub mod EntryLemmas
 pub mod ShortNameLemmas
-pub mod StandInLemmas
+pub mod GatheringLemmas
+pub mod OrderLemmas
 pub mod Rows
 pub mod ItemLemmas
 pub mod BufferLemmas

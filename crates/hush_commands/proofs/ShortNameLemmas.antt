@@ -1,22 +1,18 @@
 -- Short names, packed and as they are.
-use Rattle.std.proofs.Common.{◌≡◌, ◌≤◌, ◌<◌, ℕ, zero, suc, Bool, true, false, cond, T, List, [], ◌∷◌, ◌++◌, ◌+◌, ◌*◌, ◌^◌, ◌/◌, ◌%◌, length, take, drop, map, Some, None, refl, sym, ap, subst, ◌∙◌, arith, get_or}
+use Rattle.std.proofs.Common.{◌≡◌, ◌≤◌, ◌<◌, ℕ, zero, suc, true, T, List, [], ◌∷◌, ◌++◌, ◌+◌, ◌*◌, ◌^◌, ◌/◌, ◌%◌, length, take, drop, refl, sym, ap, subst, ◌∙◌, arith, get_or}
 use Rattle.std.specs.Prelude.{replicate, slice_index}
 use Rattle.std.proofs.lemmas.List.{length-append, length-drop, length-replicate, length-set, take-set-le, get_or-set_same}
 use Rattle.std.proofs.Math.Seq.{take-append_seam}
 use Rattle.std.specs.Int.{w128, byte_at, byte_worth, bytes_low_first, sum_through, from_le_bytes, to_le_bytes}
-use Rattle.std.specs.Ordering.{is_eq, match_ordering, nat_cmp}
-use Rattle.std.specs.BTreeMap.{insert_entry}
-use Rattle.hush_commands.specs.Entries.{Entry, entries_view, status_view}
+use Rattle.std.specs.Ordering.{is_eq}
 use Rattle.std.specs.declared.cmp.Ordering.{Ordering}
 use Rattle.std.specs.declared.cmp.Ordering.TheVariants.{Less, Equal, Greater}
-use Rattle.std.specs.Cmp.{tied_itself, both_ways, nat_cmp_total}
+use Rattle.std.specs.Cmp.{tied_itself}
 use Rattle.std.specs.Cmp.Lexicographic.{nat_list_cmp_total}
 use Rattle.std.specs.FinMap.{nat_cmp-IsAntisymmetric, slice_cmp-IsAntisymmetric}
 use Rattle.std.proofs.lemmas.Nat.{div-mul-add, mod-mul-add}
 use Rattle.std.proofs.Math.Nat.{div-one, div-div-eq-div-mul, pow-suc, mul_assoc}
-use Rattle.hush_commands.specs.ShortNames.{most, padded, packed, unpacked, IsPacked, ArePacked, AreLong, unpacked_entry}
-use Rattle.std.specs.Map.{lookup}
-use Rattle.std.specs.FinMap.Entries.{find}
+use Rattle.hush_commands.specs.ShortNames.{most, padded, packed, unpacked, IsPacked}
 use Rattle.hush_commands.specs.StandIns.{name_order as order}
 
 pub equal_from : (r : Ordering) → is_eq r ≡ true → r ≡ Equal
@@ -86,74 +82,5 @@ unpacked-packed name h small =
     ∙ take-set-le {A = ℕ} (length name) (name ++ drop (length name) (replicate 16 0)) 15 (length name) h
     ∙ take-append_seam {A = ℕ} name (drop (length name) (replicate 16 0))
 
--- a packed name is looked for by its key as by its bytes
-same_test : (n : List ℕ) (k : ℕ) → unpacked (packed n) ≡ n → IsPacked k → is_eq (nat_cmp (packed n) k) ≡ is_eq (order n (unpacked k))
-same_test n k back p =
-    both_ways _ _
-    (λ e. let there : unpacked k ≡ n = sym (ap unpacked (nat_cmp-IsAntisymmetric (packed n) k (equal_from _ e))) ∙ back in
-    ap (λ m. is_eq (order n m)) there ∙ ap is_eq (name_itself n))
-    (λ e. let there : packed n ≡ k = ap packed (name_same n (unpacked k) (equal_from _ e)) ∙ p.same in
-    ap (λ m. is_eq (nat_cmp m k)) there ∙ ap is_eq (tied_itself nat_cmp_total k))
-
-pub find-short : (n : List ℕ) (es : List (ℕ × ℕ)) → unpacked (packed n) ≡ n → ArePacked es → lookup (λ k. is_eq (nat_cmp (packed n) k)) es ≡ find order n (map unpacked_entry es)
-find-short n [] back h = refl
-find-short n (e ∷ es) back h = λ i. cond (same_test n e.0 back h.0 i) (Some e.1) (find-short n es back h.1 i)
-
-shadowed : {A : Type 0} (b : Bool) (x y z : A) → cond b x z ≡ cond b x (cond b y z)
-shadowed true x y z = refl
-shadowed false x y z = refl
-
-swapped : {A : Type 0} (a b : Bool) (x y z : A) → (a ≡ true → b ≡ true → T false) → cond a x (cond b y z) ≡ cond b y (cond a x z)
-swapped true true x y z apart = absurd (apart refl refl)
-swapped true false x y z apart = refl
-swapped false b x y z apart = refl
-
--- one more packed name
-pub find-insert : (q n : List ℕ) (v : ℕ) (es : List (ℕ × ℕ)) → unpacked (packed n) ≡ n → ArePacked es →
-    find order q (map unpacked_entry (insert_entry nat_cmp es (packed n) v)) ≡ cond (is_eq (order q n)) (Some v) (find order q (map unpacked_entry es))
-find-insert q n v [] back h = ap (λ m. cond (is_eq (order q m)) (Some v) None) back
-find-insert q n v (e ∷ es) back h =
-    elim (nat_cmp (packed n) e.0) as (λ r. nat_cmp (packed n) e.0 ≡ r →
-    find order q (map unpacked_entry (match_ordering r ((packed n, v) ∷ e ∷ es) ((e.0, v) ∷ es) (e ∷ insert_entry nat_cmp es (packed n) v)))
-    ≡ cond (is_eq (order q n)) (Some v) (find order q (map unpacked_entry (e ∷ es)))) [
-      | Less ↦ λ is. ap (λ m. cond (is_eq (order q m)) (Some v) (find order q (map unpacked_entry (e ∷ es)))) back
-      | Equal ↦ λ is.
-          let there : unpacked e.0 ≡ n = sym (ap unpacked (nat_cmp-IsAntisymmetric (packed n) e.0 is)) ∙ back in
-          shadowed (is_eq (order q (unpacked e.0))) (Some v) (Some e.1) (find order q (map unpacked_entry es))
-          ∙ ap (λ m. cond (is_eq (order q m)) (Some v) (find order q (map unpacked_entry (e ∷ es)))) there
-      | Greater ↦ λ is.
-          ap (cond (is_eq (order q (unpacked e.0))) (Some e.1)) (find-insert q n v es back h.1)
-          ∙ swapped _ _ _ _ _ (λ a b.
-          let there : packed n ≡ e.0 = ap packed (sym (name_same q n (equal_from _ b)) ∙ name_same q (unpacked e.0) (equal_from _ a)) ∙ h.0.same in
-          subst (λ r. T (is_eq r)) (sym (tied_itself nat_cmp_total e.0) ∙ ap (λ k. nat_cmp k e.0) (sym there) ∙ is) tt)
-    ] refl
-
-pub packed-insert : (k v : ℕ) (es : List (ℕ × ℕ)) → IsPacked k → ArePacked es → ArePacked (insert_entry nat_cmp es k v)
-packed-insert k v [] p h = (p, tt)
-packed-insert k v (e ∷ es) p h =
-    elim (nat_cmp k e.0) as (λ r. ArePacked (match_ordering r ((k, v) ∷ e ∷ es) ((e.0, v) ∷ es) (e ∷ insert_entry nat_cmp es k v))) [
-      | Less ↦ (p, h)
-      | Equal ↦ h
-      | Greater ↦ (h.0, packed-insert k v es p h.1)
-    ]
-
--- each name is looked for among those of its length alone
-other_length : {A : Type 0} (x y : List ℕ) (a b : A) → (length x ≡ length y → T false) → cond (is_eq (order x y)) a b ≡ b
-other_length x y a b apart =
-    elim (order x y) as (λ r. order x y ≡ r → cond (is_eq r) a b ≡ b) [
-      | Less ↦ λ is. refl
-      | Equal ↦ λ is. absurd (apart (ap length (name_same x y is)))
-      | Greater ↦ λ is. refl
-    ] refl
-
-pub none-long : (q : List ℕ) (es : List (Entry ℕ)) → length q ≤ most → AreLong es → find order q (entries_view status_view es) ≡ None
-none-long q [] short h = refl
-none-long q (e ∷ es) short h =
-    let long : most < length e.0.items = h.0 in
-    other_length q e.0.items _ _ (λ same. absurd (omega (arith))) ∙ none-long q es short h.1
-
-pub none-short : (q : List ℕ) (es : List (ℕ × ℕ)) → most < length q → ArePacked es → find order q (map unpacked_entry es) ≡ None
-none-short q [] long h = refl
-none-short q (e ∷ es) long h =
-    let short : length (unpacked e.0) ≤ most = h.0.short in
-    other_length q (unpacked e.0) _ _ (λ same. absurd (omega (arith))) ∙ none-short q es long h.1
+pub is_packed : (n : List ℕ) → length n ≤ most → unpacked (packed n) ≡ n → IsPacked (packed n)
+is_packed n short back = record { short = subst (λ m. length m ≤ most) (sym back) short; same = ap packed back }

@@ -3,7 +3,6 @@ pub mod Limits
 pub mod Builtins
 pub mod Statuses
 pub mod StandInLines
-pub mod ShortNames
 pub mod StandIns
 pub mod Messages
 pub mod Expansion
@@ -21,4 +20,6 @@ pub mod Following
 pub mod Deletion
 -- What the steps of the code do: no promise speaks of these.
 pub mod StandInViews
+pub mod ShortNames
+pub mod Gathering
 pub mod Entries

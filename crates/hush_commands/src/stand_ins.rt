@@ -1,35 +1,36 @@
 //! Stand-ins: names of commands that need hardware, each with the status that it answers.
-ghost use Rattle.std.specs.Prelude.{◌≡◌, Ok, IfOk, OnOk, IfErr};
+ghost use Rattle.std.specs.Prelude.{◌≡◌, ℕ, Ok, IfOk, IfErr, MatchResult};
 ghost use Rattle.std.specs.FinMap as names;
-ghost use Rattle.hush_commands.specs.StandIns.{stand_ins_of, with_line, with_stand_in, IsFaultOf};
-ghost use Rattle.hush_commands.specs.declared.stand_in_line.StandInFault.TheVariants.{Memory};
+ghost use Rattle.hush_commands.specs.StandIns.{StandInsOrFault, stand_ins_of, IsFaultOf};
+ghost use Rattle.hush_commands.specs.Gathering.{Gathers, IsGathered};
 
-use crate::short_names::{ShortName, packed};
-use crate::stand_in_line::{StandInFault, read_line};
+use crate::gathered::Gathered;
+use crate::named::{Named, first_again};
+use crate::short_names::packed;
+use crate::stand_in_line::StandInFault;
 use std::alloc::Global;
 use std::collections::BTreeMap;
 use std::marker::Model;
-use text_parts::numbered_lines;
 
 /// The stand-ins of a run: the commands that only hardware has, each with the status that it answers here.
 #[derive(Drop)]
 pub struct StandIns {
-    short: BTreeMap<ShortName, u8>,
+    /// In the order of the names.
+    short: Vec<Named>,
     long: BTreeMap<Vec<u8>, u8>,
 }
 
 impl Model for StandIns {
-    ghost use Rattle.std.specs.FinMap as names;
     ghost use Rattle.hush_commands.specs.StandIns.{Statuses, statuses_code};
-    ghost use Rattle.hush_commands.specs.ShortNames.{both, IsSplit};
+    ghost use Rattle.hush_commands.specs.Gathering.{joined, IsTable};
 
     ghost Value = { Statuses };
 
     ghost coded = { statuses_code };
 
-    ghost view = { λ a. names.from_entries (both a.short.entries a.long.entries) };
+    ghost view = { λ a. joined a.short.items a.long.entries };
 
-    ghost invariant = { λ a. IsSplit a.short.entries a.long.entries };
+    ghost invariant = { λ a. IsTable a.short.items a.long.entries };
 }
 
 impl StandIns {
@@ -41,10 +42,11 @@ impl StandIns {
         ensures read { IfOk result (λ stand_ins. stand_ins_of text.now ≡ Ok stand_ins) }
         ensures refused { IfErr result (IsFaultOf (stand_ins_of text.now)) }
     {
-        let mut stand_ins = StandIns::empty(alloc);
-        for (number, line) in numbered_lines(text) {
-            stand_ins.add_line(alloc, number, line)?;
-        }
+        let mut gathered = Gathered::empty(alloc);
+        let ended = gathered.add_lines(alloc, text);
+        // A short name that comes again stands before the line at which reading ended.
+        let stand_ins = StandIns::of(gathered)?;
+        ended?;
         Ok(stand_ins)
     }
 
@@ -53,62 +55,24 @@ impl StandIns {
         ensures { result ≡ names.get self.now name.now }
     {
         match packed(name) {
-            Some(key) => self.short.get(&key).copied(),
+            Some(name) => match self.short.binary_search_by_key(&name, |named| named.name) {
+                Ok(at) => Some(self.short[at].status),
+                Err(_) => None,
+            },
             None => self.long.get(name).copied(),
         }
     }
 
-    /// No stand-ins. It takes no memory.
-    fn empty(alloc: Global) -> StandIns
-        ensures { result ≡ names.empty }
+    /// Those that were gathered, or `Twice` with the first line that names a short name again.
+    fn of(gathered: Gathered) -> Result<StandIns, StandInFault>
+        requires { IsGathered gathered.short.items gathered.long.entries }
+        ensures { (next : ℕ) (read : StandInsOrFault) → Gathers next gathered.short.items gathered.long.entries read → MatchResult result (λ stand_ins. read ≡ Ok stand_ins) (IsFaultOf read) }
     {
-        StandIns {
-            short: BTreeMap::new(alloc),
-            long: BTreeMap::new(alloc),
-        }
-    }
-
-    /// Adds what a line holds.
-    fn add_line(&mut self, alloc: Global, number: usize, line: &[u8]) -> Result<(), StandInFault>
-        ensures read { IfOk result (λ _. with_line self.old (number, line.now) ≡ Ok self.new) }
-        ensures refused { IfErr result (IsFaultOf (with_line self.old (number, line.now))) }
-    {
-        match read_line(number, line)? {
-            Some((name, status)) => self.add(alloc, number, name, status),
-            None => Ok(()),
-        }
-    }
-
-    /// Adds a stand-in of a name that has none yet. The name is looked up once: where it has one, that is replaced, and
-    /// the table isn't used any more.
-    fn add(
-        &mut self,
-        alloc: Global,
-        number: usize,
-        name: &[u8],
-        status: u8,
-    ) -> Result<(), StandInFault>
-        ensures read { IfOk result (λ _. with_stand_in number self.old name.now status ≡ Ok self.new) }
-        ensures refused { IfErr result (IsFaultOf (with_stand_in number self.old name.now status)) }
-    {
-        match self.insert(alloc, name, status)? {
-            Some(_old) => Err(StandInFault::Twice(number)),
-            None => Ok(()),
-        }
-    }
-
-    /// Gives a name a status, and answers the one that it had.
-    fn insert(&mut self, alloc: Global, name: &[u8], status: u8) -> Result<Option<u8>, StandInFault>
-        ensures old { IfOk result (λ old. old ≡ names.get self.old name.now) }
-        ensures inserted { OnOk result (self.new ≡ names.insert self.old name.now status) }
-        ensures refused { IfErr result (λ fault. fault ≡ Memory) }
-    {
-        match packed(name) {
-            Some(key) => Ok(self.short.insert(key, status)?),
-            None => {
-                let name = Vec::from_slice(alloc, name)?;
-                Ok(self.long.insert(name, status)?)
-            }
+        let Gathered { mut short, long } = gathered;
+        short.sort_unstable_by_key(|named| (named.name, named.line));
+        match first_again(&short) {
+            Some(line) => Err(StandInFault::Twice(line)),
+            None => Ok(StandIns { short, long }),
         }
     }
 }
