@@ -3,6 +3,7 @@
 use crate::fixtures::repeated;
 use hush_commands::{StandInFault, StandIns};
 use std::alloc::{AllocError, Global};
+use std::process::Abort;
 use std::test::Fail;
 
 #[test]
@@ -149,30 +150,81 @@ fn joined(alloc: Global, first: &[u8], second: &[u8]) -> Result<Vec<u8>, AllocEr
     Ok(text)
 }
 
+/// Asks for the name of a length, and for names that differ from it in one byte or by a 0 byte at an end.
+fn tell_apart(
+    rt: &impl Abort,
+    alloc: Global,
+    stand_ins: &StandIns,
+    length: u8,
+) -> Result<(), Fail> {
+    let name = repeated(alloc, b"n", u32::from(length))?;
+    assert_eq!(rt; stand_ins.status(&name), Some(length), "{length} bytes");
+    let front = repeated(alloc, b"n", u32::from(length).wrapping_sub(1))?;
+    let others = [
+        joined(alloc, &front, b"m")?,
+        joined(alloc, &front, b"\0")?,
+        joined(alloc, b"m", &front)?,
+        joined(alloc, &name, b"\0")?,
+        joined(alloc, b"\0", &name)?,
+    ];
+    for other in &others {
+        assert_eq!(rt; stand_ins.status(other), None, "{other:?}");
+    }
+    Ok(())
+}
+
 #[test]
 fn names_of_each_length_are_told_apart(rt: HostRuntime) -> Result<(), Fail> {
     let text = names_of_each_length(rt.alloc())?;
-    let stand_ins = match StandIns::parse(rt.alloc(), &text) {
-        Ok(stand_ins) => stand_ins,
-        Err(fault) => return assert!(rt; false, "{fault:?}"),
-    };
+    match StandIns::parse(rt.alloc(), &text) {
+        Ok(stand_ins) => {
+            for length in 1..=LONGEST {
+                tell_apart(&rt, rt.alloc(), &stand_ins, length)?;
+            }
+        }
+        Err(fault) => assert!(rt; false, "{fault:?}"),
+    }
+    Ok(())
+}
+
+#[test]
+fn a_name_of_any_length_stands_once(rt: HostRuntime) -> Result<(), Fail> {
+    let text = names_of_each_length(rt.alloc())?;
     for length in 1..=LONGEST {
         let name = repeated(rt.alloc(), b"n", u32::from(length))?;
-        assert_eq!(rt; stand_ins.status(&name), Some(length), "{length} bytes");
-        let front = repeated(rt.alloc(), b"n", u32::from(length).wrapping_sub(1))?;
-        let others = [
-            joined(rt.alloc(), &front, b"m")?,
-            joined(rt.alloc(), &front, b"\0")?,
-            joined(rt.alloc(), b"m", &front)?,
-            joined(rt.alloc(), &name, b"\0")?,
-            joined(rt.alloc(), b"\0", &name)?,
-        ];
-        for other in &others {
-            assert_eq!(rt; stand_ins.status(other), None, "{other:?}");
-        }
         let twice = joined(rt.alloc(), &text, &name)?;
         let fault = StandIns::parse(rt.alloc(), &twice).err();
         assert_eq!(rt; fault, Some(StandInFault::Twice(41)), "{length} bytes");
+    }
+    Ok(())
+}
+
+#[test]
+fn the_first_line_at_fault_decides_among_many(rt: HostRuntime) -> Result<(), Fail> {
+    let long = b"a-name-of-16-by.";
+    let table: [(&[&[u8]], StandInFault); 8] = [
+        (&[b"b\na\nb\na\n"], StandInFault::Twice(3)),
+        (&[b"b\na\na\nb\n"], StandInFault::Twice(3)),
+        (&[b"a\nb\na\na\nb\n"], StandInFault::Twice(3)),
+        (&[b"a\na\nx 256\n"], StandInFault::Twice(2)),
+        (&[b"a\nx 256\na\n"], StandInFault::Line(2)),
+        (
+            &[b"a\n", long, b"\na\n", long, b"\n"],
+            StandInFault::Twice(3),
+        ),
+        (
+            &[b"a\n", long, b"\n", long, b"\na\n"],
+            StandInFault::Twice(3),
+        ),
+        (
+            &[b"a\nenv\na\n", long, b"\n", long, b"\n"],
+            StandInFault::Builtin(2),
+        ),
+    ];
+    for (parts, expected) in table {
+        let text = parts.concat(rt.alloc())?;
+        let fault = StandIns::parse(rt.alloc(), &text).err();
+        assert_eq!(rt; fault, Some(expected), "of {text:?}");
     }
     Ok(())
 }
