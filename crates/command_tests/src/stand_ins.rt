@@ -200,6 +200,31 @@ fn a_name_of_any_length_stands_once(rt: HostRuntime) -> Result<(), Fail> {
 }
 
 #[test]
+fn long_names_are_told_apart_by_their_first_bytes_and_by_the_others(
+    rt: HostRuntime,
+) -> Result<(), Fail> {
+    let text = b"z-long-one-of-16 1\na-long-one-of-26 2\na-long-one-of-16 3\na-long-one-of-16- 4\n";
+    let table: [(&[u8], Option<u8>); 7] = [
+        (b"z-long-one-of-16", Some(1)),
+        (b"a-long-one-of-26", Some(2)),
+        (b"a-long-one-of-16", Some(3)),
+        (b"a-long-one-of-16-", Some(4)),
+        (b"a-long-one-of-1", None),
+        (b"b-long-one-of-16", None),
+        (b"a-long-one-of-36", None),
+    ];
+    match StandIns::parse(rt.alloc(), text) {
+        Ok(stand_ins) => {
+            for (name, expected) in table {
+                assert_eq!(rt; stand_ins.status(name), expected, "{name:?}");
+            }
+        }
+        Err(fault) => assert!(rt; false, "{fault:?}"),
+    }
+    Ok(())
+}
+
+#[test]
 fn the_first_line_at_fault_decides_among_many(rt: HostRuntime) -> Result<(), Fail> {
     let table: [(&[u8], StandInFault); 8] = [
         (b"b\na\nb\na\n", StandInFault::Twice(3)),

@@ -2,8 +2,10 @@ pub mod BlankLemmas
 pub mod BuiltinLemmas
 pub mod EntryLemmas
 pub mod ShortNameLemmas
-pub mod GatheringLemmas
 pub mod OrderLemmas
+pub mod ToldLemmas
+pub mod GatheringLemmas
+pub mod TableLemmas
 pub mod Rows
 pub mod ItemLemmas
 pub mod BufferLemmas

@@ -1,94 +1,92 @@
--- What the lines of a stand-in file come to, where short names are gathered first and put in order last.
-use Rattle.std.specs.Prelude.{◌≡◌, ◌≤◌, ◌<◌, ◌+◌, ◌⊎◌, ℕ, List, [], ◌∷◌, ◌++◌, ⊤, T, false, map, length, Option, Some, None, Result, Ok, Err, slice_index_or, MatchOption, IfSome, MatchResult}
+-- What the lines of a stand-in file come to, where names are gathered first and put in order last.
+use Rattle.std.specs.Prelude.{◌≡◌, ◌<◌, ℕ, List, ◌++◌, map, Option, Some, None, Result, Ok, Err, MatchResult}
 use Rattle.std.specs.List.{All, Contains, enumerate_from}
-use Rattle.std.specs.List.Sorted.{IsSortedByKey}
+use Rattle.std.specs.List.Sorted.{IsPermutation, IsSortedByKey}
 use Rattle.std.specs.Ordering.{nat_cmp}
 use Rattle.std.specs.FinMap as names
 use Rattle.text_parts.specs.Lines.{Line as NumberedLine}
 use Rattle.hush_commands.specs.declared.named.Named.{Named}
 use Rattle.hush_commands.specs.declared.stand_in_line.StandInFault.{StandInFault}
 use Rattle.hush_commands.specs.declared.stand_in_line.StandInFault.TheVariants.{Twice}
-use Rattle.hush_commands.specs.Entries.{Entry, entries_view, status_view}
-use Rattle.hush_commands.specs.ShortNames.{most, unpacked, IsPacked}
+use Rattle.hush_commands.specs.declared.long_names.LongName.{LongName}
+use Rattle.hush_commands.specs.LongNames.{IsLongName, long_order}
+use Rattle.hush_commands.specs.NamedLines.{IsOneBy, IsFirstAgain, IsEarliest}
+use Rattle.hush_commands.specs.ShortNames.{unpacked, IsPacked}
 use Rattle.hush_commands.specs.StandIns.{Statuses, StandInsOrFault, and_then, with_lines, IsFaultOf}
 
--- a short name as it is, with its status
-abbrev pub shown : Named → List ℕ × ℕ
-shown e = (unpacked e.name, e.status)
+-- a line with its name as it is in the file, with a short name packed, and with a long one beside its front
+abbrev pub Told : Type 0
+Told = Named (List ℕ)
 
--- long names, and only they
-abbrev pub AreLong : List (Entry ℕ) → Type 0
-AreLong [] = ⊤
-AreLong (e ∷ es) = (most < length e.0.items) × AreLong es
+abbrev pub Short : Type 0
+Short = Named ℕ
 
--- short names, packed
-abbrev pub ArePacked : List Named → Type 0
+abbrev pub Long : Type 0
+Long = Named LongName
+
+abbrev pub told_short : Short → Told
+told_short e = record { name = unpacked e.name; line = e.line; status = e.status }
+
+abbrev pub told_long : Long → Told
+told_long e = record { name = e.name.bytes.items; line = e.line; status = e.status }
+
+-- all lines
+abbrev pub told : List Short → List Long → List Told
+told short long = map told_short short ++ map told_long long
+
+-- short names, packed, and long names, and only they
+abbrev pub ArePacked : List Short → Type 0
 ArePacked es = All (λ e. IsPacked e.name) es
 
--- the statuses of short names and of long ones
-abbrev pub joined : List Named → List (Entry ℕ) → Statuses
-joined short long = names.from_entries (map shown short ++ entries_view status_view long)
+abbrev pub AreLong : List Long → Type 0
+AreLong es = All (λ e. IsLongName e.name) es
 
--- a line gives a status to a name that an earlier line has
-pub record Again (es : List Named) (line : ℕ) : Type 0 where
-  pub first : Named
-  pub later : Named
-  pub has_first : Contains es first
-  pub has_later : Contains es later
-  pub same : first.name ≡ later.name
-  pub before : first.line < later.line
-  pub at : later.line ≡ line
+-- the statuses that lines give
+abbrev pub pair_of : Told → List ℕ × ℕ
+pair_of e = (e.name, e.status)
 
--- the first line that does, or none
-abbrev pub IsFirstAgain : List Named → Option ℕ → Type 0
-IsFirstAgain es None = (line : ℕ) → Again es line → T false
-IsFirstAgain es (Some first) = Again es first × ((line : ℕ) → Again es line → first ≤ line)
+abbrev pub statuses_of : List Told → Statuses
+statuses_of es = names.from_entries (map pair_of es)
+
+-- two names are one
+abbrev pub AreSame : List ℕ → List ℕ → Type 0
+AreSame x y = x ≡ y
 
 -- what stands in one line has one status
-abbrev pub IsOncePerLine : List Named → Type 0
-IsOncePerLine es = (x y : Named) → Contains es x → Contains es y → x.line ≡ y.line → x.status ≡ y.status
+abbrev pub IsOncePerLine : List Told → Type 0
+IsOncePerLine es = (x y : Told) → Contains es x → Contains es y → x.line ≡ y.line → x.status ≡ y.status
 
--- the fault of that line, or else the statuses
+-- what has one name has one status
+abbrev pub IsOncePerName : List Told → Type 0
+IsOncePerName es = (x y : Told) → Contains es x → Contains es y → x.name ≡ y.name → x.status ≡ y.status
+
+-- the fault of the first line that names something again, or else the statuses
 abbrev pub outcome : Option ℕ → Statuses → StandInsOrFault
 outcome None statuses = Ok statuses
 outcome (Some line) statuses = Err (Twice line)
 
--- the lines before this one were read as this, and gathered as these
-pub record Gathers (next : ℕ) (short : List Named) (long : List (Entry ℕ)) (read : StandInsOrFault) : Type 0 where
+-- the lines before this one were read as this, and say these
+pub record Tells (next : ℕ) (es : List Told) (read : StandInsOrFault) : Type 0 where
+  pub before : All (λ e. e.line < next) es
+  pub once : IsOncePerLine es
+  pub again : Option ℕ
+  pub is_first : IsFirstAgain AreSame es again
+  pub is : read ≡ outcome again (statuses_of es)
+
+-- and they were gathered as these
+pub record Gathers (next : ℕ) (short : List Short) (long : List Long) (read : StandInsOrFault) : Type 0 where
   pub are_packed : ArePacked short
   pub are_long : AreLong long
-  pub before : All (λ e. e.line < next) short
-  pub once : IsOncePerLine short
-  pub again : Option ℕ
-  pub is_first : IsFirstAgain short again
-  pub is : read ≡ outcome again (joined short long)
-
--- the one at a place
-abbrev pub at : List Named → ℕ → Named → Named
-at es k d = slice_index_or es k d
-
--- of the first n, the least line that names again what its neighbour before has
-pub record IsLeastAmongNeighbours (es : List Named) (n : ℕ) (line : Option ℕ) : Type 0 where
-  pub is_one : IfSome line (Again es)
-  pub least : (k : ℕ) (d : Named) → k + 1 < n → (at es k d).name ≡ (at es (k + 1) d).name → (at es k d).line < (at es (k + 1) d).line →
-      MatchOption line (T false) (λ first. first ≤ (at es (k + 1) d).line)
-
--- the line of y where it names what x names
-abbrev pub IsLineAgain : Named → Named → Option ℕ → Type 0
-IsLineAgain x y line = MatchOption line (x.name ≡ y.name → x.line < y.line → T false) (λ n. (x.name ≡ y.name) × (x.line < y.line) × (n ≡ y.line))
-
--- the earlier of two lines, of those that there are
-abbrev pub IsEarliest : Option ℕ → Option ℕ → Option ℕ → Type 0
-IsEarliest a b line = MatchOption line ((a ≡ None) × (b ≡ None)) (λ n. ((a ≡ Some n) ⊎ (b ≡ Some n)) × IfSome a (λ x. n ≤ x) × IfSome b (λ x. n ≤ x))
+  pub tells : Tells next (told short long) read
 
 -- the lines so far say the same as some that were gathered
-pub record IsGathered (short : List Named) (long : List (Entry ℕ)) : Type 0 where
+pub record IsGathered (short : List Short) (long : List Long) : Type 0 where
   pub next : ℕ
   pub read : StandInsOrFault
   pub gathers : Gathers next short long read
 
 -- gathering stopped for a fault: that of the whole is one of the lines gathered before, or else this one
-pub record StoppedBy (short : List Named) (long : List (Entry ℕ)) (whole : StandInsOrFault) (fault : StandInFault) : Type 0 where
+pub record StoppedBy (short : List Short) (long : List Long) (whole : StandInsOrFault) (fault : StandInFault) : Type 0 where
   pub next : ℕ
   pub read : StandInsOrFault
   pub gathers : Gathers next short long read
@@ -96,15 +94,15 @@ pub record StoppedBy (short : List Named) (long : List (Entry ℕ)) (whole : Sta
   pub otherwise : (statuses : Statuses) → read ≡ Ok statuses → IsFaultOf whole fault
 
 -- what gathering up to a line leaves
-abbrev pub GoesOn : ℕ → List Named → List (Entry ℕ) → StandInsOrFault → Result (Unit {0}) StandInFault → Type 0
+abbrev pub GoesOn : ℕ → List Short → List Long → StandInsOrFault → Result (Unit {0}) StandInFault → Type 0
 GoesOn next short long whole result = MatchResult result (λ _. Gathers next short long whole) (StoppedBy short long whole)
 
 -- what gathering a whole file leaves
-abbrev pub Ends : List Named → List (Entry ℕ) → StandInsOrFault → Result (Unit {0}) StandInFault → Type 0
+abbrev pub Ends : List Short → List Long → StandInsOrFault → Result (Unit {0}) StandInFault → Type 0
 Ends short long whole result = MatchResult result (λ _. (next : ℕ) × Gathers next short long whole) (StoppedBy short long whole)
 
 -- as far as the lines before these were gathered
-pub record IsReading (short : List Named) (long : List (Entry ℕ)) (whole : StandInsOrFault) (rest : List NumberedLine) : Type 0 where
+pub record IsReading (short : List Short) (long : List Long) (whole : StandInsOrFault) (rest : List NumberedLine) : Type 0 where
   pub next : ℕ
   pub lines : List (List ℕ)
   pub numbered : rest ≡ enumerate_from next lines
@@ -112,9 +110,22 @@ pub record IsReading (short : List Named) (long : List (Entry ℕ)) (whole : Sta
   pub gathers : Gathers next short long read
   pub is : whole ≡ and_then read (λ statuses. with_lines statuses rest)
 
--- short names in order, each with one status
-pub record IsTable (short : List Named) (long : List (Entry ℕ)) : Type 0 where
+-- ys and zs are these lines in the order of their names, and this is the first line that names something again
+pub record InOrder (s ys : List Short) (l zs : List Long) (again : Option ℕ) : Type 0 where
+  pub short : IsPermutation s ys
+  pub long : IsPermutation l zs
+  pub short_in_order : IsSortedByKey (λ e. e.name) nat_cmp ys
+  pub long_in_order : IsSortedByKey (λ e. e.name) long_order zs
+  pub short_again : Option ℕ
+  pub long_again : Option ℕ
+  pub first_short : IsFirstAgain (IsOneBy nat_cmp) ys short_again
+  pub first_long : IsFirstAgain (IsOneBy long_order) zs long_again
+  pub is : IsEarliest short_again long_again again
+
+-- names of both kinds in order, each with one status
+pub record IsTable (short : List Short) (long : List Long) : Type 0 where
   pub are_packed : ArePacked short
   pub are_long : AreLong long
-  pub in_order : IsSortedByKey (λ e. e.name) nat_cmp short
-  pub alone : (x y : Named) → Contains short x → Contains short y → x.name ≡ y.name → x.status ≡ y.status
+  pub short_in_order : IsSortedByKey (λ e. e.name) nat_cmp short
+  pub long_in_order : IsSortedByKey (λ e. e.name) long_order long
+  pub alone : IsOncePerName (told short long)

@@ -1,38 +1,38 @@
-//! The stand-ins of a file's lines, as they are read: short names in the order of the lines, to be put in that of the names once.
+//! The stand-ins of a file's lines, as they are read: in the order of the lines, to be put in that of the names once.
 ghost use Rattle.std.specs.Prelude.{◌+◌, Ok};
 ghost use Rattle.std.specs.FinMap as names;
 ghost use Rattle.hush_commands.specs.StandIns.{StandInsOrFault, and_then, stand_ins_of, with_line, with_stand_in};
-ghost use Rattle.hush_commands.specs.Gathering.{Gathers, GoesOn, Ends};
+ghost use Rattle.hush_commands.specs.Gathering.{Gathers, GoesOn, Ends, InOrder};
 
-use crate::named::Named;
-use crate::short_names::packed;
+use crate::long_names::LongName;
+use crate::named::{Named, earliest, put_in_order};
+use crate::short_names::{ShortName, packed};
 use crate::stand_in_line::{StandInFault, read_line};
 use std::alloc::Global;
-use std::collections::BTreeMap;
 use text_parts::numbered_lines;
 
-/// The stand-ins of the lines before one. Of a short name that two lines have, both are there.
+/// The stand-ins of the lines before one. Of a name that two lines have, both are there.
 #[derive(Drop)]
 pub(crate) struct Gathered {
-    pub(crate) short: Vec<Named>,
-    pub(crate) long: BTreeMap<Vec<u8>, u8>,
+    pub(crate) short: Vec<Named<ShortName>>,
+    pub(crate) long: Vec<Named<LongName>>,
 }
 
 impl Gathered {
     /// Those of no line. It takes no memory.
     pub(crate) fn empty(alloc: Global) -> Gathered
-        ensures { Gathers 1 result.short.items result.long.entries (Ok names.empty) }
+        ensures { Gathers 1 result.short.items result.long.items (Ok names.empty) }
     {
         Gathered {
             short: Vec::new(alloc),
-            long: BTreeMap::new(alloc),
+            long: Vec::new(alloc),
         }
     }
 
-    /// Adds each line of a file, up to the first that is at fault; that a short name comes again is seen later.
+    /// Adds each line of a file, up to the first that is at fault; that a name comes again is seen later.
     pub(crate) fn add_lines(&mut self, alloc: Global, text: &[u8]) -> Result<(), StandInFault>
-        requires { Gathers 1 self.old.short.items self.old.long.entries (Ok names.empty) }
-        ensures { Ends self.new.short.items self.new.long.entries (stand_ins_of text.now) result }
+        requires { Gathers 1 self.old.short.items self.old.long.items (Ok names.empty) }
+        ensures { Ends self.new.short.items self.new.long.items (stand_ins_of text.now) result }
     {
         for (number, line) in numbered_lines(text) {
             self.add_line(alloc, number, line)?;
@@ -42,7 +42,7 @@ impl Gathered {
 
     /// Adds what a line holds.
     fn add_line(&mut self, alloc: Global, number: usize, line: &[u8]) -> Result<(), StandInFault>
-        ensures { (read : StandInsOrFault) → Gathers number self.old.short.items self.old.long.entries read → GoesOn (number + 1) self.new.short.items self.new.long.entries (and_then read (λ statuses. with_line statuses (number, line.now))) result }
+        ensures { (read : StandInsOrFault) → Gathers number self.old.short.items self.old.long.items read → GoesOn (number + 1) self.new.short.items self.new.long.items (and_then read (λ statuses. with_line statuses (number, line.now))) result }
     {
         match read_line(number, line)? {
             Some((name, status)) => self.add(alloc, number, name, status),
@@ -50,7 +50,7 @@ impl Gathered {
         }
     }
 
-    /// Adds a stand-in. Where a long name has one already, its status is replaced, and nobody asks for it any more.
+    /// Adds a stand-in.
     fn add(
         &mut self,
         alloc: Global,
@@ -58,17 +58,22 @@ impl Gathered {
         name: &[u8],
         status: u8,
     ) -> Result<(), StandInFault>
-        ensures { (read : StandInsOrFault) → Gathers line self.old.short.items self.old.long.entries read → GoesOn (line + 1) self.new.short.items self.new.long.entries (and_then read (λ statuses. with_stand_in line statuses name.now status)) result }
+        ensures { (read : StandInsOrFault) → Gathers line self.old.short.items self.old.long.items read → GoesOn (line + 1) self.new.short.items self.new.long.items (and_then read (λ statuses. with_stand_in line statuses name.now status)) result }
     {
         match packed(name) {
-            Some(name) => Ok(self.short.push(Named { name, line, status })?),
+            Some(name) => self.short.push(Named { name, line, status })?,
             None => {
-                let name = Vec::from_slice(alloc, name)?;
-                match self.long.insert(name, status)? {
-                    Some(_old) => Err(StandInFault::Twice(line)),
-                    None => Ok(()),
-                }
+                let name = LongName::new(alloc, name)?;
+                self.long.push(Named { name, line, status })?;
             }
         }
+        Ok(())
+    }
+
+    /// Puts all in the order of the names; the first line that names something again.
+    pub(crate) fn put_in_order(&mut self) -> Option<usize>
+        ensures { InOrder self.old.short.items self.new.short.items self.old.long.items self.new.long.items result }
+    {
+        earliest(put_in_order(&mut self.short), put_in_order(&mut self.long))
     }
 }

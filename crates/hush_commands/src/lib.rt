@@ -1,9 +1,9 @@
 //! One simple command of a dry run: its words are expanded to fields, and it is carried out by them. Also a run's limits,
 //! the stand-ins for commands that need hardware, and what is said where a command fails. docs/runs.md states the rules.
 //!
-//! To read in this order: limits; statuses, stand_in_line, short_names, named, gathered,
-//! stand_ins; locals, scope, expansion_fault, expansion, field_buffer,
-//! field_queue; builtins, command, carrying, changes; commands, writing, listing, deletion; follow; messages, output.
+//! To read in this order: limits; statuses, stand_in_line, short_names, long_names, named, gathered, stand_ins; locals,
+//! scope, expansion_fault, expansion, field_buffer, field_queue; builtins, command, carrying, changes; commands, writing, listing,
+//! deletion; follow; messages, output.
 #![tactic(auto)]
 
 mod builtins;
@@ -21,6 +21,7 @@ mod gathered;
 mod limits;
 pub mod listing;
 mod locals;
+mod long_names;
 mod messages;
 mod named;
 mod output;

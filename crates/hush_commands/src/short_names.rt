@@ -1,5 +1,5 @@
-//! Short names, each packed into a number: a tree of them compares numbers, and its nodes are all the memory that they take.
-ghost use Rattle.std.specs.Prelude.{◌≡◌, ◌<◌, ◌≤◌, length, MatchOption};
+//! Short names, each packed into a number: they are compared as numbers, and take no memory of their own.
+ghost use Rattle.std.specs.Prelude.{◌≡◌, ◌<◌, ◌≤◌, length, take, MatchOption};
 ghost use Rattle.hush_commands.specs.ShortNames.{most, padded, packed, unpacked};
 
 /// The longest name that is packed.
@@ -17,6 +17,14 @@ pub(crate) fn packed(name: &[u8]) -> Option<ShortName>
         return None;
     }
     Some(u128::from_le_bytes(padded(name)))
+}
+
+/// The first `MOST` bytes of a longer name, packed.
+pub(crate) fn front(name: &[u8]) -> ShortName
+    requires { most < length name.now }
+    ensures { result ≡ packed (take most name.now) }
+{
+    u128::from_le_bytes(padded(&name[..MOST]))
 }
 
 /// The bytes of a short name, 0 bytes behind them, and last their number.

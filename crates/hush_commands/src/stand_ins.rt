@@ -5,32 +5,32 @@ ghost use Rattle.hush_commands.specs.StandIns.{StandInsOrFault, stand_ins_of, Is
 ghost use Rattle.hush_commands.specs.Gathering.{Gathers, IsGathered};
 
 use crate::gathered::Gathered;
-use crate::named::{Named, first_again};
-use crate::short_names::packed;
+use crate::long_names::LongName;
+use crate::named::Named;
+use crate::short_names::{ShortName, front, packed};
 use crate::stand_in_line::StandInFault;
 use std::alloc::Global;
-use std::collections::BTreeMap;
 use std::marker::Model;
 
 /// The stand-ins of a run: the commands that only hardware has, each with the status that it answers here.
 #[derive(Drop)]
 pub struct StandIns {
-    /// In the order of the names.
-    short: Vec<Named>,
-    long: BTreeMap<Vec<u8>, u8>,
+    /// Both in the order of the names.
+    short: Vec<Named<ShortName>>,
+    long: Vec<Named<LongName>>,
 }
 
 impl Model for StandIns {
     ghost use Rattle.hush_commands.specs.StandIns.{Statuses, statuses_code};
-    ghost use Rattle.hush_commands.specs.Gathering.{joined, IsTable};
+    ghost use Rattle.hush_commands.specs.Gathering.{told, statuses_of, IsTable};
 
     ghost Value = { Statuses };
 
     ghost coded = { statuses_code };
 
-    ghost view = { λ a. joined a.short.items a.long.entries };
+    ghost view = { λ a. statuses_of (told a.short.items a.long.items) };
 
-    ghost invariant = { λ a. IsTable a.short.items a.long.entries };
+    ghost invariant = { λ a. IsTable a.short.items a.long.items };
 }
 
 impl StandIns {
@@ -44,7 +44,7 @@ impl StandIns {
     {
         let mut gathered = Gathered::empty(alloc);
         let ended = gathered.add_lines(alloc, text);
-        // A short name that comes again stands before the line at which reading ended.
+        // A name that comes again stands before the line at which reading ended.
         let stand_ins = StandIns::of(gathered)?;
         ended?;
         Ok(stand_ins)
@@ -59,18 +59,27 @@ impl StandIns {
                 Ok(at) => Some(self.short[at].status),
                 Err(_) => None,
             },
-            None => self.long.get(name).copied(),
+            None => {
+                let front = front(name);
+                match self
+                    .long
+                    .binary_search_by(|named| named.name.compare(front, name))
+                {
+                    Ok(at) => Some(self.long[at].status),
+                    Err(_) => None,
+                }
+            }
         }
     }
 
-    /// Those that were gathered, or `Twice` with the first line that names a short name again.
-    fn of(gathered: Gathered) -> Result<StandIns, StandInFault>
-        requires { IsGathered gathered.short.items gathered.long.entries }
-        ensures { (next : ℕ) (read : StandInsOrFault) → Gathers next gathered.short.items gathered.long.entries read → MatchResult result (λ stand_ins. read ≡ Ok stand_ins) (IsFaultOf read) }
+    /// Those that were gathered, or `Twice` with the first line that names something again.
+    fn of(mut gathered: Gathered) -> Result<StandIns, StandInFault>
+        requires { IsGathered gathered.short.items gathered.long.items }
+        ensures { (next : ℕ) (read : StandInsOrFault) → Gathers next gathered.short.items gathered.long.items read → MatchResult result (λ stand_ins. read ≡ Ok stand_ins) (IsFaultOf read) }
     {
-        let Gathered { mut short, long } = gathered;
-        short.sort_unstable_by_key(|named| (named.name, named.line));
-        match first_again(&short) {
+        let again = gathered.put_in_order();
+        let Gathered { short, long } = gathered;
+        match again {
             Some(line) => Err(StandInFault::Twice(line)),
             None => Ok(StandIns { short, long }),
         }

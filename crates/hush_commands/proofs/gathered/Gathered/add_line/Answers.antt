@@ -11,4 +11,4 @@ use Rattle.hush_commands.proofs.gathered.Gathered.add_line.Goals as goal
 pub returns-in-Some : goal.returns-in-Some
 returns-in-Some c = λ read g.
     let is : Ok (Some (c.in-Some.name.now, c.in-Some.status)) ≡ read_line c.args.number (strip_carriage_return c.args.line.now) = sym (ap (λ (o : Option (Bor (List ℕ) × ℕ)). line_view (Ok o)) c.in-Some.is) ∙ c.in_ok-name.ensures in
-    subst (λ (x : StandInLine). GoesOn (c.args.number + 1) c.add.new.self.short.items c.add.new.self.long.entries (and_then read (λ statuses. with_read c.args.number statuses x)) c.add.result) is (c.add.ensures read g)
+    subst (λ (x : StandInLine). GoesOn (c.args.number + 1) c.add.new.self.short.items c.add.new.self.long.items (and_then read (λ statuses. with_read c.args.number statuses x)) c.add.result) is (c.add.ensures read g)

@@ -8,7 +8,7 @@ pub returns-in_err-stand_ins-clause-refused : goal.returns-in_err-stand_ins-clau
 returns-in_err-stand_ins-clause-refused c =
     let same : c.from_residual.result ≡ Err c.in_err-stand_ins.field-0.0 = search rules in
     subst (λ r. IfErr r (IsFaultOf (stand_ins_of c.args.text.now))) (sym same)
-    (whole-fault c.add_lines-ended.new.self.short.items c.add_lines-ended.new.self.long.entries (stand_ins_of c.args.text.now) c.add_lines-ended.result c.in_err-stand_ins.field-0.0 c.add_lines-ended.ensures c.in_err-stand_ins.ensures)
+    (whole-fault c.add_lines-ended.new.self.short.items c.add_lines-ended.new.self.long.items (stand_ins_of c.args.text.now) c.add_lines-ended.result c.in_err-stand_ins.field-0.0 c.add_lines-ended.ensures c.in_err-stand_ins.ensures)
 
 pub returns-in_err-ended-clause-refused : goal.returns-in_err-ended-clause-refused
 returns-in_err-ended-clause-refused c =
