@@ -164,6 +164,6 @@ pub trim_none : (line : List ℕ) (n : ℕ) → n ≤ 0 → (n ≤ length line) 
 trim_none line zero z was = was.1
 trim_none line (suc n) z was = absurd (omega arith)
 
-pub request_known : (line word : List ℕ) (request : code.Request) → request_view request ≡ request_in word → trimmed line ≡ word → request_view request ≡ request_of line
+pub request_known : (line word name : List ℕ) (request : code.Request) → request_view request name ≡ request_in word → trimmed line ≡ word → request_view request name ≡ request_of line
 unfolding request_of
-request_known line word request e t = e ∙ ap request_in (sym t)
+request_known line word name request e t = e ∙ ap request_in (sym t)

@@ -1,5 +1,5 @@
 //! Names of marks.
-ghost use Rattle.std.specs.Prelude.{◌≡◌, ◌≤◌, length, map, option_map};
+ghost use Rattle.std.specs.Prelude.{◌≡◌, ◌≤◌, if◌then◌else◌, Some, None, length, map, option_map};
 ghost use Rattle.std.specs.List.{list_any};
 ghost use Rattle.fw_session.specs.Replies.{has_name, last_named, is_blank, skipped, is_name, name_in};
 
@@ -21,19 +21,20 @@ pub(crate) fn last_named(names: &[Option<Name>], name: &[u8]) -> Option<usize>
     found
 }
 
-/// The name behind `.mark` or `.undo`: one or more blanks, and then 1 to 32 bytes that are no blanks.
-pub(crate) fn name_in(rest: &[u8]) -> Option<Name>
-    ensures { option_map (λ v. v.items) result ≡ name_in rest.now }
+/// Reads the name behind `.mark` or `.undo`, one or more blanks and then 1 to 32 bytes that are no blanks, in the place of what
+/// `name` holds: whether it is there.
+pub(crate) fn read_name(rest: &[u8], name: &mut Name) -> bool
+    ensures { name_in rest.now ≡ (if result then Some name.new.items else None) }
 {
     if rest.is_empty() || !is_blank(rest[0]) {
-        return None;
+        return false;
     }
-    let name = skipped(&rest[1..]);
-    if is_name(name) {
-        Some(copied(name))
-    } else {
-        None
+    let found = skipped(&rest[1..]);
+    if !is_name(found) {
+        return false;
     }
+    copy(found, name);
+    true
 }
 
 /// Whether a mark has that name.
@@ -78,14 +79,13 @@ fn is_blank(byte: u8) -> bool
     byte == b' ' || byte == b'\t'
 }
 
-/// A name in the table's form.
-fn copied(name: &[u8]) -> Name
-    requires { length name.now ≤ 32 }
-    ensures { result.items ≡ name.now }
+/// Puts these bytes in the place of what a name holds.
+fn copy(bytes: &[u8], name: &mut Name)
+    requires { length bytes.now ≤ 32 }
+    ensures { name.new.items ≡ bytes.now }
 {
-    let mut copy = ArrayVec::new();
-    for byte in name {
-        copy.push(*byte);
-    }
-    copy
+    name.clear();
+    let copied = name.try_extend_from_slice(bytes);
+    // It tells the prover that the bytes fit, so this isn't refused.
+    prove!(copied.is_ok());
 }

@@ -9,20 +9,23 @@ ghost use Rattle.fw_session.specs.NamedSessions.{named_session, names_of};
 
 use crate::answers::Answers;
 use crate::marks::{Names, mark, standing};
-use crate::names::last_named;
+use crate::names::{Name, last_named};
 use crate::requests::{Change, Request};
 use env_session::{Session, Side, UndoFault};
 use std::io::Write;
+use std::mem;
 
-/// Obeys a dot line, and adds what it has to say. What waits is written before anything is changed.
+/// Obeys a dot line, which has this name if it needs one, and adds what it has to say. What waits is written before anything is
+/// changed.
 pub(crate) fn obey<W: Write>(
     session: &mut Session,
     names: &mut Names,
     request: Request,
+    name: &mut Name,
     answers: &mut Answers,
     output: &mut W,
 ) -> bool
-    ensures { SaysRequest (named_session session.old (names_of names.old.items)) (request_view request)
+    ensures { SaysRequest (named_session session.old (names_of names.old.items)) (request_view request name.old.items)
         (sink (W.contents output.old) answers.old) (sink (W.contents output.new) answers.new)
         (named_session session.new (names_of names.new.items)) result }
 {
@@ -30,7 +33,7 @@ pub(crate) fn obey<W: Write>(
         Request::Print => add_lines(session, answers, output),
         Request::Unknown => answers.add(b"[Unknown]\n", output),
         Request::Change(change) => {
-            answers.write_out(output) && apply(session, names, change, answers, output)
+            answers.write_out(output) && apply(session, names, change, name, answers, output)
         }
     }
 }
@@ -40,11 +43,12 @@ fn apply<W: Write>(
     session: &mut Session,
     names: &mut Names,
     change: Change,
+    name: &mut Name,
     answers: &mut Answers,
     output: &mut W,
 ) -> bool
     requires { answers.old.waiting.items ≡ [] }
-    ensures { RequestAnswered (named_session session.old (names_of names.old.items)) (change_view change)
+    ensures { RequestAnswered (named_session session.old (names_of names.old.items)) (change_view change name.old.items)
         (sink (W.contents output.old) answers.old) (sink (W.contents output.new) answers.new)
         (named_session session.new (names_of names.new.items)) result }
 {
@@ -59,14 +63,14 @@ fn apply<W: Write>(
             Ok(Side::Second) => answers.add(b"Saved copy 2\n", output),
             Err(_refused) => answers.add(b"[Memory]\n", output),
         },
-        Change::Mark(name) => {
-            if mark(session, names, name) {
+        Change::Mark => {
+            if mark(session, names, mem::replace(name, Name::new())) {
                 answers.add(b"[Marked]\n", output)
             } else {
                 answers.add(b"[Full]\n", output)
             }
         }
-        Change::UndoTo(name) => match last_named(standing(names, session), &name) {
+        Change::UndoTo => match last_named(standing(names, session), name.as_slice()) {
             Some(found) => undo(session, names, found, answers, output),
             None => answers.add(b"[Gone]\n", output),
         },

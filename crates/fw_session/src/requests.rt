@@ -3,10 +3,11 @@ ghost use Rattle.std.specs.Prelude.{◌≡◌, take, drop};
 ghost use Rattle.fw_session.specs.Replies.{request_of, request_in, named_request_in, is_end_blank};
 ghost use Rattle.fw_session.specs.Requests.{request_view};
 
-use crate::names::{Name, name_in};
+use crate::names::{Name, read_name};
 
-/// What a dot line asks for.
-#[derive(Drop)]
+/// What a dot line asks for. The name of a mark, where it has one, stands beside it: nearly no dot line has one, and it is
+/// larger than all else.
+#[derive(Clone, Copy)]
 pub(crate) enum Request {
     /// `.print`
     Print,
@@ -17,32 +18,32 @@ pub(crate) enum Request {
 }
 
 /// What a dot line asks for that may change the session.
-#[derive(Drop)]
+#[derive(Clone, Copy)]
 pub(crate) enum Change {
     /// `.undo`
     Undo,
     /// `.save`
     Save,
     /// `.mark NAME`
-    Mark(Name),
+    Mark,
     /// `.undo NAME`
-    UndoTo(Name),
+    UndoTo,
 }
 
-/// What a dot line asks for.
-pub(crate) fn request_of(line: &[u8]) -> Request
-    ensures { request_view result ≡ request_of line.now }
+/// What a dot line asks for. A name in it takes the place of what `name` holds.
+pub(crate) fn request_of(line: &[u8], name: &mut Name) -> Request
+    ensures { request_view result name.new.items ≡ request_of line.now }
 {
     let mut length = line.len();
     while length > 0 && is_end_blank(line[length - 1]) {
         length -= 1;
     }
-    request_in(&line[..length])
+    request_in(&line[..length], name)
 }
 
 /// The same of a line without the blanks at its end.
-fn request_in(word: &[u8]) -> Request
-    ensures { request_view result ≡ request_in word.now }
+fn request_in(word: &[u8], name: &mut Name) -> Request
+    ensures { request_view result name.new.items ≡ request_in word.now }
 {
     if word == b".undo".as_slice() {
         Request::Change(Change::Undo)
@@ -51,25 +52,24 @@ fn request_in(word: &[u8]) -> Request
     } else if word == b".print".as_slice() {
         Request::Print
     } else {
-        named_request_in(word)
+        named_request_in(word, name)
     }
 }
 
 /// The same of a line with a name, if it has one.
-fn named_request_in(word: &[u8]) -> Request
-    ensures { request_view result ≡ named_request_in word.now }
+fn named_request_in(word: &[u8], name: &mut Name) -> Request
+    ensures { request_view result name.new.items ≡ named_request_in word.now }
 {
     let front = front_of(word);
-    if front == b".mark".as_slice() {
-        match name_in(behind_of(word)) {
-            Some(name) => Request::Change(Change::Mark(name)),
-            None => Request::Unknown,
-        }
+    let change = if front == b".mark".as_slice() {
+        Change::Mark
     } else if front == b".undo".as_slice() {
-        match name_in(behind_of(word)) {
-            Some(name) => Request::Change(Change::UndoTo(name)),
-            None => Request::Unknown,
-        }
+        Change::UndoTo
+    } else {
+        return Request::Unknown;
+    };
+    if read_name(behind_of(word), name) {
+        Request::Change(change)
     } else {
         Request::Unknown
     }

@@ -114,22 +114,22 @@ fn add_outcome<W: Write>(outcome: &Outcome, answers: &mut Answers, output: &mut 
     ensures { Adds (sink (W.contents output.old) answers.old) (sink (W.contents output.new) answers.new)
         (outcome.now.text.items ++ ending_line outcome.now.ending outcome.now.status outcome.now.steps) result }
 {
-    let line = ending_line(outcome);
+    let mut line = ArrayVec::new();
+    put_ending(&mut line, outcome);
     answers.add(&outcome.text, output) && answers.add(&line, output)
 }
 
-/// `[ENDING STATUS STEPS]` and a newline.
+/// Puts `[ENDING STATUS STEPS]` and a newline into a line without bytes.
 #[inline(always)]
-fn ending_line(outcome: &Outcome) -> ArrayVec<u8, 64>
-    ensures { result.items ≡ ending_line outcome.now.ending outcome.now.status outcome.now.steps }
+fn put_ending(line: &mut ArrayVec<u8, 64>, outcome: &Outcome)
+    requires { line.old.items ≡ [] }
+    ensures { line.new.items ≡ ending_line outcome.now.ending outcome.now.status outcome.now.steps }
 {
-    let mut line = ArrayVec::new();
-    put(&mut line, opening_of(outcome.ending));
-    put(&mut line, Buffer::new().format(outcome.status).as_bytes());
-    put(&mut line, b" ");
-    put(&mut line, Buffer::new().format(outcome.steps).as_bytes());
-    put(&mut line, b"]\n");
-    line
+    put(line, opening_of(outcome.ending));
+    put(line, Buffer::new().format(outcome.status).as_bytes());
+    put(line, b" ");
+    put(line, Buffer::new().format(outcome.steps).as_bytes());
+    put(line, b"]\n");
 }
 
 /// Puts a short text behind a line.

@@ -12,6 +12,7 @@ ghost use Rattle.hush_run.specs.Runs.{rules};
 use crate::answers::Answers;
 use crate::ending::{SessionEnd, SessionEnding, Stop};
 use crate::marks::{Names, unnamed};
+use crate::names::Name;
 use crate::obeying::obey;
 use crate::requests::request_of;
 use crate::running::{Workshop, run_block};
@@ -172,7 +173,8 @@ fn answer_dot<W: Write>(
         (block_items (take talk.old.start talk.old.bytes.items) ++ Dot (drop talk.old.start talk.old.bytes.items) ∷ [])
         (sink_of (W.contents output.new) talk.new) (session_of talk.new) result }
 {
-    let request = request_of(&talk.bytes[talk.start..]);
+    let mut name = Name::new();
+    let request = request_of(&talk.bytes[talk.start..], &mut name);
     talk.bytes.truncate(talk.start);
     talk.start = 0;
     answer_block(talk, stand_ins, limits, output)
@@ -180,6 +182,7 @@ fn answer_dot<W: Write>(
             &mut talk.session,
             &mut talk.names,
             request,
+            &mut name,
             &mut talk.answers,
             output,
         )

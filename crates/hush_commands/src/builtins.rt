@@ -25,6 +25,7 @@ impl Builtin {
     ghost use Rattle.hush_commands.specs.Builtins.{builtin_of, is_called};
 
     /// The builtin of a name.
+    #[inline(always)]
     pub(crate) fn of(name: &[u8]) -> Option<Builtin>
         ensures { result ≡ builtin_of name.now }
     {

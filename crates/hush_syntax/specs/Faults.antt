@@ -28,7 +28,7 @@ first_fault None end = end
 first_fault (Some t) end = record { place = t.place; kind = fault.Unexpected }
 
 abbrev pub fault_at : Tokens → SyntaxFault
-fault_at tokens = first_fault tokens.next tokens.end
+fault_at tokens = first_fault tokens.next tokens.end.now
 
 -- what is wrong where a text of so many bytes ends and something must still come
 abbrev pub missing_at : ℕ → SyntaxFault

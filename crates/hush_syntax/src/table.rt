@@ -95,7 +95,7 @@ impl Builder {
     pub(crate) fn take_words(
         &mut self,
         text: &Text,
-        tokens: &mut Tokens,
+        tokens: &mut Tokens<'_>,
     ) -> Result<Block, SyntaxFault>
         ensures words { IfOk result (λ block. (more : Members) → words_in text.now
             (block_of block (self.new.table.words.items ++ more.words)) ≡ words_at (left_in text.now tokens.old)) }
@@ -115,7 +115,7 @@ impl Builder {
         &mut self,
         name: Word,
         text: &Text,
-        tokens: &mut Tokens,
+        tokens: &mut Tokens<'_>,
     ) -> Result<Block, SyntaxFault>
         ensures words { IfOk result (λ block. (more : Members) → words_in text.now
             (block_of block (self.new.table.words.items ++ more.words)) ≡ word_atoms text.now name ∷ words_at (left_in text.now tokens.old)) }

@@ -17,11 +17,12 @@ impl<'s> Parser<'s> {
     ghost use Rattle.hush_syntax.specs.Reading.{command, compound, loop_parts};
     ghost use Rattle.hush_syntax.specs.Builders.{Parses, CommandAt, BranchAt, OtherwiseAt, LoopAt};
 
-    /// What stands behind the first word of a form.
+    /// What stands behind the first word of a form. It isn't compiled into what reads every command, which has less to set up so.
+    #[inline(never)]
     #[cycle(parsing)]
     pub(super) fn compound(
         self,
-        tokens: &mut Tokens,
+        tokens: &mut Tokens<'_>,
         builder: &mut Builder,
         keyword: Keyword,
         fault: SyntaxFault,
@@ -55,7 +56,7 @@ impl<'s> Parser<'s> {
     #[cycle(parsing)]
     fn loop_parts(
         self,
-        tokens: &mut Tokens,
+        tokens: &mut Tokens<'_>,
         builder: &mut Builder,
         room: u32,
     ) -> Result<(NodeId, NodeId), SyntaxFault>
@@ -73,7 +74,7 @@ impl<'s> Parser<'s> {
     #[cycle(parsing)]
     fn binding_loop(
         self,
-        tokens: &mut Tokens,
+        tokens: &mut Tokens<'_>,
         builder: &mut Builder,
         room: u32,
     ) -> Result<NodeId, SyntaxFault>
@@ -94,7 +95,7 @@ impl<'s> Parser<'s> {
     #[cycle(parsing)]
     fn branches(
         self,
-        tokens: &mut Tokens,
+        tokens: &mut Tokens<'_>,
         builder: &mut Builder,
         room: u32,
     ) -> Result<NodeId, SyntaxFault>
@@ -118,7 +119,7 @@ impl<'s> Parser<'s> {
     #[cycle(parsing)]
     fn branch(
         self,
-        tokens: &mut Tokens,
+        tokens: &mut Tokens<'_>,
         builder: &mut Builder,
         room: u32,
     ) -> Result<Branch, SyntaxFault>
@@ -134,7 +135,7 @@ impl<'s> Parser<'s> {
     #[cycle(parsing)]
     fn otherwise(
         self,
-        tokens: &mut Tokens,
+        tokens: &mut Tokens<'_>,
         builder: &mut Builder,
         room: u32,
     ) -> Result<Option<NodeId>, SyntaxFault>

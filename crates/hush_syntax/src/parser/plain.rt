@@ -25,7 +25,7 @@ impl<'s> Parser<'s> {
     /// An assignment, which no word may follow, or a simple command.
     pub(super) fn plain(
         self,
-        tokens: &mut Tokens,
+        tokens: &mut Tokens<'_>,
         builder: &mut Builder,
     ) -> Result<NodeId, SyntaxFault>
         ensures { Parses CommandAt self.entry.text.now plain builder.old builder.new tokens.old tokens.new result }
@@ -57,7 +57,7 @@ impl<'s> Parser<'s> {
     /// What stands behind an assignment: no word.
     fn assignment(
         self,
-        tokens: &mut Tokens,
+        tokens: &mut Tokens<'_>,
         builder: &mut Builder,
         assignment: Assignment,
     ) -> Result<NodeId, SyntaxFault>
@@ -73,7 +73,7 @@ impl<'s> Parser<'s> {
 }
 
 /// No word may stand behind an assignment.
-fn no_word(tokens: &Tokens) -> Result<(), SyntaxFault>
+fn no_word(tokens: &Tokens<'_>) -> Result<(), SyntaxFault>
     ensures passed { OnOk result ((text : Written) → begins is_word (left_in text tokens.now) ≡ false) }
     ensures word { IfErr result (λ _. (text : Written) → begins is_word (left_in text tokens.now) ≡ true) }
     ensures refused { IfErr result (λ fault. fault ≡ assignment_fault tokens.now) }

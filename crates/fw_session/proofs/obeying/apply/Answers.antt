@@ -8,20 +8,20 @@ use Rattle.fw_session.proofs.obeying.apply.Goals as goal
 
 pub undo-requires-in-Some : goal.undo-requires-in-Some
 undo-requires-in-Some g c =
-    found_within (named_session c.args.session.now (names_of c.args.names.now.items)) c.deref.result.now c.in-Some.found (names_of c.standing.result.now) c.standing.ensures (sym c.in-Some.is ∙ c.last_named.ensures)
+    found_within (named_session c.args.session.now (names_of c.args.names.now.items)) c.as_slice.result.now c.in-Some.found (names_of c.standing.result.now) c.standing.ensures (sym c.in-Some.is ∙ c.last_named.ensures)
 
 pub returns-in-Ok-First : goal.returns-in-Ok-First
 returns-in-Ok-First g c =
-    obeyed_as _ _ _ _ _ _ c.add.result (ap change_view c.in-Save.is)
+    obeyed_as _ _ _ _ _ _ c.add.result (ap (λ r. change_view r c.args.name.now.items) c.in-Save.is)
     (save_done c.args.session.now c.save.new.self (names_of c.args.names.now.items) First _ _ c.add.result c.requires (sym c.in-Ok-First.field-0-is ∙ c.in-Ok-First.ensures.side) c.in-Ok-First.ensures.saved c.add.ensures)
 
 pub returns-in-Ok-Second : goal.returns-in-Ok-Second
 returns-in-Ok-Second g c =
-    obeyed_as _ _ _ _ _ _ c.add-in-Ok-Second.result (ap change_view c.in-Save.is)
+    obeyed_as _ _ _ _ _ _ c.add-in-Ok-Second.result (ap (λ r. change_view r c.args.name.now.items) c.in-Save.is)
     (save_done c.args.session.now c.save.new.self (names_of c.args.names.now.items) Second _ _ c.add-in-Ok-Second.result c.requires (sym c.in-Ok-Second.field-0-is ∙ c.in-Ok-Second.ensures.side) c.in-Ok-Second.ensures.saved
     c.add-in-Ok-Second.ensures)
 
 pub returns-in-Err : goal.returns-in-Err
 returns-in-Err g c =
-    obeyed_as _ _ _ _ _ _ c.add-in-Err.result (ap change_view c.in-Save.is)
+    obeyed_as _ _ _ _ _ _ c.add-in-Err.result (ap (λ r. change_view r c.args.name.now.items) c.in-Save.is)
     (save_refused c.args.session.now c.save.new.self (names_of c.args.names.now.items) _ _ c.add-in-Err.result c.requires c.in-Err.ensures.unchanged c.in-Err.ensures.refused_only c.add-in-Err.ensures)

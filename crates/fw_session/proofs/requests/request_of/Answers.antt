@@ -14,4 +14,4 @@ returns c =
       | then-loop-length-test+else-is_end_blank w ↦ trim_end c.args.line.now c.loop-length.length w.is_end_blank.result w.loop-length-test.true c.loop-length.invariant w.is_end_blank.ensures w.if-is_end_blank.false
       | else-loop-length-test w ↦ trim_none c.args.line.now c.loop-length.length w.loop-length-test.false c.loop-length.invariant
     ] in
-    request_known c.args.line.now (take c.loop-length.length c.args.line.now) c.request_in.result c.request_in.ensures t
+    request_known c.args.line.now (take c.loop-length.length c.args.line.now) c.request_in.new.name.items c.request_in.result c.request_in.ensures t

@@ -12,7 +12,7 @@ returns-then-add g c =
     let s' = sink (g.W.Write.contents c.add.new.output) c.add.new.self in
     let s'' = sink (g.W.Write.contents c.add-then-add.new.output) c.add-then-add.new.self in
     adds_then_as s s' s'' o.text.items (ending_line o.ending o.status o.steps) c.add.result c.add-then-add.result c.if-add.true (subst (λ v. Adds s s' v c.add.result) c.deref.ensures.value c.add.ensures)
-    (subst (λ v. Adds s' s'' v c.add-then-add.result) (c.deref-then-add.ensures.0 ∙ c.ending_line-line.ensures) c.add-then-add.ensures)
+    (subst (λ v. Adds s' s'' v c.add-then-add.result) (c.deref-then-add.ensures.0 ∙ c.put_ending.ensures) c.add-then-add.ensures)
 
 pub returns-else-add : goal.returns-else-add
 returns-else-add g c =
