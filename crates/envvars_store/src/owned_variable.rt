@@ -1,21 +1,26 @@
-//! One variable with memory of its own.
+//! One variable that owns its bytes.
 ghost use Rattle.std.specs.Prelude.{◌≡◌, ◌++◌, None, Some, IfOk, IfErr, IfSome, IsTrue, option_copied, option_map};
 ghost use Rattle.envimg_core.specs.Environment.{is_name, is_value, IsVariable, entry_text};
 ghost use Rattle.envvars_store.specs.Tags.{tagged, untagged};
 
 use crate::naming::NO_NUMBER;
 use envimg_core::EQUALS;
+use smallvec::SmallVec;
 use std::alloc::{AllocError, Global};
 use std::marker::Model;
 
 /// What stands behind a value that may be none.
 const TAG: u8 = b'-';
 
-/// One variable with memory of its own: name, `=` and value in one text.
+/// How many bytes of name, `=` and value stand in the variable itself. Only a longer text takes memory.
+const INLINE: usize = 16;
+
+/// One variable that owns its bytes: name, `=` and value in one text. A short text stands beside its neighbours' among the
+/// variables, where a search compares it without another read of memory far away.
 /// Contracts see the pair of the name and the value.
 #[derive(Drop)]
 pub struct OwnedVariable {
-    bytes: Vec<u8>,
+    bytes: SmallVec<u8, INLINE>,
     middle: u32,
     // The number under which the name may be kept: a hint.
     number: u32,
@@ -93,12 +98,12 @@ impl OwnedVariable {
         self.bytes.as_slice()
     }
 
-    /// The same variable in memory of its own.
+    /// The same variable with bytes of its own.
     pub fn try_clone(&self, alloc: Global) -> Result<OwnedVariable, AllocError>
         ensures { IfOk result (λ t. t ≡ self.now) }
     {
         Ok(OwnedVariable {
-            bytes: Vec::from_slice(alloc, &self.bytes)?,
+            bytes: SmallVec::from_slice(alloc, &self.bytes)?,
             middle: self.middle,
             number: self.number,
         })
@@ -133,7 +138,7 @@ impl OwnedVariable {
             return Err(AllocError);
         };
         let length = (name.len() + front.len() + 1).saturating_add(rest.len());
-        let mut bytes = Vec::with_capacity(alloc, length)?;
+        let mut bytes = SmallVec::with_capacity(alloc, length)?;
         bytes.extend_from_slice(name)?;
         bytes.push(EQUALS)?;
         bytes.extend_from_slice(front)?;

@@ -13,7 +13,7 @@ use crate::variable::Variable;
 use std::alloc::{AllocError, Global};
 use std::marker::Model;
 
-/// Variables that each have memory of their own, so that one that is taken out takes it along.
+/// Variables that each own their bytes, so that one that is taken out takes them along.
 #[derive(Drop)]
 pub struct OwnedVariables {
     runs: Vec<Run>,

@@ -67,7 +67,7 @@ impl Variable {
         }
     }
 
-    /// The same variable; an owned one gets memory of its own.
+    /// The same variable; an owned one gets bytes of its own.
     pub(crate) fn try_clone(&self, alloc: Global) -> Result<Variable, AllocError>
         ensures { IfOk result (λ s. s ≡ self.now) }
     {
