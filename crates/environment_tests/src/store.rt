@@ -189,9 +189,6 @@ fn a_number_is_no_more_than_a_hint(rt: HostRuntime) -> Result<(), Fail> {
         }
         let (is_added, _) = owned.find_near(hint, name);
         assert!(rt; is_added);
-        if is_added {
-            owned.number(name);
-        }
         hints.push(hint)?;
     }
     for hint in hints.iter() {

@@ -150,7 +150,6 @@ impl Olds {
     {
         let variable = OwnedVariable::tagged(self.alloc, name, old)?;
         self.tagged.add(hint, variable)?;
-        self.tagged.number(name);
         Ok(())
     }
 

@@ -1,5 +1,5 @@
 -- Runs of owned variables alone, with their count.
-use Rattle.std.proofs.Common.{◌≡◌, ℕ, ◌+◌, ◌-◌, Bool, false, true, cond, T, List, [], ◌∷◌, ◌++◌, length, All, Option, Some, is_some, option_map, map, sym, ap, subst, ◌∙◌, refl, arith, append-nil}
+use Rattle.std.proofs.Common.{◌≡◌, ℕ, ◌+◌, ◌-◌, Bool, is_eq, false, true, cond, T, List, [], ◌∷◌, ◌++◌, length, All, Option, Some, is_some, option_map, map, sym, ap, subst, ◌∙◌, refl, arith, append-nil}
 use Rattle.std.specs.FinMap as env
 use Rattle.std.specs.FinMap.Entries.{put, find, is_sorted}
 use Rattle.std.specs.Ordering.{eq_by_cmp}
@@ -97,10 +97,9 @@ some_more false v o e = e
 
 pub names_more : (m : Environment) (k v : List ℕ) (names : NumberedNames) → AreNamesOf m names → AreNamesOf (env.insert m k v) names
 names_more m k v names h =
-    λ i r w.
-    let n = h i r w in
-    record {
-      ordered = n.ordered;
-      within = n.within;
-      there = ap is_some (env.get-insert nat_list_cmp_total m k v _) ∙ some_more (eq_by_cmp bytes_cmp _ k) v (env.get m _) n.there;
-    }
+    λ i n w. ap is_some (env.get-insert nat_list_cmp_total m k v _) ∙ some_more (eq_by_cmp bytes_cmp _ k) v (env.get m _) (h i n w)
+
+-- a name that was given a value has one
+pub name_there : (m : Environment) (k v : List ℕ) → env.contains_key (env.insert m k v) k ≡ true
+name_there m k v =
+    ap is_some (env.get-insert nat_list_cmp_total m k v k ∙ ap (λ o. cond (is_eq o) (Some v) (env.get m k)) (tied_itself nat_list_cmp_total k))

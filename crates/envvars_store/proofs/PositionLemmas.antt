@@ -3,10 +3,10 @@ use Rattle.std.proofs.Common.{◌≡◌, ℕ, zero, suc, ◌-◌, ◌<◌, ◌�
 use Rattle.std.specs.FinMap as env
 use Rattle.std.specs.FinMap.Entries.{put, find, is_sorted}
 use Rattle.std.proofs.Math.Seq.{drop-cons, take-suc}
-use Rattle.std.proofs.lemmas.List.{map-append, drop_all}
+use Rattle.std.proofs.lemmas.List.{map-append, drop_all, length-map}
 use Rattle.std.proofs.lemmas.List.Elements.{All-append, All-cons}
 use Rattle.envimg_core.specs.Environment.{Pair, bytes_cmp, Environment, IsVariable}
-use Rattle.envvars_store.specs.Order.{AllBefore, StartsAfter}
+use Rattle.envvars_store.specs.Order.{AllBefore, StartsAfter, IsFound}
 use Rattle.envvars_store.specs.Laying.{pair_of, LiesIn}
 use Rattle.envvars_store.specs.Runs.{Run, flat, pairs, listed, variables_at, front, rest, later, IsFilled, HoldsVariable, AreInOrder, IsPositionOf, BelongsAt}
 use Rattle.envvars_store.specs.declared.variable.Variable.{Variable}
@@ -204,6 +204,21 @@ found_here q area runs s r x l h at is w eq =
       before = all_before_equal q (pairs area (front runs s)) (pair_of area x) (pairs area (later runs s)) sorted eq;
       equal = λ y f. ap (λ (p : Pair). bytes_cmp q p.0) (sym (pair_read area (variables_at runs s.run) s.index y within f) ∙ pair_read area (variables_at runs s.run) s.index x within there) ∙ eq;
     }
+
+-- what stands at an index of a list
+some_at : {A : Type 0} (xs : List A) (k : ℕ) → k < length xs → (x : A) × ((d : A) → x ≡ get_or xs k d)
+some_at [] k h = absurd (omega arith)
+some_at (x ∷ xs) zero h = (x, λ d. refl)
+some_at (x ∷ xs) (suc k) h = some_at xs k (omega arith)
+
+-- a variable that was found in one run
+pub found_in_run : (q area : List ℕ) (runs : List Run) (r k : ℕ) (x : Run) → AreInOrder area runs → r < length runs → x ≡ get_or runs r x → IsFound q (pairs area x.items) k → IsPositionOf q area runs (record { run = r; index = k })
+found_in_run q area runs r k x l h at f =
+    let within : k < length x.items = omega (arith, f.within, length-map x.items (pair_of area)) in
+    let v = some_at x.items k within in
+    let there : v.0 ≡ get_or x.items k v.0 = v.1 v.0 in
+    let eq = ap (λ (p : Pair). bytes_cmp q p.0) (sym (pair_read area x.items k v.0 within there)) ∙ f.equal in
+    found_here q area runs (record { run = r; index = k }) x v.0 l h at there (omega (arith, within, long x)) eq
 
 -- nothing stands in front of the first position
 pub front_none : (q area : List ℕ) (runs : List Run) (s : Position) → s.index ≡ 0 → s.run ≡ 0 → AllBefore q (pairs area (front runs s))

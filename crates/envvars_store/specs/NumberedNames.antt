@@ -1,20 +1,13 @@
 -- Names by number, all of them names that variables have.
-use Rattle.std.specs.Prelude.{◌≡◌, ℕ, ◌≤◌, true, List, [], length, All, slice_range}
+use Rattle.std.specs.Prelude.{◌≡◌, ℕ, true, List, [], All}
 use Rattle.std.specs.FinMap as finite
 use Rattle.envimg_core.specs.Environment.{Environment, bytes_cmp}
 use Rattle.envvars_store.specs.Runs.{Run, listed, AreOwned}
-use Rattle.envvars_store.specs.declared.naming.Range.{Range}
 use Rattle.envvars_store.specs.declared.naming.NumberedNames.{NumberedNames}
-
--- a variable has the name that lies in the range
-pub record IsNameOf (m : Environment) (bytes : List ℕ) (r : Range) : Type 0 where
-  pub ordered : r.start ≤ r.end
-  pub within : r.end ≤ length bytes
-  pub there : finite.contains_key m (slice_range bytes r.start r.end) ≡ true
 
 -- each of the names is that of a variable
 abbrev pub AreNamesOf : Environment → NumberedNames → Type 0
-AreNamesOf m names = All (IsNameOf m names.bytes.items) names.ranges.items
+AreNamesOf m names = All (λ name. finite.contains_key m name.items ≡ true) names.names.items
 
 -- what holds of runs of owned variables with their count and names
 pub record AreNamed (runs : List Run) (count : ℕ) (names : NumberedNames) : Type 0 where

@@ -7,6 +7,7 @@ ghost use Rattle.envvars_store.specs.Order.{is_other};
 ghost use Rattle.envvars_store.specs.Runs.{listed, HoldsVariable, AreInOrder};
 
 use crate::finding::locate_near;
+use crate::firsts::Firsts;
 use crate::runs::{Position, Run, insert_at, remove_at, replace_at};
 use crate::variable::Variable;
 use std::alloc::{AllocError, Global};
@@ -16,6 +17,7 @@ pub(crate) fn set(
     alloc: Global,
     area: &[u8],
     runs: &mut Vec<Run>,
+    firsts: &mut Firsts,
     variable: Variable,
     hint: Position,
 ) -> Result<(), AllocError>
@@ -27,22 +29,35 @@ pub(crate) fn set(
         ≡ put bytes_cmp (pair_of area.now variable).0 (pair_of area.now variable).1 (listed area.now runs.old.items)) }
     ensures err { OnErr result (listed area.now runs.new.items ≡ listed area.now runs.old.items) }
 {
-    match locate_near(area, runs, variable.name(area), hint) {
+    match locate_near(area, runs, firsts, variable.name(area), hint) {
         Ok(at) => replace_at(runs, at, variable),
-        Err(at) => insert_at(alloc, runs, at, variable)?,
+        Err(at) => {
+            firsts.reserve(area, runs)?;
+            insert_at(alloc, runs, at, variable)?;
+            firsts.added(area, runs, at);
+        }
     }
     Ok(())
 }
 
 /// Takes the variable of a name away, if there is one. It is looked for from a position.
-pub(crate) fn forget(area: &[u8], runs: &mut Vec<Run>, name: &[u8], hint: Position)
+pub(crate) fn forget(
+    area: &[u8],
+    runs: &mut Vec<Run>,
+    firsts: &mut Firsts,
+    name: &[u8],
+    hint: Position,
+)
     requires { AreInOrder area.now runs.old.items }
     ensures in_order { AreInOrder area.now runs.new.items }
     ensures gone { listed area.now runs.new.items
         ≡ where_key bytes_cmp (is_other name.now) (listed area.now runs.old.items) }
 {
-    match locate_near(area, runs, name, hint) {
-        Ok(at) => remove_at(runs, at),
+    match locate_near(area, runs, firsts, name, hint) {
+        Ok(at) => {
+            remove_at(runs, at);
+            firsts.removed(area, runs, at);
+        }
         Err(_) => {}
     }
 }

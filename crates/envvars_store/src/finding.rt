@@ -1,5 +1,5 @@
 //! Where a name stands among variables in the order of their names.
-ghost use Rattle.std.specs.Prelude.{◌≡◌, ◌<◌, ◌≤◌, suc, length, drop, IsTrue, MatchOption, MatchResult, T, All};
+ghost use Rattle.std.specs.Prelude.{◌≡◌, ◌<◌, ◌≤◌, suc, length, drop, IsTrue, IfSome, MatchOption, MatchResult, T, All};
 ghost use Rattle.std.specs.FinMap.Entries.{is_sorted};
 ghost use Rattle.envimg_core.specs.Environment.{bytes_cmp};
 ghost use Rattle.envvars_store.specs.Laying.{LiesIn};
@@ -7,12 +7,94 @@ ghost use Rattle.envvars_store.specs.Order.{IsFound, IsGap, AllBefore, StartsAft
 ghost use Rattle.envvars_store.specs.Runs.{pairs, listed, variables_at, front, rest, AreInOrder, IsRunFor, IsPositionOf, BelongsAt};
 
 use crate::comparing::order;
+use crate::firsts::Firsts;
 use crate::runs::{Position, Run};
 use crate::variable::Variable;
 use std::cmp::Ordering;
 
 /// Where the variable with the name stands, or the position where one would stand.
-pub(crate) fn locate(area: &[u8], runs: &[Run], name: &[u8]) -> Result<Position, Position>
+pub(crate) fn locate(
+    area: &[u8],
+    runs: &[Run],
+    firsts: &Firsts,
+    name: &[u8],
+) -> Result<Position, Position>
+    requires { AreInOrder area.now runs.now }
+    ensures { MatchResult result (IsPositionOf name.now area.now runs.now) (BelongsAt name.now area.now runs.now) }
+{
+    match in_likely_run(area, runs, firsts, name) {
+        Some(found) => found,
+        None => halve(area, runs, name),
+    }
+}
+
+/// What `locate` answers, if the name stands or belongs in the run that the first names tell.
+fn in_likely_run(
+    area: &[u8],
+    runs: &[Run],
+    firsts: &Firsts,
+    name: &[u8],
+) -> Option<Result<Position, Position>>
+    requires { AreInOrder area.now runs.now }
+    ensures { IfSome result (λ found.
+        MatchResult found (IsPositionOf name.now area.now runs.now) (BelongsAt name.now area.now runs.now)) }
+{
+    let run = firsts.run_for(name)?;
+    if run >= runs.len() {
+        return None;
+    }
+    match index_of(area, &runs[run], name) {
+        Ok(index) => Some(Ok(Position { run, index })),
+        Err(index) => {
+            let at = Position { run, index };
+            if belongs_at(area, runs, name, at) {
+                Some(Err(at))
+            } else {
+                None
+            }
+        }
+    }
+}
+
+/// The same, from a position where it may be. Any position may be given; another than the right one only costs time.
+pub(crate) fn locate_near(
+    area: &[u8],
+    runs: &[Run],
+    firsts: &Firsts,
+    name: &[u8],
+    hint: Position,
+) -> Result<Position, Position>
+    requires { AreInOrder area.now runs.now }
+    ensures { MatchResult result (IsPositionOf name.now area.now runs.now) (BelongsAt name.now area.now runs.now) }
+{
+    match placed(area, runs, name, hint) {
+        Some(found) => found,
+        None => locate(area, runs, firsts, name),
+    }
+}
+
+/// What `locate` answers, if that is a position that is given.
+fn placed(
+    area: &[u8],
+    runs: &[Run],
+    name: &[u8],
+    at: Position,
+) -> Option<Result<Position, Position>>
+    requires { AreInOrder area.now runs.now }
+    ensures { IfSome result (λ found.
+        MatchResult found (IsPositionOf name.now area.now runs.now) (BelongsAt name.now area.now runs.now)) }
+{
+    if stands_at(area, runs, name, at) {
+        return Some(Ok(at));
+    }
+    if belongs_at(area, runs, name, at) {
+        return Some(Err(at));
+    }
+    None
+}
+
+/// What `locate` answers, by halving alone.
+fn halve(area: &[u8], runs: &[Run], name: &[u8]) -> Result<Position, Position>
     requires { AreInOrder area.now runs.now }
     ensures { MatchResult result (IsPositionOf name.now area.now runs.now) (BelongsAt name.now area.now runs.now) }
 {
@@ -23,25 +105,6 @@ pub(crate) fn locate(area: &[u8], runs: &[Run], name: &[u8]) -> Result<Position,
             Err(index) => Err(Position { run, index }),
         },
     }
-}
-
-/// The same, from a position where it may be. Any position may be given; another than the right one only costs time.
-pub(crate) fn locate_near(
-    area: &[u8],
-    runs: &[Run],
-    name: &[u8],
-    hint: Position,
-) -> Result<Position, Position>
-    requires { AreInOrder area.now runs.now }
-    ensures { MatchResult result (IsPositionOf name.now area.now runs.now) (BelongsAt name.now area.now runs.now) }
-{
-    if stands_at(area, runs, name, hint) {
-        return Ok(hint);
-    }
-    if belongs_at(area, runs, name, hint) {
-        return Err(hint);
-    }
-    locate(area, runs, name)
 }
 
 /// Whether the variable at a position has the name.

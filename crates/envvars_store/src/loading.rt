@@ -11,6 +11,7 @@ ghost use Rattle.envimg_core.specs.Environment.{is_equals};
 use crate::changing::{forget, set};
 use crate::comparing::rising_end;
 use crate::copying::copied;
+use crate::firsts::Firsts;
 use crate::runs::{Run, add, end_of, run_of_one};
 use crate::scanning::{LOOK, near, rises};
 use crate::store::Variables;
@@ -27,14 +28,15 @@ impl Variables {
         ensures { IfOk result (λ v. v ≡ vars_of (entries_of area.now)) }
     {
         let area = copied(alloc, area)?;
-        let runs = loaded(alloc, &area)?;
-        Ok(Variables { area, runs })
+        let mut firsts = Firsts::new(alloc);
+        let runs = loaded(alloc, &area, &mut firsts)?;
+        Ok(Variables { area, runs, firsts })
     }
 }
 
 /// The variables of an area as extents of it: as far as its names rise without a search, and from there on entry by
 /// entry.
-fn loaded(alloc: Global, area: &[u8]) -> Result<Vec<Run>, AllocError>
+fn loaded(alloc: Global, area: &[u8], firsts: &mut Firsts) -> Result<Vec<Run>, AllocError>
     requires { length area.now ≤ greatest_size }
     ensures in_order { IfOk result (λ runs. AreInOrder area.now runs.items) }
     ensures variables { IfOk result (λ runs.
@@ -46,7 +48,7 @@ fn loaded(alloc: Global, area: &[u8]) -> Result<Vec<Run>, AllocError>
         match piece_end(area, at) {
             None => return Ok(runs),
             Some(end) => {
-                read_entry(alloc, area, &mut runs, at, end)?;
+                read_entry(alloc, area, &mut runs, firsts, at, end)?;
                 at = end + 1;
             }
         }
@@ -179,6 +181,7 @@ fn read_entry(
     alloc: Global,
     area: &[u8],
     runs: &mut Vec<Run>,
+    firsts: &mut Firsts,
     start: usize,
     end: usize,
 ) -> Result<(), AllocError>
@@ -192,10 +195,10 @@ fn read_entry(
 {
     let piece = &area[start..end];
     match memchr(EQUALS, piece) {
-        None => forget(area, runs, piece, end_of(runs)),
+        None => forget(area, runs, firsts, piece, end_of(runs)),
         Some(0) => {}
         Some(length) if length + 1 == piece.len() => {
-            forget(area, runs, &piece[..length], end_of(runs))
+            forget(area, runs, firsts, &piece[..length], end_of(runs))
         }
         Some(length) => {
             let extent = Extent {
@@ -203,7 +206,14 @@ fn read_entry(
                 middle: (start + length) as u32,
                 end: end as u32,
             };
-            set(alloc, area, runs, Variable::Loaded(extent), end_of(runs))?;
+            set(
+                alloc,
+                area,
+                runs,
+                firsts,
+                Variable::Loaded(extent),
+                end_of(runs),
+            )?;
         }
     }
     Ok(())

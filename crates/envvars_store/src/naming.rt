@@ -1,26 +1,25 @@
 //! Names by number, so that one is known again without a search.
-ghost use Rattle.std.specs.Prelude.{◌≡◌, true, IsTrue, OnOk};
+ghost use Rattle.std.specs.Prelude.{◌≡◌, true, IfOk, IsTrue};
 ghost use Rattle.std.specs.FinMap as env;
 ghost use Rattle.envimg_core.specs.Environment.{Environment};
 ghost use Rattle.envvars_store.specs.NumberedNames.{AreNamesOf};
 
+use smallvec::SmallVec;
 use std::alloc::{AllocError, Global};
 
 /// The number of no name.
 pub(crate) const NO_NUMBER: u32 = u32::MAX;
 
-/// Where a name lies among the bytes.
-#[derive(Clone, Copy)]
-pub(crate) struct Range {
-    pub(crate) start: u32,
-    pub(crate) end: u32,
-}
+/// How many bytes of a name stand among the names. Only a longer one takes memory of its own.
+const INLINE: usize = 16;
+
+/// The bytes of a name.
+pub(crate) type Name = SmallVec<u8, INLINE>;
 
 /// Names one behind another. The first has the number 0, and none changes its number.
 #[derive(Drop)]
 pub(crate) struct NumberedNames {
-    bytes: Vec<u8>,
-    ranges: Vec<Range>,
+    names: Vec<Name>,
 }
 
 impl NumberedNames {
@@ -29,14 +28,13 @@ impl NumberedNames {
         ensures { (m : Environment) → AreNamesOf m result }
     {
         NumberedNames {
-            bytes: Vec::new(alloc),
-            ranges: Vec::new(alloc),
+            names: Vec::new(alloc),
         }
     }
 
     /// The number that the next name gets.
     pub(crate) fn next(&self) -> u32 {
-        u32::try_from(self.ranges.len()).unwrap_or(NO_NUMBER)
+        u32::try_from(self.names.len()).unwrap_or(NO_NUMBER)
     }
 
     /// Whether a number is that of a name. It looks at no other.
@@ -44,38 +42,26 @@ impl NumberedNames {
     pub(crate) fn is(&self, number: u32, name: &[u8]) -> bool
         ensures { IsTrue result → (m : Environment) → AreNamesOf m self.now → env.contains_key m name.now ≡ true }
     {
-        let Some(range) = self.ranges.get(number as usize) else {
-            return false;
-        };
-        match self.bytes.get(range.start as usize..range.end as usize) {
-            Some(named) => named == name,
+        match self.names.get(number as usize) {
+            Some(named) => named.as_slice() == name,
             None => false,
         }
     }
 
-    /// Makes room for one more name.
-    pub(crate) fn reserve(&mut self, name: &[u8]) -> Result<(), AllocError>
-        ensures { (m : Environment) → AreNamesOf m self.old → AreNamesOf m self.new }
+    /// A name with the memory that it takes, and room for it.
+    pub(crate) fn ready(&mut self, name: &[u8]) -> Result<Name, AllocError>
+        ensures name { IfOk result (λ n. n.items ≡ name.now) }
+        ensures names { (m : Environment) → AreNamesOf m self.old → AreNamesOf m self.new }
     {
-        self.bytes.reserve(name.len())?;
-        self.ranges.reserve(1)?;
-        Ok(())
+        self.names.reserve(1)?;
+        Name::from_slice(*self.names.allocator(), name)
     }
 
     /// Gives a name the next number, where there is room for it.
-    pub(crate) fn add(&mut self, name: &[u8])
+    pub(crate) fn add(&mut self, name: Name)
         ensures { (m : Environment) →
-            AreNamesOf m self.old → env.contains_key m name.now ≡ true → AreNamesOf m self.new }
+            AreNamesOf m self.old → env.contains_key m name.items ≡ true → AreNamesOf m self.new }
     {
-        let Ok(start) = u32::try_from(self.bytes.len()) else {
-            return;
-        };
-        let Ok(()) = self.bytes.extend_from_slice(name) else {
-            return;
-        };
-        let Ok(end) = u32::try_from(self.bytes.len()) else {
-            return;
-        };
-        let _is_refused = self.ranges.push(Range { start, end }).is_err();
+        let _is_refused = self.names.push(name).is_err();
     }
 }

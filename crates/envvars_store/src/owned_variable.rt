@@ -142,7 +142,9 @@ impl OwnedVariable {
         bytes.extend_from_slice(name)?;
         bytes.push(EQUALS)?;
         bytes.extend_from_slice(front)?;
-        bytes.extend_from_slice(rest)?;
+        if !rest.is_empty() {
+            bytes.extend_from_slice(rest)?;
+        }
         Ok(OwnedVariable {
             bytes,
             middle,

@@ -4,6 +4,7 @@ ghost use Rattle.std.specs.FinMap as env;
 ghost use Rattle.envimg_core.specs.Environment.{IsVariable};
 
 use crate::changing::{forget, set};
+use crate::firsts::Firsts;
 use crate::iterating::Iter;
 use crate::naming::NumberedNames;
 use crate::owned_variable::OwnedVariable;
@@ -17,6 +18,7 @@ use std::marker::Model;
 #[derive(Drop)]
 pub struct OwnedVariables {
     runs: Vec<Run>,
+    firsts: Firsts,
     count: usize,
     // The names that got a number since a variable was last taken out.
     names: NumberedNames,
@@ -46,6 +48,7 @@ impl OwnedVariables {
     {
         OwnedVariables {
             runs: Vec::new(alloc),
+            firsts: Firsts::new(alloc),
             count: 0,
             names: NumberedNames::new(alloc),
         }
@@ -63,7 +66,7 @@ impl OwnedVariables {
         ensures value { option_map (λ v. v.now) result.0 ≡ env.get self.now name.now }
         ensures formed { IfSome result.0 (λ v. IsVariable (name.now, v.now)) }
     {
-        find_among(&[], &self.runs, name)
+        find_among(&[], &self.runs, &self.firsts, name)
     }
 
     /// Whether there is a variable of a name, and where it was found or would stand, with its number. What stands under
@@ -87,7 +90,7 @@ impl OwnedVariables {
         }
     }
 
-    /// Adds a variable whose name is new. It is refused only for memory, and then nothing has changed.
+    /// Adds a variable whose name is new, and gives the name the next number. It is refused only for memory, and then nothing has changed.
     /// `hint` is where a look-up of the name ended.
     pub fn add(&mut self, hint: Hint, variable: OwnedVariable) -> Result<(), AllocError>
         requires { env.contains_key self.old variable.0 ≡ false }
@@ -98,25 +101,19 @@ impl OwnedVariables {
             return Err(AllocError);
         };
         let alloc = *self.runs.allocator();
-        self.names.reserve(variable.name())?;
+        let name = self.names.ready(variable.name())?;
         let variable = variable.numbered(hint.number);
         set(
             alloc,
             &[],
             &mut self.runs,
+            &mut self.firsts,
             Variable::Written(variable),
             hint.position,
         )?;
         self.count = count;
-        Ok(())
-    }
-
-    /// Gives the name of a variable that was just added the next number, which the variable has already.
-    pub fn number(&mut self, name: &[u8])
-        requires { env.contains_key self.old name.now ≡ true }
-        ensures { self.new ≡ self.old }
-    {
         self.names.add(name);
+        Ok(())
     }
 
     /// Takes the variable of a name away, if there is one. It takes no memory.
@@ -126,7 +123,7 @@ impl OwnedVariables {
         let (value, hint) = self.find(name);
         let is_there = value.is_some();
         self.names = NumberedNames::new(*self.runs.allocator());
-        forget(&[], &mut self.runs, name, hint.position);
+        forget(&[], &mut self.runs, &mut self.firsts, name, hint.position);
         if is_there {
             self.count = self.count.saturating_sub(1);
         }
@@ -139,6 +136,7 @@ impl OwnedVariables {
     {
         let alloc = *self.runs.allocator();
         self.names = NumberedNames::new(alloc);
+        self.firsts = Firsts::new(alloc);
         match take_last(&mut self.runs) {
             None => None,
             Some(Variable::Written(variable)) => {

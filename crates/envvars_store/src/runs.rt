@@ -10,10 +10,10 @@ use std::mem::replace;
 pub(crate) type Run = Vec<Variable>;
 
 /// The most variables that a run has. A write moves at most so many.
-const MOST: usize = 128;
+pub(crate) const MOST: usize = 96;
 
 /// Two runs side by side that have no more variables together become one. Each run has room for so many.
-pub(crate) const FEW: usize = 64;
+pub(crate) const FEW: usize = 48;
 
 /// Where a variable stands: the index of its run, and its index in the run.
 #[derive(Clone, Copy)]

@@ -6,6 +6,7 @@ ghost use Rattle.envvars_store.specs.Runs.{listed, AreInOrder};
 
 use crate::changing::{forget, set};
 use crate::finding::locate;
+use crate::firsts::Firsts;
 use crate::iterating::{Iter, Lines};
 use crate::naming::NO_NUMBER;
 use crate::owned_variable::OwnedVariable;
@@ -22,6 +23,7 @@ use std::marker::Model;
 pub struct Variables {
     pub(crate) area: Vec<u8>,
     pub(crate) runs: Vec<Run>,
+    pub(crate) firsts: Firsts,
 }
 
 impl Model for Variables {
@@ -67,6 +69,7 @@ impl Variables {
         Variables {
             area: Vec::new(alloc),
             runs: Vec::new(alloc),
+            firsts: Firsts::new(alloc),
         }
     }
 
@@ -84,7 +87,7 @@ impl Variables {
         ensures value { option_map (λ v. v.now) result.0 ≡ env.get self.now name.now }
         ensures formed { IfSome result.0 (λ v. IsVariable (name.now, v.now)) }
     {
-        find_among(&self.area, &self.runs, name)
+        find_among(&self.area, &self.runs, &self.firsts, name)
     }
 
     /// Gives a name a value. The name is a name and the value a value (docs/images.md).
@@ -102,6 +105,7 @@ impl Variables {
             alloc,
             &self.area,
             &mut self.runs,
+            &mut self.firsts,
             Variable::Written(variable),
             hint.position,
         )
@@ -112,7 +116,8 @@ impl Variables {
     pub fn remove(&mut self, hint: Hint, name: &[u8])
         ensures { self.new ≡ env.remove self.old name.now }
     {
-        forget(&self.area, &mut self.runs, name, hint.position);
+        let at = hint.position;
+        forget(&self.area, &mut self.runs, &mut self.firsts, name, at);
     }
 
     /// Puts a variable in the place of the one that has its name, which takes no memory.
@@ -123,7 +128,7 @@ impl Variables {
         ensures err { OnErr result (self.new ≡ self.old) }
         ensures back { IfErr result (λ t. t ≡ variable) }
     {
-        match locate(&self.area, &self.runs, variable.name()) {
+        match locate(&self.area, &self.runs, &self.firsts, variable.name()) {
             Ok(at) => {
                 replace_at(&mut self.runs, at, Variable::Written(variable));
                 Ok(())
@@ -154,6 +159,7 @@ impl Variables {
 pub(crate) fn find_among<'a>(
     area: &'a [u8],
     runs: &'a [Run],
+    firsts: &Firsts,
     name: &[u8],
 ) -> (Option<&'a [u8]>, Hint)
     requires { AreInOrder area.now runs.now }
@@ -161,7 +167,7 @@ pub(crate) fn find_among<'a>(
         ≡ env.get (env.from_sorted {R = bytes_cmp} (listed area.now runs.now)) name.now }
     ensures formed { IfSome result.0 (λ v. IsVariable (name.now, v.now)) }
 {
-    match locate(area, runs, name) {
+    match locate(area, runs, firsts, name) {
         Ok(at) => {
             let variable = &runs[at.run][at.index];
             let number = variable.number();

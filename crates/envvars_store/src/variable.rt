@@ -3,6 +3,7 @@ ghost use Rattle.std.specs.Prelude.{◌≡◌, IfOk};
 ghost use Rattle.envvars_store.specs.Laying.{pair_of, LiesIn};
 ghost use Rattle.envimg_core.specs.Environment.{entry_text};
 
+use crate::firsts::{Front, front_of};
 use crate::naming::NO_NUMBER;
 use crate::owned_variable::OwnedVariable;
 use std::alloc::{AllocError, Global};
@@ -34,6 +35,19 @@ impl Variable {
         match self {
             Variable::Loaded(extent) => &area[extent.start as usize..extent.middle as usize],
             Variable::Written(owned) => owned.name(),
+        }
+    }
+
+    /// The front of its name: a hint. That of a name which doesn't lie in the area is 0.
+    pub(crate) fn front(&self, area: &[u8]) -> Front {
+        match self {
+            Variable::Loaded(extent) => {
+                match area.get(extent.start as usize..extent.middle as usize) {
+                    Some(name) => front_of(name),
+                    None => 0,
+                }
+            }
+            Variable::Written(owned) => front_of(owned.name()),
         }
     }
 
