@@ -17,6 +17,17 @@ pub struct TextEntry {
     pub line: usize,
 }
 
+/// An entry as it stands in a set script, or in a text for import where its value holds no escape.
+#[derive(Clone, Copy, Debug)]
+pub struct PlainEntry<'a> {
+    /// The name's bytes: one or more.
+    pub name: &'a [u8],
+    /// The value's bytes, one or more, or none where the entry deletes.
+    pub value: Option<&'a [u8]>,
+    /// The line in which the entry begins; lines count from 1.
+    pub line: usize,
+}
+
 /// Why a text for import or a set script is refused (docs/texts.md).
 #[derive(Clone, Copy, Debug, PartialEq, Eq, Error)]
 pub enum TextFault {
@@ -45,6 +56,13 @@ impl<T: Drop> From<AllocFailed<T>> for TextFault {
     fn from(_error: AllocFailed<T>) -> TextFault {
         TextFault::Memory
     }
+}
+
+/// The value as it stands in a text, or none where it is empty.
+pub(crate) fn plain_unless_empty(value: &[u8]) -> Option<&[u8]>
+    ensures { option_map (λ v. v.now) result ≡ some_unless_empty value.now }
+{
+    if value.is_empty() { None } else { Some(value) }
 }
 
 /// The value, or none where it is empty.

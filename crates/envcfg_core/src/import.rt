@@ -1,13 +1,13 @@
 //! The text for import. What a text is read as is defined by the steps of a reader (`specs/Import.antt`); the law
 //! `spelled_texts_are_read` says that entries are read back from any of their spellings (`specs/Spelling.antt`).
-ghost use Rattle.std.specs.Prelude.{◌≡◌, ◌+◌, ◌^◌, ◌<◌, ◌≤◌, length, map, IfOk, IfErr, Ok, Err, false};
-ghost use Rattle.envcfg_core.specs.Entries.{Entry, entry_view, with_first, IsFaultOf};
+ghost use Rattle.std.specs.Prelude.{◌≡◌, ◌+◌, ◌^◌, ◌<◌, ◌≤◌, length, map, IfOk, IfErr, IfSome, Ok, Err, false};
+ghost use Rattle.envcfg_core.specs.Entries.{Entry, entry_view, plain_view, with_first, IsFaultOf};
 ghost use Rattle.text_parts.specs.Bytes.{begins};
 ghost use Rattle.envcfg_core.specs.Import.{import_of, entries_from, is_skipped};
 
 use crate::cuts::{after_line, name_len};
-use crate::entry::{TextEntry, TextFault, some_unless_empty};
-use crate::spelled::{read_behind_name, skip_behind_name};
+use crate::entry::{PlainEntry, TextEntry, TextFault, plain_unless_empty, some_unless_empty};
+use crate::spelled::{plain_behind_name, read_behind_name, skip_behind_name};
 use std::alloc::Global;
 use text_parts::contains_byte;
 
@@ -70,6 +70,33 @@ pub(crate) fn read_entry(alloc: Global, rest: Rest<'_>) -> Result<(TextEntry, Re
         },
         follows,
     ))
+}
+
+/// The entry at the front of the text as it stands there, and what follows it, where its value holds no escape.
+pub(crate) fn plain_entry<'a>(rest: Rest<'a>) -> Option<(PlainEntry<'a>, Rest<'a>)>
+    requires place { begins is_skipped rest.text.now ≡ false }
+    requires some { 0 < length rest.text.now }
+    requires fits { rest.line + length rest.text.now < 2 ^ 64 }
+    ensures read { IfSome result (λ found. entries_from rest.entry.line rest.entry.text.now
+        ≡ with_first (plain_view found.0) (entries_from found.1.line found.1.text.now)) }
+    ensures within { IfSome result (λ found. found.1.line + length found.1.text.now ≤ rest.entry.line + length rest.entry.text.now) }
+    ensures shorter { IfSome result (λ found. length found.1.text.now < length rest.entry.text.now) }
+{
+    let (name, behind) = rest.text.split_at(name_len(rest.text));
+    if name.is_empty() {
+        return None;
+    }
+    let value = plain_behind_name(behind)?;
+    let follows = Rest {
+        text: value.rest,
+        line: rest.line + value.newlines,
+    };
+    let entry = PlainEntry {
+        name,
+        value: plain_unless_empty(value.bytes),
+        line: rest.line,
+    };
+    Some((entry, follows))
 }
 
 /// Passes over the entry at the front of the text, and answers what follows it.

@@ -1,11 +1,11 @@
 //! A text for import whose entries are read one by one.
 ghost use Rattle.std.specs.Prelude.{◌≡◌, ◌≤◌, [], ◌∷◌, length, IfOk, IfErr, OnErr, MatchOption, Ok, Err};
-ghost use Rattle.envcfg_core.specs.Entries.{entry_view};
+ghost use Rattle.envcfg_core.specs.Entries.{entry_view, plain_view};
 ghost use Rattle.envcfg_core.specs.Import.{import_of};
 ghost use Rattle.envcfg_core.specs.declared.entry.TextFault.TheVariants.{Memory};
 
-use crate::entry::{TextEntry, TextFault};
-use crate::import::{Rest, read_entry, skip_entry, skip_to_entry};
+use crate::entry::{PlainEntry, TextEntry, TextFault};
+use crate::import::{Rest, plain_entry, read_entry, skip_entry, skip_to_entry};
 use std::alloc::Global;
 use std::marker::Model;
 use text_parts::contains_byte;
@@ -47,6 +47,19 @@ impl<'a> ImportText<'a> {
             rest = skip_to_entry(skip_entry(rest)?);
         }
         Ok(ImportText { rest: first })
+    }
+
+    /// The next entry as it stands in the text, if one is left and its value holds no escape. It takes no memory, and
+    /// where it answers none, nothing has changed.
+    pub fn next_plain(&mut self) -> Option<PlainEntry<'a>>
+        ensures { MatchOption result (self.new ≡ self.old) (λ entry. self.old ≡ plain_view entry ∷ self.new) }
+    {
+        if self.rest.text.is_empty() {
+            return None;
+        }
+        let (entry, behind) = plain_entry(self.rest)?;
+        self.rest = skip_to_entry(behind);
+        Some(entry)
     }
 
     /// The next entry, if one is left. Refused for memory, it can be asked for again.

@@ -21,7 +21,7 @@ mod sizes;
 mod spelled;
 
 pub use config::{Config, ConfigFault, parse_config};
-pub use entry::{TextEntry, TextFault};
+pub use entry::{PlainEntry, TextEntry, TextFault};
 pub use export::{ExportFault, export_entry};
 pub use import::parse_import;
 pub use import_text::ImportText;

@@ -1,11 +1,11 @@
 //! A set script whose entries are read one by one.
 ghost use Rattle.std.specs.Prelude.{◌≡◌, [], ◌∷◌, IfOk, IfErr, OnErr, MatchOption, Ok, Err};
-ghost use Rattle.envcfg_core.specs.Entries.{entry_view, with_first, IsFaultOf};
+ghost use Rattle.envcfg_core.specs.Entries.{entry_view, plain_view, with_first, IsFaultOf};
 ghost use Rattle.envcfg_core.specs.SetScript.{set_script_of, entries_of_lines};
 ghost use Rattle.envcfg_core.specs.declared.entry.TextFault.TheVariants.{Memory};
 
-use crate::entry::{TextEntry, TextFault};
-use crate::set_script::{check_line, read_line};
+use crate::entry::{PlainEntry, TextEntry, TextFault};
+use crate::set_script::{plain_line, read_line};
 use std::alloc::Global;
 use std::marker::Model;
 use text_parts::{Lines, contains_byte, numbered_lines, strip_carriage_return};
@@ -42,11 +42,24 @@ impl<'a> ScriptText<'a> {
             return Err(TextFault::Nul);
         }
         for (number, line) in numbered_lines(text) {
-            check_line(number, strip_carriage_return(line))?;
+            plain_line(number, strip_carriage_return(line))?;
         }
         Ok(ScriptText {
             lines: numbered_lines(text),
         })
+    }
+
+    /// The next entry as it stands in the script, if one is left. It takes no memory.
+    pub fn next_plain(&mut self) -> Option<PlainEntry<'a>>
+        ensures { MatchOption result ((self.old ≡ []) × (self.new ≡ [])) (λ entry. self.old ≡ plain_view entry ∷ self.new) }
+    {
+        match next_plain_entry(self.lines.again()) {
+            Ok((found, rest)) => {
+                self.lines = rest;
+                found
+            }
+            Err(_) => unreachable!(),
+        }
     }
 
     /// The next entry, if one is left. Refused for memory, it can be asked for again.
@@ -60,6 +73,23 @@ impl<'a> ScriptText<'a> {
         self.lines = rest;
         Ok(found)
     }
+}
+
+/// The first entry that some lines hold, if one does, as it stands there, and the lines behind it.
+fn next_plain_entry<'a>(lines: Lines<'a>) -> Result<(Option<PlainEntry<'a>>, Lines<'a>), TextFault>
+    ensures read { IfOk result (λ found. MatchOption found.0
+        ((entries_of_lines lines.entry ≡ Ok []) × (entries_of_lines found.1 ≡ Ok []))
+        (λ entry. entries_of_lines lines.entry ≡ with_first (plain_view entry) (entries_of_lines found.1))) }
+    ensures refused { IfErr result (λ fault. entries_of_lines lines.entry ≡ Err fault) }
+{
+    let mut rest = lines;
+    while let Some((number, line)) = rest.next() {
+        let found = plain_line(number, strip_carriage_return(line))?;
+        if found.is_some() {
+            return Ok((found, rest));
+        }
+    }
+    Ok((None, rest))
 }
 
 /// The first entry that some lines hold, if one does, and the lines behind it.

@@ -1,10 +1,10 @@
 //! The set script.
 ghost use Rattle.std.specs.Prelude.{◌≡◌, map, option_map, Option, IfOk, IfErr, Ok, Err};
 ghost use Rattle.std.specs.List.{before_first, after_first};
-ghost use Rattle.envcfg_core.specs.Entries.{Entry, entry_view, IsFaultOf};
+ghost use Rattle.envcfg_core.specs.Entries.{Entry, entry_view, plain_view, IsFaultOf};
 ghost use Rattle.envcfg_core.specs.SetScript.{set_script_of, line_outcome, is_skipped_line, ends_key};
 
-use crate::entry::{TextEntry, TextFault, some_unless_empty};
+use crate::entry::{PlainEntry, TextEntry, TextFault, plain_unless_empty, some_unless_empty};
 use memchr::memchr3;
 use std::alloc::Global;
 use text_parts::{
@@ -57,19 +57,23 @@ pub(crate) fn read_line(
     }))
 }
 
-/// Looks at a line without reading what it holds.
-pub(crate) fn check_line(number: usize, line: &[u8]) -> Result<(), TextFault>
-    ensures whole { IfOk result (λ _. (found : Option Entry) × (line_outcome number line.now ≡ Ok found)) }
+/// A line's entry as it stands there, or that the line is skipped.
+pub(crate) fn plain_line(number: usize, line: &[u8]) -> Result<Option<PlainEntry<'_>>, TextFault>
+    ensures read { IfOk result (λ found. line_outcome number line.now ≡ Ok (option_map plain_view found)) }
     ensures refused { IfErr result (λ fault. line_outcome number line.now ≡ Err fault) }
 {
     if is_skipped_line(line) {
-        return Ok(());
+        return Ok(None);
     }
-    let (key, _) = cut_key(without_blanks(line));
+    let (key, value) = cut_key(without_blanks(line));
     if key.is_empty() {
         return Err(TextFault::EmptyName(number));
     }
-    Ok(())
+    Ok(Some(PlainEntry {
+        name: key,
+        value: plain_unless_empty(without_blanks(value)),
+        line: number,
+    }))
 }
 
 /// Whether the line is empty, blanks alone or a comment.

@@ -173,7 +173,7 @@ fn set_from_file<X: Files + AllocGlobal, E: Write>(
 {
     let text = value_or_say(rt.alloc(), errors, path, read_file(rt, path))?;
     let script = value_or_say(rt.alloc(), errors, path, script_from(&text))?;
-    Some(script_text(rt.alloc(), session, script, errors))
+    Some(script_text(session, script, errors))
 }
 
 /// `import FILE`

@@ -3,7 +3,7 @@ use Rattle.std.specs.Prelude.{◌≡◌, ℕ, zero, suc, List, [], ◌∷◌, �
 use Rattle.std.specs.Fmt.{decimal}
 use Rattle.std.specs.Io.KnownBytes.{Appends, Keeps}
 use Rattle.env_session.specs.Session.{Held, written, saved}
-use Rattle.env_session.specs.Requests.{refusal_in, imported}
+use Rattle.env_session.specs.Requests.{refusal_in, write_done, imported}
 use Rattle.envimg_core.specs.Pieces.{Entry}
 use Rattle.envcfg_core.specs.Entries as Entries
 use Rattle.envvars_core.specs.declared.refusals.Refusal.{Refusal}
@@ -40,6 +40,13 @@ unless_refused (Some r) name h rest = refused_by r name h
 -- an entry of a text as a write
 abbrev pub pair_in : Entries.Entry → Entry
 pair_in e = (e.name, e.value)
+
+-- the first of the entries was taken as an unforced write, with what refused it, and the others are left
+pub record IsTaken (old new : List Entries.Entry) (before after : Held) (refusal : Option Refusal) : Type 0 where
+  pub entry : Entries.Entry
+  pub first : old ≡ entry ∷ new
+  pub refused : refusal ≡ refusal_in before entry.name entry.value false
+  pub done : after ≡ write_done before entry.name entry.value false
 
 -- words each behind a space, and words joined by one
 abbrev pub behind_spaces : List (List ℕ) → List ℕ

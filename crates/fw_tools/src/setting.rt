@@ -3,7 +3,7 @@ ghost use Rattle.std.specs.Prelude.{◌≡◌, ◌<◌, ◌≤◌, ◌^◌, ℕ,
 ghost use Rattle.env_session.specs.Requests.{entry_in, imported, refusal_in, write_done};
 ghost use Rattle.env_session.specs.Session.{bytes_of, saved};
 ghost use Rattle.fw_tools.specs.Messages.{refusal_front, refusal_text};
-ghost use Rattle.fw_tools.specs.Setting.{Changes, import_effect, spaced, pair_in, stopped_by, script_effect, set_effect};
+ghost use Rattle.fw_tools.specs.Setting.{Changes, IsTaken, import_effect, spaced, pair_in, stopped_by, script_effect, set_effect};
 ghost use Rattle.fw_tools.specs.Tool.{PrintsText};
 
 use crate::counting::print_count;
@@ -12,7 +12,7 @@ use crate::messages::{BAD_FORM, BAD_TYPE, FULL, NO_CREATE, NO_DELETE, NO_OVERWRI
 use crate::streams::write_three;
 use crate::text_entries::value_of;
 use env_session::{ImportEnding, Session};
-use envcfg_core::{ImportText, ScriptText, TextEntry};
+use envcfg_core::{ImportText, PlainEntry, ScriptText, TextEntry};
 use envvars_core::{Memory, Refusal};
 use std::alloc::Global;
 use std::io::Write;
@@ -81,7 +81,6 @@ pub fn import<E: Write>(session: &mut Session, entries: &[TextEntry], errors: &m
 
 /// As `set_script`, of a script whose lines are read one by one, so that it takes no memory for all of them.
 pub fn script_text<E: Write>(
-    alloc: Global,
     session: &mut Session,
     script: ScriptText<'_>,
     errors: &mut E,
@@ -90,12 +89,12 @@ pub fn script_text<E: Write>(
         (record { session = session.new; errors = E.contents errors.new })
         (script_effect session.old (map pair_in script.entry)) (map pair_in script.entry) result }
 {
-    let Ok(stopped) = write_entries(alloc, session, script) else {
+    let Ok(stopped) = write_entries(session, script) else {
         return ToolEnd::stopped(ToolFault::Memory);
     };
     match stopped {
         None => save(session),
-        Some((entry, refusal)) => print_refusal(errors, refusal, &entry.name),
+        Some((entry, refusal)) => print_refusal(errors, refusal, entry.name),
     }
 }
 
@@ -122,24 +121,20 @@ pub fn import_text<E: Write>(
 
 /// Takes each entry of a script as an unforced write, up to the first that is refused, and answers that one with what
 /// refuses it.
-fn write_entries(
-    alloc: Global,
+fn write_entries<'a>(
     session: &mut Session,
-    script: ScriptText<'_>,
-) -> Result<Option<(TextEntry, Refusal)>, Memory>
+    script: ScriptText<'a>,
+) -> Result<Option<(PlainEntry<'a>, Refusal)>, Memory>
     ensures written { IfOk result (λ stopped. script_effect session.old (map pair_in script.entry)
-        ≡ stopped_by (option_map (λ s. (s.0.name.items, s.1)) stopped) session.new) }
+        ≡ stopped_by (option_map (λ s. (s.0.name.now, s.1)) stopped) session.new) }
     ensures some { (k : ℕ) × (session.new ≡ (imported session.old (take k (map pair_in script.entry))).0) }
 {
     let mut rest = script;
     'entries: loop {
-        let Ok(found) = rest.read_next(alloc) else {
-            return Err(Memory);
-        };
-        let Some(entry) = found else {
+        let Some(entry) = rest.next_plain() else {
             return Ok(None);
         };
-        match write_entry(session, &entry) {
+        match write(session, entry.name, entry.value) {
             Err(Memory) => return Err(Memory),
             Ok(Some(refusal)) => return Ok(Some((entry, refusal))),
             Ok(None) => continue 'entries,
@@ -160,16 +155,50 @@ fn import_entries(
     let mut rest = text;
     let mut refused = 0;
     'entries: loop {
-        let Ok(found) = rest.read_next(alloc) else {
-            return Err(Memory);
-        };
-        let Some(entry) = found else {
-            return Ok(refused);
-        };
-        match write_entry(session, &entry) {
+        match take_next(alloc, session, &mut rest) {
             Err(Memory) => return Err(Memory),
-            Ok(refusal) => refused += counted(refusal.is_some()),
+            Ok(None) => return Ok(refused),
+            Ok(Some(refusal)) => refused += counted(refusal.is_some()),
         }
+    }
+}
+
+/// Takes the next entry of a text as an unforced write, if one is left, and answers what refuses it, if anything does.
+fn take_next(
+    alloc: Global,
+    session: &mut Session,
+    text: &mut ImportText<'_>,
+) -> Result<Option<Option<Refusal>>, Memory>
+    ensures taken { IfOk result (λ taken. MatchOption taken ((text.old ≡ []) × (session.new ≡ session.old))
+        (IsTaken text.old text.new session.old session.new)) }
+    ensures unchanged { OnErr result (session.new ≡ session.old) }
+{
+    match text.next_plain() {
+        None => take_read(alloc, session, text),
+        Some(entry) => match write(session, entry.name, entry.value) {
+            Ok(refusal) => Ok(Some(refusal)),
+            Err(Memory) => Err(Memory),
+        },
+    }
+}
+
+/// The same, where the entry has to be read: its value may hold an escape.
+fn take_read(
+    alloc: Global,
+    session: &mut Session,
+    text: &mut ImportText<'_>,
+) -> Result<Option<Option<Refusal>>, Memory>
+    ensures taken { IfOk result (λ taken. MatchOption taken ((text.old ≡ []) × (session.new ≡ session.old))
+        (IsTaken text.old text.new session.old session.new)) }
+    ensures unchanged { OnErr result (session.new ≡ session.old) }
+{
+    match text.read_next(alloc) {
+        Err(_) => Err(Memory),
+        Ok(None) => Ok(None),
+        Ok(Some(entry)) => match write_entry(session, &entry) {
+            Ok(refusal) => Ok(Some(refusal)),
+            Err(Memory) => Err(Memory),
+        },
     }
 }
 

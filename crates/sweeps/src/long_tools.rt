@@ -50,7 +50,7 @@ impl Tool {
         match self {
             Tool::Script => set_script(session, given.entries, page),
             Tool::ReadScript => match ScriptText::new(given.script) {
-                Ok(script) => script_text(alloc, session, script, page),
+                Ok(script) => script_text(session, script, page),
                 Err(_) => ToolEnd::done(1),
             },
             Tool::Import => import(session, given.entries, page),

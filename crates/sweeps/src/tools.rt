@@ -142,7 +142,7 @@ fn call(
             &mut pages.errors,
         ),
         Tool::Script => set_script(session, entries, &mut pages.errors),
-        Tool::ReadScript => take_script(alloc, session, TEXT, &mut pages.errors),
+        Tool::ReadScript => take_script(session, TEXT, &mut pages.errors),
         Tool::Import => import(session, entries, &mut pages.errors),
         Tool::ReadImport => take_import(alloc, session, TEXT, &mut pages.errors),
         Tool::Export => export(alloc, session, &mut pages.output, &mut pages.errors),
@@ -158,9 +158,9 @@ fn call(
 }
 
 /// A set script whose lines are read one by one.
-fn take_script(alloc: Global, session: &mut Session, text: &[u8], errors: &mut Page) -> ToolEnd {
+fn take_script(session: &mut Session, text: &[u8], errors: &mut Page) -> ToolEnd {
     match ScriptText::new(text) {
-        Ok(script) => script_text(alloc, session, script, errors),
+        Ok(script) => script_text(session, script, errors),
         Err(_) => ToolEnd::done(1),
     }
 }

@@ -7,7 +7,7 @@ use std::test::Fail;
 
 #[test]
 fn default_environments(rt: HostRuntime) -> Result<(), Fail> {
-    let texts: [(&[u8], u32, Result<(usize, u32), (usize, Refusal)>); 5] = [
+    let texts: [(&[u8], u32, Result<(usize, u32), (usize, Refusal)>); 8] = [
         (b".flags=p:sc\np=1\n", 60, Ok((2, 17))),
         (b".flags=p:sc\np=1\n", 16, Err((2, Refusal::Full))),
         (b".flags=a:d\na=x\n", 60, Err((2, Refusal::BadType))),
@@ -17,6 +17,10 @@ fn default_environments(rt: HostRuntime) -> Result<(), Fail> {
             Ok((2, 17)),
         ),
         (b"", 1, Ok((0, 1))),
+        // values over two lines, before and behind one that stands as it is
+        (b"a=1\\\n2\nb=3\nc=\\\n\n", 60, Ok((3, 15))),
+        (b".flags=b:d\nb=3\\\n4\n", 60, Err((2, Refusal::BadType))),
+        (b"a=1\\\n2\nb=3\n", 10, Err((3, Refusal::Full))),
     ];
     for (text, room, expected) in texts {
         let entries = parse_import(rt.alloc(), text)?;
