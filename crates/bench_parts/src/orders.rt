@@ -6,10 +6,10 @@ use std::alloc::{AllocError, Global};
 const FIRST: u32 = 512;
 
 /// The numbers in front of each of which the rest of a block goes.
-const BLOCK: u32 = 64;
+const BLOCK: u32 = 48;
 
 /// Of so many neighbours one stays where the others are taken out.
-const SPARED: u32 = 128;
+const SPARED: u32 = 96;
 
 /// One call.
 #[derive(Clone, Copy)]
@@ -31,11 +31,11 @@ pub enum Order {
     RunsThenDescending,
     /// The lowest, the highest, the next lowest and so on.
     BothEnds,
-    /// Each in front of its block of 64, one block after another.
+    /// Each in front of its block of 48, one block after another, and then those that fill no block.
     Fronts,
     /// In no order.
     Scattered,
-    /// Ascending, then all removed but each 128th, and ascending again.
+    /// Ascending, then all removed but each 96th, and ascending again.
     Thinned,
     /// Full runs first, and then one name behind them written and removed, again and again.
     OnePlace,
@@ -67,9 +67,13 @@ impl Order {
             Order::BothEnds => i / 2,
             Order::Fronts => {
                 let blocks = (count / BLOCK).max(1);
-                let block = i % blocks;
-                let front = (BLOCK - 1).wrapping_sub(i / blocks);
-                block.wrapping_mul(BLOCK).wrapping_add(front)
+                let (block, place) = (i % blocks, i / blocks);
+                if place < BLOCK {
+                    let front = BLOCK - 1 - place;
+                    block.wrapping_mul(BLOCK).wrapping_add(front)
+                } else {
+                    i
+                }
             }
             _ => i,
         }
