@@ -17,7 +17,7 @@ pub struct TextEntry {
     pub line: usize,
 }
 
-/// An entry as it stands in a set script, or in a text for import where its value holds no escape.
+/// An entry that is lent: by a set script, or by a text for import where its value holds no escape, as it stands there.
 #[derive(Clone, Copy, Debug)]
 pub struct PlainEntry<'a> {
     /// The name's bytes: one or more.

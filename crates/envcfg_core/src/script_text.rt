@@ -1,12 +1,10 @@
 //! A set script whose entries are read one by one.
-ghost use Rattle.std.specs.Prelude.{◌≡◌, [], ◌∷◌, IfOk, IfErr, OnErr, MatchOption, Ok, Err};
-ghost use Rattle.envcfg_core.specs.Entries.{entry_view, plain_view, with_first, IsFaultOf};
+ghost use Rattle.std.specs.Prelude.{◌≡◌, [], ◌∷◌, IfOk, IfErr, MatchOption, Ok, Err};
+ghost use Rattle.envcfg_core.specs.Entries.{plain_view, with_first, IsFaultOf};
 ghost use Rattle.envcfg_core.specs.SetScript.{set_script_of, entries_of_lines};
-ghost use Rattle.envcfg_core.specs.declared.entry.TextFault.TheVariants.{Memory};
 
-use crate::entry::{PlainEntry, TextEntry, TextFault};
-use crate::set_script::{plain_line, read_line};
-use std::alloc::Global;
+use crate::entry::{PlainEntry, TextFault};
+use crate::set_script::plain_line;
 use std::marker::Model;
 use text_parts::{Lines, contains_byte, numbered_lines, strip_carriage_return};
 
@@ -53,7 +51,7 @@ impl<'a> ScriptText<'a> {
     pub fn next_plain(&mut self) -> Option<PlainEntry<'a>>
         ensures { MatchOption result ((self.old ≡ []) × (self.new ≡ [])) (λ entry. self.old ≡ plain_view entry ∷ self.new) }
     {
-        match next_plain_entry(self.lines.again()) {
+        match next_entry(self.lines.again()) {
             Ok((found, rest)) => {
                 self.lines = rest;
                 found
@@ -61,22 +59,10 @@ impl<'a> ScriptText<'a> {
             Err(_) => unreachable!(),
         }
     }
-
-    /// The next entry, if one is left. Refused for memory, it can be asked for again.
-    pub fn read_next(&mut self, alloc: Global) -> Result<Option<TextEntry>, TextFault>
-        ensures read { IfOk result (λ found. MatchOption found ((self.old ≡ []) × (self.new ≡ []))
-            (λ entry. self.old ≡ entry_view entry ∷ self.new)) }
-        ensures refused { IfErr result (λ fault. fault ≡ Memory) }
-        ensures unchanged { OnErr result (self.new ≡ self.old) }
-    {
-        let (found, rest) = next_entry(alloc, self.lines.again())?;
-        self.lines = rest;
-        Ok(found)
-    }
 }
 
 /// The first entry that some lines hold, if one does, as it stands there, and the lines behind it.
-fn next_plain_entry<'a>(lines: Lines<'a>) -> Result<(Option<PlainEntry<'a>>, Lines<'a>), TextFault>
+fn next_entry<'a>(lines: Lines<'a>) -> Result<(Option<PlainEntry<'a>>, Lines<'a>), TextFault>
     ensures read { IfOk result (λ found. MatchOption found.0
         ((entries_of_lines lines.entry ≡ Ok []) × (entries_of_lines found.1 ≡ Ok []))
         (λ entry. entries_of_lines lines.entry ≡ with_first (plain_view entry) (entries_of_lines found.1))) }
@@ -85,26 +71,6 @@ fn next_plain_entry<'a>(lines: Lines<'a>) -> Result<(Option<PlainEntry<'a>>, Lin
     let mut rest = lines;
     while let Some((number, line)) = rest.next() {
         let found = plain_line(number, strip_carriage_return(line))?;
-        if found.is_some() {
-            return Ok((found, rest));
-        }
-    }
-    Ok((None, rest))
-}
-
-/// The first entry that some lines hold, if one does, and the lines behind it.
-fn next_entry<'a>(
-    alloc: Global,
-    lines: Lines<'a>,
-) -> Result<(Option<TextEntry>, Lines<'a>), TextFault>
-    ensures read { IfOk result (λ found. MatchOption found.0
-        ((entries_of_lines lines.entry ≡ Ok []) × (entries_of_lines found.1 ≡ Ok []))
-        (λ entry. entries_of_lines lines.entry ≡ with_first (entry_view entry) (entries_of_lines found.1))) }
-    ensures refused { IfErr result (IsFaultOf (entries_of_lines lines.entry)) }
-{
-    let mut rest = lines;
-    while let Some((number, line)) = rest.next() {
-        let found = read_line(alloc, number, strip_carriage_return(line))?;
         if found.is_some() {
             return Ok((found, rest));
         }

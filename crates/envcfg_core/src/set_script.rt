@@ -4,7 +4,7 @@ ghost use Rattle.std.specs.List.{before_first, after_first};
 ghost use Rattle.envcfg_core.specs.Entries.{Entry, entry_view, plain_view, IsFaultOf};
 ghost use Rattle.envcfg_core.specs.SetScript.{set_script_of, line_outcome, is_skipped_line, ends_key};
 
-use crate::entry::{PlainEntry, TextEntry, TextFault, plain_unless_empty, some_unless_empty};
+use crate::entry::{PlainEntry, TextEntry, TextFault, plain_unless_empty};
 use memchr::memchr3;
 use std::alloc::Global;
 use text_parts::{
@@ -32,24 +32,18 @@ pub fn parse_set_script(alloc: Global, text: &[u8]) -> Result<Vec<TextEntry>, Te
 }
 
 /// Reads a line, or skips it.
-pub(crate) fn read_line(
-    alloc: Global,
-    number: usize,
-    line: &[u8],
-) -> Result<Option<TextEntry>, TextFault>
+fn read_line(alloc: Global, number: usize, line: &[u8]) -> Result<Option<TextEntry>, TextFault>
     ensures read { IfOk result (λ found. line_outcome number line.now ≡ Ok (option_map entry_view found)) }
     ensures refused { IfErr result (IsFaultOf (line_outcome number line.now)) }
 {
-    if is_skipped_line(line) {
+    let Some(entry) = plain_line(number, line)? else {
         return Ok(None);
-    }
-    let (key, value) = cut_key(without_blanks(line));
-    if key.is_empty() {
-        return Err(TextFault::EmptyName(number));
-    }
-    let name = Vec::from_slice(alloc, key)?;
-    let value = Vec::from_slice(alloc, without_blanks(value))?;
-    let value = some_unless_empty(value);
+    };
+    let name = Vec::from_slice(alloc, entry.name)?;
+    let value = match entry.value {
+        Some(value) => Some(Vec::from_slice(alloc, value)?),
+        None => None,
+    };
     Ok(Some(TextEntry {
         name,
         value,

@@ -90,8 +90,8 @@ impl OwnedVariables {
         }
     }
 
-    /// Adds a variable whose name is new, and gives the name the next number. It is refused only for memory, and then nothing has changed.
-    /// `hint` is where a look-up of the name ended.
+    /// Adds a variable whose name is new, and gives the name the next number. It is refused only for memory, and then
+    /// nothing has changed. `hint` is where a look-up of the name ended.
     pub fn add(&mut self, hint: Hint, variable: OwnedVariable) -> Result<(), AllocError>
         requires { env.contains_key self.old variable.0 ≡ false }
         ensures ok { OnOk result (self.new ≡ env.insert self.old variable.0 variable.1) }

@@ -10,7 +10,7 @@ use std::mem::replace;
 pub(crate) type Run = Vec<Variable>;
 
 /// The most variables that a run has. A write moves at most so many.
-pub(crate) const MOST: usize = 96;
+const MOST: usize = 96;
 
 /// Two runs side by side that have no more variables together become one. Each run has room for so many.
 pub(crate) const FEW: usize = 48;
