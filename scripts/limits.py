@@ -128,11 +128,11 @@ class Session:
 
     def say_undone(self):
         """A save changes no variable."""
-        changed_names = len(self.changed)
+        touched = len(self.changed)
         self.say("saved")
         self.undo()
         self.say("undone")
-        print(f"changed names: {changed_names}, then {len(self.changed)}")
+        print(f"changed names: {touched}, then {len(self.changed)}")
 
 
 # Images (docs/images.md)

@@ -1,7 +1,7 @@
 //! Simple commands as a run makes them, again and again.
 use crate::made_ready::{WORD_LIMIT, session, words_of};
 use crate::{Outcome, Task};
-use hush_commands::{FieldBuffer, Locals, Output, Scope, StandIns, carry_out};
+use hush_commands::{FieldBuffer, Locals, Output, Scope, Stubs, carry_out};
 use std::io::{self, Error, ErrorKind};
 use std::time::Instant;
 
@@ -83,6 +83,6 @@ pub fn test(rt: &HostRuntime, task: Task) -> io::Result<Outcome> {
     })
 }
 
-fn no_stand_ins(rt: &HostRuntime) -> io::Result<StandIns> {
-    StandIns::parse(rt.alloc(), b"").map_err(|_| Error::from(ErrorKind::OutOfMemory))
+fn no_stand_ins(rt: &HostRuntime) -> io::Result<Stubs> {
+    Stubs::parse(rt.alloc(), b"").map_err(|_| Error::from(ErrorKind::OutOfMemory))
 }

@@ -3,7 +3,7 @@ use crate::made_ready::repeated;
 use crate::{Outcome, Task};
 use bench_parts::name;
 use hush_calc::Fields;
-use hush_commands::StandIns;
+use hush_commands::Stubs;
 use std::io::{self, Error, ErrorKind};
 use std::time::Instant;
 
@@ -15,7 +15,7 @@ pub fn stand_ins(rt: &HostRuntime, task: Task) -> io::Result<Outcome> {
         text.extend_from_slice(b" 7\n")?;
     }
     let start = Instant::now(rt)?;
-    let parsed = StandIns::parse(rt.alloc(), if task.wanted { &text } else { &[] });
+    let parsed = Stubs::parse(rt.alloc(), if task.wanted { &text } else { &[] });
     let taken = start.elapsed(rt)?.as_nanos();
     match parsed {
         Ok(stand_ins) => {

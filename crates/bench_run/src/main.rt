@@ -8,7 +8,7 @@
 use env_session::{Session, Stored};
 use envimg_core::{Geometry, Layout};
 use envvars_core::Vars;
-use hush_run::{Limits, StandIns, run};
+use hush_run::{Limits, Stubs, run};
 use hush_syntax::Script;
 use std::io::{Error, ErrorKind, Read, Write};
 use std::time::Instant;
@@ -60,7 +60,7 @@ fn number(word: &str) -> u32 {
 /// Runs a script so many times, and writes the text of each run so many times.
 fn measure(rt: &HostRuntime, source: &[u8], steps: u32, runs: u32, times: u32) -> io::Result<Ran> {
     let mut session = session(rt)?;
-    let Ok(stand_ins) = StandIns::parse(rt.alloc(), b"") else {
+    let Ok(stand_ins) = Stubs::parse(rt.alloc(), b"") else {
         return Err(Error::from(ErrorKind::OutOfMemory));
     };
     let Some(limits) = Limits::new(steps, 8, 65_536, 16_777_216) else {

@@ -83,9 +83,9 @@ pub fn saving(
         is_saved = session.save().is_ok();
     }
     let taken = begun.elapsed(rt)?.as_nanos();
-    let changed_names = session.changed_names();
+    let touched = session.touched();
     let is_right = task.mode != Mode::Check || reads_back(alloc, session)?;
-    Ok(outcome(changed_names, refused, taken, is_saved && is_right))
+    Ok(outcome(touched, refused, taken, is_saved && is_right))
 }
 
 /// Whether a session over what this one leaves shows the same.
@@ -115,10 +115,5 @@ pub fn undoing(
     }
     let taken = begun.elapsed(rt)?.as_nanos();
     let is_right = task.mode != Mode::Check || Shown::of(alloc, &session, task.mode)?.is(&wanted);
-    Ok(outcome(
-        session.changed_names(),
-        refused,
-        taken,
-        is_undone && is_right,
-    ))
+    Ok(outcome(session.touched(), refused, taken, is_undone && is_right))
 }

@@ -2,7 +2,7 @@
 
 use crate::fixtures::{carried, fields, session};
 use env_session::{Session, Side};
-use hush_commands::{Command, Output, PrintFault, StandIns};
+use hush_commands::{Command, Output, PrintFault, Stubs};
 use std::alloc::{AllocError, Global};
 use std::process::Abort;
 use std::test::Fail;
@@ -177,7 +177,7 @@ fn commands_leave_the_words_behind_their_name(rt: HostRuntime) -> Result<(), Fai
         (b"mmc", b"dev 0", Command::StandIn(3), Some(b"dev")),
         (b"mmcinfo", b"0", Command::Unknown, Some(b"0")),
     ];
-    match StandIns::parse(rt.alloc(), b"mmc 3") {
+    match Stubs::parse(rt.alloc(), b"mmc 3") {
         Ok(stand_ins) => {
             for (name, text, command, next) in table {
                 let behind = fields(rt.alloc(), text)?;

@@ -5,7 +5,7 @@ use env_session::{Session, Stored};
 use envimg_core::{Geometry, Layout};
 use envvars_core::Vars;
 use hush_commands::{
-    ExpansionFault, FieldBuffer, Locals, Output, PrintFault, Scope, StandIns, carry_out,
+    ExpansionFault, FieldBuffer, Locals, Output, PrintFault, Scope, Stubs, carry_out,
 };
 use hush_words::Text;
 use std::alloc::{AllocError, Global};
@@ -57,7 +57,7 @@ pub(crate) fn carried(
     command: &FieldBuffer,
     output: &mut Output,
 ) -> Result<Result<u8, PrintFault>, AllocError> {
-    match StandIns::parse(alloc, b"mmc 3") {
+    match Stubs::parse(alloc, b"mmc 3") {
         Ok(stand_ins) => Ok(carry_out(alloc, session, &stand_ins, command, 7, output)),
         Err(_) => Err(AllocError),
     }

@@ -4,7 +4,7 @@ use crate::fixtures::{OUTPUT, WORD, carried, fields, repeated, session};
 use bench_parts::words_of;
 use env_session::{Session, Side};
 use envvars_core::Vars;
-use hush_commands::{FieldBuffer, Locals, Output, PrintFault, Scope, StandIns};
+use hush_commands::{FieldBuffer, Locals, Output, PrintFault, Scope, Stubs};
 use hush_words::Text;
 use std::alloc::{AllocError, Global};
 use std::process::Abort;
@@ -128,7 +128,7 @@ fn the_largest_value_is_assigned(rt: HostRuntime) -> Result<(), Fail> {
 #[test]
 fn a_stand_in_of_the_longest_name_is_read(rt: HostRuntime) -> Result<(), Fail> {
     let name = repeated(rt.alloc(), b"n", OUTPUT)?;
-    match StandIns::parse(rt.alloc(), &name) {
+    match Stubs::parse(rt.alloc(), &name) {
         Ok(stand_ins) => assert_eq!(rt; stand_ins.status(&name), Some(0)),
         Err(fault) => assert!(rt; false, "{fault:?}"),
     }

@@ -1,7 +1,7 @@
 //! Stand-in files.
 
 use crate::fixtures::repeated;
-use hush_commands::{StandInFault, StandIns};
+use hush_commands::{StubFault, Stubs};
 use std::alloc::{AllocError, Global};
 use std::process::Abort;
 use std::test::Fail;
@@ -33,7 +33,7 @@ fn stand_ins_are_read(rt: HostRuntime) -> Result<(), Fail> {
         (b"b 1\na 2\nc 3\nab 4", b"ab", Some(4)),
     ];
     for (text, name, expected) in table {
-        match StandIns::parse(rt.alloc(), text) {
+        match Stubs::parse(rt.alloc(), text) {
             Ok(stand_ins) => assert_eq!(rt;
                 stand_ins.status(name),
                 expected,
@@ -47,32 +47,32 @@ fn stand_ins_are_read(rt: HostRuntime) -> Result<(), Fail> {
 
 #[test]
 fn faults_of_stand_ins_have_their_line(rt: HostRuntime) -> Result<(), Fail> {
-    let table: [(&[u8], StandInFault); 22] = [
-        (b"echo 0", StandInFault::Builtin(1)),
-        (b"x\nx", StandInFault::Twice(2)),
-        (b"x 256", StandInFault::Line(1)),
-        (b"x 1 2", StandInFault::Line(1)),
-        (b"x y", StandInFault::Line(1)),
-        (b"x -1", StandInFault::Line(1)),
-        (b"x 1x", StandInFault::Line(1)),
-        (b"x 0x1", StandInFault::Line(1)),
-        (b"x 99999999999999999999999999", StandInFault::Line(1)),
-        (b"x 1\r\r", StandInFault::Line(1)),
-        (b"x\0", StandInFault::Line(1)),
-        (b"#\0", StandInFault::Line(1)),
-        (b" \0", StandInFault::Line(1)),
-        (b"\n\n# c\nx\n\ty\nx 9", StandInFault::Twice(6)),
-        (b"x\ny 300\nx", StandInFault::Line(2)),
-        (b"x\nx\ny 300", StandInFault::Twice(2)),
-        (b"exit 0", StandInFault::Builtin(1)),
-        (b"echo 256", StandInFault::Line(1)),
-        (b"echo 1 2", StandInFault::Line(1)),
-        (b"x 1\nx 256", StandInFault::Line(2)),
-        (b"a\r\nenv\r\n", StandInFault::Builtin(2)),
-        (b"x\nx 1 2", StandInFault::Line(2)),
+    let table: [(&[u8], StubFault); 22] = [
+        (b"echo 0", StubFault::Builtin(1)),
+        (b"x\nx", StubFault::Twice(2)),
+        (b"x 256", StubFault::Line(1)),
+        (b"x 1 2", StubFault::Line(1)),
+        (b"x y", StubFault::Line(1)),
+        (b"x -1", StubFault::Line(1)),
+        (b"x 1x", StubFault::Line(1)),
+        (b"x 0x1", StubFault::Line(1)),
+        (b"x 99999999999999999999999999", StubFault::Line(1)),
+        (b"x 1\r\r", StubFault::Line(1)),
+        (b"x\0", StubFault::Line(1)),
+        (b"#\0", StubFault::Line(1)),
+        (b" \0", StubFault::Line(1)),
+        (b"\n\n# c\nx\n\ty\nx 9", StubFault::Twice(6)),
+        (b"x\ny 300\nx", StubFault::Line(2)),
+        (b"x\nx\ny 300", StubFault::Twice(2)),
+        (b"exit 0", StubFault::Builtin(1)),
+        (b"echo 256", StubFault::Line(1)),
+        (b"echo 1 2", StubFault::Line(1)),
+        (b"x 1\nx 256", StubFault::Line(2)),
+        (b"a\r\nenv\r\n", StubFault::Builtin(2)),
+        (b"x\nx 1 2", StubFault::Line(2)),
     ];
     for (text, expected) in table {
-        let fault = StandIns::parse(rt.alloc(), text).err();
+        let fault = Stubs::parse(rt.alloc(), text).err();
         assert_eq!(rt; fault, Some(expected), "of {text:?}");
     }
     Ok(())
@@ -98,8 +98,8 @@ fn builtins_have_no_stand_in(rt: HostRuntime) -> Result<(), Fail> {
         b"exit",
     ];
     for name in table {
-        let fault = StandIns::parse(rt.alloc(), name).err();
-        assert_eq!(rt; fault, Some(StandInFault::Builtin(1)), "of {name:?}");
+        let fault = Stubs::parse(rt.alloc(), name).err();
+        assert_eq!(rt; fault, Some(StubFault::Builtin(1)), "of {name:?}");
     }
     Ok(())
 }
@@ -116,7 +116,7 @@ fn many_stand_ins_are_read(rt: HostRuntime) -> Result<(), Fail> {
         (b"n99999", Some(159)),
         (b"n100000", None),
     ];
-    match StandIns::parse(rt.alloc(), &text) {
+    match Stubs::parse(rt.alloc(), &text) {
         Ok(stand_ins) => {
             for (name, expected) in table {
                 assert_eq!(rt; stand_ins.status(name), expected, "{name:?}");
@@ -125,8 +125,8 @@ fn many_stand_ins_are_read(rt: HostRuntime) -> Result<(), Fail> {
         Err(fault) => assert!(rt; false, "{fault:?}"),
     }
     text.extend_from_slice(b"n54321")?;
-    let fault = StandIns::parse(rt.alloc(), &text).err();
-    assert_eq!(rt; fault, Some(StandInFault::Twice(100_001)));
+    let fault = Stubs::parse(rt.alloc(), &text).err();
+    assert_eq!(rt; fault, Some(StubFault::Twice(100_001)));
     Ok(())
 }
 
@@ -151,12 +151,7 @@ fn joined(alloc: Global, first: &[u8], second: &[u8]) -> Result<Vec<u8>, AllocEr
 }
 
 /// Asks for the name of a length, and for names that differ from it in one byte or by a 0 byte at an end.
-fn tell_apart(
-    rt: &impl Abort,
-    alloc: Global,
-    stand_ins: &StandIns,
-    length: u8,
-) -> Result<(), Fail> {
+fn tell_apart(rt: &impl Abort, alloc: Global, stand_ins: &Stubs, length: u8) -> Result<(), Fail> {
     let name = repeated(alloc, b"n", u32::from(length))?;
     assert_eq!(rt; stand_ins.status(&name), Some(length), "{length} bytes");
     let front = repeated(alloc, b"n", u32::from(length).wrapping_sub(1))?;
@@ -176,7 +171,7 @@ fn tell_apart(
 #[test]
 fn names_of_each_length_are_told_apart(rt: HostRuntime) -> Result<(), Fail> {
     let text = names_of_each_length(rt.alloc())?;
-    match StandIns::parse(rt.alloc(), &text) {
+    match Stubs::parse(rt.alloc(), &text) {
         Ok(stand_ins) => {
             for length in 1..=LONGEST {
                 tell_apart(&rt, rt.alloc(), &stand_ins, length)?;
@@ -193,8 +188,8 @@ fn a_name_of_any_length_stands_once(rt: HostRuntime) -> Result<(), Fail> {
     for length in 1..=LONGEST {
         let name = repeated(rt.alloc(), b"n", u32::from(length))?;
         let twice = joined(rt.alloc(), &text, &name)?;
-        let fault = StandIns::parse(rt.alloc(), &twice).err();
-        assert_eq!(rt; fault, Some(StandInFault::Twice(41)), "{length} bytes");
+        let fault = Stubs::parse(rt.alloc(), &twice).err();
+        assert_eq!(rt; fault, Some(StubFault::Twice(41)), "{length} bytes");
     }
     Ok(())
 }
@@ -213,7 +208,7 @@ fn long_names_are_told_apart_by_their_first_bytes_and_by_the_others(
         (b"b-long-one-of-16", None),
         (b"a-long-one-of-36", None),
     ];
-    match StandIns::parse(rt.alloc(), text) {
+    match Stubs::parse(rt.alloc(), text) {
         Ok(stand_ins) => {
             for (name, expected) in table {
                 assert_eq!(rt; stand_ins.status(name), expected, "{name:?}");
@@ -226,27 +221,27 @@ fn long_names_are_told_apart_by_their_first_bytes_and_by_the_others(
 
 #[test]
 fn the_first_line_at_fault_decides_among_many(rt: HostRuntime) -> Result<(), Fail> {
-    let table: [(&[u8], StandInFault); 8] = [
-        (b"b\na\nb\na\n", StandInFault::Twice(3)),
-        (b"b\na\na\nb\n", StandInFault::Twice(3)),
-        (b"a\nb\na\na\nb\n", StandInFault::Twice(3)),
-        (b"a\na\nx 256\n", StandInFault::Twice(2)),
-        (b"a\nx 256\na\n", StandInFault::Line(2)),
+    let table: [(&[u8], StubFault); 8] = [
+        (b"b\na\nb\na\n", StubFault::Twice(3)),
+        (b"b\na\na\nb\n", StubFault::Twice(3)),
+        (b"a\nb\na\na\nb\n", StubFault::Twice(3)),
+        (b"a\na\nx 256\n", StubFault::Twice(2)),
+        (b"a\nx 256\na\n", StubFault::Line(2)),
         (
             b"a\na-long-one-of-16\na\na-long-one-of-16\n",
-            StandInFault::Twice(3),
+            StubFault::Twice(3),
         ),
         (
             b"a\na-long-one-of-16\na-long-one-of-16\na\n",
-            StandInFault::Twice(3),
+            StubFault::Twice(3),
         ),
         (
             b"a\nenv\na\na-long-one-of-16\na-long-one-of-16\n",
-            StandInFault::Builtin(2),
+            StubFault::Builtin(2),
         ),
     ];
     for (text, expected) in table {
-        let fault = StandIns::parse(rt.alloc(), text).err();
+        let fault = Stubs::parse(rt.alloc(), text).err();
         assert_eq!(rt; fault, Some(expected), "of {text:?}");
     }
     Ok(())
@@ -254,7 +249,7 @@ fn the_first_line_at_fault_decides_among_many(rt: HostRuntime) -> Result<(), Fai
 
 #[test]
 fn faults_are_shown(rt: HostRuntime) -> Result<(), Fail> {
-    let shown = format!(in rt.alloc(); "{}, {}", StandInFault::Line(7), StandInFault::Memory)?;
+    let shown = format!(in rt.alloc(); "{}, {}", StubFault::Line(7), StubFault::Memory)?;
     assert_eq!(rt; shown.as_str(), "Line in line 7, Memory");
     Ok(())
 }

@@ -82,7 +82,7 @@ on_last-end f [] m = refl
 on_last-end f (x ∷ []) m = refl
 on_last-end f (x ∷ y ∷ ms) m = ap (λ ys. x ∷ ys) (on_last-end f (y ∷ ms) m)
 
-pub last_changed_names-end : (ms : List Mark) (m : Mark) → last_changed_names (ms ++ m ∷ []) ≡ m.changed_names
+pub last_changed_names-end : (ms : List Mark) (m : Mark) → last_changed_names (ms ++ m ∷ []) ≡ m.touched
 last_changed_names-end [] m = refl
 last_changed_names-end (x ∷ []) m = refl
 last_changed_names-end (x ∷ y ∷ ms) m = last_changed_names-end (y ∷ ms) m
@@ -142,7 +142,7 @@ marks_set f spans k s now n = ap (λ ss. marks_of ss now) (n.set_upto f) ∙ mar
 
 -- a write
 abbrev pub kept_in : Environment → List ℕ → Option (List ℕ) → Mark → Mark
-kept_in m n new mark = record mark { changed_names = changed_names_after m n new mark.changed_names }
+kept_in m n new mark = record mark { touched = changed_names_after m n new mark.touched }
 
 back-keeping : (s : Span) (now : State) (n : List ℕ) (new : Option (List ℕ)) → back (keeping now.env n new s) (record now { env = after now.env n new }) ≡ back s now
 back-keeping s now n new = λ i. record { env = restored-written now.env s.olds n new i; first = unwrap_or (bytes_of s.first) now.first; second = second_back (bytes_of s.second) now.second; current = s.current }
@@ -151,7 +151,7 @@ pub marks_written : (spans : List Span) (k : ℕ) (s : Span) (now : State) (n : 
 marks_written spans k s now n new is =
     let later : State = record now { env = after now.env n new } in
     marks_set (keeping now.env n new) spans k s later is
-    ∙ (λ i. marks_of (take k spans) (back-keeping s now n new i) ++ record { begun = back-keeping s now n new i; changed_names = names-kept_by now.env n new s.olds i; first_saved = is_some s.first; second_saved = is_some s.second } ∷ [])
+    ∙ (λ i. marks_of (take k spans) (back-keeping s now n new i) ++ record { begun = back-keeping s now n new i; touched = names-kept_by now.env n new s.olds i; first_saved = is_some s.first; second_saved = is_some s.second } ∷ [])
     ∙ sym (on_last-end (kept_in now.env n new) (marks_of (take k spans) (back s now)) (mark_of s now))
     ∙ ap (on_last (kept_in now.env n new)) (sym (marks_upto spans k s now is))
 
@@ -200,7 +200,7 @@ pub back-empty : (s : Span) (now : State) → IsEmptySpan s → back (beginning 
 back-empty s now b = λ i. record { env = (ap (restored now.env) b.olds ∙ restored-empty now.env) i; first = ap (λ o. unwrap_or (bytes_of o) now.first) b.first i; second = ap (λ o. second_back (bytes_of o) now.second) b.second i; current = now.current }
 
 pub mark-empty : (s : Span) (now : State) → IsEmptySpan s → mark_of (beginning now.current s) now ≡ new_mark now
-mark-empty s now b = λ i. record { begun = back-empty s now b i; changed_names = (ap kept_names b.olds ∙ names-empty) i; first_saved = ap is_some b.first i; second_saved = ap is_some b.second i }
+mark-empty s now b = λ i. record { begun = back-empty s now b i; touched = (ap kept_names b.olds ∙ names-empty) i; first_saved = ap is_some b.first i; second_saved = ap is_some b.second i }
 
 empty_at : (spans : List Span) (k : ℕ) (s : Span) → IsNth spans k s → AllByRecursion IsEmptySpan (drop k spans) → IsEmptySpan s
 empty_at spans k s n all = (subst (AllByRecursion IsEmptySpan) n.from all).0

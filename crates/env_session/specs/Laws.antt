@@ -43,7 +43,7 @@ UndoRestores =
 
 -- no accepted write changed a value in any span
 abbrev pub IsUnchanged : Held → Type 0
-IsUnchanged h = AllByRecursion (λ m. m.changed_names ≡ no_names) h.marks
+IsUnchanged h = AllByRecursion (λ m. m.touched ≡ no_names) h.marks
 
 -- then no undo is stopped for want of memory
 abbrev pub QuietUndo : Type 0

@@ -30,7 +30,7 @@ unfoldable pub kept_names : OldValues → NameSet
 kept_names olds = env.from_sorted (map (λ e. (e.0, tt)) (env.entries olds))
 
 abbrev pub mark_of : Span → State → Mark
-mark_of s now = record { begun = back s now; changed_names = kept_names s.olds; first_saved = is_some s.first; second_saved = is_some s.second }
+mark_of s now = record { begun = back s now; touched = kept_names s.olds; first_saved = is_some s.first; second_saved = is_some s.second }
 
 -- the state at the beginning of the first of these spans
 abbrev pub begin_of : List Span → State → State

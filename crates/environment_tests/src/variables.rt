@@ -255,9 +255,9 @@ fn a_write_hands_out_the_value_before_it(rt: HostRuntime) -> Result<(), Fail> {
     let defaults = Vars::empty(rt.alloc(), 4092);
     let first = vars.write(b"k", Some(b"1"), false, &defaults)?;
     assert_eq!(rt; first.name.as_slice(), b"k".as_slice());
-    assert!(rt; first.value.is_none());
+    assert!(rt; first.before.is_none());
     let second = vars.write(b"k", None, false, &defaults)?;
     assert_eq!(rt; second.name.as_slice(), b"k".as_slice());
-    assert!(rt; matches!(&second.value, Some(value) if value.as_slice() == b"1".as_slice()));
+    assert!(rt; matches!(&second.before, Some(value) if value.as_slice() == b"1".as_slice()));
     Ok(())
 }

@@ -3,7 +3,7 @@ use Rattle.std.specs.Prelude.{◌≡◌, ℕ, List, Option, Some, None, IfSome, 
 use Rattle.std.specs.Coded.{Coded, code_by, coded×, coded_ℕ, coded_list}
 use Rattle.std.specs.FinMap as finite
 use Rattle.envimg_core.specs.Environment.{Environment, is_name, is_value, pair_size}
-use Rattle.envvars_core.specs.declared.variables.writing.PreviousValue.{PreviousValue}
+use Rattle.envvars_core.specs.declared.variables.writing.Was.{Was}
 
 pub record Contents : Type 0 where
   pub env : Environment
@@ -20,10 +20,10 @@ size_of n None = 0
 size_of n (Some v) = pair_size (n, v)
 
 -- a name, and the value that it had or none
-abbrev pub IsPreviousValue : PreviousValue → List ℕ → Option (List ℕ) → Type 0
-IsPreviousValue previous n value = (previous.name.items ≡ n) × (option_map (λ v. v.items) previous.value ≡ value)
+abbrev pub IsWas : Was → List ℕ → Option (List ℕ) → Type 0
+IsWas previous n value = (previous.name.items ≡ n) × (option_map (λ v. v.items) previous.before ≡ value)
 
 -- the name is a name, and the value, where there was one, a value
-abbrev pub IsFormedPreviousValue : PreviousValue → Type 0
-IsFormedPreviousValue previous =
-    IsTrue (is_name previous.name.items) × IfSome (option_map (λ v. v.items) previous.value) (λ v. IsTrue (is_value v))
+abbrev pub IsFormedWas : Was → Type 0
+IsFormedWas previous =
+    IsTrue (is_name previous.name.items) × IfSome (option_map (λ v. v.items) previous.before) (λ v. IsTrue (is_value v))

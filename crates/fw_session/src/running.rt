@@ -12,7 +12,7 @@ ghost use Rattle.hush_run.specs.Runs.{rules};
 use crate::answers::Answers;
 use arrayvec::ArrayVec;
 use env_session::Session;
-use hush_run::{Ending, Limits, Outcome, Reached, Runner, StandIns};
+use hush_run::{Ending, Limits, Outcome, Reached, Runner, Stubs};
 use hush_syntax::{FaultKind, Script};
 use itoa::Buffer;
 use std::alloc::Global;
@@ -39,7 +39,7 @@ impl Workshop {
 pub(crate) fn run_block<W: Write>(
     workshop: &mut Workshop,
     session: &mut Session,
-    stand_ins: &StandIns,
+    stand_ins: &Stubs,
     limits: &Limits,
     block: &mut Vec<u8>,
     answers: &mut Answers,
@@ -71,7 +71,7 @@ pub(crate) fn run_block<W: Write>(
 fn run_script<W: Write>(
     runner: &mut Runner,
     session: &mut Session,
-    stand_ins: &StandIns,
+    stand_ins: &Stubs,
     limits: &Limits,
     script: &Script,
     answers: &mut Answers,

@@ -17,7 +17,7 @@ use crate::obeying::obey;
 use crate::requests::request_of;
 use crate::running::{Workshop, run_block};
 use env_session::Session;
-use hush_run::{Limits, StandIns};
+use hush_run::{Limits, Stubs};
 use std::alloc::Global;
 use std::io::{Read, Write};
 
@@ -49,7 +49,7 @@ pub(crate) struct Talk {
 pub fn session<R: Read, W: Write>(
     alloc: Global,
     session: Session,
-    stand_ins: &StandIns,
+    stand_ins: &Stubs,
     limits: &Limits,
     input: &mut R,
     output: &mut W,
@@ -120,7 +120,7 @@ fn ended(talk: Talk, ending: SessionEnding, read: usize) -> SessionEnd
 /// The input has ended: what waits is answered.
 fn finished<W: Write>(
     talk: Talk,
-    stand_ins: &StandIns,
+    stand_ins: &Stubs,
     limits: &Limits,
     output: &mut W,
     read: usize,
@@ -144,7 +144,7 @@ fn finished<W: Write>(
 /// Answers what waits at the end of the input.
 fn answer_rest<W: Write>(
     talk: &mut Talk,
-    stand_ins: &StandIns,
+    stand_ins: &Stubs,
     limits: &Limits,
     output: &mut W,
 ) -> bool
@@ -160,12 +160,7 @@ fn answer_rest<W: Write>(
 }
 
 /// Answers the dot line that is there as far as it goes, and before it the block.
-fn answer_dot<W: Write>(
-    talk: &mut Talk,
-    stand_ins: &StandIns,
-    limits: &Limits,
-    output: &mut W,
-) -> bool
+fn answer_dot<W: Write>(talk: &mut Talk, stand_ins: &Stubs, limits: &Limits, output: &mut W) -> bool
     requires { talk.old.start ≤ length talk.old.bytes.items }
     ensures empty { talk.new.bytes.items ≡ [] }
     ensures start { talk.new.start ≡ 0 }
@@ -191,7 +186,7 @@ fn answer_dot<W: Write>(
 /// Answers the block that waits, if it has bytes.
 fn answer_block<W: Write>(
     talk: &mut Talk,
-    stand_ins: &StandIns,
+    stand_ins: &Stubs,
     limits: &Limits,
     output: &mut W,
 ) -> bool
@@ -217,7 +212,7 @@ fn answer_block<W: Write>(
 /// Handles a piece of the input, and writes what waits.
 fn answer_piece<W: Write>(
     talk: &mut Talk,
-    stand_ins: &StandIns,
+    stand_ins: &Stubs,
     limits: &Limits,
     output: &mut W,
     piece: &[u8],
@@ -241,7 +236,7 @@ fn answer_piece<W: Write>(
 /// Handles a piece of the input.
 fn handle_piece<W: Write>(
     talk: &mut Talk,
-    stand_ins: &StandIns,
+    stand_ins: &Stubs,
     limits: &Limits,
     output: &mut W,
     piece: &[u8],
@@ -261,7 +256,7 @@ fn handle_piece<W: Write>(
 /// Handles one byte of the input.
 fn handle_byte<W: Write>(
     talk: &mut Talk,
-    stand_ins: &StandIns,
+    stand_ins: &Stubs,
     limits: &Limits,
     output: &mut W,
     byte: u8,
@@ -286,7 +281,7 @@ fn handle_byte<W: Write>(
 /// Handles a whole line.
 fn handle_line<W: Write>(
     talk: &mut Talk,
-    stand_ins: &StandIns,
+    stand_ins: &Stubs,
     limits: &Limits,
     output: &mut W,
 ) -> bool

@@ -1,9 +1,9 @@
-mod AtOnceLemmas
-mod CountLemmas
-mod DefaultsLemmas
-mod ListingLemmas
-mod PrintingLemmas
-mod SettingLemmas
-mod ShowLemmas
-mod StreamLemmas
-mod WriteLemmas
+mod ActingLemmas
+mod CallLemmas
+mod DryRunLemmas
+mod HelpLemmas
+mod SayLemmas
+mod TalkLemmas
+mod WordLemmas
+pub mod Rows
+pub mod SameTexts

@@ -1,8 +1,13 @@
-pub mod Defaults
-pub mod Exporting
-pub mod Messages
-pub mod Printing
-pub mod Setting
-pub mod Shown
-pub mod Streams
-pub mod Tool
+-- What the public calls promise.
+pub mod Acting
+pub mod Calls
+pub mod DryRuns
+pub mod Opening
+pub mod Running
+pub mod Saying
+pub mod Talking
+pub mod Values
+pub mod Words
+-- What the steps of the code do: no promise speaks of these.
+pub mod Copies
+pub mod WordFaults

@@ -1,25 +1,27 @@
-//! The tools over readers, writers and sessions: what `printenv`, `setenv`, a set script, `import` and `export` do to a
-//! session and print, what the program shows of an image, and the default environment of a text. docs/tools.md states the
-//! rules.
+//! The program: its words, the files that they name, and the tools and dry runs over them. docs/tools.md and
+//! docs/dry-runs.md state the rules.
 //!
-//! To read in this order: ending, streams, messages, saying; showing; printing, exporting; text_entries, counting, setting; defaulting.
+//! To read in this order: running; command_line, session_words, calls, dry_runs, numbers, word_faults; acting, opening,
+//! copies, files, closing; talking; messages.
 #![tactic(auto)]
 
-mod counting;
-mod defaulting;
-mod ending;
-mod exporting;
+mod acting;
+mod calls;
+mod closing;
+mod command_line;
+mod copies;
+mod dry_runs;
+mod files;
 mod messages;
-mod printing;
-mod saying;
-mod setting;
-mod showing;
-pub mod streams;
-mod text_entries;
+mod numbers;
+mod opening;
+mod running;
+mod session_words;
+mod talking;
+mod word_faults;
 
-pub use defaulting::{default_text, defaults};
-pub use ending::{ToolEnd, ToolFault};
-pub use exporting::export;
-pub use printing::{print_at_once, printenv};
-pub use setting::{import, import_text, script_text, set_script, setenv};
-pub use showing::show;
+pub use fw_engines::{
+    StreamFault, ToolEnd, defaults, export, import, printenv, set_script, setenv, show,
+};
+pub use fw_session::{SessionEnd, SessionEnding, session};
+pub use running::{program, words_failed};

@@ -1,7 +1,7 @@
-//! `fwenv`: hands its words and streams to `fw_command::program`.
+//! `fwenv`: hands its words and streams to `fw_tools::program`.
 #![tactic(auto)]
 
-use fw_command::{program, words_failed};
+use fw_tools::{program, words_failed};
 use std::process::ExitCode;
 use std::{env, io};
 

@@ -6,7 +6,7 @@ use Rattle.hush_commands.specs.declared.builtins.Builtin.{Builtin}
 use Rattle.hush_commands.specs.declared.command.Command.{Command}
 use Rattle.hush_commands.specs.declared.command.Command.TheVariants as command
 use Rattle.hush_commands.specs.Builtins.{builtin_of}
-use Rattle.hush_commands.specs.StandIns.{Statuses}
+use Rattle.hush_commands.specs.Stubs.{Statuses}
 use Rattle.hush_commands.specs.Naming.{builtin_named, named_by}
 use Rattle.hush_commands.specs.Carrying.{done_by, done_of}
 use Rattle.hush_commands.specs.Changes.{named_may_change, builtin_may_change, may_change}

@@ -5,7 +5,7 @@ use Rattle.std.specs.FinMap.{empty}
 use Rattle.env_session.specs.Session.{Held}
 use Rattle.hush_commands.specs.declared.command.Command.TheVariants.{Echo, Set, Delete, Calculate, WrongUse, StandIn, Unknown}
 use Rattle.hush_commands.specs.Builtins.{builtin_of}
-use Rattle.hush_commands.specs.StandIns.{Statuses}
+use Rattle.hush_commands.specs.Stubs.{Statuses}
 use Rattle.hush_commands.specs.Output.{answer}
 use Rattle.hush_commands.specs.Naming.{Named, command_of, named_by}
 use Rattle.hush_commands.specs.Carrying.{Done, done_of, done_by}

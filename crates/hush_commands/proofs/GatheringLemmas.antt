@@ -7,11 +7,11 @@ use Rattle.std.proofs.lemmas.List.{append_assoc, map-append}
 use Rattle.std.proofs.lemmas.List.Elements.{All-push}
 use Rattle.std.proofs.lemmas.List.Sorted.{IsPermutation-append_right, IsPermutation-append_comm}
 use Rattle.text_parts.specs.Lines.{Line as NumberedLine}
-use Rattle.hush_commands.specs.declared.stand_in_line.StandInFault.TheVariants.{Line, Builtin, Twice, Memory}
-use Rattle.hush_commands.specs.declared.stand_in_line.StandInFault.{StandInFault}
+use Rattle.hush_commands.specs.declared.stand_in_line.StubFault.TheVariants.{Line, Builtin, Twice, Memory}
+use Rattle.hush_commands.specs.declared.stand_in_line.StubFault.{StubFault}
 use Rattle.hush_commands.specs.LongNames.{IsLongName}
 use Rattle.hush_commands.specs.ShortNames.{IsPacked}
-use Rattle.hush_commands.specs.StandIns.{Statuses, StandInsOrFault, and_then, with_line, with_lines, IsFaultOf}
+use Rattle.hush_commands.specs.Stubs.{Statuses, StubsOrFault, and_then, with_line, with_lines, IsFaultOf}
 use Rattle.hush_commands.specs.Gathering.{Told, Short, Long, told_short, told_long, told, Tells, Gathers, StoppedBy, Ends, IsReading}
 use Rattle.hush_commands.proofs.ToldLemmas.{with_told, tells-more, tells-order}
 
@@ -26,7 +26,7 @@ short-behind s l x =
     subst (λ es. IsPermutation es (told (s ++ x ∷ []) l)) behind
     (subst (IsPermutation (front ++ (back ++ told_short x ∷ []))) before (IsPermutation-append_right front (back ++ told_short x ∷ []) (told_short x ∷ [] ++ back) (IsPermutation-append_comm back (told_short x ∷ []))))
 
-pub push-short : (s : List Short) (l : List Long) (x : Short) (read : StandInsOrFault) → IsPacked x.name → Gathers x.line s l read → Gathers (x.line + 1) (s ++ x ∷ []) l (with_told (told_short x) read)
+pub push-short : (s : List Short) (l : List Long) (x : Short) (read : StubsOrFault) → IsPacked x.name → Gathers x.line s l read → Gathers (x.line + 1) (s ++ x ∷ []) l (with_told (told_short x) read)
 push-short s l x read p g =
     record {
       are_packed = All-push (λ (e : Short). IsPacked e.name) s x g.are_packed p;
@@ -37,7 +37,7 @@ push-short s l x read p g =
 long-behind : (s : List Short) (l : List Long) (x : Long) → told s l ++ told_long x ∷ [] ≡ told s (l ++ x ∷ [])
 long-behind s l x = append_assoc (map told_short s) (map told_long l) (told_long x ∷ []) ∙ ap (λ es. map told_short s ++ es) (sym (map-append told_long l (x ∷ [])))
 
-pub push-long : (s : List Short) (l : List Long) (x : Long) (read : StandInsOrFault) → IsLongName x.name → Gathers x.line s l read → Gathers (x.line + 1) s (l ++ x ∷ []) (with_told (told_long x) read)
+pub push-long : (s : List Short) (l : List Long) (x : Long) (read : StubsOrFault) → IsLongName x.name → Gathers x.line s l read → Gathers (x.line + 1) s (l ++ x ∷ []) (with_told (told_long x) read)
 push-long s l x read long g =
     record {
       are_packed = g.are_packed;
@@ -47,11 +47,11 @@ push-long s l x read long g =
 
 -- faults
 
-kept-fault : (read : StandInsOrFault) (next : Statuses → StandInsOrFault) (f : StandInFault) → read ≡ Err f → and_then read next ≡ Err f
+kept-fault : (read : StubsOrFault) (next : Statuses → StubsOrFault) (f : StubFault) → read ≡ Err f → and_then read next ≡ Err f
 kept-fault read next f e = ap (λ r. and_then r next) e
 
 -- memory was refused
-is-fault : (whole : StandInsOrFault) (f : StandInFault) → whole ≡ Err f → IsFaultOf whole f
+is-fault : (whole : StubsOrFault) (f : StubFault) → whole ≡ Err f → IsFaultOf whole f
 is-fault whole (Line number) e = e
 is-fault whole (Builtin number) e = e
 is-fault whole (Twice number) e = e
@@ -59,17 +59,17 @@ is-fault whole Memory e = tt
 
 -- a line is at fault
 -- lines behind a fault change nothing
-and_then-twice : (r : StandInsOrFault) (f g : Statuses → StandInsOrFault) → and_then (and_then r f) g ≡ and_then r (λ m. and_then (f m) g)
+and_then-twice : (r : StubsOrFault) (f g : Statuses → StubsOrFault) → and_then (and_then r f) g ≡ and_then r (λ m. and_then (f m) g)
 and_then-twice (Ok m) f g = refl
 and_then-twice (Err fault) f g = refl
 
-fault-stays : (part : StandInsOrFault) (then : Statuses → StandInsOrFault) (f : StandInFault) → IsFaultOf part f → IsFaultOf (and_then part then) f
+fault-stays : (part : StubsOrFault) (then : Statuses → StubsOrFault) (f : StubFault) → IsFaultOf part f → IsFaultOf (and_then part then) f
 fault-stays part then (Line number) h = ap (λ r. and_then r then) h
 fault-stays part then (Builtin number) h = ap (λ r. and_then r then) h
 fault-stays part then (Twice number) h = ap (λ r. and_then r then) h
 fault-stays part then Memory h = tt
 
-stopped-before : (s : List Short) (l : List Long) (part whole : StandInsOrFault) (then : Statuses → StandInsOrFault) (f : StandInFault) → whole ≡ and_then part then → StoppedBy s l part f → StoppedBy s l whole f
+stopped-before : (s : List Short) (l : List Long) (part whole : StubsOrFault) (then : Statuses → StubsOrFault) (f : StubFault) → whole ≡ and_then part then → StoppedBy s l part f → StoppedBy s l whole f
 stopped-before s l part whole then f is by =
     record {
       next = by.next;
@@ -86,7 +86,7 @@ first_number d [] = d
 first_number d (x ∷ xs) = x.0
 
 -- a line that is read, and what is read of the others
-pub read-line : (s t : List Short) (l m : List Long) (whole : StandInsOrFault) (rest : List NumberedLine) (line : NumberedLine) (others : List NumberedLine) → (r : IsReading s l whole rest) →
+pub read-line : (s t : List Short) (l m : List Long) (whole : StubsOrFault) (rest : List NumberedLine) (line : NumberedLine) (others : List NumberedLine) → (r : IsReading s l whole rest) →
     rest ≡ line ∷ others → (Gathers line.0 s l r.read → Gathers (line.0 + 1) t m (and_then r.read (λ statuses. with_line statuses line))) → IsReading t m whole others
 unfolding first_number
 read-line s t l m whole rest line others r is step = by_lines r.lines r.numbered
@@ -105,7 +105,7 @@ read-line s t l m whole rest line others r is step = by_lines r.lines r.numbered
         }
 
 -- a line at which it stops
-pub stop-line : (s t : List Short) (l m : List Long) (whole : StandInsOrFault) (rest : List NumberedLine) (line : NumberedLine) (others : List NumberedLine) (f : StandInFault) → (r : IsReading s l whole rest) →
+pub stop-line : (s t : List Short) (l m : List Long) (whole : StubsOrFault) (rest : List NumberedLine) (line : NumberedLine) (others : List NumberedLine) (f : StubFault) → (r : IsReading s l whole rest) →
     rest ≡ line ∷ others → (Gathers line.0 s l r.read → StoppedBy t m (and_then r.read (λ statuses. with_line statuses line)) f) → StoppedBy t m whole f
 unfolding first_number
 stop-line s t l m whole rest line others f r is step = by_lines r.lines r.numbered
@@ -119,13 +119,13 @@ stop-line s t l m whole rest line others f r is step = by_lines r.lines r.number
         (step (subst (λ n. Gathers n s l r.read) (sym number) r.gathers))
 
 -- a fault of what was gathered is one of the whole
-known-fault : (read whole : StandInsOrFault) (f : StandInFault) → ((g : StandInFault) → read ≡ Err g → whole ≡ Err g) → IsFaultOf read f → IsFaultOf whole f
+known-fault : (read whole : StubsOrFault) (f : StubFault) → ((g : StubFault) → read ≡ Err g → whole ≡ Err g) → IsFaultOf read f → IsFaultOf whole f
 known-fault read whole (Line number) known h = known (Line number) h
 known-fault read whole (Builtin number) known h = known (Builtin number) h
 known-fault read whole (Twice number) known h = known (Twice number) h
 known-fault read whole Memory known h = tt
 
-pub whole-fault : (s : List Short) (l : List Long) (whole : StandInsOrFault) (result : Result (Unit {0}) StandInFault) (f : StandInFault) → Ends s l whole result →
-    ((next : ℕ) (read : StandInsOrFault) → Gathers next s l read → IsFaultOf read f) → IsFaultOf whole f
+pub whole-fault : (s : List Short) (l : List Long) (whole : StubsOrFault) (result : Result (Unit {0}) StubFault) (f : StubFault) → Ends s l whole result →
+    ((next : ℕ) (read : StubsOrFault) → Gathers next s l read → IsFaultOf read f) → IsFaultOf whole f
 whole-fault s l whole (Ok done) f ended h = h ended.0 whole ended.1
 whole-fault s l whole (Err g) f stopped h = known-fault stopped.read whole f stopped.before (h stopped.next stopped.read stopped.gathers)

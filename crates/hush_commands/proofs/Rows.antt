@@ -1,7 +1,7 @@
 -- Worked examples of docs/runs.md, which the checker computes from the definitions.
 use Rattle.std.proofs.Common.{◌≡◌, ℕ, true, false, List, [], ◌∷◌, ◌++◌, None, Some, Ok, Err, refl}
 use Rattle.std.specs.Prelude.{codes, map}
-use Rattle.hush_commands.specs.declared.stand_in_line.StandInFault.TheVariants.{Line, Builtin}
+use Rattle.hush_commands.specs.declared.stand_in_line.StubFault.TheVariants.{Line, Builtin}
 use Rattle.hush_commands.specs.Builtins.{builtin_of}
 use Rattle.hush_commands.specs.Statuses.{status_of}
 use Rattle.std.specs.Fmt.{digits}

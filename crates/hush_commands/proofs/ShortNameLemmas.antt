@@ -13,7 +13,7 @@ use Rattle.std.specs.FinMap.{nat_cmp-IsAntisymmetric, slice_cmp-IsAntisymmetric}
 use Rattle.std.proofs.lemmas.Nat.{div-mul-add, mod-mul-add}
 use Rattle.std.proofs.Math.Nat.{div-one, div-div-eq-div-mul, pow-suc, mul_assoc}
 use Rattle.hush_commands.specs.ShortNames.{most, padded, packed, unpacked, IsPacked}
-use Rattle.hush_commands.specs.StandIns.{name_order as order}
+use Rattle.hush_commands.specs.Stubs.{name_order as order}
 
 pub equal_from : (r : Ordering) → is_eq r ≡ true → r ≡ Equal
 equal_from Less e = absurd (subst T (sym e) tt)

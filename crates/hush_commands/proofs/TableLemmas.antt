@@ -22,7 +22,7 @@ use Rattle.hush_commands.specs.declared.long_names.LongName.{LongName}
 use Rattle.hush_commands.specs.LongNames.{IsLongName, front_of, order_of, long_order}
 use Rattle.hush_commands.specs.NamedLines.{IsOneBy, Again, IsFirstAgain, IsEarliest}
 use Rattle.hush_commands.specs.ShortNames.{most, packed, unpacked, IsPacked}
-use Rattle.hush_commands.specs.StandIns.{StandInsOrFault, name_order as order}
+use Rattle.hush_commands.specs.Stubs.{StubsOrFault, name_order as order}
 use Rattle.hush_commands.specs.Gathering.{Told, Short, Long, told_short, told_long, told, ArePacked, AreLong, statuses_of, AreSame, outcome, Gathers, Tells, InOrder, IsTable}
 use Rattle.hush_commands.proofs.ShortNameLemmas.{name_same, name_itself}
 use Rattle.hush_commands.proofs.ToldLemmas.{tells-order, tells-outcome, once-per-name, told-status, told-none}
@@ -162,7 +162,7 @@ first-of-both s l a b (Some n) packed long h g is = (by_one is.0, λ line w. by_
 
 -- what was gathered, in order
 
-module _ (next : ℕ) (s ys : List Short) (l zs : List Long) (read : StandInsOrFault) (again : Option ℕ) (o : InOrder s ys l zs again) (g : Gathers next s l read) where
+module _ (next : ℕ) (s ys : List Short) (l zs : List Long) (read : StubsOrFault) (again : Option ℕ) (o : InOrder s ys l zs again) (g : Gathers next s l read) where
   packed-in-order : ArePacked ys
   packed-in-order = All-permutation (λ (e : Short). IsPacked e.name) s ys o.short g.are_packed
 
@@ -179,7 +179,7 @@ module _ (next : ℕ) (s ys : List Short) (l zs : List Long) (read : StandInsOrF
   pub outcome-in-order : read ≡ outcome again (statuses_of (told ys zs))
   outcome-in-order = tells-outcome next (told ys zs) read again tells-in-order first-in-order
 
-pub table : (next : ℕ) (s ys : List Short) (l zs : List Long) (read : StandInsOrFault) → InOrder s ys l zs None → Gathers next s l read → IsTable ys zs
+pub table : (next : ℕ) (s ys : List Short) (l zs : List Long) (read : StubsOrFault) → InOrder s ys l zs None → Gathers next s l read → IsTable ys zs
 table next s ys l zs read o g =
     record {
       are_packed = packed-in-order next s ys l zs read None o g;

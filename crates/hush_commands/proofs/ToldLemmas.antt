@@ -12,7 +12,7 @@ use Rattle.std.specs.FinMap as names
 use Rattle.std.specs.FinMap.{nat_cmp-IsAntisymmetric, slice_cmp-IsAntisymmetric}
 use Rattle.std.specs.FinMap.Entries.{find}
 use Rattle.hush_commands.specs.NamedLines.{Again, IsFirstAgain}
-use Rattle.hush_commands.specs.StandIns.{Statuses, StandInsOrFault, name_order as order, with_stand_in, and_then}
+use Rattle.hush_commands.specs.Stubs.{Statuses, StubsOrFault, name_order as order, with_stand_in, and_then}
 use Rattle.hush_commands.specs.Gathering.{Told, pair_of, statuses_of, AreSame, IsOncePerLine, IsOncePerName, outcome, Tells}
 use Rattle.hush_commands.proofs.ShortNameLemmas.{equal_from, name_same, name_itself}
 
@@ -191,10 +191,10 @@ statuses-more es x new =
     ∙ sym (names.get-insert nat_list_cmp_total (statuses_of es) x.name x.status q))
 
 -- what is read with one more line
-abbrev pub with_told : Told → StandInsOrFault → StandInsOrFault
+abbrev pub with_told : Told → StubsOrFault → StubsOrFault
 with_told x read = and_then read (λ statuses. with_stand_in x.line statuses x.name x.status)
 
-record Pushed (es : List Told) (read : StandInsOrFault) : Type 0 where
+record Pushed (es : List Told) (read : StubsOrFault) : Type 0 where
   again : Option ℕ
   is_first : IsFirstAgain AreSame es again
   is : read ≡ outcome again (statuses_of es)
@@ -219,7 +219,7 @@ pushed es x None None before h is =
 below-next : (next : ℕ) (es : List Told) → All (λ e. e.line < next) es → All (λ e. e.line < next + 1) es
 below-next next es h = All-weaker (λ (e : Told). e.line < next) (λ (e : Told). e.line < next + 1) (λ e h. omega (arith)) es h
 
-pub tells-more : (es : List Told) (x : Told) (read : StandInsOrFault) → Tells x.line es read → Tells (x.line + 1) (es ++ x ∷ []) (with_told x read)
+pub tells-more : (es : List Told) (x : Told) (read : StubsOrFault) → Tells x.line es read → Tells (x.line + 1) (es ++ x ∷ []) (with_told x read)
 tells-more es x read t =
     let made = pushed es x t.again _ t.before t.is_first refl in
     record {
@@ -232,11 +232,11 @@ tells-more es x read t =
 
 -- a line that holds nothing
 
-and_nothing : (read : StandInsOrFault) → and_then read (λ statuses. Ok statuses) ≡ read
+and_nothing : (read : StubsOrFault) → and_then read (λ statuses. Ok statuses) ≡ read
 and_nothing (Ok statuses) = refl
 and_nothing (Err fault) = refl
 
-pub tells-nothing : (next : ℕ) (es : List Told) (read : StandInsOrFault) → Tells next es read → Tells (next + 1) es (and_then read (λ statuses. Ok statuses))
+pub tells-nothing : (next : ℕ) (es : List Told) (read : StubsOrFault) → Tells next es read → Tells (next + 1) es (and_then read (λ statuses. Ok statuses))
 tells-nothing next es read t =
     record { before = below-next next es t.before; once = t.once; again = t.again; is_first = t.is_first; is = and_nothing read ∙ t.is }
 
@@ -291,7 +291,7 @@ outcome-order : (es ys : List Told) (o : Option ℕ) → IsPermutation es ys →
 outcome-order es ys None p once h = ap Ok (same_statuses _ _ (λ q. get-told es q ∙ find-order es ys p (once-per-name ys once h) q ∙ sym (get-told ys q)))
 outcome-order es ys (Some first) p once h = refl
 
-pub tells-order : (next : ℕ) (es ys : List Told) (read : StandInsOrFault) → IsPermutation es ys → Tells next es read → Tells next ys read
+pub tells-order : (next : ℕ) (es ys : List Told) (read : StubsOrFault) → IsPermutation es ys → Tells next es read → Tells next ys read
 tells-order next es ys read p t =
     let once = once-order es ys p t.once in
     let first = first-order es ys t.again p t.is_first in
@@ -313,7 +313,7 @@ one-first es (Some a) (Some b) h g =
     let down : b ≤ a = g.1 a h.0 in
     ap Some (omega (arith, up, down))
 
-pub tells-outcome : (next : ℕ) (es : List Told) (read : StandInsOrFault) (o : Option ℕ) → Tells next es read → IsFirstAgain AreSame es o → read ≡ outcome o (statuses_of es)
+pub tells-outcome : (next : ℕ) (es : List Told) (read : StubsOrFault) (o : Option ℕ) → Tells next es read → IsFirstAgain AreSame es o → read ≡ outcome o (statuses_of es)
 tells-outcome next es read o t h = t.is ∙ ap (λ a. outcome a (statuses_of es)) (one-first es t.again o t.is_first h)
 
 -- a look-up

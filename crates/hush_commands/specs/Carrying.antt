@@ -8,7 +8,7 @@ use Rattle.hush_commands.specs.declared.messages.Message.TheVariants as message
 use Rattle.hush_commands.specs.declared.output.PrintFault.{PrintFault}
 use Rattle.hush_commands.specs.declared.output.PrintFault.TheVariants as fault
 use Rattle.hush_commands.specs.declared.writing.Complaint.{Complaint}
-use Rattle.hush_commands.specs.StandIns.{Statuses}
+use Rattle.hush_commands.specs.Stubs.{Statuses}
 use Rattle.hush_commands.specs.Messages.{text_of}
 use Rattle.hush_commands.specs.Output.{Printed, printed, Answer, answer, Answers}
 use Rattle.hush_commands.specs.Commands.{status_if, echo_of, stand_in_of, exists_of, exit_of, run_of, delete_of}

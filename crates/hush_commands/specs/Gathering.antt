@@ -6,13 +6,13 @@ use Rattle.std.specs.Ordering.{nat_cmp}
 use Rattle.std.specs.FinMap as names
 use Rattle.text_parts.specs.Lines.{Line as NumberedLine}
 use Rattle.hush_commands.specs.declared.named.Named.{Named}
-use Rattle.hush_commands.specs.declared.stand_in_line.StandInFault.{StandInFault}
-use Rattle.hush_commands.specs.declared.stand_in_line.StandInFault.TheVariants.{Twice}
+use Rattle.hush_commands.specs.declared.stand_in_line.StubFault.{StubFault}
+use Rattle.hush_commands.specs.declared.stand_in_line.StubFault.TheVariants.{Twice}
 use Rattle.hush_commands.specs.declared.long_names.LongName.{LongName}
 use Rattle.hush_commands.specs.LongNames.{IsLongName, long_order}
 use Rattle.hush_commands.specs.NamedLines.{IsOneBy, IsFirstAgain, IsEarliest}
 use Rattle.hush_commands.specs.ShortNames.{unpacked, IsPacked}
-use Rattle.hush_commands.specs.StandIns.{Statuses, StandInsOrFault, and_then, with_lines, IsFaultOf}
+use Rattle.hush_commands.specs.Stubs.{Statuses, StubsOrFault, and_then, with_lines, IsFaultOf}
 
 -- a line with its name as it is in the file, with a short name packed, and with a long one beside its front
 abbrev pub Told : Type 0
@@ -61,12 +61,12 @@ abbrev pub IsOncePerName : List Told → Type 0
 IsOncePerName es = (x y : Told) → Contains es x → Contains es y → x.name ≡ y.name → x.status ≡ y.status
 
 -- the fault of the first line that names something again, or else the statuses
-abbrev pub outcome : Option ℕ → Statuses → StandInsOrFault
+abbrev pub outcome : Option ℕ → Statuses → StubsOrFault
 outcome None statuses = Ok statuses
 outcome (Some line) statuses = Err (Twice line)
 
 -- the lines before this one were read as this, and say these
-pub record Tells (next : ℕ) (es : List Told) (read : StandInsOrFault) : Type 0 where
+pub record Tells (next : ℕ) (es : List Told) (read : StubsOrFault) : Type 0 where
   pub before : All (λ e. e.line < next) es
   pub once : IsOncePerLine es
   pub again : Option ℕ
@@ -74,7 +74,7 @@ pub record Tells (next : ℕ) (es : List Told) (read : StandInsOrFault) : Type 0
   pub is : read ≡ outcome again (statuses_of es)
 
 -- and they were gathered as these
-pub record Gathers (next : ℕ) (short : List Short) (long : List Long) (read : StandInsOrFault) : Type 0 where
+pub record Gathers (next : ℕ) (short : List Short) (long : List Long) (read : StubsOrFault) : Type 0 where
   pub are_packed : ArePacked short
   pub are_long : AreLong long
   pub tells : Tells next (told short long) read
@@ -82,31 +82,31 @@ pub record Gathers (next : ℕ) (short : List Short) (long : List Long) (read : 
 -- the lines so far say the same as some that were gathered
 pub record IsGathered (short : List Short) (long : List Long) : Type 0 where
   pub next : ℕ
-  pub read : StandInsOrFault
+  pub read : StubsOrFault
   pub gathers : Gathers next short long read
 
 -- gathering stopped for a fault: that of the whole is one of the lines gathered before, or else this one
-pub record StoppedBy (short : List Short) (long : List Long) (whole : StandInsOrFault) (fault : StandInFault) : Type 0 where
+pub record StoppedBy (short : List Short) (long : List Long) (whole : StubsOrFault) (fault : StubFault) : Type 0 where
   pub next : ℕ
-  pub read : StandInsOrFault
+  pub read : StubsOrFault
   pub gathers : Gathers next short long read
-  pub before : (f : StandInFault) → read ≡ Err f → whole ≡ Err f
+  pub before : (f : StubFault) → read ≡ Err f → whole ≡ Err f
   pub otherwise : (statuses : Statuses) → read ≡ Ok statuses → IsFaultOf whole fault
 
 -- what gathering up to a line leaves
-abbrev pub GoesOn : ℕ → List Short → List Long → StandInsOrFault → Result (Unit {0}) StandInFault → Type 0
+abbrev pub GoesOn : ℕ → List Short → List Long → StubsOrFault → Result (Unit {0}) StubFault → Type 0
 GoesOn next short long whole result = MatchResult result (λ _. Gathers next short long whole) (StoppedBy short long whole)
 
 -- what gathering a whole file leaves
-abbrev pub Ends : List Short → List Long → StandInsOrFault → Result (Unit {0}) StandInFault → Type 0
+abbrev pub Ends : List Short → List Long → StubsOrFault → Result (Unit {0}) StubFault → Type 0
 Ends short long whole result = MatchResult result (λ _. (next : ℕ) × Gathers next short long whole) (StoppedBy short long whole)
 
 -- as far as the lines before these were gathered
-pub record IsReading (short : List Short) (long : List Long) (whole : StandInsOrFault) (rest : List NumberedLine) : Type 0 where
+pub record IsReading (short : List Short) (long : List Long) (whole : StubsOrFault) (rest : List NumberedLine) : Type 0 where
   pub next : ℕ
   pub lines : List (List ℕ)
   pub numbered : rest ≡ enumerate_from next lines
-  pub read : StandInsOrFault
+  pub read : StubsOrFault
   pub gathers : Gathers next short long read
   pub is : whole ≡ and_then read (λ statuses. with_lines statuses rest)
 

@@ -3,7 +3,7 @@ pub mod Limits
 pub mod Builtins
 pub mod Statuses
 pub mod StandInLines
-pub mod StandIns
+pub mod Stubs
 pub mod Messages
 pub mod Expansion
 pub mod Scopes

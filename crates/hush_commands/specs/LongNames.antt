@@ -4,7 +4,7 @@ use Rattle.std.specs.Ordering.{nat_cmp, ordering_then}
 use Rattle.std.specs.declared.cmp.Ordering.{Ordering}
 use Rattle.hush_commands.specs.declared.long_names.LongName.{LongName}
 use Rattle.hush_commands.specs.ShortNames.{most, packed}
-use Rattle.hush_commands.specs.StandIns.{name_order}
+use Rattle.hush_commands.specs.Stubs.{name_order}
 
 -- the first bytes of a name, packed
 abbrev pub front_of : List ℕ → ℕ

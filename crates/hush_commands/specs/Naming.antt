@@ -7,7 +7,7 @@ use Rattle.hush_commands.specs.declared.builtins.Builtin.TheVariants as builtin
 use Rattle.hush_commands.specs.declared.command.Command.{Command}
 use Rattle.hush_commands.specs.declared.command.Command.TheVariants as command
 use Rattle.hush_commands.specs.Builtins.{builtin_of}
-use Rattle.hush_commands.specs.StandIns.{Statuses}
+use Rattle.hush_commands.specs.Stubs.{Statuses}
 
 -- a command, and the words behind its name
 abbrev pub Named : Type 0

@@ -4,8 +4,8 @@ use Rattle.std.specs.List.{list_any}
 use Rattle.envimg_core.specs.Environment.{is_zero}
 use Rattle.text_parts.specs.Bytes.{begins_with, hash, is_blank}
 use Rattle.text_parts.specs.Words.{words_between}
-use Rattle.hush_commands.specs.declared.stand_in_line.StandInFault.{StandInFault}
-use Rattle.hush_commands.specs.declared.stand_in_line.StandInFault.TheVariants.{Line, Builtin}
+use Rattle.hush_commands.specs.declared.stand_in_line.StubFault.{StubFault}
+use Rattle.hush_commands.specs.declared.stand_in_line.StubFault.TheVariants.{Line, Builtin}
 use Rattle.hush_commands.specs.Builtins.{builtin_of}
 use Rattle.hush_commands.specs.Statuses.{status_of}
 
@@ -15,7 +15,7 @@ StandIn = List ℕ × ℕ
 
 -- what a line holds: a stand-in, or nothing, or it is at fault
 abbrev pub StandInLine : Type 0
-StandInLine = Result (Option StandIn) StandInFault
+StandInLine = Result (Option StandIn) StubFault
 
 -- the status of a stand-in by the words behind its name: 0 where there are none
 abbrev pub rest_status : List (List ℕ) → Option ℕ

@@ -11,7 +11,7 @@ use crate::field_buffer::FieldBuffer;
 use crate::listing::print_variables;
 use crate::messages::Message;
 use crate::output::{Output, PrintFault};
-use crate::stand_ins::StandIns;
+use crate::stand_ins::Stubs;
 use crate::writing::{Complaint, calculate, set};
 use env_session::Session;
 use envvars_core::Memory;
@@ -25,7 +25,7 @@ use std::alloc::Global;
 pub fn carry_out(
     alloc: Global,
     session: &mut Session,
-    stand_ins: &StandIns,
+    stand_ins: &Stubs,
     fields: &FieldBuffer,
     status: u8,
     output: &mut Output,
@@ -50,7 +50,7 @@ pub fn carry_out(
 fn attempt(
     alloc: Global,
     session: &mut Session,
-    stand_ins: &StandIns,
+    stand_ins: &Stubs,
     fields: &FieldBuffer,
     status: u8,
     output: &mut Output,

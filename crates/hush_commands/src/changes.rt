@@ -1,7 +1,7 @@
 //! Which simple commands may change the session (docs/runs.md, "Commands").
 ghost use Rattle.std.specs.Prelude.{◌≡◌, ℕ, false};
 ghost use Rattle.env_session.specs.Session.{Held};
-ghost use Rattle.hush_commands.specs.StandIns.{Statuses};
+ghost use Rattle.hush_commands.specs.Stubs.{Statuses};
 ghost use Rattle.hush_commands.specs.Carrying.{done_of};
 ghost use Rattle.hush_commands.specs.Changes.{may_change, named_may_change};
 

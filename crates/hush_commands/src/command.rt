@@ -3,7 +3,7 @@ ghost use Rattle.std.specs.Prelude.{◌≡◌};
 ghost use Rattle.hush_commands.specs.Naming.{env_command, builtin_named, command_of};
 
 use crate::builtins::{Builtin, is_text};
-use crate::stand_ins::StandIns;
+use crate::stand_ins::Stubs;
 use hush_calc::Fields;
 
 /// A command by its name.
@@ -43,7 +43,7 @@ pub enum Command {
 
 impl Command {
     /// The command of a name, which leaves the words behind it: builtins come first, then stand-ins.
-    pub fn of(stand_ins: &StandIns, name: &[u8], words: &mut Fields<'_>) -> Command
+    pub fn of(stand_ins: &Stubs, name: &[u8], words: &mut Fields<'_>) -> Command
         ensures { (result, words.new) ≡ command_of stand_ins.now name.now words.old }
     {
         match Builtin::of(name) {

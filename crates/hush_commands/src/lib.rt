@@ -45,5 +45,5 @@ pub use locals::Locals;
 pub use messages::Message;
 pub use output::{Output, PrintFault};
 pub use scope::Scope;
-pub use stand_in_line::StandInFault;
-pub use stand_ins::StandIns;
+pub use stand_in_line::StubFault;
+pub use stand_ins::Stubs;

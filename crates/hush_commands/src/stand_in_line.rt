@@ -13,7 +13,7 @@ use thiserror::Error;
 
 /// Why a stand-in file is refused (docs/runs.md, "Stand-ins"). Lines count from 1.
 #[derive(Clone, Copy, Debug, PartialEq, Eq, Error)]
-pub enum StandInFault {
+pub enum StubFault {
     /// The line isn't a name and perhaps a status, or it holds a 0 byte.
     #[error("Line in line {0}")]
     Line(usize),
@@ -28,43 +28,43 @@ pub enum StandInFault {
     Memory,
 }
 
-impl From<AllocError> for StandInFault {
-    ghost use Rattle.hush_commands.specs.declared.stand_in_line.StandInFault.TheVariants.{Memory};
+impl From<AllocError> for StubFault {
+    ghost use Rattle.hush_commands.specs.declared.stand_in_line.StubFault.TheVariants.{Memory};
 
     ghost from_gives = { λ _ fault. fault ≡ Memory };
 
-    fn from(_refused: AllocError) -> StandInFault {
-        StandInFault::Memory
+    fn from(_refused: AllocError) -> StubFault {
+        StubFault::Memory
     }
 }
 
-impl<T: Drop> From<AllocFailed<T>> for StandInFault {
-    ghost use Rattle.hush_commands.specs.declared.stand_in_line.StandInFault.TheVariants.{Memory};
+impl<T: Drop> From<AllocFailed<T>> for StubFault {
+    ghost use Rattle.hush_commands.specs.declared.stand_in_line.StubFault.TheVariants.{Memory};
 
     ghost from_gives = { λ _ fault. fault ≡ Memory };
 
-    fn from(_refused: AllocFailed<T>) -> StandInFault {
-        StandInFault::Memory
+    fn from(_refused: AllocFailed<T>) -> StubFault {
+        StubFault::Memory
     }
 }
 
 /// Reads a line: the name of a stand-in and its status, 0 where none is given; nothing where it is empty, blanks
 /// alone or a comment.
-pub(crate) fn read_line(number: usize, line: &[u8]) -> Result<Option<(&[u8], u8)>, StandInFault>
+pub(crate) fn read_line(number: usize, line: &[u8]) -> Result<Option<(&[u8], u8)>, StubFault>
     ensures { line_view result ≡ read_line number (strip_carriage_return line.now) }
 {
     let line = strip_carriage_return(line);
     if contains_byte(0, line) {
-        return Err(StandInFault::Line(number));
+        return Err(StubFault::Line(number));
     }
     if begins_with_byte(b'#', line) {
         return Ok(None);
     }
     match first_word(line) {
         Some((name, rest)) => match read_rest(rest) {
-            Some(_) if Builtin::of(name).is_some() => Err(StandInFault::Builtin(number)),
+            Some(_) if Builtin::of(name).is_some() => Err(StubFault::Builtin(number)),
             Some(status) => Ok(Some((name, status))),
-            None => Err(StandInFault::Line(number)),
+            None => Err(StubFault::Line(number)),
         },
         None => Ok(None),
     }

@@ -1,27 +1,27 @@
 //! Stand-ins: names of commands that need hardware, each with the status that it answers.
 ghost use Rattle.std.specs.Prelude.{◌≡◌, ℕ, Ok, IfOk, IfErr, MatchResult};
 ghost use Rattle.std.specs.FinMap as names;
-ghost use Rattle.hush_commands.specs.StandIns.{StandInsOrFault, stand_ins_of, IsFaultOf};
+ghost use Rattle.hush_commands.specs.Stubs.{StubsOrFault, stand_ins_of, IsFaultOf};
 ghost use Rattle.hush_commands.specs.Gathering.{Gathers, IsGathered};
 
 use crate::gathered::Gathered;
 use crate::long_names::LongName;
 use crate::named::Named;
 use crate::short_names::{ShortName, front, packed};
-use crate::stand_in_line::StandInFault;
+use crate::stand_in_line::StubFault;
 use std::alloc::Global;
 use std::marker::Model;
 
 /// The stand-ins of a run: the commands that only hardware has, each with the status that it answers here.
 #[derive(Drop)]
-pub struct StandIns {
+pub struct Stubs {
     /// Both in the order of the names.
     short: Vec<Named<ShortName>>,
     long: Vec<Named<LongName>>,
 }
 
-impl Model for StandIns {
-    ghost use Rattle.hush_commands.specs.StandIns.{Statuses, statuses_code};
+impl Model for Stubs {
+    ghost use Rattle.hush_commands.specs.Stubs.{Statuses, statuses_code};
     ghost use Rattle.hush_commands.specs.Gathering.{told, statuses_of, IsTable};
 
     ghost Value = { Statuses };
@@ -33,19 +33,19 @@ impl Model for StandIns {
     ghost invariant = { λ a. IsTable a.short.items a.long.items };
 }
 
-impl StandIns {
+impl Stubs {
     /// Reads a stand-in file: in each line a name, and perhaps a status (docs/runs.md, "Stand-ins").
     ///
     /// The first line that is at fault decides: `Line` where it has another form or holds a 0 byte, else `Builtin`
     /// where the name is a builtin's, else `Twice` where an earlier line has it. `Memory` where a growth was refused.
-    pub fn parse(alloc: Global, text: &[u8]) -> Result<StandIns, StandInFault>
+    pub fn parse(alloc: Global, text: &[u8]) -> Result<Stubs, StubFault>
         ensures read { IfOk result (λ stand_ins. stand_ins_of text.now ≡ Ok stand_ins) }
         ensures refused { IfErr result (IsFaultOf (stand_ins_of text.now)) }
     {
         let mut gathered = Gathered::empty(alloc);
         let ended = gathered.add_lines(alloc, text);
         // A name that comes again stands before the line at which reading ended.
-        let stand_ins = StandIns::of(gathered)?;
+        let stand_ins = Stubs::of(gathered)?;
         ended?;
         Ok(stand_ins)
     }
@@ -73,15 +73,15 @@ impl StandIns {
     }
 
     /// Those that were gathered, or `Twice` with the first line that names something again.
-    fn of(mut gathered: Gathered) -> Result<StandIns, StandInFault>
+    fn of(mut gathered: Gathered) -> Result<Stubs, StubFault>
         requires { IsGathered gathered.short.items gathered.long.items }
-        ensures { (next : ℕ) (read : StandInsOrFault) → Gathers next gathered.short.items gathered.long.items read → MatchResult result (λ stand_ins. read ≡ Ok stand_ins) (IsFaultOf read) }
+        ensures { (next : ℕ) (read : StubsOrFault) → Gathers next gathered.short.items gathered.long.items read → MatchResult result (λ stand_ins. read ≡ Ok stand_ins) (IsFaultOf read) }
     {
         let again = gathered.put_in_order();
         let Gathered { short, long } = gathered;
         match again {
-            Some(line) => Err(StandInFault::Twice(line)),
-            None => Ok(StandIns { short, long }),
+            Some(line) => Err(StubFault::Twice(line)),
+            None => Ok(Stubs { short, long }),
         }
     }
 }

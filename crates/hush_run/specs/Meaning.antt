@@ -13,7 +13,7 @@ use Rattle.hush_commands.specs.declared.messages.Message.TheVariants.{NotDefined
 use Rattle.hush_commands.specs.declared.follow.Follow.{Follow}
 use Rattle.hush_commands.specs.declared.follow.Follow.TheVariants as follow
 use Rattle.hush_commands.specs.Limits.{Bounds}
-use Rattle.hush_commands.specs.StandIns.{Statuses}
+use Rattle.hush_commands.specs.Stubs.{Statuses}
 use Rattle.hush_commands.specs.Messages.{text_of}
 use Rattle.hush_commands.specs.Output.{Printed, printed, answer}
 use Rattle.hush_commands.specs.Expansion.{Known, expanded, expanded_value}

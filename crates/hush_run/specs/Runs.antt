@@ -3,7 +3,7 @@ use Rattle.std.specs.Prelude.{◌≡◌, ◌≤◌, Option, Some, None}
 use Rattle.env_session.specs.Session.{Held}
 use Rattle.hush_syntax.specs.Grammar.{Chains}
 use Rattle.hush_commands.specs.Limits.{Bounds}
-use Rattle.hush_commands.specs.StandIns.{Statuses}
+use Rattle.hush_commands.specs.Stubs.{Statuses}
 use Rattle.hush_run.specs.declared.ending.Ending.{Ending}
 use Rattle.hush_run.specs.declared.ending.Ending.TheVariants as ending
 use Rattle.hush_run.specs.declared.ending.Reason.{Reason}

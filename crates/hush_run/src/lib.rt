@@ -23,9 +23,7 @@ mod steps;
 mod turns;
 
 pub use ending::Ending;
-pub use hush_commands::{
-    Limits, MOST_DEPTH, MOST_OUTPUT, MOST_STEPS, MOST_WORD, StandInFault, StandIns,
-};
+pub use hush_commands::{Limits, MOST_DEPTH, MOST_OUTPUT, MOST_STEPS, MOST_WORD, StubFault, Stubs};
 pub use outcome::Outcome;
 pub use runner::{Runner, run};
 pub use running::{Reached, Running};

@@ -10,7 +10,7 @@ ghost use Rattle.hush_run.specs.Meaning.{Rules, Goes, step, fails, fields_of, fi
 use crate::ending::{Ending, Reason, Stop};
 use crate::outcome::Outcome;
 use env_session::Session;
-use hush_commands::{FieldBuffer, Limits, Locals, Message, Output, Scope, StandIns, may_change};
+use hush_commands::{FieldBuffer, Limits, Locals, Message, Output, Scope, Stubs, may_change};
 use hush_syntax::{Text, Word};
 use std::alloc::Global;
 
@@ -18,7 +18,7 @@ use std::alloc::Global;
 #[derive(Clone, Copy)]
 pub(crate) struct Given<'a> {
     pub(crate) alloc: Global,
-    pub(crate) stand_ins: &'a StandIns,
+    pub(crate) stand_ins: &'a Stubs,
     pub(crate) limits: Limits,
     pub(crate) may_change: bool,
 }

@@ -13,7 +13,7 @@ use crate::progress::{Given, Progress};
 use crate::running::{Reached, Running};
 use crate::turns::Due;
 use env_session::Session;
-use hush_commands::{Limits, Output, StandIns};
+use hush_commands::{Limits, Output, Stubs};
 use hush_syntax::Script;
 use std::alloc::Global;
 use std::mem;
@@ -27,7 +27,7 @@ pub fn run(
     alloc: Global,
     session: &mut Session,
     script: &Script,
-    stand_ins: &StandIns,
+    stand_ins: &Stubs,
     limits: &Limits,
 ) -> Outcome
     ensures { Runs (rules stand_ins.now limits.now) (tree_of script.now) session.old session.new result }
@@ -68,7 +68,7 @@ impl Runner {
         &mut self,
         session: &mut Session,
         script: &Script,
-        stand_ins: &StandIns,
+        stand_ins: &Stubs,
         limits: &Limits,
     ) -> Outcome
         ensures { Runs (rules stand_ins.now limits.now) (tree_of script.now) session.old session.new result }
@@ -87,7 +87,7 @@ impl Runner {
         &'r mut self,
         session: &mut Session,
         script: &'r Script,
-        stand_ins: &'r StandIns,
+        stand_ins: &'r Stubs,
         limits: &Limits,
     ) -> Reached<'r>
         ensures reaches { Reaches (rules stand_ins.now limits.now) (tree_of script.now) session.old session.new result }
@@ -108,7 +108,7 @@ impl Runner {
     fn begin<'r>(
         &'r mut self,
         script: &'r Script,
-        stand_ins: &'r StandIns,
+        stand_ins: &'r Stubs,
         limits: &Limits,
     ) -> Result<Running<'r>, Outcome>
         ensures begun { IfOk result (λ run. (held : Held) → IsRun (rules stand_ins.now limits.now) (tree_of script.now) held run) }

@@ -4,7 +4,7 @@ use crate::building::{VALUE, VARIABLES, lines, long_line, push_name};
 use crate::opening::{ROOM, SIZE};
 use envcfg_core::parse_import;
 use envimg_core::{Geometry, ImageWriter, Layout, Order};
-use fw_tools::{defaults, show};
+use fw_engines::{defaults, show};
 use std::alloc::{AllocError, Global};
 use std::io;
 

@@ -4,7 +4,7 @@ use crate::building::{VALUE, VARIABLES, lines, long_line};
 use crate::opening::{empty, say};
 use env_session::Session;
 use envcfg_core::{parse_import, parse_set_script};
-use fw_tools::{ToolEnd, export, import, printenv, set_script, setenv};
+use fw_engines::{ToolEnd, export, import, printenv, set_script, setenv};
 use std::io;
 
 /// What fills the area together with a name of one byte and another word of one byte.

@@ -81,16 +81,13 @@ fn say_undone(rt: &HostRuntime, session: &mut Session) -> io::Result<()> {
     if session.save().is_err() {
         return println!(rt; "save: no memory");
     }
-    let changed_names = session.changed_names();
+    let touched = session.touched();
     say(rt, "saved", session.vars())?;
     match session.undo() {
         Ok(()) => say(rt, "undone", session.vars())?,
         Err(_) => println!(rt; "undo: no memory")?,
     }
-    println!(rt;
-        "changed names: {changed_names}, then {}",
-        session.changed_names()
-    )
+    println!(rt; "changed names: {touched}, then {}", session.touched())
 }
 
 fn kinds_row(rt: &HostRuntime, entries: &[u8]) -> io::Result<()> {

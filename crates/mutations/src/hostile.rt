@@ -6,7 +6,7 @@ use bench_parts::{Order, Step, name};
 use env_session::Session;
 use envcfg_core::parse_import;
 use envimg_core::{Geometry, Layout};
-use hush_run::{Ending, Limits, StandIns, run};
+use hush_run::{Ending, Limits, Stubs, run};
 use hush_syntax::Script;
 use std::alloc::{AllocError, Global};
 
@@ -57,8 +57,7 @@ fn long_text(alloc: Global, front: &[u8], byte: u8, back: &[u8]) -> Result<Vec<u
 /// A script that runs to its end in so many steps and prints this.
 fn finishes(alloc: Global, text: Vec<u8>, steps: u32, printed: &[u8]) -> Result<(), Fault> {
     let mut session = large_session(alloc)?;
-    let (Some(limits), Ok(stand_ins)) = (Limits::new(9, 1, 64, 64), StandIns::parse(alloc, b""))
-    else {
+    let (Some(limits), Ok(stand_ins)) = (Limits::new(9, 1, 64, 64), Stubs::parse(alloc, b"")) else {
         return Err(Fault::Wrong("there are limits and stand-ins"));
     };
     let Ok(script) = Script::parse(alloc, text) else {

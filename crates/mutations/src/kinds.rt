@@ -12,7 +12,7 @@ use std::alloc::{AllocError, Global};
 pub enum Kind {
     Configuration,
     Text(Form),
-    StandIns,
+    Stubs,
     Script,
 }
 
@@ -21,7 +21,7 @@ pub const KINDS: [(Kind, &str); 5] = [
     (Kind::Configuration, "configurations"),
     (Kind::Text(Form::Import), "texts for import"),
     (Kind::Text(Form::SetScript), "set scripts"),
-    (Kind::StandIns, "stand-in files"),
+    (Kind::Stubs, "stand-in files"),
     (Kind::Script, "scripts"),
 ];
 
@@ -32,7 +32,7 @@ impl Kind {
             Kind::Configuration => 1,
             Kind::Text(Form::Import) => 2,
             Kind::Text(Form::SetScript) => 3,
-            Kind::StandIns => 4,
+            Kind::Stubs => 4,
             Kind::Script => 5,
         }
     }
@@ -43,7 +43,7 @@ impl Kind {
             Kind::Configuration => &samples::CONFIGURATIONS,
             Kind::Text(Form::Import) => &samples::IMPORTS,
             Kind::Text(Form::SetScript) => &samples::SET_SCRIPTS,
-            Kind::StandIns => &samples::STAND_INS,
+            Kind::Stubs => &samples::STAND_INS,
             Kind::Script => &samples::SCRIPTS,
         }
     }
@@ -54,7 +54,7 @@ impl Kind {
             Kind::Configuration => &samples::CONFIGURATION_TOKENS,
             Kind::Text(Form::Import) => &samples::IMPORT_TOKENS,
             Kind::Text(Form::SetScript) => &samples::SET_SCRIPT_TOKENS,
-            Kind::StandIns => &samples::STAND_IN_TOKENS,
+            Kind::Stubs => &samples::STAND_IN_TOKENS,
             Kind::Script => &samples::SCRIPT_TOKENS,
         }
     }
@@ -64,7 +64,7 @@ impl Kind {
         match self {
             Kind::Configuration => configurations::judged(alloc, text),
             Kind::Text(form) => texts::judged(alloc, form, text),
-            Kind::StandIns => stand_ins::judged(alloc, text),
+            Kind::Stubs => stand_ins::judged(alloc, text),
             Kind::Script => scripts::judged(alloc, text),
         }
     }
@@ -74,7 +74,7 @@ impl Kind {
         match self {
             Kind::Configuration => configurations::is_settled(text, answer),
             Kind::Text(_) => answer.name == "EmptyName",
-            Kind::StandIns => stand_ins::is_settled(text, answer),
+            Kind::Stubs => stand_ins::is_settled(text, answer),
             Kind::Script => scripts::is_settled(text, answer),
         }
     }
@@ -84,7 +84,7 @@ impl Kind {
         match self {
             Kind::Configuration => Ok(()),
             Kind::Text(form) => texts::begins_as(alloc, form, front, whole),
-            Kind::StandIns => stand_ins::begins_as(alloc, front, whole),
+            Kind::Stubs => stand_ins::begins_as(alloc, front, whole),
             Kind::Script => scripts::begins_as(alloc, front, whole),
         }
     }

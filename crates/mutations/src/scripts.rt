@@ -4,7 +4,7 @@ use crate::answers::{Answer, Fault, holds};
 use crate::sessions::{seen, session, undo};
 use env_session::Session;
 use envimg_core::crc32;
-use hush_run::{Ending, Limits, Outcome, StandIns, run};
+use hush_run::{Ending, Limits, Outcome, Stubs, run};
 use hush_syntax::{FaultKind, Script, SyntaxFault};
 use std::alloc::{AllocError, Global};
 
@@ -102,7 +102,7 @@ fn run_once(alloc: Global, session: &mut Session, script: &Script) -> Result<Out
     let Some(limits) = Limits::new(STEPS, DEPTH, WORD, OUTPUT) else {
         return Err(Fault::Wrong("there are limits"));
     };
-    let Ok(stand_ins) = StandIns::parse(alloc, STAND_INS) else {
+    let Ok(stand_ins) = Stubs::parse(alloc, STAND_INS) else {
         return Err(Fault::Wrong("there are stand-ins"));
     };
     Ok(run(alloc, session, script, &stand_ins, &limits))

@@ -99,8 +99,5 @@ pub fn undo(alloc: Global, session: &mut Session, opening: &[u8]) -> Result<(), 
         "an undo brings back the opening",
         seen.as_slice() == opening,
     )?;
-    holds(
-        "nothing is changed after an undo",
-        session.changed_names() == 0,
-    )
+    holds("nothing is changed after an undo", session.touched() == 0)
 }

@@ -4,7 +4,7 @@ use crate::answers::{Answer, Fault, holds};
 use crate::samples::STAND_IN_NAMES;
 use crate::texts::line_count;
 use envimg_core::crc32;
-use hush_run::{StandInFault, StandIns};
+use hush_run::{StubFault, Stubs};
 use std::alloc::{AllocError, Global};
 
 /// Names that no stand-in may have.
@@ -13,7 +13,7 @@ const BUILTINS: [&[u8]; 3] = [b"echo", b"env", b"setexpr.q"];
 /// What is answered to a stand-in file. A fault is one of the named and its line lies in the file; no builtin has a
 /// stand-in.
 pub fn judged(alloc: Global, text: &[u8]) -> Result<Answer, Fault> {
-    match StandIns::parse(alloc, text) {
+    match Stubs::parse(alloc, text) {
         Ok(stand_ins) => {
             for name in BUILTINS {
                 holds(
@@ -26,10 +26,10 @@ pub fn judged(alloc: Global, text: &[u8]) -> Result<Answer, Fault> {
                 number: u64::from(crc32(&listed(alloc, &stand_ins)?)),
             })
         }
-        Err(StandInFault::Line(line)) => in_line(text, "Line", line),
-        Err(StandInFault::Builtin(line)) => in_line(text, "Builtin", line),
-        Err(StandInFault::Twice(line)) => in_line(text, "Twice", line),
-        Err(StandInFault::Memory) => Err(Fault::Memory),
+        Err(StubFault::Line(line)) => in_line(text, "Line", line),
+        Err(StubFault::Builtin(line)) => in_line(text, "Builtin", line),
+        Err(StubFault::Twice(line)) => in_line(text, "Twice", line),
+        Err(StubFault::Memory) => Err(Fault::Memory),
     }
 }
 
@@ -45,7 +45,7 @@ fn in_line(text: &[u8], name: &'static str, line: usize) -> Result<Answer, Fault
 }
 
 /// The names that are asked for and have a stand-in, each with its status.
-fn listed(alloc: Global, stand_ins: &StandIns) -> Result<Vec<u8>, AllocError> {
+fn listed(alloc: Global, stand_ins: &Stubs) -> Result<Vec<u8>, AllocError> {
     let mut text = Vec::new(alloc);
     for name in STAND_IN_NAMES {
         if let Some(status) = stand_ins.status(name) {
@@ -67,7 +67,7 @@ pub fn begins_as(alloc: Global, front: &[u8], whole: &[u8]) -> Result<(), Fault>
     if !front.ends_with(b"\n") {
         return Ok(());
     }
-    let (Ok(first), Ok(all)) = (StandIns::parse(alloc, front), StandIns::parse(alloc, whole)) else {
+    let (Ok(first), Ok(all)) = (Stubs::parse(alloc, front), Stubs::parse(alloc, whole)) else {
         return Ok(());
     };
     for name in STAND_IN_NAMES {

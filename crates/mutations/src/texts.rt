@@ -5,7 +5,7 @@ use crate::sessions::{lines, seen, session, undo};
 use env_session::{ImportEnding, ImportReport, Session};
 use envcfg_core::{TextEntry, TextFault, parse_import, parse_set_script};
 use envimg_core::crc32;
-use fw_tools::export;
+use fw_engines::export;
 use std::alloc::{AllocError, Global};
 
 /// Which text it is.
@@ -138,7 +138,7 @@ fn written(alloc: Global, session: &mut Session, entries: &[TextEntry]) -> Resul
     let mut refused = 0usize;
     for entry in entries {
         let before = seen(alloc, session)?;
-        let changed_names = session.changed_names();
+        let touched = session.touched();
         let checked = session.check(&entry.name, value_of(entry), false);
         let answer = session.write(&entry.name, value_of(entry), false);
         holds("a write is refused as its check is", answer == checked)?;
@@ -147,7 +147,7 @@ fn written(alloc: Global, session: &mut Session, entries: &[TextEntry]) -> Resul
             let after = seen(alloc, session)?;
             holds(
                 "a refused write changes nothing",
-                after.as_slice() == before.as_slice() && session.changed_names() == changed_names,
+                after.as_slice() == before.as_slice() && session.touched() == touched,
             )?;
         }
     }

@@ -1,7 +1,7 @@
 //! What a run leaves, as it stands in the output.
 use crate::cases::Case;
 use env_session::{Session, Side};
-use hush_run::{Limits, Outcome, StandIns, run};
+use hush_run::{Limits, Outcome, Stubs, run};
 use hush_syntax::Script;
 use std::alloc::{AllocError, Global};
 
@@ -16,7 +16,7 @@ pub fn report(
     let Some(limits) = Limits::new(steps, depth, word, output) else {
         return Ok(None);
     };
-    let stand_ins = match StandIns::parse(alloc, case.stand_ins) {
+    let stand_ins = match Stubs::parse(alloc, case.stand_ins) {
         Ok(stand_ins) => stand_ins,
         Err(fault) => return Ok(Some(format!(in alloc; "{fault}\n")?.into_bytes())),
     };

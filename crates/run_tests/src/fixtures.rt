@@ -3,7 +3,7 @@
 use env_session::{Session, Stored};
 use envimg_core::{Geometry, Layout};
 use envvars_core::Vars;
-use hush_run::{Limits, StandIns};
+use hush_run::{Limits, Stubs};
 use hush_syntax::Script;
 use std::alloc::{AllocError, Global};
 
@@ -25,7 +25,7 @@ pub(crate) fn session(alloc: Global) -> Result<Option<Session>, AllocError> {
 #[derive(Drop)]
 pub(crate) struct Given {
     pub(crate) script: Script,
-    pub(crate) stand_ins: StandIns,
+    pub(crate) stand_ins: Stubs,
     pub(crate) limits: Limits,
 }
 
@@ -36,7 +36,7 @@ pub(crate) fn prepare(
     depth: u32,
 ) -> Result<Option<Given>, AllocError> {
     let script = Script::parse(alloc, Vec::from_slice(alloc, script)?).ok();
-    let stand_ins = StandIns::parse(alloc, b"mmc 3\n").ok();
+    let stand_ins = Stubs::parse(alloc, b"mmc 3\n").ok();
     let limits = Limits::new(20, depth, 256, 4096);
     match (script, stand_ins, limits) {
         (Some(script), Some(stand_ins), Some(limits)) => Ok(Some(Given {

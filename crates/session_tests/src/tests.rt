@@ -14,7 +14,7 @@ use envimg_core::{Geometry, Layout};
 use envvars_core::Vars;
 use failing_streams::{Narrow, Slow};
 use fw_session::{SessionEnd, SessionEnding, session};
-use hush_run::{Limits, StandIns};
+use hush_run::{Limits, Stubs};
 use std::alloc::{AllocError, Global};
 use std::io::{Read, Write};
 use std::process::Abort;
@@ -112,7 +112,7 @@ fn talked<R: Read, W: Write>(
     input: &mut R,
     output: &mut W,
 ) -> Option<SessionEnd> {
-    let stand_ins = StandIns::parse(alloc, b"mmc\nusb 1\n").ok();
+    let stand_ins = Stubs::parse(alloc, b"mmc\nusb 1\n").ok();
     let [steps, depth, word, text] = limits;
     match (begun, stand_ins, Limits::new(steps, depth, word, text)) {
         (Some(begun), Some(stand_ins), Some(limits)) => {

@@ -3,7 +3,7 @@
 use crate::lines::{refused, row, wrong};
 use envcfg_core::{ImportText, TextEntry, TextFault, parse_import};
 use envvars_core::{Refusal, Vars};
-use fw_tools::{default_text, defaults};
+use fw_engines::{default_text, defaults};
 use std::alloc::Global;
 use std::io::{self, Write};
 

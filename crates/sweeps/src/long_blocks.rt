@@ -4,7 +4,7 @@ use crate::lines::{refused, row, wrong};
 use crate::sessions::{ALL, shows};
 use crate::whole_sessions::{Told, is_same, parsed_stand_ins, talk};
 use fw_session::SessionEnding;
-use hush_run::StandIns;
+use hush_run::Stubs;
 use std::alloc::{AllocError, Global};
 use std::io::{self, Write};
 
@@ -76,7 +76,7 @@ fn is_whole(told: &Told) -> bool {
 fn is_right<W: Write>(
     alloc: Global,
     out: &mut W,
-    stand_ins: &StandIns,
+    stand_ins: &Stubs,
     input: &[u8],
     told: &Told,
 ) -> io::Result<bool> {
@@ -93,7 +93,7 @@ fn is_right<W: Write>(
 fn is_stopped<W: Write>(
     alloc: Global,
     out: &mut W,
-    stand_ins: &StandIns,
+    stand_ins: &Stubs,
     input: &[u8],
     told: &Told,
 ) -> io::Result<bool> {

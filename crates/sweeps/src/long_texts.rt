@@ -9,8 +9,8 @@ use envcfg_core::{
     parse_set_script,
 };
 use envvars_core::{Refusal, Vars};
-use fw_tools::{default_text, defaults};
-use hush_run::{StandInFault, StandIns};
+use fw_engines::{default_text, defaults};
+use hush_run::{StubFault, Stubs};
 use hush_syntax::{FaultKind, Script};
 use std::alloc::{AllocError, Global};
 use std::io::{self, Write};
@@ -91,10 +91,10 @@ fn sweep_stand_ins<W: Write>(alloc: Global, out: &mut W) -> io::Result<()> {
     let Ok(text) = text else {
         return wrong(out, "1,000 stand-ins");
     };
-    let mut read = StandIns::parse(alloc, &text);
-    if matches!(&read, Err(StandInFault::Memory)) {
+    let mut read = Stubs::parse(alloc, &text);
+    if matches!(&read, Err(StubFault::Memory)) {
         refused(out, "1,000 stand-ins")?;
-        read = StandIns::parse(alloc, &text);
+        read = Stubs::parse(alloc, &text);
     }
     let Ok(stand_ins) = read else {
         return wrong(out, "1,000 stand-ins");

@@ -6,7 +6,7 @@ use crate::long_texts::{COUNT, are_first, lines_twice};
 use crate::pages::Page;
 use env_session::{Session, Side};
 use envcfg_core::{ImportText, ScriptText, TextEntry, TextFault, parse_import};
-use fw_tools::{ToolEnd, ToolFault, import, import_text, script_text, set_script};
+use fw_engines::{StreamFault, ToolEnd, import, import_text, script_text, set_script};
 use std::alloc::Global;
 use std::io::{self, Write};
 
@@ -90,7 +90,7 @@ fn sweep_over<W: Write>(
 ) -> io::Result<()> {
     let mut page = Page::new();
     let mut end = tool.call(alloc, session, given, &mut page);
-    if end.fault == Some(ToolFault::Memory) {
+    if end.fault == Some(StreamFault::Memory) {
         let is_silent = end.status == 1 && page.text().is_empty();
         if !is_silent || !is_blank(session) || !has_some_first(session) {
             return wrong(out, tool.name());

@@ -8,8 +8,8 @@ use crate::sessions::{ALL, is_bad, shows, start};
 use crate::states::state_of;
 use env_session::Session;
 use hush_commands::{
-    ExpansionFault, FieldBuffer, Locals, Output, PrintFault, Scope, StandInFault, StandIns,
-    carry_out, delete,
+    ExpansionFault, FieldBuffer, Locals, Output, PrintFault, Scope, StubFault, Stubs, carry_out,
+    delete,
 };
 use hush_words::{Text, Word};
 use std::alloc::{AllocError, Global};
@@ -21,7 +21,7 @@ const STAND_INS: &[u8] = b"# a board\nusb 1\nmmc 3\n";
 #[derive(Drop)]
 struct Run {
     session: Session,
-    stand_ins: StandIns,
+    stand_ins: Stubs,
     locals: Locals,
     fields: FieldBuffer,
 }
@@ -50,13 +50,13 @@ fn words_of<W: Write>(alloc: Global, out: &mut W, text: &[u8]) -> io::Result<Opt
 }
 
 /// The stand-ins of a file, read again where memory ran out.
-fn parsed_stand_ins<W: Write>(alloc: Global, out: &mut W) -> io::Result<Option<StandIns>> {
-    match StandIns::parse(alloc, STAND_INS) {
+fn parsed_stand_ins<W: Write>(alloc: Global, out: &mut W) -> io::Result<Option<Stubs>> {
+    match Stubs::parse(alloc, STAND_INS) {
         Ok(stand_ins) => return Ok(Some(stand_ins)),
-        Err(StandInFault::Memory) => refused(out, "StandIns::parse")?,
-        Err(_) => wrong(out, "StandIns::parse")?,
+        Err(StubFault::Memory) => refused(out, "Stubs::parse")?,
+        Err(_) => wrong(out, "Stubs::parse")?,
     }
-    Ok(StandIns::parse(alloc, STAND_INS).ok())
+    Ok(Stubs::parse(alloc, STAND_INS).ok())
 }
 
 /// A local variable gets a value. Refused, it has the one that it had, and so has the other; made again it gets it.

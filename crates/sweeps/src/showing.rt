@@ -3,7 +3,7 @@
 use crate::lines::{refused, row, wrong};
 use crate::pages::Page;
 use envimg_core::Order;
-use fw_tools::{ToolEnd, ToolFault, show};
+use fw_engines::{StreamFault, ToolEnd, show};
 use std::alloc::Global;
 use std::io::{self, Write};
 
@@ -20,7 +20,7 @@ pub fn sweep<W: Write>(alloc: Global, out: &mut W) -> io::Result<()> {
     let mut output = Page::new();
     let mut errors = Page::new();
     let mut end = show_once(alloc, &mut output, &mut errors);
-    if end.fault == Some(ToolFault::Memory) {
+    if end.fault == Some(StreamFault::Memory) {
         if end.status != 1 || !output.text().is_empty() || !errors.text().is_empty() {
             return wrong(out, "show");
         }

@@ -15,7 +15,7 @@ pub struct State {
     copies: [Option<u32>; 2],
     current: Choice,
     marks: u32,
-    changed_names: usize,
+    touched: usize,
 }
 
 impl State {
@@ -36,7 +36,7 @@ pub fn state_of(session: &Session) -> State {
         ],
         current: session.current(),
         marks: session.marks(),
-        changed_names: session.changed_names(),
+        touched: session.touched(),
     }
 }
 

@@ -7,8 +7,9 @@ use crate::sessions::{ALL, is_bad, shows, start};
 use crate::states::state_of;
 use env_session::Session;
 use envcfg_core::{ImportText, ScriptText, TextEntry, TextFault, parse_import};
-use fw_tools::{
-    ToolEnd, ToolFault, export, import, import_text, print_at_once, script_text, set_script, setenv,
+use fw_engines::{
+    StreamFault, ToolEnd, export, import, import_text, print_at_once, script_text, set_script,
+    setenv,
 };
 use std::alloc::Global;
 use std::io::{self, Write};
@@ -194,7 +195,7 @@ fn sweep_over<W: Write>(
     let before = state_of(session);
     let mut pages = Pages::new();
     let mut end = call(alloc, wanted.tool, session, entries, &mut pages);
-    if end.fault == Some(ToolFault::Memory) {
+    if end.fault == Some(StreamFault::Memory) {
         let has_copies = is_bad(session) && state_of(session).has_copies_of(&before);
         let is_kept = has_copies && is_begun(wanted.tool, session, wanted.after);
         if end.status != 1 || !pages.are(b"", b"") || !is_kept {

@@ -5,7 +5,7 @@ use crate::lines::{refused, row, wrong};
 use crate::sessions::{shows, start};
 use crate::states::state_of;
 use env_session::{Session, Side};
-use hush_run::{Ending, Limits, Outcome, StandIns, run};
+use hush_run::{Ending, Limits, Outcome, Stubs, run};
 use hush_syntax::Script;
 use std::alloc::{AllocError, Global};
 use std::io::{self, Write};
@@ -64,7 +64,7 @@ const LONG: Wanted = Wanted {
 #[derive(Drop)]
 struct Needs {
     script: Script,
-    stand_ins: StandIns,
+    stand_ins: Stubs,
 }
 
 fn parse_once(alloc: Global, wanted: Wanted) -> Result<Option<Needs>, AllocError> {
@@ -73,7 +73,7 @@ fn parse_once(alloc: Global, wanted: Wanted) -> Result<Option<Needs>, AllocError
         text.extend_from_slice(wanted.piece)?;
     }
     let script = Script::parse(alloc, text).ok();
-    let stand_ins = StandIns::parse(alloc, b"mmc 3\n").ok();
+    let stand_ins = Stubs::parse(alloc, b"mmc 3\n").ok();
     match (script, stand_ins) {
         (Some(script), Some(stand_ins)) => Ok(Some(Needs { script, stand_ins })),
         _ => Ok(None),

@@ -6,7 +6,7 @@ use crate::sessions::{shows, start};
 use crate::states::state_of;
 use env_session::{Session, Side};
 use fw_session::{SessionEnd, SessionEnding, session};
-use hush_run::{Limits, StandIns};
+use hush_run::{Limits, Stubs};
 use std::alloc::Global;
 use std::io::{self, Write};
 
@@ -87,12 +87,12 @@ pub struct Told {
 }
 
 /// The stand-ins, of which there are none.
-pub fn parsed_stand_ins<W: Write>(alloc: Global, out: &mut W) -> io::Result<Option<StandIns>> {
-    if let Ok(stand_ins) = StandIns::parse(alloc, b"") {
+pub fn parsed_stand_ins<W: Write>(alloc: Global, out: &mut W) -> io::Result<Option<Stubs>> {
+    if let Ok(stand_ins) = Stubs::parse(alloc, b"") {
         return Ok(Some(stand_ins));
     }
     refused(out, "stand-ins of a session")?;
-    Ok(StandIns::parse(alloc, b"").ok())
+    Ok(Stubs::parse(alloc, b"").ok())
 }
 
 /// The items before a place.
@@ -125,7 +125,7 @@ fn texts_of(items: &[Item]) -> io::Result<Page> {
 pub fn talk<W: Write>(
     alloc: Global,
     out: &mut W,
-    stand_ins: &StandIns,
+    stand_ins: &Stubs,
     steps: u32,
     mut input: &[u8],
 ) -> io::Result<Option<Told>> {
@@ -140,11 +140,7 @@ pub fn talk<W: Write>(
 }
 
 /// All items over a session that was just started.
-fn talk_whole<W: Write>(
-    alloc: Global,
-    out: &mut W,
-    stand_ins: &StandIns,
-) -> io::Result<Option<Told>> {
+fn talk_whole<W: Write>(alloc: Global, out: &mut W, stand_ins: &Stubs) -> io::Result<Option<Told>> {
     let mut input = Page::new();
     put_inputs(&mut input, ITEMS)?;
     talk(alloc, out, stand_ins, STEPS, input.text())
@@ -176,7 +172,7 @@ fn rest_of<'a>(output: &'a [u8], front: &[u8], text: &[u8]) -> Option<&'a [u8]> 
 fn is_stopped_so<W: Write>(
     alloc: Global,
     out: &mut W,
-    stand_ins: &StandIns,
+    stand_ins: &Stubs,
     told: &Told,
     stopped: Stopped,
 ) -> io::Result<bool> {
@@ -201,7 +197,7 @@ fn is_stopped_so<W: Write>(
 fn is_stopped<W: Write>(
     alloc: Global,
     out: &mut W,
-    stand_ins: &StandIns,
+    stand_ins: &Stubs,
     told: &Told,
 ) -> io::Result<bool> {
     for stopped in STOPPED {
@@ -216,7 +212,7 @@ fn is_stopped<W: Write>(
 fn is_ended<W: Write>(
     alloc: Global,
     out: &mut W,
-    stand_ins: &StandIns,
+    stand_ins: &Stubs,
     told: &Told,
 ) -> io::Result<bool> {
     for count in 0..=ITEMS.len() {
@@ -237,7 +233,7 @@ fn is_ended<W: Write>(
 fn is_right<W: Write>(
     alloc: Global,
     out: &mut W,
-    stand_ins: &StandIns,
+    stand_ins: &Stubs,
     told: &Told,
 ) -> io::Result<bool> {
     if told.end.written != told.output.text().len() as u64 {

@@ -8,7 +8,7 @@ use bench_parts::name;
 use env_session::{Session, Side};
 use envimg_core::Order;
 use envvars_core::Vars;
-use fw_tools::{ToolEnd, ToolFault, export, print_at_once, show};
+use fw_engines::{StreamFault, ToolEnd, export, print_at_once, show};
 use std::alloc::Global;
 use std::io::{self, Write};
 
@@ -99,7 +99,7 @@ fn sweep_printer<W: Write>(
     let mut output = Listing::new();
     let mut errors = Page::new();
     let mut end = call(alloc, printer, session, &mut output, &mut errors);
-    if end.fault == Some(ToolFault::Memory) {
+    if end.fault == Some(StreamFault::Memory) {
         if end.status != 1 || !output.has_lines(0) || !errors.text().is_empty() {
             return wrong(out, said);
         }

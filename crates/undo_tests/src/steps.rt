@@ -121,12 +121,12 @@ pub fn single(
 
 /// Makes each request in turn: its answer is the row's, and then all stands as the row says.
 pub fn go(rt: &impl Abort, alloc: Global, session: &mut Session, rows: &[Row]) -> Result<(), Fail> {
-    for (step, lines, changed_names, marks, copies) in rows {
+    for (step, lines, touched, marks, copies) in rows {
         let is_answer = answers(session, *step);
         assert!(rt; is_answer, "an answer, before {lines}");
         assert_eq!(rt;
-            (session.changed_names(), session.marks()),
-            (*changed_names, *marks),
+            (session.touched(), session.marks()),
+            (*touched, *marks),
             "{lines}"
         );
         stands(rt, alloc, session, lines, *copies)?;

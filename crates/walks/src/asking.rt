@@ -79,7 +79,7 @@ fn compare(alloc: Global, session: &Session, model: &Model) -> Result<(), Fault>
     )?;
     same(
         "the changed names",
-        session.changed_names() == model.changed_names.len(),
+        session.touched() == model.touched.len(),
     )
 }
 

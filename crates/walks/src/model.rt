@@ -130,7 +130,7 @@ pub struct Model {
     pub geometry: Geometry,
     pub now: Whole,
     pub marks: Vec<Whole>,
-    pub changed_names: BTreeMap<Vec<u8>, bool>,
+    pub touched: BTreeMap<Vec<u8>, bool>,
 }
 
 impl Model {
@@ -142,7 +142,7 @@ impl Model {
             geometry,
             now,
             marks,
-            changed_names: BTreeMap::new(alloc),
+            touched: BTreeMap::new(alloc),
         })
     }
 
@@ -182,7 +182,7 @@ impl Model {
             return Ok(refusal);
         }
         if self.now.value(name).unwrap_or(b"") != value {
-            let _before = self.changed_names.insert(name.to_vec(alloc)?, true)?;
+            let _before = self.touched.insert(name.to_vec(alloc)?, true)?;
         }
         if value.is_empty() {
             let _old = self.now.names.remove(name);
@@ -216,7 +216,7 @@ impl Model {
         }
         let number = self.marks.len() as u32;
         self.marks.push(self.now.copy(alloc)?)?;
-        self.changed_names.clear();
+        self.touched.clear();
         Ok(Ok(number))
     }
 
@@ -231,7 +231,7 @@ impl Model {
         };
         self.now = mark.copy(alloc)?;
         self.marks.truncate(n + 1);
-        self.changed_names.clear();
+        self.touched.clear();
         Ok(Ok(()))
     }
 }

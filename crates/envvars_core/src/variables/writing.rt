@@ -7,7 +7,7 @@ ghost use Rattle.envimg_core.specs.Environment.{used, is_name, is_value};
 ghost use Rattle.envimg_core.specs.Pieces.{with_value};
 ghost use Rattle.envvars_core.specs.Attributes.{flags_name};
 ghost use Rattle.envvars_core.specs.Refusals.{given, after, access_refusal, refusal, full, answer_of, IsAccepted};
-ghost use Rattle.envvars_core.specs.Variables.{IsPreviousValue, IsFormedPreviousValue};
+ghost use Rattle.envvars_core.specs.Variables.{IsWas, IsFormedWas};
 
 use super::Vars;
 use crate::attributes::Access;
@@ -19,11 +19,11 @@ use std::alloc::{AllocError, Global};
 
 /// A name and the value that it had before a write.
 #[derive(Debug, Drop)]
-pub struct PreviousValue {
+pub struct Was {
     /// The name that was written.
     pub name: Vec<u8>,
     /// Its value before the write, if it had one.
-    pub value: Option<Vec<u8>>,
+    pub before: Option<Vec<u8>>,
 }
 
 impl Vars {
@@ -63,7 +63,7 @@ impl Vars {
         new: Option<&[u8]>,
         force: bool,
         defaults: &Vars,
-    ) -> Result<PreviousValue, Refusal>
+    ) -> Result<Was, Refusal>
         ensures refused { IfSome
             (refusal self.old.env defaults.now.env self.old.room name.now (option_copied new.entry) force)
             (λ r. result ≡ Err r) }
@@ -72,8 +72,8 @@ impl Vars {
             (IsOkUnless result Refusal.Memory) }
         ensures written { OnOk result
             (self.new ≡ record self.old { env = after self.old.env name.now (option_copied new.entry) }) }
-        ensures previous { IfOk result (λ previous. IsPreviousValue previous name.now (env.get self.old.env name.now)) }
-        ensures formed { IfOk result IsFormedPreviousValue }
+        ensures previous { IfOk result (λ previous. IsWas previous name.now (env.get self.old.env name.now)) }
+        ensures formed { IfOk result IsFormedWas }
         ensures unchanged { OnErr result (self.new ≡ self.old) }
     {
         // for the proof: what is used fits
@@ -214,12 +214,12 @@ fn default_for<'a>(access: Access, defaults: &'a Vars, name: &[u8]) -> Option<&'
 }
 
 /// A name and its value before a write, in memory of their own.
-fn previous_value(alloc: Global, name: &[u8], value: Option<&[u8]>) -> Result<PreviousValue, Memory>
-    ensures { IfOk result (λ previous. IsPreviousValue previous name.now (option_copied value.entry)) }
+fn previous_value(alloc: Global, name: &[u8], value: Option<&[u8]>) -> Result<Was, Memory>
+    ensures { IfOk result (λ previous. IsWas previous name.now (option_copied value.entry)) }
 {
     let name = name.to_vec(alloc)?;
-    let value = copied(alloc, value)?;
-    Ok(PreviousValue { name, value })
+    let before = copied(alloc, value)?;
+    Ok(Was { name, before })
 }
 
 /// A value in memory of its own.

@@ -1,7 +1,7 @@
 //! The program over files in memory, and what it does where each of its calls fails.
 
 use super::disk::{Contents, Disk};
-use fw_command::program;
+use fw_tools::program;
 use std::alloc::AllocError;
 use std::cell::RefCell;
 use std::test::Fail;

@@ -1,7 +1,7 @@
 //! What the program answers to its words, and where its streams fail.
 
 use super::{Broken, ONE_VARIABLE, ONE_VARIABLE_BIG_ENDIAN};
-use fw_command::{program, words_failed};
+use fw_tools::{program, words_failed};
 use std::io::{self, Read};
 use std::test::Fail;
 

@@ -2,7 +2,7 @@
 
 use envcfg_core::{ImportText, parse_import};
 use envvars_core::{Refusal, Vars};
-use fw_tools::{default_text, defaults};
+use fw_engines::{default_text, defaults};
 use std::test::Fail;
 
 #[test]

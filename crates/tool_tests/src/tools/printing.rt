@@ -4,7 +4,7 @@ use env_session::{Session, Stored};
 use envimg_core::{Geometry, Layout};
 use envvars_core::Vars;
 use failing_streams::Narrow;
-use fw_tools::{ToolEnd, ToolFault, printenv};
+use fw_engines::{StreamFault, ToolEnd, printenv};
 use std::alloc::{AllocError, Global};
 use std::test::Fail;
 
@@ -106,7 +106,7 @@ fn fronts(alloc: Global, row: Row, is_errors: bool, room: usize) -> Result<Wante
         if front.len() < text.len() {
             let end = ToolEnd {
                 status: 1,
-                fault: Some(ToolFault::Write),
+                fault: Some(StreamFault::Write),
             };
             return Ok(Wanted {
                 output,

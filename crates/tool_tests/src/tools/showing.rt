@@ -3,7 +3,7 @@
 use super::{ONE_VARIABLE, ONE_VARIABLE_BIG_ENDIAN};
 use envimg_core::Order;
 use failing_streams::{Narrow, Slow};
-use fw_tools::{ToolEnd, ToolFault, show};
+use fw_engines::{StreamFault, ToolEnd, show};
 use std::test::Fail;
 
 /// A checksum, and an area with a name twice, a name without `=` and an empty value.
@@ -141,7 +141,7 @@ fn a_reader_that_fails_after_each_count_of_bytes(rt: HostRuntime) -> Result<(), 
                 end,
                 ToolEnd {
                     status: 1,
-                    fault: Some(ToolFault::Read)
+                    fault: Some(StreamFault::Read)
                 }
             );
             assert!(rt;
@@ -175,7 +175,7 @@ fn a_writer_that_takes_a_part_and_fails(rt: HostRuntime) -> Result<(), Fail> {
                 &mut errors,
             );
             let fault = if room < 4 {
-                Some(ToolFault::Write)
+                Some(StreamFault::Write)
             } else {
                 None
             };
@@ -209,7 +209,7 @@ fn a_complaint_that_can_not_be_written(rt: HostRuntime) {
         end,
         ToolEnd {
             status: 1,
-            fault: Some(ToolFault::Write)
+            fault: Some(StreamFault::Write)
         }
     );
     assert!(rt; errors.taken.as_slice() == b"## Error: bad image:".as_slice());

@@ -1,6 +1,6 @@
 use Rattle.std.proofs.Common.{ℕ, ◌+◌, List, [], ◌∷◌, ◌++◌, ap, subst, sym, ◌∙◌}
 use Rattle.hush_commands.specs.ShortNames.{unpacked, IsPacked}
-use Rattle.hush_commands.specs.StandIns.{and_then, with_stand_in}
+use Rattle.hush_commands.specs.Stubs.{and_then, with_stand_in}
 use Rattle.hush_commands.specs.Gathering.{Short, Long, Gathers}
 use Rattle.hush_commands.proofs.ShortNameLemmas.{is_packed}
 use Rattle.hush_commands.proofs.GatheringLemmas.{push-short, push-long}

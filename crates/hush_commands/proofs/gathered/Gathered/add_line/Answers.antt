@@ -4,7 +4,7 @@ use Rattle.std.specs.Borrow.{Bor}
 use Rattle.hush_commands.specs.StandInViews.{line_view}
 use Rattle.std.specs.Str.Lines.{strip_carriage_return}
 use Rattle.hush_commands.specs.StandInLines.{StandInLine, read_line}
-use Rattle.hush_commands.specs.StandIns.{and_then, with_read}
+use Rattle.hush_commands.specs.Stubs.{and_then, with_read}
 use Rattle.hush_commands.specs.Gathering.{GoesOn}
 use Rattle.hush_commands.proofs.gathered.Gathered.add_line.Goals as goal
 

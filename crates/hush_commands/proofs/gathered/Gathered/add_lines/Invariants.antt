@@ -1,4 +1,4 @@
-use Rattle.hush_commands.specs.StandIns.{stand_ins_of}
+use Rattle.hush_commands.specs.Stubs.{stand_ins_of}
 use Rattle.hush_commands.specs.Gathering.{IsReading}
 use Rattle.hush_commands.proofs.gathered.Gathered.add_lines.Given as goal
 

@@ -1,0 +1,96 @@
+-- What setenv, a set script and an import do to a session (docs/tools.md, "The tools over a session").
+use Rattle.std.specs.Prelude.{◌≡◌, ℕ, zero, suc, List, [], ◌∷◌, ◌++◌, Option, Some, None, take, false, codes}
+use Rattle.std.specs.Fmt.{decimal}
+use Rattle.std.specs.Io.KnownBytes.{Appends, Keeps}
+use Rattle.env_session.specs.Session.{Held, written, saved}
+use Rattle.env_session.specs.Requests.{refusal_in, write_done, imported}
+use Rattle.envimg_core.specs.Pieces.{Entry}
+use Rattle.envcfg_core.specs.Entries as Entries
+use Rattle.envvars_core.specs.declared.refusals.Refusal.{Refusal}
+use Rattle.fw_engines.specs.Messages.{refusal_text}
+use Rattle.fw_engines.specs.Streams.{AppendsPart}
+use Rattle.fw_engines.specs.declared.ending.ToolEnd.{ToolEnd}
+use Rattle.fw_engines.specs.declared.ending.StreamFault.{StreamFault}
+use Rattle.fw_engines.specs.declared.ending.StreamFault.TheVariants.{Read, Write, Memory}
+
+-- what a tool does: its text on standard error, its status, and the session afterwards
+pub record Effect : Type 0 where
+  pub text : List ℕ
+  pub status : ℕ
+  pub session : Held
+
+-- what a tool changes: the session, and what standard error holds where that is known
+pub record Changing : Type 0 where
+  pub session : Held
+  pub errors : Option (List ℕ)
+
+-- a session left without a word
+abbrev pub silent : Held → Effect
+silent h = record { text = []; status = 0; session = h }
+
+-- a refusal printed
+abbrev pub refused_by : Refusal → List ℕ → Held → Effect
+refused_by r name h = record { text = refusal_text r name; status = 1; session = h }
+
+-- the refusal printed where there is one, with nothing changed; else what follows
+abbrev pub unless_refused : Option Refusal → List ℕ → Held → Effect → Effect
+unless_refused None name h rest = rest
+unless_refused (Some r) name h rest = refused_by r name h
+
+-- an entry of a text as a write
+abbrev pub pair_in : Entries.Entry → Entry
+pair_in e = (e.name, e.value)
+
+-- the first of the entries was taken as an unforced write, with what refused it, and the others are left
+pub record IsTaken (old new : List Entries.Entry) (before after : Held) (refusal : Option Refusal) : Type 0 where
+  pub entry : Entries.Entry
+  pub first : old ≡ entry ∷ new
+  pub refused : refusal ≡ refusal_in before entry.name entry.value false
+  pub done : after ≡ write_done before entry.name entry.value false
+
+-- words each behind a space, and words joined by one
+abbrev pub behind_spaces : List (List ℕ) → List ℕ
+behind_spaces [] = []
+behind_spaces (w ∷ ws) = 32 ∷ w ++ behind_spaces ws
+
+abbrev pub spaced : List (List ℕ) → List ℕ
+spaced [] = []
+spaced (w ∷ ws) = w ++ behind_spaces ws
+
+-- an unforced write of a value, and a save; an empty value deletes
+abbrev pub set_effect : Held → List ℕ → List ℕ → Effect
+set_effect h name value = unless_refused (refusal_in h name (Some value) false) name h (silent (saved (written h name (Some value))))
+
+-- the lines in their order as unforced writes, and a save; the first refusal ends it, and nothing is saved
+abbrev pub script_effect : Held → List Entry → Effect
+script_effect h [] = silent (saved h)
+script_effect h (e ∷ es) = unless_refused (refusal_in h e.0 e.1 false) e.0 h (script_effect (written h e.0 e.1) es)
+
+-- where a script ended: behind its last line, or at a name that was refused, with what refuses it
+abbrev pub stopped_by : Option (List ℕ × Refusal) → Held → Effect
+stopped_by None h = silent (saved h)
+stopped_by (Some (name, r)) h = refused_by r name h
+
+-- how many entries were refused
+abbrev pub count_text : ℕ → List ℕ
+count_text zero = []
+count_text (suc n) = codes "## Error: " ++ decimal (suc n) ++ (codes " entries refused" ++ 10 ∷ [])
+
+abbrev pub count_status : ℕ → ℕ
+count_status zero = 0
+count_status (suc n) = 1
+
+-- each entry in its order as an unforced write, and a save; then the count of those that were refused
+abbrev pub import_effect : Held → List Entry → Effect
+import_effect h es = record { text = count_text (imported h es).1; status = count_status (imported h es).1; session = saved (imported h es).0 }
+
+-- how a tool that changes a session ends. Where memory ran out nothing was printed, no copy has changed, and some first of its writes stand
+abbrev pub Ends : Option StreamFault → Changing → Changing → Effect → List Entry → ℕ → Type 0
+Ends None old new effect writes status = Appends old.errors new.errors effect.text × (status ≡ effect.status) × (new.session ≡ effect.session)
+Ends (Some Write) old new effect writes status = AppendsPart old.errors new.errors effect.text × (status ≡ 1) × (new.session ≡ effect.session)
+Ends (Some Read) old new effect writes status = ⊥
+Ends (Some Memory) old new effect writes status =
+    Keeps old.errors new.errors × (status ≡ 1) × ((k : ℕ) × (new.session ≡ (imported old.session (take k writes)).0))
+
+abbrev pub Changes : Changing → Changing → Effect → List Entry → ToolEnd → Type 0
+Changes old new effect writes end = Ends end.fault old new effect writes end.status

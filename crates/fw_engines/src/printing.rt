@@ -1,0 +1,137 @@
+//! The variables of a session, printed.
+ghost use Rattle.std.specs.Prelude.{◌≡◌, ◌||◌, map};
+ghost use Rattle.fw_engines.specs.Printing.{PrintsName, named, printed};
+ghost use Rattle.fw_engines.specs.Shown.{listing};
+ghost use Rattle.fw_engines.specs.Tool.{Printed, Prints, PrintsText};
+
+use crate::ending::{StreamFault, ToolEnd};
+use crate::exporting::print_both;
+use crate::messages::{ERROR_QUOTE, NOT_DEFINED, ONE_NAME};
+use crate::saying::{print_text, status_of, write_line};
+use crate::streams::{write_three, write_two};
+use env_session::Session;
+use envvars_core::Vars;
+use std::alloc::Global;
+use std::io::Write;
+
+/// Prints a line `name=value` for each of these names, in their order, or without names for all variables, in ascending
+/// order of the names' bytes. A name that has no value prints `## Error: "NAME" not defined` on `errors`, the others
+/// follow, and the status is 1.
+///
+/// `value_only` prints the value and a newline; without exactly one name that is refused with a message on `errors`,
+/// status 1. No memory is taken. docs/tools.md has the texts.
+pub fn printenv<W: Write, E: Write>(
+    session: &Session,
+    names: &[&[u8]],
+    value_only: bool,
+    output: &mut W,
+    errors: &mut E,
+) -> ToolEnd
+    ensures { Prints (record { output = W.contents output.old; errors = E.contents errors.old })
+        (record { output = W.contents output.new; errors = E.contents errors.new })
+        (printed session.now.now.env (map (λ n. n.now) names.now) value_only) result }
+{
+    let vars = session.vars();
+    if value_only {
+        if names.len() == 1 {
+            return print_named(vars, names, true, output, errors);
+        }
+        return print_text(errors, ONE_NAME, 1);
+    }
+    if names.is_empty() {
+        return print_all(vars, output);
+    }
+    print_named(vars, names, false, output, errors)
+}
+
+/// Prints what [`printenv`] prints, each text at once: both are made first.
+pub fn print_at_once<W: Write, E: Write>(
+    alloc: Global,
+    session: &Session,
+    names: &[&[u8]],
+    value_only: bool,
+    output: &mut W,
+    errors: &mut E,
+) -> ToolEnd
+    ensures { Printed result.fault (record { output = W.contents output.old; errors = E.contents errors.old })
+        (record { output = W.contents output.new; errors = E.contents errors.new })
+        (printed session.now.now.env (map (λ n. n.now) names.now) value_only) result.status }
+{
+    let mut text = Vec::new(alloc);
+    let mut messages = Vec::new(alloc);
+    match printenv(session, names, value_only, &mut text, &mut messages).fault {
+        Some(_) => ToolEnd::stopped(StreamFault::Memory),
+        None => print_both(&text, &messages, output, errors),
+    }
+}
+
+/// Prints a line for each variable.
+fn print_all<W: Write>(vars: &Vars, output: &mut W) -> ToolEnd
+    ensures { PrintsText (W.contents output.old) (W.contents output.new) (listing vars.now.env) 0 result }
+{
+    for line in vars.lines() {
+        if !write_two(output, line, b"\n") {
+            return ToolEnd::stopped(StreamFault::Write);
+        }
+    }
+    ToolEnd::done(0)
+}
+
+/// Prints each of these names.
+fn print_named<W: Write, E: Write>(
+    vars: &Vars,
+    names: &[&[u8]],
+    value_only: bool,
+    output: &mut W,
+    errors: &mut E,
+) -> ToolEnd
+    ensures { Prints (record { output = W.contents output.old; errors = E.contents errors.old })
+        (record { output = W.contents output.new; errors = E.contents errors.new })
+        (named value_only vars.now.env (map (λ n. n.now) names.now)) result }
+{
+    let mut absent = false;
+    for name in names {
+        match print_name(vars, name, value_only, output, errors) {
+            None => return ToolEnd::stopped(StreamFault::Write),
+            Some(missing) => absent = either(absent, missing),
+        }
+    }
+    ToolEnd::done(status_of(absent))
+}
+
+/// Prints one name, and answers whether it has no value; none where writing failed.
+fn print_name<W: Write, E: Write>(
+    vars: &Vars,
+    name: &[u8],
+    value_only: bool,
+    output: &mut W,
+    errors: &mut E,
+) -> Option<bool>
+    ensures { PrintsName (record { output = W.contents output.old; errors = E.contents errors.old })
+        (record { output = W.contents output.new; errors = E.contents errors.new }) value_only vars.now.env name.now
+        result }
+{
+    match vars.get(name) {
+        Some(value) => {
+            if write_line(output, value_only, name, value) {
+                Some(false)
+            } else {
+                None
+            }
+        }
+        None => {
+            if write_three(errors, ERROR_QUOTE, name, NOT_DEFINED) {
+                Some(true)
+            } else {
+                None
+            }
+        }
+    }
+}
+
+/// Whether one of two holds; a function of its own, so that the prover has one case where `||` has three.
+fn either(one: bool, other: bool) -> bool
+    ensures { result ≡ (one || other) }
+{
+    one || other
+}

@@ -1,0 +1,108 @@
+-- What a subcommand does, put together, and its status.
+use Rattle.std.proofs.Common.{◌≤◌, ℕ, zero, suc, Bool, true, false, List, [], ◌∷◌, Option, Some, None, inl, inr, refl, arith}
+use Rattle.std.specs.Prelude.{◌==◌, if◌then◌else◌, length}
+use Rattle.env_session.specs.Requests.{refusal_in}
+use Rattle.env_session.specs.Session.{Held, written}
+use Rattle.envimg_core.specs.Environment.{Environment}
+use Rattle.envimg_core.specs.Pieces.{Entry}
+use Rattle.envvars_core.specs.declared.refusals.Refusal.{Refusal}
+use Rattle.fw_tools.specs.Acting.{Acts, Closes, DoesJob, IsOpening, Scene, Uses, UsesTool}
+use Rattle.fw_tools.specs.Calls.{Call, Job, Task, Tool, Tries}
+use Rattle.fw_tools.specs.Opening.{warning}
+use Rattle.fw_engines.specs.Exporting.{export_texts, status_for}
+use Rattle.fw_engines.specs.Printing.{complaint, named, one_name, printed, status_of}
+use Rattle.fw_engines.specs.Setting.{Changing, Effect, Ends, count_status, script_effect, unless_refused}
+use Rattle.fw_tools.specs.Talking.{ClosesDryRun, Reports, is_kept, text_for}
+use Rattle.fw_session.specs.declared.ending.SessionEnding.{SessionEnding}
+use Rattle.fw_engines.specs.Streams.{AppendsFront, Streams, Writers}
+use Rattle.fw_engines.specs.Tool.{Printed, Texts}
+use Rattle.fw_engines.specs.declared.ending.StreamFault.{StreamFault}
+use Rattle.fw_engines.specs.declared.ending.StreamFault.TheVariants.{Read, Write, Memory}
+use Rattle.fw_engines.specs.declared.ending.ToolEnd.{ToolEnd}
+
+-- a session was opened, with a warning or none, and worked on
+pub opened_session : (call : Call) (old : Streams) (session : Held) (warned : Option (List ℕ)) (new : Streams) (status : ℕ) →
+    IsOpening call.order session → AppendsFront old.errors warned (warning session.now.current) →
+    DoesJob call.job session (record { input = old.input; output = old.output; errors = warned }) new status → Uses call old new status
+opened_session call old session warned new status opening front does = inr (session, warned, opening, front, does)
+
+-- a tool's task was done, and the session closed
+pub used_tool : (task : Task) (session : Held) (old : Writers) (after : Scene) (end : ToolEnd) (errors : Option (List ℕ)) (status : ℕ) →
+    Acts task (record { session = session; writers = old }) after end → Closes end after.writers.errors errors status →
+    UsesTool task session old (record { output = after.writers.output; errors = errors }) status
+used_tool task session old after end errors status acts closes = inr (after, end, acts, refl, closes)
+
+-- each status is 0 or 1
+printed_small : (fault : Option StreamFault) (old new : Writers) (texts : Texts) (status : ℕ) → texts.status ≤ 1 → Printed fault old new texts status → status ≤ 1
+printed_small None old new texts status small p = omega (arith, p.1, small)
+printed_small (Some Read) old new texts status small p = omega (arith, p.1)
+printed_small (Some Write) old new texts status small p = omega (arith, p.1)
+printed_small (Some Memory) old new texts status small p = omega (arith, p.1)
+
+ends_small : (fault : Option StreamFault) (old new : Changing) (effect : Effect) (writes : List Entry) (status : ℕ) → effect.status ≤ 1 → Ends fault old new effect writes status → status ≤ 1
+ends_small None old new effect writes status small p = omega (arith, p.1, small)
+ends_small (Some Read) old new effect writes status small p = absurd p
+ends_small (Some Write) old new effect writes status small p = omega (arith, p.1)
+ends_small (Some Memory) old new effect writes status small p = omega (arith, p.1)
+
+status_small : (failed : Bool) → status_of failed ≤ 1
+status_small true = omega arith
+status_small false = omega arith
+
+for_small : (text : List ℕ) → status_for text ≤ 1
+for_small [] = omega arith
+for_small (b ∷ bs) = omega arith
+
+printenv_small : (env : Environment) (names : List (List ℕ)) (value_only : Bool) → (printed env names value_only).status ≤ 1
+printenv_small env [] false = omega arith
+printenv_small env (n ∷ names) false = status_small _
+printenv_small env names true = one (length names == 1)
+  where
+    one : (b : Bool) → (if b then named true env names else complaint one_name).status ≤ 1
+    one true = status_small _
+    one false = omega arith
+
+unless_small : (r : Option Refusal) (name : List ℕ) (h : Held) (rest : Effect) → rest.status ≤ 1 → (unless_refused r name h rest).status ≤ 1
+unless_small None name h rest small = small
+unless_small (Some r) name h rest small = omega arith
+
+script_small : (h : Held) (entries : List Entry) → (script_effect h entries).status ≤ 1
+script_small h [] = omega arith
+script_small h (e ∷ es) = unless_small (refusal_in h e.0 e.1 false) e.0 h _ (script_small (written h e.0 e.1) es)
+
+count_small : (n : ℕ) → count_status n ≤ 1
+count_small zero = omega arith
+count_small (suc n) = omega arith
+
+acts_small : (task : Task) (old new : Scene) (end : ToolEnd) → Acts task old new end → end.status ≤ 1
+acts_small (Task.Print names value_only) old new end acts = printed_small end.fault _ _ _ end.status (printenv_small old.session.now.env names value_only) acts.1
+acts_small (Task.Set name words) old new end acts = ends_small end.fault _ _ _ _ end.status (unless_small (refusal_in old.session name _ false) name old.session _ (omega arith)) acts.1
+acts_small (Task.SetScript path) old new end acts = ends_small end.fault _ _ _ _ end.status (script_small old.session acts.0) acts.1.1
+acts_small (Task.Import path) old new end acts = ends_small end.fault _ _ _ _ end.status (count_small _) acts.1.1
+acts_small Task.Export old new end acts = printed_small end.fault _ _ _ end.status (for_small (export_texts old.session.now.env).errors) acts.1
+
+closes_small : (end : ToolEnd) (old new : Option (List ℕ)) (status : ℕ) → end.status ≤ 1 → Closes end old new status → status ≤ 1
+closes_small end old new status small (inl failed) = omega (arith, failed.1)
+closes_small end old new status small (inr closed) = omega (arith, closed.1, small)
+
+tool_small : (task : Task) (session : Held) (old new : Writers) (status : ℕ) → UsesTool task session old new status → status ≤ 1
+tool_small task session old new status (inl stopped) = omega (arith, stopped.1)
+tool_small task session old new status (inr (after, end, acts, same, closes)) = closes_small end _ _ status (acts_small task _ after end acts) closes
+
+reports_small : (text : Option (List ℕ)) (old new : Option (List ℕ)) (status : ℕ) → Reports text old new status → status ≤ 1
+reports_small None old new status (same, is) = omega (arith, is)
+reports_small (Some text) old new status (said, is) = omega (arith, is)
+
+leaves_small : (kept : Bool) (end : SessionEnding) (old new : Option (List ℕ)) (status : ℕ) → ClosesDryRun kept end old new status → status ≤ 1
+leaves_small true end old new status (inl (said, is)) = omega (arith, is)
+leaves_small true end old new status (inr reports) = reports_small (text_for end) old new status reports
+leaves_small false end old new status reports = reports_small (text_for end) old new status reports
+
+job_small : (job : Job) (session : Held) (old new : Streams) (status : ℕ) → DoesJob job session old new status → status ≤ 1
+job_small (Tool task) session old new status (unread, uses) = tool_small task session _ _ status uses
+job_small (Tries run) session old new status (inl stopped) = omega (arith, stopped.1.1)
+job_small (Tries run) session old new status (inr (stand_ins, stand, tries)) = leaves_small (is_kept run.write tries.0) tries.0 _ _ status tries.5
+
+pub uses_small : (call : Call) (old new : Streams) (status : ℕ) → Uses call old new status → status ≤ 1
+uses_small call old new status (inl stopped) = omega (arith, stopped.1.1)
+uses_small call old new status (inr (session, warned, opening, front, does)) = job_small call.job session _ new status does

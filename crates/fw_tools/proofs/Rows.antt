@@ -1,0 +1,143 @@
+-- What clap's rules say of some words, computed by the checker.
+use Rattle.std.proofs.Common.{◌≡◌, [], ◌∷◌, Some, None, codes, refl}
+use Rattle.clap.proofs.OnLiterals.{clap_on_literals}
+use Rattle.clap.specs.declared.error.kind.ErrorKind.TheVariants.{ArgumentConflict, DisplayHelp, DisplayVersion, InvalidSubcommand, MissingRequiredArgument, TooManyValues, UnknownArgument}
+use Rattle.envimg_core.specs.declared.order.Order.TheVariants.{Little, Big}
+use Rattle.fw_tools.specs.DryRuns.{number_in}
+use Rattle.fw_tools.specs.Words.{faults, order_of}
+
+-- no word but the program's own name
+pub name_alone : faults (codes "fwenv" ∷ []) ≡ []
+unfolding clap_on_literals
+name_alone = refl
+
+pub no_word_at_all : faults [] ≡ []
+unfolding clap_on_literals
+no_word_at_all = refl
+
+-- a call for help
+pub long_help : faults (codes "fwenv" ∷ codes "--help" ∷ []) ≡ DisplayHelp ∷ []
+unfolding clap_on_literals
+long_help = refl
+
+pub short_help : faults (codes "fwenv" ∷ codes "-h" ∷ []) ≡ DisplayHelp ∷ []
+unfolding clap_on_literals
+short_help = refl
+
+-- a call for the version
+pub long_version : faults (codes "fwenv" ∷ codes "--version" ∷ []) ≡ DisplayVersion ∷ []
+unfolding clap_on_literals
+long_version = refl
+
+pub short_version : faults (codes "fwenv" ∷ codes "-V" ∷ []) ≡ DisplayVersion ∷ []
+unfolding clap_on_literals
+short_version = refl
+
+-- a word, and an option
+pub unknown_word : faults (codes "fwenv" ∷ codes "bootcmd" ∷ []) ≡ UnknownArgument ∷ InvalidSubcommand ∷ []
+unfolding clap_on_literals
+unknown_word = refl
+
+pub unknown_option : faults (codes "fwenv" ∷ codes "--write" ∷ []) ≡ UnknownArgument ∷ []
+unfolding clap_on_literals
+unknown_option = refl
+
+-- the flag, and words that are nearly it
+pub flag : faults (codes "fwenv" ∷ codes "--big-endian" ∷ []) ≡ []
+unfolding clap_on_literals
+flag = refl
+
+pub flag_chooses : order_of (codes "fwenv" ∷ codes "--big-endian" ∷ []) ≡ Big
+unfolding clap_on_literals
+flag_chooses = refl
+
+pub no_flag_chooses : order_of (codes "fwenv" ∷ []) ≡ Little
+unfolding clap_on_literals
+no_flag_chooses = refl
+
+pub flag_twice : faults (codes "fwenv" ∷ codes "--big-endian" ∷ codes "--big-endian" ∷ []) ≡ ArgumentConflict ∷ []
+unfolding clap_on_literals
+flag_twice = refl
+
+pub flag_with_a_value : faults (codes "fwenv" ∷ codes "--big-endian=1" ∷ []) ≡ TooManyValues ∷ []
+unfolding clap_on_literals
+flag_with_a_value = refl
+
+pub flag_cut_short : faults (codes "fwenv" ∷ codes "--big" ∷ []) ≡ UnknownArgument ∷ []
+unfolding clap_on_literals
+flag_cut_short = refl
+
+pub flag_and_help : faults (codes "fwenv" ∷ codes "--big-endian" ∷ codes "--help" ∷ []) ≡ DisplayHelp ∷ []
+unfolding clap_on_literals
+flag_and_help = refl
+
+-- the subcommands
+pub all_printed : faults (codes "fwenv" ∷ codes "printenv" ∷ []) ≡ []
+unfolding clap_on_literals
+all_printed = refl
+
+pub names_printed : faults (codes "fwenv" ∷ codes "printenv" ∷ codes "q" ∷ codes "a" ∷ []) ≡ []
+unfolding clap_on_literals
+names_printed = refl
+
+pub value_printed : faults (codes "fwenv" ∷ codes "printenv" ∷ codes "-n" ∷ codes "a" ∷ codes "-c" ∷ codes "f" ∷ []) ≡ []
+unfolding clap_on_literals
+value_printed = refl
+
+pub words_set : faults (codes "fwenv" ∷ codes "setenv" ∷ codes "a" ∷ codes "--" ∷ codes "-x" ∷ codes "2" ∷ []) ≡ []
+unfolding clap_on_literals
+words_set = refl
+
+pub dashes_wanted : faults (codes "fwenv" ∷ codes "setenv" ∷ codes "a" ∷ codes "-x" ∷ []) ≡ UnknownArgument ∷ []
+unfolding clap_on_literals
+dashes_wanted = refl
+
+pub script_set : faults (codes "fwenv" ∷ codes "setenv" ∷ codes "-s" ∷ codes "f" ∷ []) ≡ []
+unfolding clap_on_literals
+script_set = refl
+
+pub file_wanted : faults (codes "fwenv" ∷ codes "import" ∷ []) ≡ MissingRequiredArgument ∷ []
+unfolding clap_on_literals
+file_wanted = refl
+
+pub file_imported : faults (codes "fwenv" ∷ codes "import" ∷ codes "f" ∷ codes "--default" ∷ codes "d" ∷ []) ≡ []
+unfolding clap_on_literals
+file_imported = refl
+
+pub no_word_exported : faults (codes "fwenv" ∷ codes "export" ∷ codes "a" ∷ []) ≡ UnknownArgument ∷ []
+unfolding clap_on_literals
+no_word_exported = refl
+
+pub help_of_a_subcommand : faults (codes "fwenv" ∷ codes "export" ∷ codes "--help" ∷ []) ≡ DisplayHelp ∷ []
+unfolding clap_on_literals
+help_of_a_subcommand = refl
+
+-- a dry run
+pub session_alone : faults (codes "fwenv" ∷ codes "session" ∷ []) ≡ []
+unfolding clap_on_literals
+session_alone = refl
+
+pub session_limited : faults (codes "fwenv" ∷ codes "session" ∷ codes "--write" ∷ codes "--stubs" ∷ codes "f" ∷ codes "--steps" ∷ codes "5" ∷ []) ≡ []
+unfolding clap_on_literals
+session_limited = refl
+
+pub number_twice : faults (codes "fwenv" ∷ codes "session" ∷ codes "--word" ∷ codes "5" ∷ codes "--word" ∷ codes "5" ∷ []) ≡ ArgumentConflict ∷ []
+unfolding clap_on_literals
+number_twice = refl
+
+pub no_word_for_a_session : faults (codes "fwenv" ∷ codes "session" ∷ codes "a" ∷ []) ≡ UnknownArgument ∷ []
+unfolding clap_on_literals
+no_word_for_a_session = refl
+
+-- numbers
+pub largest_depth : number_in 16 (codes "0016") ≡ Some 16
+largest_depth = refl
+
+pub past_the_limit : number_in 16 (codes "17") ≡ None
+past_the_limit = refl
+
+pub no_digit : number_in 16 [] ≡ None
+no_digit = refl
+
+pub sign : number_in 16 (codes "+1") ≡ None
+sign = refl

@@ -1,0 +1,36 @@
+-- Copies in devices (docs/tools.md, "Subcommands over files").
+use Rattle.std.specs.Prelude.{ℕ, ◌+◌, Bool, ◌&&◌, nat_lt, List, [], ◌∷◌, Option, Some, None, Vec, if◌then◌else◌, option_map}
+use Rattle.std.specs.Str.{bytes_eq}
+use Rattle.std.specs.declared.alloc.Global.{Global}
+use Rattle.env_session.specs.declared.stored.Stored.{Stored}
+use Rattle.envcfg_core.specs.declared.place.Place.{Place}
+use Rattle.fw_tools.specs.declared.closing.Change.{Change}
+use Rattle.fw_tools.specs.declared.copies.ReadCopy.{ReadCopy}
+use Rattle.fw_tools.specs.declared.opening.Source.{Source}
+
+-- two copies of one device share a byte: each begins before the end of the other
+abbrev pub share_a_byte : ℕ → ℕ → ℕ → Bool
+share_a_byte first second size = nat_lt first (second + size) && nat_lt second (first + size)
+
+-- a copy is written where its bytes are others than before
+abbrev pub to_write : List ℕ → List ℕ → Option (List ℕ)
+to_write old new = if bytes_eq old new then None else Some new
+
+-- bytes, the place of their copy, and where they begin in its device
+abbrev pub Written : Type 0
+Written = Place × ℕ × List ℕ
+
+abbrev pub change_view : Change → Written
+change_view c = (c.place.now, c.start, c.bytes.now)
+
+-- what is written of a copy that has these bytes now
+abbrev pub change_in : Place → ReadCopy → List ℕ → Option Written
+change_in place old new = option_map (λ bytes. (place, old.start, bytes)) (to_write old.bytes.items new)
+
+abbrev pub second_change : Option Place → Option ReadCopy → Option (Vec ℕ Global) → Option Written
+second_change (Some place) (Some old) (Some new) = change_in place old new.items
+second_change _ _ _ = None
+
+-- what is written, the first copy before the second
+abbrev pub changes : Source → Stored → List (Option Written)
+changes source stored = change_in source.config.first source.first stored.first.items ∷ second_change source.config.second source.second stored.second ∷ []

@@ -1,0 +1,245 @@
+//! The words that the program is called with.
+ghost use Rattle.std.specs.Prelude.{◌≡◌, IfOk, codes, false, map};
+ghost use Rattle.clap.specs.Words.{FailsBy, app_of, found_of, rows_of, rule_of, subcommand_rows_of};
+ghost use Rattle.fw_tools.specs.Values.{given_by, is_given};
+ghost use Rattle.fw_tools.specs.Words.{IsTool, called_by, faults, fwenv, order_in, order_of};
+ghost use Rattle.fw_tools.specs.Words as words;
+
+use crate::session_words::session;
+use clap::parser::ValueSource;
+use clap::{Arg, ArgAction, ArgMatches, Command, Error};
+use envimg_core::Order;
+use std::alloc::{AllocError, Global};
+use std::convert::AsStr;
+
+/// What the program does, in one line.
+const ABOUT: &str =
+    "Prints the variables of the U-Boot environment image on standard input, a line NAME=VALUE each, or by a command \
+     reads and writes those of a board, or tries its boot scripts";
+
+/// An example for the end of the help.
+const EXAMPLE: &str =
+    "Example:\n  dd if=/dev/mtd1 bs=64k count=1 | fwenv\n  fwenv printenv bootcmd";
+
+/// What `--version` prints behind the program's name.
+const VERSION: &str = "0.1.0";
+
+/// The flag for images of big-endian boards, and what the help says of it.
+const BIG_ENDIAN: &str = "big-endian";
+
+const BIG_ENDIAN_HELP: &str =
+    "The image is a big-endian board's: its checksum has the highest byte first";
+
+/// The configuration where the words name none.
+pub(crate) const CONFIG: &str = "/etc/fw_env.config";
+
+/// Reads the words of the command line, the program's own name first. At an error its text is the help or the version, or
+/// says what is wrong with the words.
+pub(crate) fn read_words<'a, S: AsStr>(
+    alloc: Global,
+    words: &'a [S],
+) -> Result<ArgMatches<'a>, Error>
+    ensures fails { FailsBy (faults (map S.text words.entry.now)) result }
+    ensures order { IfOk result (λ m. order_in m ≡ order_of (map S.text words.entry.now)) }
+    ensures called { IfOk result (λ m. subcommand_rows_of m ≡ called_by (map S.text words.entry.now)) }
+{
+    let command = command(alloc)?;
+    let matches = command.try_get_matches_from(words)?;
+    Ok(matches)
+}
+
+/// The byte order that the words chose.
+pub(crate) fn chosen_order(matches: &ArgMatches<'_>) -> Order
+    ensures { result ≡ order_in matches.now }
+{
+    match matches.value_source(BIG_ENDIAN) {
+        Some(ValueSource::CommandLine) => Order::Big,
+        _ => Order::Little,
+    }
+}
+
+/// Whether a flag stands among the words.
+pub(crate) fn is_given(matches: &ArgMatches<'_>, id: &str) -> bool
+    ensures { result ≡ is_given id.now (rows_of (found_of matches.now)) }
+{
+    is_from_words(matches.value_source(id))
+}
+
+/// The flag for images of big-endian boards.
+pub(crate) fn big_endian<'a>(alloc: Global) -> Arg<'a>
+    ensures rule { rule_of result ≡ words.big_endian }
+    ensures local { result.global ≡ false }
+{
+    flag(alloc, BIG_ENDIAN)
+        .long(BIG_ENDIAN)
+        .help(BIG_ENDIAN_HELP)
+}
+
+/// An argument that takes no value: it is there or not.
+pub(crate) fn flag<'a>(alloc: Global, id: &'a str) -> Arg<'a>
+    ensures rule { rule_of result ≡ words.flag id.entry.now }
+    ensures local { result.global ≡ false }
+{
+    Arg::new(alloc, id).action(ArgAction::SetTrue)
+}
+
+/// `-c FILE`, which all subcommands have.
+pub(crate) fn config<'a>(alloc: Global) -> Arg<'a>
+    ensures rule { rule_of result ≡ words.config }
+    ensures local { result.global ≡ false }
+{
+    Arg::new(alloc, "config")
+        .short('c')
+        .value_name("FILE")
+        .help("The configuration that names the copies")
+        .default_value(CONFIG)
+}
+
+/// `--default FILE`, which all subcommands have.
+pub(crate) fn default<'a>(alloc: Global) -> Arg<'a>
+    ensures rule { rule_of result ≡ words.default }
+    ensures local { result.global ≡ false }
+{
+    Arg::new(alloc, "default")
+        .long("default")
+        .value_name("FILE")
+        .help("The default environment, a text as for import; without it that is empty")
+}
+
+/// Whether a value comes from the words.
+fn is_from_words(source: Option<ValueSource>) -> bool
+    ensures { result ≡ given_by source }
+{
+    matches!(source, Some(ValueSource::CommandLine))
+}
+
+/// The command, as clap knows it.
+fn command<'a>(alloc: Global) -> Result<Command<'a>, AllocError>
+    ensures { IfOk result (λ c. app_of c ≡ fwenv) }
+{
+    let top = top(alloc)?;
+    let printing = top.subcommand(printenv(alloc)?)?;
+    let setting = printing.subcommand(setenv(alloc)?)?;
+    let importing = setting.subcommand(import(alloc)?)?;
+    let exporting = importing.subcommand(export(alloc)?)?;
+    let talking = exporting.subcommand(session(alloc)?)?;
+    Ok(talking)
+}
+
+/// The command without its subcommands.
+fn top<'a>(alloc: Global) -> Result<Command<'a>, AllocError>
+    ensures { IfOk result (λ c. app_of c ≡ words.top) }
+{
+    Command::new(alloc, "fwenv")
+        .about(ABOUT)
+        .version(VERSION)
+        .after_help(EXAMPLE)
+        .arg(big_endian(alloc))
+}
+
+/// An argument that takes any number of values.
+fn any_number<'a>(alloc: Global, id: &'a str, name: &'a str) -> Arg<'a>
+    ensures rule { rule_of result ≡ words.any_number id.entry.now }
+    ensures local { result.global ≡ false }
+{
+    Arg::new(alloc, id).value_name(name).num_args(0..)
+}
+
+/// `printenv`
+fn printenv<'a>(alloc: Global) -> Result<Command<'a>, AllocError>
+    ensures { IfOk result (IsTool words.printenv) }
+{
+    let value_only = flag(alloc, "value-only")
+        .short('n')
+        .help("Prints the value of one name and nothing else");
+    let names = any_number(alloc, "names", "NAMES").help(
+        "The variables; without names all of them",
+    );
+    let command = Command::new(alloc, "printenv")
+        .about("Prints variables, a line NAME=VALUE each")
+        .after_help("Example:\n  fwenv printenv bootcmd bootdelay")
+        .arg(config(alloc))?
+        .arg(default(alloc))?
+        .arg(big_endian(alloc))?
+        .arg(value_only)?
+        .arg(names)?;
+    Ok(command)
+}
+
+/// `-s FILE`
+fn script<'a>(alloc: Global) -> Arg<'a>
+    ensures rule { rule_of result ≡ words.script }
+    ensures local { result.global ≡ false }
+{
+    Arg::new(alloc, "script").short('s').value_name("FILE").help(
+        "Takes names and values from the lines of a script, in the place of NAME",
+    )
+}
+
+/// `NAME`
+fn name<'a>(alloc: Global) -> Arg<'a>
+    ensures rule { rule_of result ≡ words.one (codes "name") }
+    ensures local { result.global ≡ false }
+{
+    Arg::new(alloc, "name")
+        .value_name("NAME")
+        .help("The variable")
+}
+
+/// `WORDS`
+fn words<'a>(alloc: Global) -> Arg<'a>
+    ensures rule { rule_of result ≡ words.any_number (codes "words") }
+    ensures local { result.global ≡ false }
+{
+    any_number(alloc, "words", "WORDS").help(
+        "The value, joined by spaces; without words the variable is deleted",
+    )
+}
+
+/// `setenv`
+fn setenv<'a>(alloc: Global) -> Result<Command<'a>, AllocError>
+    ensures { IfOk result (IsTool words.setenv) }
+{
+    let command = Command::new(alloc, "setenv")
+        .about("Sets or deletes a variable, or several by a script, and saves")
+        .after_help(
+            "Example:\n  fwenv setenv bootargs console=ttyS0,115200 quiet\n  fwenv setenv bootargs -- -x",
+        )
+        .arg(config(alloc))?
+        .arg(default(alloc))?
+        .arg(big_endian(alloc))?
+        .arg(script(alloc))?
+        .arg(name(alloc))?
+        .arg(words(alloc))?;
+    Ok(command)
+}
+
+/// `import`
+fn import<'a>(alloc: Global) -> Result<Command<'a>, AllocError>
+    ensures { IfOk result (IsTool words.import) }
+{
+    let file = Arg::new(alloc, "file")
+        .value_name("FILE")
+        .required(true)
+        .help("The text, as export prints it");
+    let command = Command::new(alloc, "import")
+        .about("Sets the variables of a text, and saves")
+        .after_help("Example:\n  fwenv import variables.txt")
+        .arg(config(alloc))?
+        .arg(default(alloc))?
+        .arg(big_endian(alloc))?
+        .arg(file)?;
+    Ok(command)
+}
+
+/// `export`
+fn export<'a>(alloc: Global) -> Result<Command<'a>, AllocError>
+    ensures { IfOk result (IsTool words.export) }
+{
+    Command::new(alloc, "export")
+        .about("Prints every variable as a text that import reads")
+        .after_help("Example:\n  fwenv export > variables.txt")
+        .arg(config(alloc))?
+        .arg(default(alloc))?
+        .arg(big_endian(alloc))
+}

@@ -1,0 +1,132 @@
+//! Copies in their devices: found, read and written in place.
+ghost use Rattle.std.specs.Prelude.{◌≡◌, ◌+◌, IfOk, length, nat_le, option_copied};
+ghost use Rattle.fw_tools.specs.Copies.{share_a_byte, to_write};
+
+use crate::files::FileFault;
+use envcfg_core::Place;
+use fw_engines::streams::write_text;
+use std::fs::{self, FileType, OpenFile, OpenOptions};
+use std::io::{ErrorKind, Read, Seek, SeekFrom};
+use std::os::unix::fs::FileTypeExt;
+use std::rt::Files;
+
+/// A copy as it was read, and where it begins in its device, in bytes.
+#[derive(Drop)]
+pub(crate) struct ReadCopy {
+    pub(crate) bytes: Vec<u8>,
+    pub(crate) start: u64,
+}
+
+/// Reads a copy of this size, and nothing else of its device.
+pub(crate) fn read_copy<X: Files + AllocGlobal>(
+    rt: &X,
+    place: &Place,
+    size: u32,
+) -> Result<ReadCopy, FileFault>
+    ensures { IfOk result (λ copy. length copy.bytes.items ≡ size) }
+{
+    let path = place.device.as_str();
+    if is_pipe(rt, path) {
+        return Err(FileFault::CannotRead);
+    }
+    let Ok(mut device) = OpenOptions::new().read(true).open(rt, path) else {
+        return Err(FileFault::CannotRead);
+    };
+    let Ok(length) = device.seek(SeekFrom::End(0)) else {
+        return Err(FileFault::CannotRead);
+    };
+    let Some(start) = place.start(size, length) else {
+        return Err(FileFault::TooShort);
+    };
+    let Ok(mut bytes) = vec![in rt.alloc(); 0u8; size as usize] else {
+        return Err(FileFault::Memory);
+    };
+    if device.seek(SeekFrom::Start(start)).is_err() {
+        return Err(FileFault::CannotRead);
+    }
+    match device.read_exact(&mut bytes) {
+        Ok(()) => Ok(ReadCopy { bytes, start }),
+        Err(error) => Err(short_or_unreadable(error.kind())),
+    }
+}
+
+/// Writes a copy over its place, and flushes it to storage. The device keeps its length: one that is too short by now is
+/// not written, and neither is a pipe or a character device.
+pub(crate) fn write_copy<X: Files>(
+    rt: &X,
+    place: &Place,
+    start: u64,
+    bytes: &[u8],
+) -> Result<(), FileFault> {
+    let path = place.device.as_str();
+    if is_pipe(rt, path) || is_raw(rt, path) {
+        return Err(FileFault::CannotWrite);
+    }
+    let Ok(mut device) = OpenOptions::new().write(true).open(rt, path) else {
+        return Err(FileFault::CannotWrite);
+    };
+    match device.seek(SeekFrom::End(0)) {
+        Ok(length) if lies_inside(start, bytes.len(), length) => (),
+        _ => return Err(FileFault::CannotWrite),
+    }
+    if device.seek(SeekFrom::Start(start)).is_err() {
+        return Err(FileFault::CannotWrite);
+    }
+    if !write_text(&mut device, bytes) || device.sync_all().is_err() {
+        return Err(FileFault::CannotWrite);
+    }
+    Ok(())
+}
+
+/// Whether two copies of this size share a byte of one device.
+pub(crate) fn share_a_byte(first: u64, second: u64, size: u32) -> bool
+    ensures { result ≡ share_a_byte first second size }
+{
+    let size = u64::from(size);
+    if first <= second {
+        second - first < size
+    } else {
+        first - second < size
+    }
+}
+
+/// What is to be written of a copy: its bytes, where they are others than before.
+pub(crate) fn to_write<'a>(old: &[u8], new: &'a [u8]) -> Option<&'a [u8]>
+    ensures { option_copied result ≡ to_write old.now new.now }
+{
+    if old == new { None } else { Some(new) }
+}
+
+/// Whether the path names a pipe, which has no place to seek to; to open one may take until somebody opens its other end.
+fn is_pipe<X: Files>(rt: &X, path: &str) -> bool {
+    matches!(kind_of(rt, path), Some(kind) if kind.is_fifo())
+}
+
+/// Whether the path names a character device, as raw flash is. That has to be erased before it is written, which nothing
+/// here does: bytes written over others would come out as both at once.
+fn is_raw<X: Files>(rt: &X, path: &str) -> bool {
+    matches!(kind_of(rt, path), Some(kind) if kind.is_char_device())
+}
+
+/// What kind of file a path names, if that can be told.
+fn kind_of<X: Files>(rt: &X, path: &str) -> Option<FileType> {
+    match fs::metadata(rt, path) {
+        Ok(metadata) => Some(metadata.file_type()),
+        Err(_) => None,
+    }
+}
+
+/// The fault of a read that gave less than the copy.
+fn short_or_unreadable(kind: ErrorKind) -> FileFault {
+    match kind {
+        ErrorKind::UnexpectedEof => FileFault::TooShort,
+        _ => FileFault::CannotRead,
+    }
+}
+
+/// Whether so many bytes from `start` on lie inside a device of this length.
+fn lies_inside(start: u64, count: usize, length: u64) -> bool
+    ensures { result ≡ nat_le (start + count) length }
+{
+    start <= length && count as u64 <= length - start
+}

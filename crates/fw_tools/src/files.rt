@@ -1,0 +1,217 @@
+//! Files that are read whole, and why a file can not be used.
+ghost use Rattle.std.specs.Prelude.{◌≡◌, ◌≤◌, Ok, Some, IfOk, MatchOption, length, option_map};
+ghost use Rattle.std.specs.Result.{result_ok};
+ghost use Rattle.fw_tools.specs.Saying.{SaysSome};
+ghost use Rattle.envcfg_core.specs.Import.{import_of};
+ghost use Rattle.envcfg_core.specs.SetScript.{set_script_of};
+ghost use Rattle.fw_tools.specs.Opening.{file_limit};
+ghost use Rattle.fw_tools.specs.Talking.{AreStubsOf};
+ghost use Rattle.hush_commands.specs.Stubs.{stand_ins_of};
+
+use crate::messages::{
+    CANNOT_READ_FILE, CANNOT_WRITE_FILE, COLON, FWENV, IN_LINE, NEWLINE, OUT_OF_MEMORY, TOO_SHORT,
+};
+use envcfg_core::{ConfigFault, ImportText, ScriptText, TextFault};
+use envvars_core::Refusal;
+use fw_engines::StreamFault;
+use fw_engines::streams::{read_up_to, say, write_decimal, write_text, write_three, write_two};
+use hush_run::{StubFault, Stubs};
+use std::alloc::Global;
+use std::fs::OpenOptions;
+use std::io::Write;
+use std::rt::Files;
+
+/// The most bytes of a file that is read whole.
+const FILE_LIMIT: usize = 16_777_216;
+
+/// Why a file can not be used.
+#[derive(Clone, Copy, Debug)]
+pub(crate) enum FileFault {
+    /// It can't be opened or read, or it is longer than a file that is read whole may be.
+    CannotRead,
+    /// It can't be opened for writing, written, or flushed to storage.
+    CannotWrite,
+    /// The copy doesn't lie wholly inside it.
+    TooShort,
+    /// Memory ran out.
+    Memory,
+    /// It is a configuration that is refused.
+    Config(ConfigFault),
+    /// It is a text for import or a set script that is refused.
+    Text(TextFault),
+    /// It is a stand-in file that is refused.
+    Stubs(StubFault),
+    /// It is a default environment, and the entry in this line is refused.
+    Default(usize, Refusal),
+}
+
+/// Reads a whole file of at most 16,777,216 bytes.
+pub(crate) fn read_file<X: Files + AllocGlobal>(rt: &X, path: &str) -> Result<Vec<u8>, FileFault>
+    ensures { IfOk result (λ bytes. length bytes.items ≤ file_limit) }
+{
+    let Ok(mut file) = OpenOptions::new().read(true).open(rt, path) else {
+        return Err(FileFault::CannotRead);
+    };
+    match read_up_to(rt.alloc(), &mut file, FILE_LIMIT + 1) {
+        Ok(bytes) => {
+            if bytes.len() <= FILE_LIMIT {
+                Ok(bytes)
+            } else {
+                Err(FileFault::CannotRead)
+            }
+        }
+        Err(StreamFault::Memory) => Err(FileFault::Memory),
+        Err(_) => Err(FileFault::CannotRead),
+    }
+}
+
+/// A text for import, whose entries are read as they are written.
+pub(crate) fn import_from(text: &[u8]) -> Result<ImportText<'_>, FileFault>
+    ensures read { IfOk result (λ entries. import_of text.entry.now ≡ Ok entries) }
+    ensures few { IfOk result (λ entries. length entries ≤ length text.entry.now) }
+{
+    match ImportText::new(text) {
+        Ok(entries) => Ok(entries),
+        Err(fault) => Err(text_fault(fault)),
+    }
+}
+
+/// A set script, whose entries are read as they are written.
+pub(crate) fn script_from(text: &[u8]) -> Result<ScriptText<'_>, FileFault>
+    ensures { IfOk result (λ entries. set_script_of text.entry.now ≡ Ok entries) }
+{
+    match ScriptText::new(text) {
+        Ok(entries) => Ok(entries),
+        Err(fault) => Err(text_fault(fault)),
+    }
+}
+
+/// Reads a stand-in file; without one there are no stand-ins.
+pub(crate) fn read_stand_ins<X: Files + AllocGlobal>(
+    rt: &X,
+    path: Option<&str>,
+) -> Result<Stubs, FileFault>
+    ensures { IfOk result (AreStubsOf (option_map (λ p. p.now) path.entry)) }
+{
+    match path {
+        None => stand_ins_from(rt.alloc(), b""),
+        Some(path) => read_stand_in_file(rt, path),
+    }
+}
+
+/// The value, or none, and then the fault is said on `errors`.
+pub(crate) fn value_or_say<T: Drop, E: Write>(
+    alloc: Global,
+    errors: &mut E,
+    path: &str,
+    outcome: Result<T, FileFault>,
+) -> Option<T>
+    ensures value { result ≡ result_ok outcome }
+    ensures said { MatchOption result (SaysSome (E.contents errors.old) (E.contents errors.new)) (λ _. E.contents errors.new ≡ E.contents errors.old) }
+{
+    match outcome {
+        Ok(value) => Some(value),
+        Err(fault) => {
+            say_fault(alloc, errors, path, fault);
+            None
+        }
+    }
+}
+
+/// Says on `errors` why a file can not be used, as far as it is taken.
+pub(crate) fn say_fault<E: Write>(alloc: Global, errors: &mut E, path: &str, fault: FileFault)
+    ensures { SaysSome (E.contents errors.old) (E.contents errors.new) }
+{
+    match fault {
+        FileFault::CannotRead => say_path(errors, CANNOT_READ_FILE, path, NEWLINE),
+        FileFault::CannotWrite => say_path(errors, CANNOT_WRITE_FILE, path, NEWLINE),
+        FileFault::TooShort => say_path(errors, FWENV, path, TOO_SHORT),
+        FileFault::Memory => say(errors, OUT_OF_MEMORY),
+        FileFault::Config(refused) => match refused.to_string(alloc) {
+            Ok(name) => say_refused(errors, path, name.as_bytes()),
+            Err(_) => say(errors, OUT_OF_MEMORY),
+        },
+        FileFault::Text(refused) => match refused.to_string(alloc) {
+            Ok(name) => say_refused(errors, path, name.as_bytes()),
+            Err(_) => say(errors, OUT_OF_MEMORY),
+        },
+        FileFault::Stubs(refused) => match refused.to_string(alloc) {
+            Ok(name) => say_refused(errors, path, name.as_bytes()),
+            Err(_) => say(errors, OUT_OF_MEMORY),
+        },
+        FileFault::Default(line, refusal) => say_line(errors, path, name_of(refusal), line),
+    }
+}
+
+/// Reads the stand-ins in a file.
+fn read_stand_in_file<X: Files + AllocGlobal>(rt: &X, path: &str) -> Result<Stubs, FileFault>
+    ensures { IfOk result (AreStubsOf (Some path.now)) }
+{
+    let text = read_file(rt, path)?;
+    stand_ins_from(rt.alloc(), &text)
+}
+
+/// The stand-ins in a text.
+fn stand_ins_from(alloc: Global, text: &[u8]) -> Result<Stubs, FileFault>
+    ensures { IfOk result (λ stand_ins. stand_ins_of text.now ≡ Ok stand_ins) }
+{
+    match Stubs::parse(alloc, text) {
+        Ok(stand_ins) => Ok(stand_ins),
+        Err(StubFault::Memory) => Err(FileFault::Memory),
+        Err(fault) => Err(FileFault::Stubs(fault)),
+    }
+}
+
+/// The fault of a file whose text is refused.
+fn text_fault(fault: TextFault) -> FileFault {
+    match fault {
+        TextFault::Memory => FileFault::Memory,
+        refused => FileFault::Text(refused),
+    }
+}
+
+/// Says a text round a path.
+fn say_path<E: Write>(errors: &mut E, front: &[u8], path: &str, back: &[u8])
+    ensures { SaysSome (E.contents errors.old) (E.contents errors.new) }
+{
+    let _ = write_three(errors, front, path.as_bytes(), back);
+}
+
+/// Says why the text in a file is refused.
+fn say_refused<E: Write>(errors: &mut E, path: &str, name: &[u8])
+    ensures { SaysSome (E.contents errors.old) (E.contents errors.new) }
+{
+    if !write_three(errors, FWENV, path.as_bytes(), COLON) {
+        return;
+    }
+    let _ = write_two(errors, name, NEWLINE);
+}
+
+/// Says which line of a file is refused, and why.
+fn say_line<E: Write>(errors: &mut E, path: &str, name: &[u8], line: usize)
+    ensures { SaysSome (E.contents errors.old) (E.contents errors.new) }
+{
+    if !write_three(errors, FWENV, path.as_bytes(), COLON) {
+        return;
+    }
+    if !write_two(errors, name, IN_LINE) {
+        return;
+    }
+    if !write_decimal(errors, line) {
+        return;
+    }
+    say(errors, NEWLINE);
+}
+
+/// The name of a refusal.
+fn name_of(refusal: Refusal) -> &'static [u8] {
+    match refusal {
+        Refusal::BadForm => b"BadForm",
+        Refusal::BadType => b"BadType",
+        Refusal::NoCreate => b"NoCreate",
+        Refusal::NoDelete => b"NoDelete",
+        Refusal::NoOverwrite => b"NoOverwrite",
+        Refusal::Full => b"Full",
+        Refusal::Memory => b"Memory",
+    }
+}

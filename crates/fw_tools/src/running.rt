@@ -1,0 +1,164 @@
+//! The program over its words and streams.
+ghost use Rattle.std.specs.Prelude.{◌≡◌, ◌⊎◌, ◌≤◌, map};
+ghost use Rattle.clap.specs.Words.{kind_of, subcommand_rows_of};
+ghost use Rattle.fw_tools.specs.Running.{RepliesTo, Does, LacksMemory, Runs, ShowsAndSays, message_without_words};
+ghost use Rattle.fw_tools.specs.Saying.{Says};
+ghost use Rattle.fw_engines.specs.Streams.{AppendsFront};
+ghost use Rattle.fw_tools.specs.Words.{order_in};
+ghost use Rattle.std.specs.IoError.{error_kind};
+
+use crate::acting::run_call;
+use crate::calls::read_call;
+use crate::command_line::{chosen_order, read_words};
+use crate::messages::{CANNOT_READ, CANNOT_WRITE, NO_WORDS, NOT_UTF8, OUT_OF_MEMORY};
+use clap::error::ErrorKind;
+use clap::{ArgMatches, Error};
+use envimg_core::Order;
+use fw_engines::streams::{say, write_text};
+use fw_engines::{StreamFault, ToolEnd, show};
+use std::alloc::Global;
+use std::convert::AsStr;
+use std::io::{self, Read, Write};
+use std::rt::Files;
+
+/// Runs the program and answers its exit status, 0 or 1. `words` begin with the program's own name.
+///
+/// Without a subcommand the variables of the image on `input` are printed ([`show`]), and with `--big-endian` those of an
+/// image of a big-endian board. A subcommand works on the copies that a configuration names ([`print_at_once`], [`setenv`],
+/// [`script_text`], [`import_text`], [`export`], [`session`]), and writes back those that it changed. Help goes to `output`,
+/// status 0; a fault of the command line to `errors`, status 1. docs/tools.md has each text.
+///
+/// [`print_at_once`]: fw_engines::print_at_once
+/// [`setenv`]: fw_engines::setenv
+/// [`script_text`]: fw_engines::script_text
+/// [`import_text`]: fw_engines::import_text
+/// [`export`]: fw_engines::export
+/// [`session`]: fw_session::session
+pub fn program<X: Files + AllocGlobal, S: AsStr, R: Read, W: Write, E: Write>(
+    rt: &X,
+    words: &[S],
+    input: &mut R,
+    output: &mut W,
+    errors: &mut E,
+) -> u8
+    ensures status { result ≤ 1 }
+    ensures runs { Runs (map S.text words.entry.now)
+        (record { input = R.remaining input.old; output = W.contents output.old; errors = E.contents errors.old })
+        (record { input = R.remaining input.new; output = W.contents output.new; errors = E.contents errors.new })
+        result }
+{
+    let alloc = rt.alloc();
+    if words.len() <= 1 {
+        // what clap says of no word is known, and to ask it takes as long as to show a small image
+        return show_input(alloc, Order::Little, input, output, errors);
+    }
+    match read_words(alloc, words) {
+        Err(error) => print_error(alloc, &error, output, errors),
+        Ok(matches) => act_on(rt, &matches, input, output, errors),
+    }
+}
+
+/// Says on `errors` why the words of the command line could not be had, and answers the exit status, 1.
+pub fn words_failed<E: Write>(error: &io::Error, errors: &mut E) -> u8
+    ensures status { result ≡ 1 }
+    ensures said { AppendsFront (E.contents errors.old) (E.contents errors.new) (message_without_words (error_kind error.now)) }
+{
+    let text = match error.kind() {
+        io::ErrorKind::OutOfMemory => OUT_OF_MEMORY,
+        io::ErrorKind::InvalidData => NOT_UTF8,
+        _ => NO_WORDS,
+    };
+    say(errors, text);
+    1
+}
+
+/// Says on `errors` which fault stopped a tool, if one did, and answers the exit status.
+pub(crate) fn report<E: Write>(end: ToolEnd, errors: &mut E) -> u8
+    ensures status { result ≡ end.status }
+    ensures said { Says end.fault (E.contents errors.old) (E.contents errors.new) }
+{
+    if let Some(fault) = end.fault {
+        let text = match fault {
+            StreamFault::Read => CANNOT_READ,
+            StreamFault::Write => CANNOT_WRITE,
+            StreamFault::Memory => OUT_OF_MEMORY,
+        };
+        say(errors, text);
+    }
+    end.status
+}
+
+/// Does what words with nothing wrong ask for.
+fn act_on<X: Files + AllocGlobal, R: Read, W: Write, E: Write>(
+    rt: &X,
+    matches: &ArgMatches<'_>,
+    input: &mut R,
+    output: &mut W,
+    errors: &mut E,
+) -> u8
+    ensures status { result ≤ 1 }
+    ensures does { Does (order_in matches.now) (subcommand_rows_of matches.now)
+        (record { input = R.remaining input.old; output = W.contents output.old; errors = E.contents errors.old })
+        (record { input = R.remaining input.new; output = W.contents output.new; errors = E.contents errors.new })
+        result }
+{
+    let alloc = rt.alloc();
+    let order = chosen_order(matches);
+    match matches.subcommand() {
+        None => show_input(alloc, order, input, output, errors),
+        Some((name, found)) => match read_call(order, name, found) {
+            Err(fault) => {
+                fault.say(errors);
+                1
+            }
+            Ok(call) => run_call(rt, &call, input, output, errors),
+        },
+    }
+}
+
+/// Shows the image on `input`, says what stopped that, and answers the exit status.
+fn show_input<R: Read, W: Write, E: Write>(
+    alloc: Global,
+    order: Order,
+    input: &mut R,
+    output: &mut W,
+    errors: &mut E,
+) -> u8
+    ensures status { result ≤ 1 }
+    ensures shows { ShowsAndSays order
+        (record { input = R.remaining input.old; output = W.contents output.old; errors = E.contents errors.old })
+        (record { input = R.remaining input.new; output = W.contents output.new; errors = E.contents errors.new })
+        result }
+{
+    let end = show(alloc, order, input, output, errors);
+    report(end, errors)
+}
+
+/// Prints the help on `output`, or what is wrong with the words on `errors`.
+fn print_error<W: Write, E: Write>(
+    alloc: Global,
+    error: &Error,
+    output: &mut W,
+    errors: &mut E,
+) -> u8
+    ensures status { result ≤ 1 }
+    ensures answers { LacksMemory (record { output = W.contents output.old; errors = E.contents errors.old })
+        (record { output = W.contents output.new; errors = E.contents errors.new }) result ⊎ RepliesTo (kind_of error.now)
+        (record { output = W.contents output.old; errors = E.contents errors.old })
+        (record { output = W.contents output.new; errors = E.contents errors.new }) result }
+{
+    let Ok(text) = error.to_string(alloc) else {
+        return report(ToolEnd::stopped(StreamFault::Memory), errors);
+    };
+    if error.kind() == ErrorKind::OutOfMemory {
+        return report(ToolEnd::stopped(StreamFault::Memory), errors);
+    }
+    if error.use_stderr() {
+        say(errors, text.as_bytes());
+        return 1;
+    }
+    if !write_text(output, text.as_bytes()) {
+        return report(ToolEnd::stopped(StreamFault::Write), errors);
+    }
+    0
+}

@@ -1,0 +1,62 @@
+-- Stand-in files (docs/runs.md, "Stand-ins").
+use Rattle.std.specs.Prelude.{◌≡◌, ℕ, List, [], ◌∷◌, Some, None, Result, Ok, Err, if◌then◌else◌}
+use Rattle.std.specs.Ordering.{nat_cmp}
+use Rattle.std.specs.Cmp.Lexicographic.{slice_cmp}
+use Rattle.std.specs.declared.cmp.Ordering.{Ordering}
+use Rattle.std.specs.FinMap as names
+use Rattle.std.specs.FinMap.{FinMap}
+use Rattle.std.specs.Coded.{Coded, coded_list, coded_ℕ}
+use Rattle.std.specs.Str.Lines.{strip_carriage_return}
+use Rattle.text_parts.specs.Lines.{Line as NumberedLine, numbered_lines}
+use Rattle.hush_commands.specs.declared.stand_in_line.StubFault.{StubFault}
+use Rattle.hush_commands.specs.declared.stand_in_line.StubFault.TheVariants.{Line, Builtin, Twice, Memory}
+use Rattle.hush_commands.specs.StandInLines.{StandInLine, read_line}
+
+-- names in the order of their bytes
+abbrev pub name_order : List ℕ → List ℕ → Ordering
+name_order = slice_cmp nat_cmp
+
+-- the status of each name that has a stand-in
+abbrev pub Statuses : Type 0
+Statuses = FinMap name_order ℕ
+
+abbrev pub statuses_code : Coded Statuses
+statuses_code = names.code (coded_list coded_ℕ) coded_ℕ
+
+-- what a stand-in file is read as
+abbrev pub StubsOrFault : Type 0
+StubsOrFault = Result Statuses StubFault
+
+-- the statuses with one more, unless the name has one already
+abbrev pub with_stand_in : ℕ → Statuses → List ℕ → ℕ → StubsOrFault
+with_stand_in number statuses name status =
+    if names.contains_key statuses name then Err (Twice number) else Ok (names.insert statuses name status)
+
+-- the statuses with what a line holds
+abbrev pub with_read : ℕ → Statuses → StandInLine → StubsOrFault
+with_read number statuses (Err fault) = Err fault
+with_read number statuses (Ok None) = Ok statuses
+with_read number statuses (Ok (Some stand_in)) = with_stand_in number statuses stand_in.0 stand_in.1
+
+abbrev pub with_line : Statuses → NumberedLine → StubsOrFault
+with_line statuses line = with_read line.0 statuses (read_line line.0 (strip_carriage_return line.1))
+
+abbrev pub and_then : StubsOrFault → (Statuses → StubsOrFault) → StubsOrFault
+and_then (Ok statuses) next = next statuses
+and_then (Err fault) next = Err fault
+
+-- line by line, as far as the first that is at fault
+abbrev pub with_lines : Statuses → List NumberedLine → StubsOrFault
+with_lines statuses [] = Ok statuses
+with_lines statuses (line ∷ lines) = and_then (with_line statuses line) (λ more. with_lines more lines)
+
+-- what a whole stand-in file is read as
+abbrev pub stand_ins_of : List ℕ → StubsOrFault
+stand_ins_of text = with_lines names.empty (numbered_lines text)
+
+-- the fault is the definition's, or memory was refused
+abbrev pub IsFaultOf : StubsOrFault → StubFault → Type 0
+IsFaultOf outcome (Line number) = outcome ≡ Err (Line number)
+IsFaultOf outcome (Builtin number) = outcome ≡ Err (Builtin number)
+IsFaultOf outcome (Twice number) = outcome ≡ Err (Twice number)
+IsFaultOf outcome Memory = Unit {0}
