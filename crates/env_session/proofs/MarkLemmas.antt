@@ -17,7 +17,7 @@ use Rattle.env_session.specs.Spans.{second_back, back, mark_of, begin_of, marks_
 use Rattle.env_session.specs.NameSets.{changed_names_after, comes_back_in_place}
 use Rattle.env_session.proofs.NameSetLemmas.{names-empty, names-kept_by, names-len, same_in_place}
 use Rattle.env_session.specs.declared.marks.Span.{Span}
-use Rattle.env_session.specs.declared.stored.Stored.{Stored}
+use Rattle.env_session.specs.declared.session.Stored.{Stored}
 
 -- one of a list, and the list with that one changed
 pub record IsNth {A : Type 0} (xs : List A) (k : ℕ) (x : A) : Type 0 where

@@ -13,7 +13,7 @@ use Rattle.env_session.specs.Session.{most_marks, bytes_of, State, IsSound, IsSe
 use Rattle.env_session.specs.SpanSteps.{IsNewSpan, beginning, on_nth}
 use Rattle.env_session.specs.Spans.{mark_of, marks_of, IsEmptySpan, now_of, held_of, IsHeld}
 use Rattle.env_session.specs.declared.marks.Span.{Span}
-use Rattle.env_session.specs.declared.stored.Stored.{Stored}
+use Rattle.env_session.specs.declared.session.Stored.{Stored}
 use Rattle.env_session.proofs.MarkLemmas.{nth_of, marks_upto, mark-empty, SoundMark}
 
 eqb-is : (m n : ℕ) → (m == n) ≡ true → m ≡ n

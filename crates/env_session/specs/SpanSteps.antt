@@ -9,7 +9,7 @@ use Rattle.envvars_core.specs.Olds.{OldValues, kept_by}
 use Rattle.env_session.specs.Session.{State, Held, new_mark, on_last, last_begun}
 use Rattle.env_session.specs.Spans.{back, IsEmptySpan}
 use Rattle.env_session.specs.declared.marks.Span.{Span}
-use Rattle.env_session.specs.declared.stored.Side.{Side}
+use Rattle.env_session.specs.declared.session.Side.{Side}
 
 -- one span changed
 abbrev pub on_nth : {A : Type 0} → (A → A) → ℕ → List A → List A

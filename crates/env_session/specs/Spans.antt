@@ -9,7 +9,7 @@ use Rattle.envvars_core.specs.Variables.{Contents}
 use Rattle.env_session.specs.NameSets.{NameSet}
 use Rattle.env_session.specs.Session.{most_marks, State, Mark, Held, IsSound, bytes_of}
 use Rattle.env_session.specs.declared.marks.Span.{Span}
-use Rattle.env_session.specs.declared.stored.Stored.{Stored}
+use Rattle.env_session.specs.declared.session.Stored.{Stored}
 
 -- a kept second copy comes back, else the present one stays
 abbrev pub second_back : Option (List ℕ) → Option (List ℕ) → Option (List ℕ)

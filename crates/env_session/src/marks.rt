@@ -5,7 +5,6 @@ ghost use Rattle.env_session.specs.Requests.{Step, MarkNow};
 ghost use Rattle.env_session.specs.Session.{marked, most_marks};
 ghost use Rattle.env_session.specs.SpanSteps.{on_nth, beginning};
 
-use crate::faults::MarkFault;
 use crate::session::Session;
 use envimg_core::Choice;
 use envvars_core::Olds;
@@ -15,6 +14,13 @@ const MARKS_MAX: u32 = 64;
 
 /// A span for the opening, and one for each mark.
 pub(crate) const SPANS: usize = MARKS_MAX as usize + 1;
+
+/// Why a mark is refused.
+#[derive(Clone, Copy, Debug, PartialEq, Eq)]
+pub enum MarkFault {
+    /// 64 marks stand.
+    Full,
+}
 
 impl Session {
     /// Makes a mark where fewer than 64 stand, and answers its number, from 1. It takes no memory.

@@ -6,7 +6,7 @@ ghost use Rattle.envimg_core.specs.Geometry.{head, room_of};
 ghost use Rattle.envimg_core.specs.Image.{image_of};
 ghost use Rattle.envvars_core.specs.Variables.{Contents};
 ghost use Rattle.envimg_core.specs.declared.geometry.Layout.TheVariants.{Redundant};
-ghost use Rattle.env_session.specs.declared.stored.Side.TheVariants as Side;
+ghost use Rattle.env_session.specs.declared.session.Side.TheVariants as Side;
 ghost use Rattle.env_session.specs.Requests.{Step, Save};
 ghost use Rattle.env_session.specs.Session.{bytes_of, IsSound, with_copy, saving, on_last, saved, saved_side, saved_flag, saved_image, side_of, last_saved};
 ghost use Rattle.env_session.specs.SpanSteps.{choice_of_side};
@@ -14,8 +14,7 @@ ghost use Rattle.env_session.specs.Spans.{mark_of, marks_of, now_of};
 
 use crate::images::save_over;
 use crate::marks::Span;
-use crate::session::Session;
-use crate::stored::{Side, Stored};
+use crate::session::{Session, Side, Stored};
 use envimg_core::{Choice, Layout};
 use envvars_core::{Memory, Vars};
 use std::alloc::Global;

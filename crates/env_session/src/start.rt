@@ -11,14 +11,23 @@ ghost use Rattle.env_session.specs.SpanSteps.{IsNewSpan};
 ghost use Rattle.env_session.specs.Spans.{IsEmptySpan};
 ghost use Rattle.env_session.specs.StartSteps.{is_good};
 
-use crate::faults::StartFault;
 use crate::marks::{SPANS, Span, begin};
-use crate::session::Session;
-use crate::stored::Stored;
+use crate::session::{Session, Stored};
 use envimg_core::{Choice, CopyState, Geometry, Layout, check_copy, choose};
 use envvars_core::{Memory, Olds, Vars};
 use std::alloc::Global;
 use std::array;
+
+/// Why a start is refused.
+#[derive(Clone, Copy, Debug, PartialEq, Eq)]
+pub enum StartFault {
+    /// A copy hasn't the size, or the second copy is there for one copy or missing for two.
+    Length,
+    /// The default environment doesn't fit the data area.
+    DefaultTooBig,
+    /// Memory ran out.
+    Memory,
+}
 
 impl Session {
     /// A session over stored copies, with a default environment.

@@ -8,12 +8,19 @@ ghost use Rattle.env_session.specs.Session.{undone, UndoesTo, IsStoppedUndo, May
 ghost use Rattle.env_session.specs.Spans.{now_of, back};
 ghost use Rattle.env_session.specs.SpanSteps.{on_nth, emptied, olds_at, back_at, last_undone, last_removed};
 
-use crate::faults::UndoFault;
 use crate::marks::Span;
-use crate::session::Session;
-use crate::stored::Stored;
+use crate::session::{Session, Stored};
 use envimg_core::Choice;
 use envvars_core::{Memory, Vars};
+
+/// Why an undo is refused.
+#[derive(Clone, Copy, Debug, PartialEq, Eq)]
+pub enum UndoFault {
+    /// No such mark stands.
+    Gone,
+    /// Memory ran out.
+    Memory,
+}
 
 impl Session {
     /// Brings back the state when a mark was made; 0 is the start. The marks above it are gone.

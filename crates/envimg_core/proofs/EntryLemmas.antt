@@ -1,6 +1,6 @@
 -- A data area cut at its first 0, and what its front is worth.
 use Rattle.std.proofs.Common.{◌≡◌, ℕ, zero, suc, ◌+◌, ◌-◌, ◌<◌, ◌≤◌, Bool, true, false, not, cond, List, [], ◌∷◌, map, filter, length, get_or, take, drop, Option, Some, None, refl, sym, ap, ◌∙◌, subst, arith, length-drop}
-use Rattle.std.specs.Prelude.{◌&&◌, ◌||◌}
+use Rattle.std.specs.Prelude.{◌&&◌, ◌||◌, nat_eq}
 use Rattle.std.specs.List.{slice_split, position_or_len, before_first, after_first, onto_first, list_any, take_while}
 use Rattle.std.proofs.lemmas.List.Sums.{position_or_len_is, take_while-cons}
 use Rattle.std.proofs.lemmas.List.Splits.{slice_split_first, slice_split_none, slice_split-cons_yes, slice_split-cons_no}
@@ -10,7 +10,10 @@ use Rattle.memchr.specs.Find.{IsFirstByte}
 use Rattle.envimg_core.specs.Environment.{is_zero, is_equals, is_empty}
 use Rattle.envimg_core.specs.Pieces.{but_last, ended_pieces, is_terminated, Entry, entry_of, value_of, has_name, entries_of}
 use Rattle.envimg_core.specs.Steps.{YieldsEntry}
-use Rattle.envimg_core.proofs.Facts.{not_true}
+use Rattle.std.proofs.lemmas.Bool.{eqb-true, false≢true}
+use Rattle.std.proofs.Math.Bool.{or-true}
+use Rattle.std.specs.Cmp.Lexicographic.{pointwise}
+use Rattle.envimg_core.proofs.Facts.{left_true, right_true, not_true}
 
 -- where the first byte that passes stands
 pub found : (p : ℕ → Bool) (xs : List ℕ) (k : ℕ) → IsFirstByte p xs (Some k) → position_or_len p xs ≡ k
@@ -180,3 +183,19 @@ ended_init (x ∷ xs) h = one (is_zero x)
 
 pub ended_whole : (xs : List ℕ) (i : ℕ) (b : Bool) → length xs ≤ i → b ≡ (zero_first xs || two_zeros (take i xs)) → b ≡ is_terminated xs
 ended_whole xs i b h e = e ∙ ap (λ ys. zero_first xs || two_zeros ys) (take_all i xs h) ∙ sym ((terminated_by xs).0)
+
+-- the last two bytes are zeros
+two_zeros_last : (xs : List ℕ) → pointwise nat_eq (0 ∷ 0 ∷ []) (drop (length xs - 2) xs) ≡ true → two_zeros xs ≡ true
+two_zeros_last [] h = absurd (false≢true h)
+two_zeros_last (x ∷ []) h = absurd (false≢true (right_true (nat_eq 0 x) false h))
+two_zeros_last (x ∷ y ∷ []) h =
+    let a : 0 ≡ x = eqb-true 0 x (left_true (nat_eq 0 x) (nat_eq 0 y && true) h) in
+    let b : 0 ≡ y = eqb-true 0 y (left_true (nat_eq 0 y) true (right_true (nat_eq 0 x) (nat_eq 0 y && true) h)) in
+    subst (λ (z : ℕ). two_zeros (z ∷ y ∷ []) ≡ true) a (subst (λ (z : ℕ). two_zeros (0 ∷ z ∷ []) ≡ true) b refl)
+two_zeros_last (x ∷ y ∷ z ∷ zs) h =
+    let e : length (x ∷ y ∷ z ∷ zs) - 2 ≡ suc (length (y ∷ z ∷ zs) - 2) = omega arith in
+    let below : two_zeros (y ∷ z ∷ zs) ≡ true = two_zeros_last (y ∷ z ∷ zs) (subst (λ (n : ℕ). pointwise nat_eq (0 ∷ 0 ∷ []) (drop n (x ∷ y ∷ z ∷ zs)) ≡ true) e h) in
+    ap (λ t. (is_zero x && is_zero y) || t) below ∙ or-true (is_zero x && is_zero y)
+
+pub ended_at_end : (xs : List ℕ) → pointwise nat_eq (0 ∷ 0 ∷ []) (drop (length xs - 2) xs) ≡ true → true ≡ is_terminated xs
+ended_at_end xs h = sym ((terminated_by xs).0 ∙ ap (λ t. zero_first xs || t) (two_zeros_last xs h) ∙ or-true (zero_first xs))

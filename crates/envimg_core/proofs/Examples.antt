@@ -7,7 +7,7 @@ use Rattle.envimg_core.specs.Image.{image_with, stored_pairs}
 use Rattle.envimg_core.specs.Pieces.{entries_of}
 use Rattle.envimg_core.specs.State.{state_of, choice_of}
 use Rattle.envimg_core.specs.declared.geometry.Layout.TheVariants.{Single, Redundant}
-use Rattle.envimg_core.specs.declared.order.Order.TheVariants.{Little, Big}
+use Rattle.envimg_core.specs.declared.geometry.Order.TheVariants.{Little, Big}
 use Rattle.envimg_core.specs.declared.state.CopyState.TheVariants.{Good, BadLength, BadCrc, Unterminated}
 use Rattle.envimg_core.specs.declared.choice.Choice.TheVariants.{Second}
 

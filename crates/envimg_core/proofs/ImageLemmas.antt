@@ -27,8 +27,8 @@ use Rattle.envimg_core.specs.Pieces.{but_last, ended_pieces, is_terminated, Entr
 use Rattle.envimg_core.specs.State.{state_of, flag_of}
 use Rattle.envimg_core.specs.declared.geometry.Layout.{Layout}
 use Rattle.envimg_core.specs.declared.geometry.Layout.TheVariants.{Single, Redundant}
-use Rattle.envimg_core.specs.declared.order.Order.{Order}
-use Rattle.envimg_core.specs.declared.order.Order.TheVariants.{Little, Big}
+use Rattle.envimg_core.specs.declared.geometry.Order.{Order}
+use Rattle.envimg_core.specs.declared.geometry.Order.TheVariants.{Little, Big}
 use Rattle.envimg_core.specs.declared.state.CopyState.{CopyState}
 use Rattle.envimg_core.specs.declared.state.CopyState.TheVariants.{Good, BadLength, BadCrc, Unterminated}
 use Rattle.envimg_core.proofs.EntryLemmas.{split_cons}

@@ -3,7 +3,6 @@ pub mod EntryLemmas
 mod Examples
 pub mod Facts
 mod FitLemmas
-mod HalfLemmas
 pub mod ImageLemmas
 mod LawLemmas
 mod TableLemmas

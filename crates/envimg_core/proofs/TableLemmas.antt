@@ -1,13 +1,12 @@
 -- The register is linear, so each byte's part of it can be taken from a table.
-use Rattle.std.proofs.Common.{◌≡◌, ℕ, zero, suc, ◌+◌, ◌-◌, ◌*◌, ◌/◌, ◌%◌, ◌^◌, ◌<◌, ◌≤◌, ◌++◌, Bool, true, false, cond, List, [], ◌∷◌, map, length, get_or, drop, bit_xor, refl, sym, ap, ◌∙◌, subst, arith, length-append, drop-cons, take, length-drop}
-use Rattle.std.specs.Int.{byte_at, bytes_low_first}
-use Rattle.byteorder.specs.Endian.{little_from}
-use Rattle.std.proofs.Math.Nat.{pow-succ', div-div-eq-div-mul}
-use Rattle.std.proofs.lemmas.List.{take_all, get_or-drop}
-use Rattle.std.proofs.lemmas.List.{drop_all}
+use Rattle.std.proofs.Common.{◌≡◌, ℕ, zero, suc, ◌+◌, ◌-◌, ◌*◌, ◌/◌, ◌%◌, ◌^◌, ◌<◌, ◌≤◌, ◌++◌, Bool, true, false, cond, List, [], ◌∷◌, map, length, get_or, take, drop, bit_xor, refl, sym, ap, ◌∙◌, subst, arith, length-append, drop-cons}
 use Rattle.std.specs.Prelude.{◌==◌}
+use Rattle.std.specs.Int.{bytes_low_first}
 use Rattle.std.specs.Int.Bits.{xor_zero_r, xor_assoc}
-use Rattle.std.proofs.lemmas.Nat.{xor_shr, xor_mod, xor_comm, xor_block, mod_below}
+use Rattle.std.proofs.lemmas.List.{drop_all, take-append-drop}
+use Rattle.std.proofs.lemmas.Nat.{xor_shr, xor_mod, xor_comm, xor_block, xor_lt, mod_below}
+use Rattle.byteorder.specs.Endian.{little_from}
+use Rattle.byteorder.specs.Numbers.{little_from-lt}
 use Rattle.envimg_core.specs.Checksum.{xor}
 use Rattle.envimg_core.specs.Register.{step, steps, advance, feed, mixed}
 use Rattle.envimg_core.proofs.ChecksumLemmas.{low_xor}
@@ -85,11 +84,11 @@ abbrev first_table : ℕ → ℕ → List ℕ
 first_table i zero = []
 first_table i (suc n) = steps 8 i ∷ first_table (i + 1) n
 
-abbrev pub made : ℕ → List ℕ → List (List ℕ)
+abbrev made : ℕ → List ℕ → List (List ℕ)
 made zero row = []
 made (suc n) row = row ∷ made n (map (steps 8) row)
 
-tables_made : TABLES ≡ made 16 (first_table 0 256)
+tables_made : TABLES ≡ made 8 (first_table 0 256)
 unfolding step steps
 tables_made = refl
 
@@ -107,7 +106,7 @@ length-map-steps : (row : List ℕ) → length (map (steps 8) row) ≡ length ro
 length-map-steps [] = refl
 length-map-steps (x ∷ row) = ap suc (length-map-steps row)
 
-pub get-made : (n k i : ℕ) (row : List ℕ) → k < n → i < length row → get_or (get_or (made n row) k []) i 0 ≡ advance k (get_or row i 0)
+get-made : (n k i : ℕ) (row : List ℕ) → k < n → i < length row → get_or (get_or (made n row) k []) i 0 ≡ advance k (get_or row i 0)
 unfolding advance
 get-made zero k i row h l = absurd (omega arith)
 get-made (suc n) zero i row h l = refl
@@ -119,23 +118,27 @@ length-first_table : (i n : ℕ) → length (first_table i n) ≡ n
 length-first_table i zero = refl
 length-first_table i (suc n) = ap suc (length-first_table (i + 1) n)
 
-pub table_entry : (k b : ℕ) → k < 16 → b < 256 → get_or (get_or TABLES k []) b 0 ≡ advance (k + 1) b
+pub table_entry : (k b : ℕ) → k < 8 → b < 256 → get_or (get_or TABLES k []) b 0 ≡ advance (k + 1) b
 unfolding advance
 table_entry k b h l =
     ap (λ ts. get_or (get_or ts k []) b 0) tables_made
-    ∙ get-made 16 k b (first_table 0 256) h (omega (arith, length-first_table 0 256))
+    ∙ get-made 8 k b (first_table 0 256) h (omega (arith, length-first_table 0 256))
     ∙ ap (advance k) (get-first_table 0 256 b l ∙ ap (steps 8) (let e : 0 + b ≡ b = omega arith in e))
     ∙ (let e : suc k ≡ k + 1 = omega arith in ap (λ (n : ℕ). advance n b) e)
 
 -- ---- many bytes
 
-pub feed-append : (xs ys : List ℕ) (r : ℕ) → feed r (xs ++ ys) ≡ feed (feed r xs) ys
+feed-append : (xs ys : List ℕ) (r : ℕ) → feed r (xs ++ ys) ≡ feed (feed r xs) ys
 unfolding feed
 feed-append [] ys r = refl
 feed-append (x ∷ xs) ys r = feed-append xs ys (steps 8 (bit_xor r x))
 
+-- bytes that go by in two parts
+pub fed_on : (n r : ℕ) (xs : List ℕ) → feed (feed r (take n xs)) (drop n xs) ≡ feed r xs
+fed_on n r xs = sym (feed-append (take n xs) (drop n xs) r) ∙ ap (feed r) (take-append-drop n xs)
+
 -- the register's own part, and that of the bytes
-pub feed-split : (bs : List ℕ) (r : ℕ) → feed r bs ≡ bit_xor (advance (length bs) r) (mixed 0 bs)
+feed-split : (bs : List ℕ) (r : ℕ) → feed r bs ≡ bit_xor (advance (length bs) r) (mixed 0 bs)
 unfolding feed advance
 feed-split [] r = sym (xor_zero_r r)
 feed-split (b ∷ bs) r =
@@ -151,20 +154,7 @@ mixed-append n (x ∷ xs) ys =
     ∙ ap (bit_xor (advance (suc (length xs) + (length ys + n)) x)) (mixed-append n xs ys)
     ∙ sym (xor_assoc (advance (suc (length xs) + (length ys + n)) x) (mixed (length ys + n) xs) (mixed n ys))
 
-four_xor : (n a b c d p q r s : ℕ) → mixed n (bit_xor a p ∷ bit_xor b q ∷ bit_xor c r ∷ bit_xor d s ∷ []) ≡ bit_xor (mixed n (p ∷ q ∷ r ∷ s ∷ [])) (mixed n (a ∷ b ∷ c ∷ d ∷ []))
-four_xor n a b c d p q r s =
-    one 3 a p (mixed n (b ∷ c ∷ d ∷ [])) (mixed n (q ∷ r ∷ s ∷ [])) (mixed n (bit_xor b q ∷ bit_xor c r ∷ bit_xor d s ∷ []))
-    (one 2 b q (mixed n (c ∷ d ∷ [])) (mixed n (r ∷ s ∷ [])) (mixed n (bit_xor c r ∷ bit_xor d s ∷ []))
-    (one 1 c r (mixed n (d ∷ [])) (mixed n (s ∷ [])) (mixed n (bit_xor d s ∷ []))
-    (one 0 d s 0 0 0 refl)))
-  where
-    one : (k x y u v w : ℕ) → w ≡ bit_xor v u → bit_xor (advance (suc k + n) (bit_xor x y)) w ≡ bit_xor (bit_xor (advance (suc k + n) y) v) (bit_xor (advance (suc k + n) x) u)
-    one k x y u v w e =
-        ap (λ (z : ℕ). bit_xor z w) (advance_xor (suc k + n) x y ∙ xor_comm (advance (suc k + n) x) (advance (suc k + n) y))
-        ∙ ap (bit_xor (bit_xor (advance (suc k + n) y) (advance (suc k + n) x))) e
-        ∙ swap_middle (advance (suc k + n) y) (advance (suc k + n) x) v u
-
-pub advance-nothing : (n : ℕ) → advance n 0 ≡ 0
+advance-nothing : (n : ℕ) → advance n 0 ≡ 0
 unfolding advance steps step
 advance-nothing zero = refl
 advance-nothing (suc n) = advance-nothing n
@@ -173,7 +163,7 @@ advance-nothing (suc n) = advance-nothing n
 low_of : (m n x : ℕ) → m ≡ suc n → advance m x ≡ bit_xor (advance m (x % 256)) (advance n (x / 256))
 low_of m n x e = subst (λ k. advance k x ≡ bit_xor (advance k (x % 256)) (advance n (x / 256))) (sym e) (advance-low n x)
 
-pub four_bytes : (n r : ℕ) → r < 2 ^ 32 → advance (4 + n) r ≡ mixed n (r % 256 ∷ r / 256 % 256 ∷ r / 65536 % 256 ∷ r / 16777216 % 256 ∷ [])
+four_bytes : (n r : ℕ) → r < 2 ^ 32 → advance (4 + n) r ≡ mixed n (r % 256 ∷ r / 256 % 256 ∷ r / 65536 % 256 ∷ r / 16777216 % 256 ∷ [])
 four_bytes n r h =
     low_of (4 + n) (3 + n) r (omega arith) ∙ ap (bit_xor (advance (4 + n) (r % 256)))
     (low_of (3 + n) (2 + n) (r / 256) (omega arith) ∙ ap (bit_xor (advance (3 + n) (r / 256 % 256)))
@@ -190,31 +180,31 @@ drop-gets xs i zero e = drop_all i xs (omega arith)
 drop-gets xs i (suc n) e =
     drop-cons xs i 0 (omega arith) ∙ ap (λ (m : ℕ). get_or xs i 0 ∷ drop m xs) (let k : suc i ≡ i + 1 = omega arith in k) ∙ ap (λ ys. get_or xs i 0 ∷ ys) (drop-gets xs (i + 1) n (omega arith))
 
-block_fed : (r : ℕ) (xs rs : List ℕ) → r < 2 ^ 32 → length xs ≡ 16 → rs ≡ r % 256 ∷ r / 256 % 256 ∷ r / 65536 % 256 ∷ r / 16777216 % 256 ∷ [] →
-    bit_xor (bit_xor (bit_xor
-    (mixed 12 (bit_xor (get_or xs 0 0) (get_or rs 0 0) ∷ bit_xor (get_or xs 1 0) (get_or rs 1 0) ∷ bit_xor (get_or xs 2 0) (get_or rs 2 0) ∷ bit_xor (get_or xs 3 0) (get_or rs 3 0) ∷ []))
-    (mixed 8 (get_or xs 4 0 ∷ get_or xs 5 0 ∷ get_or xs 6 0 ∷ get_or xs 7 0 ∷ [])))
-    (mixed 4 (get_or xs 8 0 ∷ get_or xs 9 0 ∷ get_or xs 10 0 ∷ get_or xs 11 0 ∷ [])))
-    (mixed 0 (get_or xs 12 0 ∷ get_or xs 13 0 ∷ get_or xs 14 0 ∷ get_or xs 15 0 ∷ []))
-    ≡ feed r xs
-block_fed r xs rs h l e =
-    let a : List ℕ = gets xs 0 4 in
-    let b : List ℕ = gets xs 4 4 in
-    let c : List ℕ = gets xs 8 4 in
-    let d : List ℕ = gets xs 12 4 in
-    let cut : xs ≡ a ++ (b ++ (c ++ d)) = drop-gets xs 0 16 l in
-    let whole : feed r xs ≡ bit_xor (mixed 12 (r % 256 ∷ r / 256 % 256 ∷ r / 65536 % 256 ∷ r / 16777216 % 256 ∷ [])) (mixed 0 (a ++ (b ++ (c ++ d)))) =
-    feed-split xs r ∙ ap (λ (n : ℕ). bit_xor (advance n r) (mixed 0 xs)) l ∙ ap (λ (n : ℕ). bit_xor n (mixed 0 xs)) (four_bytes 12 r h) ∙ ap (λ ys. bit_xor (mixed 12 (r % 256 ∷ r / 256 % 256 ∷ r / 65536 % 256 ∷ r / 16777216 % 256 ∷ [])) (mixed 0 ys)) cut in
-    let parts : mixed 0 (a ++ (b ++ (c ++ d))) ≡ bit_xor (mixed 12 a) (bit_xor (mixed 8 b) (bit_xor (mixed 4 c) (mixed 0 d))) =
-    mixed-append 0 a (b ++ (c ++ d)) ∙ ap (bit_xor (mixed 12 a)) (mixed-append 0 b (c ++ d) ∙ ap (bit_xor (mixed 8 b)) (mixed-append 0 c d)) in
-    subst (λ ys. bit_xor (bit_xor (bit_xor (mixed 12 (bit_xor (get_or xs 0 0) (get_or ys 0 0) ∷ bit_xor (get_or xs 1 0) (get_or ys 1 0) ∷ bit_xor (get_or xs 2 0) (get_or ys 2 0) ∷ bit_xor (get_or xs 3 0) (get_or ys 3 0) ∷ [])) (mixed 8 b)) (mixed 4 c)) (mixed 0 d) ≡ feed r xs) (sym e)
-    (ap (λ (m : ℕ). bit_xor (bit_xor (bit_xor m (mixed 8 b)) (mixed 4 c)) (mixed 0 d)) (four_xor 12 (get_or xs 0 0) (get_or xs 1 0) (get_or xs 2 0) (get_or xs 3 0) (r % 256) (r / 256 % 256) (r / 65536 % 256) (r / 16777216 % 256))
-    ∙ grouped (mixed 12 (r % 256 ∷ r / 256 % 256 ∷ r / 65536 % 256 ∷ r / 16777216 % 256 ∷ [])) (mixed 12 a) (mixed 8 b) (mixed 4 c) (mixed 0 d)
-    ∙ ap (bit_xor (mixed 12 (r % 256 ∷ r / 256 % 256 ∷ r / 65536 % 256 ∷ r / 16777216 % 256 ∷ []))) (sym parts)
-    ∙ sym whole)
-  where
-    grouped : (u v w x y : ℕ) → bit_xor (bit_xor (bit_xor (bit_xor u v) w) x) y ≡ bit_xor u (bit_xor v (bit_xor w (bit_xor x y)))
-    grouped u v w x y = simp xor_assoc
+-- the number in the first four bytes, and its bytes again
+word_bytes : (xs : List ℕ) → ((j : ℕ) → get_or xs j 0 < 2 ^ 8) → (w : ℕ) → w ≡ little_from 0 4 xs →
+    (w % 256 ∷ w / 256 % 256 ∷ w / 65536 % 256 ∷ w / 16777216 % 256 ∷ []) ≡ gets xs 0 4
+word_bytes xs small w e =
+    let a : w % 256 ≡ get_or xs 0 0 = omega (arith, e, small 0, small 1, small 2, small 3) in
+    let b : w / 256 % 256 ≡ get_or xs 1 0 = omega (arith, e, small 0, small 1, small 2, small 3) in
+    let c : w / 65536 % 256 ≡ get_or xs 2 0 = omega (arith, e, small 0, small 1, small 2, small 3) in
+    let d : w / 16777216 % 256 ≡ get_or xs 3 0 = omega (arith, e, small 0, small 1, small 2, small 3) in
+    λ j. a j ∷ b j ∷ c j ∷ d j ∷ []
+
+-- a block, as its last four bytes and its first four mixed with the register
+pub block_fed : (r w : ℕ) (xs ys : List ℕ) → r < 2 ^ 32 → ((j : ℕ) → get_or xs j 0 < 2 ^ 8) → length xs ≡ 8 → w ≡ little_from 0 4 xs → ys ≡ bytes_low_first 0 4 (bit_xor r w) →
+    bit_xor (mixed 0 (gets xs 4 4)) (mixed 4 ys) ≡ feed r xs
+block_fed r w xs ys h small l e f =
+    let last : ℕ = mixed 0 (gets xs 4 4) in
+    let low : w < 2 ^ 32 = subst (λ v. v < 2 ^ 32) (sym e) (little_from-lt 0 4 xs small) in
+    let word : advance 8 w ≡ mixed 4 (gets xs 0 4) = four_bytes 4 w low ∙ ap (mixed 4) (word_bytes xs small w e) in
+    let first : mixed 4 ys ≡ bit_xor (advance 8 r) (mixed 4 (gets xs 0 4)) =
+    ap (mixed 4) f ∙ sym (four_bytes 4 (bit_xor r w) (xor_lt 32 r w h low)) ∙ advance_xor 8 r w ∙ ap (bit_xor (advance 8 r)) word in
+    xor_comm last (mixed 4 ys)
+    ∙ ap (λ (m : ℕ). bit_xor m last) first
+    ∙ xor_assoc (advance 8 r) (mixed 4 (gets xs 0 4)) last
+    ∙ ap (bit_xor (advance 8 r)) (sym (ap (mixed 0) (drop-gets xs 0 8 l) ∙ mixed-append 0 (gets xs 0 4) (gets xs 4 4)))
+    ∙ ap (λ (n : ℕ). bit_xor (advance n r) (mixed 0 xs)) (sym l)
+    ∙ sym (feed-split xs r)
 
 pub byte_fed : (r b : ℕ) → b < 256 → bit_xor (advance 1 (bit_xor (r % 256) b)) (r / 256) ≡ steps 8 (bit_xor r b)
 unfolding advance
@@ -240,70 +230,3 @@ steps_next k r h = ap (λ (n : ℕ). steps n r) (let e : 8 - k ≡ suc (8 - (k +
 pub steps_done : (k r : ℕ) → 8 ≤ k → steps (8 - k) r ≡ r
 unfolding steps
 steps_done k r h = ap (λ (n : ℕ). steps n r) (let e : 8 - k ≡ 0 = omega arith in e)
-
--- ---- eight bytes as one number and back
-
-byte_behind : (i x m : ℕ) → x < 256 → byte_at (suc i) (x + 256 * m) ≡ byte_at i m
-byte_behind zero x m h = ap (λ (n : ℕ). n % 256) (let e : (x + 256 * m) / 256 ≡ m = omega arith in e)
-byte_behind (suc i) x m h =
-    ap (λ (n : ℕ). (x + 256 * m) / n % 256) (pow-succ' 256 (suc i))
-    ∙ ap (λ (n : ℕ). n % 256) (sym (div-div-eq-div-mul (x + 256 * m) 256 (256 ^ suc i)) ∙ ap (λ (n : ℕ). n / 256 ^ suc i) (let e : (x + 256 * m) / 256 ≡ m = omega arith in e))
-
-bytes_behind : (i k x m : ℕ) → x < 256 → bytes_low_first (suc i) k (x + 256 * m) ≡ bytes_low_first i k m
-bytes_behind i zero x m h = refl
-bytes_behind i (suc k) x m h = λ j. byte_behind i x m h j ∷ bytes_behind (suc i) k x m h j
-
--- the bytes of the number that bytes make are those bytes
-bytes_again : (k i : ℕ) (xs : List ℕ) → ((j : ℕ) → get_or xs j 0 < 2 ^ 8) → bytes_low_first 0 k (little_from i k xs) ≡ gets xs i k
-bytes_again zero i xs small = refl
-bytes_again (suc k) i xs small =
-    let low : get_or xs i 0 < 256 = small i in
-    let first : (get_or xs i 0 + 256 * little_from (suc i) k xs) % 256 ≡ get_or xs i 0 = omega arith in
-    let rest : bytes_low_first 1 k (get_or xs i 0 + 256 * little_from (suc i) k xs) ≡ gets xs (i + 1) k =
-    bytes_behind 0 k (get_or xs i 0) (little_from (suc i) k xs) low ∙ bytes_again k (suc i) xs small ∙ ap (λ (n : ℕ). gets xs n k) (let e : suc i ≡ i + 1 = omega arith in e) in
-    λ j. first j ∷ rest j
-
-number_dropped : (n i k : ℕ) (xs : List ℕ) → little_from i k (drop n xs) ≡ little_from (n + i) k xs
-number_dropped n i zero xs = refl
-number_dropped n i (suc k) xs =
-    ap (λ (x : ℕ). x + 256 * little_from (suc i) k (drop n xs)) (get_or-drop n xs i 0)
-    ∙ ap (λ (m : ℕ). get_or xs (n + i) 0 + 256 * m) (number_dropped n (suc i) k xs ∙ ap (λ (j : ℕ). little_from j k xs) (let e : n + suc i ≡ suc (n + i) = omega arith in e))
-
-pub front_word : (xs ws : List ℕ) (w : ℕ) → ((j : ℕ) → get_or xs j 0 < 2 ^ 8) → w ≡ little_from 0 8 xs → ws ≡ bytes_low_first 0 8 w → ws ≡ gets xs 0 8
-front_word xs ws w small e f = f ∙ ap (bytes_low_first 0 8) e ∙ bytes_again 8 0 xs small
-
-pub back_word : (xs ws : List ℕ) (w : ℕ) → ((j : ℕ) → get_or xs j 0 < 2 ^ 8) → w ≡ little_from 0 8 (take (length xs - 8) (drop 8 xs)) → ws ≡ bytes_low_first 0 8 w → ws ≡ gets xs 8 8
-back_word xs ws w small e f =
-    f ∙ ap (bytes_low_first 0 8) (e ∙ ap (little_from 0 8) (take_all (length xs - 8) (drop 8 xs) (omega (arith, length-drop 8 xs))) ∙ number_dropped 8 0 8 xs) ∙ bytes_again 8 8 xs small
-
-turned : (a b c d : ℕ) → bit_xor (bit_xor (bit_xor d c) b) a ≡ bit_xor (bit_xor (bit_xor a b) c) d
-turned a b c d =
-    xor_comm (bit_xor (bit_xor d c) b) a
-    ∙ ap (bit_xor a) (xor_comm (bit_xor d c) b ∙ ap (bit_xor b) (xor_comm d c))
-    ∙ sym (xor_assoc a b (bit_xor c d))
-    ∙ sym (xor_assoc (bit_xor a b) c d)
-
-pub words_fed : (r : ℕ) (xs rs fs bs : List ℕ) → r < 2 ^ 32 → length xs ≡ 16 → rs ≡ r % 256 ∷ r / 256 % 256 ∷ r / 65536 % 256 ∷ r / 16777216 % 256 ∷ [] → fs ≡ gets xs 0 8 → bs ≡ gets xs 8 8 →
-    bit_xor (bit_xor (bit_xor
-    (mixed 0 (get_or bs 4 0 ∷ get_or bs 5 0 ∷ get_or bs 6 0 ∷ get_or bs 7 0 ∷ []))
-    (mixed 4 (get_or bs 0 0 ∷ get_or bs 1 0 ∷ get_or bs 2 0 ∷ get_or bs 3 0 ∷ [])))
-    (mixed 8 (get_or fs 4 0 ∷ get_or fs 5 0 ∷ get_or fs 6 0 ∷ get_or fs 7 0 ∷ [])))
-    (mixed 12 (bit_xor (get_or fs 0 0) (get_or rs 0 0) ∷ bit_xor (get_or fs 1 0) (get_or rs 1 0) ∷ bit_xor (get_or fs 2 0) (get_or rs 2 0) ∷ bit_xor (get_or fs 3 0) (get_or rs 3 0) ∷ []))
-    ≡ feed r xs
-words_fed r xs rs fs bs h l e f b =
-    turned
-    (mixed 12 (bit_xor (get_or fs 0 0) (get_or rs 0 0) ∷ bit_xor (get_or fs 1 0) (get_or rs 1 0) ∷ bit_xor (get_or fs 2 0) (get_or rs 2 0) ∷ bit_xor (get_or fs 3 0) (get_or rs 3 0) ∷ []))
-    (mixed 8 (get_or fs 4 0 ∷ get_or fs 5 0 ∷ get_or fs 6 0 ∷ get_or fs 7 0 ∷ []))
-    (mixed 4 (get_or bs 0 0 ∷ get_or bs 1 0 ∷ get_or bs 2 0 ∷ get_or bs 3 0 ∷ []))
-    (mixed 0 (get_or bs 4 0 ∷ get_or bs 5 0 ∷ get_or bs 6 0 ∷ get_or bs 7 0 ∷ []))
-    ∙ ap (λ ys. bit_xor (bit_xor (bit_xor
-    (mixed 12 (bit_xor (get_or ys 0 0) (get_or rs 0 0) ∷ bit_xor (get_or ys 1 0) (get_or rs 1 0) ∷ bit_xor (get_or ys 2 0) (get_or rs 2 0) ∷ bit_xor (get_or ys 3 0) (get_or rs 3 0) ∷ []))
-    (mixed 8 (get_or ys 4 0 ∷ get_or ys 5 0 ∷ get_or ys 6 0 ∷ get_or ys 7 0 ∷ [])))
-    (mixed 4 (get_or bs 0 0 ∷ get_or bs 1 0 ∷ get_or bs 2 0 ∷ get_or bs 3 0 ∷ [])))
-    (mixed 0 (get_or bs 4 0 ∷ get_or bs 5 0 ∷ get_or bs 6 0 ∷ get_or bs 7 0 ∷ []))) f
-    ∙ ap (λ ys. bit_xor (bit_xor (bit_xor
-    (mixed 12 (bit_xor (get_or xs 0 0) (get_or rs 0 0) ∷ bit_xor (get_or xs 1 0) (get_or rs 1 0) ∷ bit_xor (get_or xs 2 0) (get_or rs 2 0) ∷ bit_xor (get_or xs 3 0) (get_or rs 3 0) ∷ []))
-    (mixed 8 (get_or xs 4 0 ∷ get_or xs 5 0 ∷ get_or xs 6 0 ∷ get_or xs 7 0 ∷ [])))
-    (mixed 4 (get_or ys 0 0 ∷ get_or ys 1 0 ∷ get_or ys 2 0 ∷ get_or ys 3 0 ∷ [])))
-    (mixed 0 (get_or ys 4 0 ∷ get_or ys 5 0 ∷ get_or ys 6 0 ∷ get_or ys 7 0 ∷ []))) b
-    ∙ block_fed r xs rs h l e

@@ -4,7 +4,7 @@ use Rattle.std.proofs.lemmas.List.{drop-append-le, drop-set, drop-set-lt, drop-t
 use Rattle.std.proofs.Math.Seq.{take-append_seam, drop-append-add}
 use Rattle.envimg_core.specs.Geometry.{Shape, head}
 use Rattle.envimg_core.specs.declared.geometry.Layout.{Layout}
-use Rattle.envimg_core.specs.declared.order.Order.{Order}
+use Rattle.envimg_core.specs.declared.geometry.Order.{Order}
 use Rattle.envimg_core.specs.Steps.{spliced}
 use Rattle.envimg_core.specs.Image.{stored_pair, framed, filled_area, image_with}
 

@@ -3,7 +3,7 @@ use Rattle.std.specs.Prelude.{ℕ, ◌+◌, ◌-◌, ◌≤◌, List, drop}
 use Rattle.envimg_core.specs.Bytes.{checksum_size, flag_size, least_room, greatest_size}
 use Rattle.envimg_core.specs.declared.geometry.Layout.{Layout}
 use Rattle.envimg_core.specs.declared.geometry.Layout.TheVariants.{Single, Redundant}
-use Rattle.envimg_core.specs.declared.order.Order.{Order}
+use Rattle.envimg_core.specs.declared.geometry.Order.{Order}
 
 -- the bytes before the data area: the checksum, and the flag of a redundant copy
 abbrev pub head : Layout → ℕ

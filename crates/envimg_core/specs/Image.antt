@@ -9,7 +9,7 @@ use Rattle.envimg_core.specs.Geometry.{Shape, room_of}
 use Rattle.envimg_core.specs.Order.{checksum_bytes}
 use Rattle.envimg_core.specs.declared.geometry.Layout.{Layout}
 use Rattle.envimg_core.specs.declared.geometry.Layout.TheVariants.{Single, Redundant}
-use Rattle.envimg_core.specs.declared.order.Order.{Order}
+use Rattle.envimg_core.specs.declared.geometry.Order.{Order}
 
 -- an entry as it is stored: name, '=', value, and the 0 that ends it
 abbrev pub stored_pair : Pair → List ℕ

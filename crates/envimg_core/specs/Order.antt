@@ -2,8 +2,8 @@
 use Rattle.std.specs.Prelude.{ℕ, List}
 use Rattle.byteorder.specs.Endian.{little_number, big_number, little_bytes, big_bytes}
 use Rattle.envimg_core.specs.Bytes.{checksum_size}
-use Rattle.envimg_core.specs.declared.order.Order.{Order}
-use Rattle.envimg_core.specs.declared.order.Order.TheVariants.{Little, Big}
+use Rattle.envimg_core.specs.declared.geometry.Order.{Order}
+use Rattle.envimg_core.specs.declared.geometry.Order.TheVariants.{Little, Big}
 
 -- the checksum at the front of a copy
 abbrev pub stored_checksum : Order → List ℕ → ℕ

@@ -1,20 +1,15 @@
 //! The checksum over a data area.
-ghost use Rattle.std.specs.Prelude.{◌≡◌, bit_xor, ◌+◌, ◌*◌, ◌<◌, ◌≤◌, [], ◌∷◌, length};
+ghost use Rattle.std.specs.Prelude.{◌≡◌, bit_xor, ◌+◌, ◌<◌, ◌≤◌, [], ◌∷◌, length};
 ghost use Rattle.envimg_core.specs.Checksum.{checksum};
 ghost use Rattle.envimg_core.specs.Register.{step, steps, advance, feed, mixed};
 
-mod far_tables;
 mod tables;
 
 use byteorder::{ByteOrder, LittleEndian};
-use far_tables::FAR_TABLES;
 use tables::TABLES;
 
 /// How many bytes the register takes in one go.
-const BLOCK: usize = 16;
-
-/// How many bytes one of two registers takes that go side by side.
-const HALF: usize = 256;
+const BLOCK: usize = 8;
 
 /// The register before the first byte, and what its bits are inverted with behind the last.
 const ALL_ONES: u32 = 0xFFFF_FFFF;
@@ -27,12 +22,12 @@ pub fn crc32(bytes: &[u8]) -> u32
 {
     let mut register = ALL_ONES;
     let mut rest = bytes;
-    while rest.len() >= 2 * HALF {
-        let (halves, behind) = rest.split_at(2 * HALF);
-        register = feed_halves(register, halves);
+    while rest.len() >= BLOCK {
+        let (block, behind) = rest.split_at(BLOCK);
+        register = feed_block(register, block);
         rest = behind;
     }
-    feed_blocks(register, rest) ^ ALL_ONES
+    feed_bytes(register, rest) ^ ALL_ONES
 }
 
 /// The same checksum, bit by bit: the plain program, beside which tests and measurements put [`crc32`].
@@ -87,79 +82,22 @@ fn feed_byte(register: u32, byte: u8) -> u32
     advanced(0, low ^ byte) ^ (register >> 8)
 }
 
-/// Two halves go by side by side, since a register waits for its last block, but not for that of another.
+/// Eight bytes go by: each byte's part comes from the table for the bytes after it.
 ///
-/// The second half goes into an empty register; the first one's is moved on by as many bytes of zeros.
-fn feed_halves(register: u32, halves: &[u8]) -> u32
-    requires { length halves.now ≡ 2 * HALF }
-    ensures { result ≡ feed register halves.now }
-{
-    let (front, back) = halves.split_at(HALF);
-    let mut first = register;
-    let mut second = 0;
-    for i in 0..HALF / BLOCK {
-        let at = i * BLOCK;
-        first = feed_block(first, &front[at..at + BLOCK]);
-        second = feed_block(second, &back[at..at + BLOCK]);
-    }
-    moved_on(first) ^ second
-}
-
-/// What a register is once as many bytes of zeros as a half has have gone by.
-fn moved_on(register: u32) -> u32
-    ensures { result ≡ advance HALF register }
-{
-    let [a, b, c, d] = register.to_le_bytes();
-    advanced_far(3, a) ^ advanced_far(2, b) ^ advanced_far(1, c) ^ advanced_far(0, d)
-}
-
-/// What one byte leaves in an empty register once 252 + `more` bytes of zeros have gone by.
-#[inline(always)]
-fn advanced_far(more: usize, byte: u8) -> u32
-    requires { more < 4 }
-    ensures { result ≡ advance (253 + more) byte }
-{
-    FAR_TABLES[more][usize::from(byte)]
-}
-
-/// Bytes go by, sixteen in one go as long as there are so many.
-fn feed_blocks(register: u32, bytes: &[u8]) -> u32
-    ensures { result ≡ feed register bytes.now }
-{
-    let mut turned = register;
-    let mut rest = bytes;
-    while rest.len() >= BLOCK {
-        let (block, behind) = rest.split_at(BLOCK);
-        turned = feed_block(turned, block);
-        rest = behind;
-    }
-    feed_bytes(turned, rest)
-}
-
-/// Sixteen bytes go by: each byte's part comes from the table for the bytes behind it.
-///
-/// The block is read as two words, and the part of the register, for which all else waits, is added last.
+/// The part of the register, for which all else waits, is added last.
 fn feed_block(register: u32, block: &[u8]) -> u32
     requires { length block.now ≡ BLOCK }
     ensures { result ≡ feed register block.now }
 {
-    let [r0, r1, r2, r3] = register.to_le_bytes();
-    let front = LittleEndian::read_u64(block).to_le_bytes();
-    let back = LittleEndian::read_u64(&block[8..]).to_le_bytes();
-    let last = mixed_four(0, [back[4], back[5], back[6], back[7]]);
-    let third = mixed_four(4, [back[0], back[1], back[2], back[3]]);
-    let second = mixed_four(8, [front[4], front[5], front[6], front[7]]);
-    let first = mixed_four(
-        12,
-        [front[0] ^ r0, front[1] ^ r1, front[2] ^ r2, front[3] ^ r3],
-    );
-    last ^ third ^ second ^ first
+    let back = mixed_four(0, [block[4], block[5], block[6], block[7]]);
+    let front = register ^ LittleEndian::read_u32(block);
+    back ^ mixed_four(4, front.to_le_bytes())
 }
 
 /// What four bytes leave in an empty register once `zeros` bytes of zeros have gone by.
 #[inline(always)]
 fn mixed_four(zeros: usize, bytes: [u8; 4]) -> u32
-    requires { zeros ≤ 12 }
+    requires { zeros ≤ 4 }
     ensures { result ≡ mixed zeros bytes }
 {
     let [a, b, c, d] = bytes;

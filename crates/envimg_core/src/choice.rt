@@ -2,8 +2,10 @@
 ghost use Rattle.std.specs.Prelude.{◌≡◌};
 ghost use Rattle.envimg_core.specs.State.{choice_of, choice_by_flags};
 
-use crate::bytes::LAST_FLAG;
 use crate::state::CopyState;
+
+/// The flag that counts up to 0.
+const LAST_FLAG: u8 = 255;
 
 /// Which stored copy holds the environment.
 #[derive(Clone, Copy, Debug, PartialEq, Eq)]

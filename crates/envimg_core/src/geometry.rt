@@ -1,11 +1,24 @@
 //! The geometry of an image: layout, size and byte order.
-ghost use Rattle.std.specs.Prelude.{◌≡◌, ◌≤◌, ◌+◌, ◌^◌, ◌<◌, SomeIff, OnSome, option_map, Some, None, if◌then◌else◌, ◌==◌, length, IsSome, ◌↔◌};
+ghost use Rattle.std.specs.Prelude.{◌≡◌, ◌≤◌, ◌+◌, ◌^◌, ◌<◌, SomeIff, OnSome, option_map, Some, None, if◌then◌else◌, ◌==◌, ◌++◌, length, drop, IsSome, ◌↔◌};
 ghost use Rattle.envimg_core.specs.Geometry.{Shape, IsSize, head, room_of, area_of};
+ghost use Rattle.envimg_core.specs.Bytes.{checksum_size};
+ghost use Rattle.envimg_core.specs.Order.{checksum_bytes, stored_checksum};
 ghost use Rattle.envimg_core.specs.State.{flag_of};
 
-use crate::bytes::{AREA_MIN, CHECKSUM_LEN, FLAG_LEN, SIZE_MAX};
-use crate::order::Order;
+use byteorder::{BigEndian, ByteOrder, LittleEndian};
 use std::marker::Model;
+
+/// The bytes of a checksum, at the front of a copy (`checksum_size`).
+pub(crate) const CHECKSUM_LEN: usize = 4;
+
+/// The bytes of a redundant copy's flag, after its checksum (`flag_size`).
+pub(crate) const FLAG_LEN: usize = 1;
+
+/// The bytes of the shortest data area (`least_room`).
+const AREA_MIN: usize = 4;
+
+/// The bytes of the largest image: 1 MiB (`greatest_size`).
+pub const SIZE_MAX: u32 = 1_048_576;
 
 /// How an environment is stored (U-Boot's documentation, "Environment": one copy, or two of which one is current).
 #[derive(Clone, Copy, Debug, PartialEq, Eq)]
@@ -34,6 +47,39 @@ impl Layout {
         match self {
             Layout::Single => CHECKSUM_LEN,
             Layout::Redundant => CHECKSUM_LEN + FLAG_LEN,
+        }
+    }
+}
+
+/// The byte order of a board, in which its U-Boot stores the checksum (docs/images.md, "Checksum").
+#[derive(Clone, Copy, Debug, PartialEq, Eq)]
+pub enum Order {
+    /// The lowest byte comes first.
+    Little,
+    /// The highest byte comes first.
+    Big,
+}
+
+impl Order {
+    /// The checksum at the front of a copy.
+    pub(crate) fn read_checksum(self, bytes: &[u8]) -> u32
+        requires { checksum_size ≤ length bytes.now }
+        ensures { result ≡ stored_checksum self bytes.now }
+    {
+        match self {
+            Order::Little => LittleEndian::read_u32(bytes),
+            Order::Big => BigEndian::read_u32(bytes),
+        }
+    }
+
+    /// Writes a checksum over the front of a copy.
+    pub(crate) fn write_checksum(self, bytes: &mut [u8], checksum: u32)
+        requires { checksum_size ≤ length bytes.old }
+        ensures { bytes.new ≡ checksum_bytes self checksum ++ drop checksum_size bytes.old }
+    {
+        match self {
+            Order::Little => LittleEndian::write_u32(bytes, checksum),
+            Order::Big => BigEndian::write_u32(bytes, checksum),
         }
     }
 }

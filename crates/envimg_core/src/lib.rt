@@ -2,26 +2,22 @@
 //!
 //! No call takes memory. docs/images.md states the format.
 //!
-//! To read in this order: bytes, geometry, order, checksum; pieces, area; state, choice; writer; laws.
+//! To read in this order: geometry, checksum; area, pieces; state, choice; writer; laws.
 #![tactic(auto)]
 
 mod area;
-mod bytes;
 mod checksum;
 mod choice;
 mod geometry;
 pub mod laws;
-mod order;
 mod pieces;
 mod state;
 mod writer;
 
-pub use area::entries;
-pub use bytes::{END, EQUALS, SIZE_MAX};
+pub use area::{END, EQUALS, entries};
 pub use checksum::{crc32, crc32_bitwise};
 pub use choice::{Choice, choose};
-pub use geometry::{Geometry, Layout};
-pub use order::Order;
+pub use geometry::{Geometry, Layout, Order, SIZE_MAX};
 pub use pieces::{Entries, Entry};
 pub use state::{CopyState, check_copy};
 pub use writer::ImageWriter;

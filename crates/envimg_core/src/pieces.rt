@@ -4,7 +4,7 @@ ghost use Rattle.std.specs.Iterator.{YieldsFirstBy, item_count};
 ghost use Rattle.envimg_core.specs.Pieces.{Entry, entries_of, value_of, entry_of, entry_view};
 ghost use Rattle.envimg_core.specs.Steps.{YieldsEntry};
 
-use crate::bytes::{END, EQUALS};
+use crate::area::{END, EQUALS};
 use memchr::memchr;
 use std::marker::Model;
 

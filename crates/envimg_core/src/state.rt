@@ -1,9 +1,8 @@
 //! The state of a stored copy.
-ghost use Rattle.std.specs.Prelude.{◌≡◌, ◌≤◌, ◌+◌, ◌<◌, length};
-ghost use Rattle.envimg_core.specs.Pieces.{is_terminated};
+ghost use Rattle.std.specs.Prelude.{◌≡◌};
 ghost use Rattle.envimg_core.specs.State.{state_of};
 
-use crate::bytes::END;
+use crate::area::is_ended;
 use crate::checksum::crc32;
 use crate::geometry::Geometry;
 
@@ -34,16 +33,4 @@ pub fn check_copy(geometry: &Geometry, copy: &[u8]) -> CopyState
         return CopyState::Unterminated;
     }
     CopyState::Good(geometry.layout().flag(copy))
-}
-
-/// Whether the list of entries is ended inside the area: the area begins with a 0, or two stand side by side.
-fn is_ended(area: &[u8]) -> bool
-    requires { 1 ≤ length area.now }
-    ensures { result ≡ is_terminated area.now }
-{
-    let mut ended = area[0] == END;
-    for i in 1..area.len() {
-        ended |= (area[i - 1] == END) & (area[i] == END);
-    }
-    ended
 }

@@ -7,10 +7,9 @@ ghost use Rattle.envimg_core.specs.Image.{stored_pair, image_with, framed};
 ghost use Rattle.envimg_core.specs.Steps.{spliced};
 ghost use Rattle.envimg_core.specs.Order.{checksum_bytes};
 
-use crate::bytes::{CHECKSUM_LEN, END, EQUALS, FLAG_LEN};
+use crate::area::{END, EQUALS};
 use crate::checksum::crc32;
-use crate::geometry::{Geometry, Layout};
-use crate::order::Order;
+use crate::geometry::{CHECKSUM_LEN, FLAG_LEN, Geometry, Layout, Order};
 
 /// Writes an image into a slice of the image's size: entries one by one, then the end, the flag and the checksum.
 ///

@@ -2,6 +2,7 @@
 mod keeping;
 mod walking;
 
+use envimg_core::{Geometry, ImageWriter, Layout};
 use envvars_core::{Access, Attr, Kind, Refusal, Vars};
 use std::alloc::{AllocError, Global};
 use std::process::Abort;
@@ -85,6 +86,20 @@ fn the_last_entry_for_a_name_is_loaded(rt: HostRuntime) -> Result<(), Fail> {
 }
 
 #[test]
+fn the_last_entry_for_a_name_is_written(rt: HostRuntime) -> Result<(), Fail> {
+    let vars = Vars::load(rt.alloc(), b"a=1\0a=2\0b\0c=\0\0")?;
+    let geometry = Geometry::new(Layout::Single, 18).ok_or("no geometry")?;
+    let mut image = [0xAA; 18];
+    let mut writer = ImageWriter::new(&geometry, &mut image);
+    for (name, value) in vars.iter() {
+        assert!(rt; writer.put(name, value));
+    }
+    writer.finish(0);
+    assert_eq!(rt; &image[4..], b"a=2\0\0\0\0\0\0\0\0\0\0\0".as_slice());
+    Ok(())
+}
+
+#[test]
 fn variables_come_in_the_order_of_their_names(rt: HostRuntime) -> Result<(), Fail> {
     let vars = Vars::load(rt.alloc(), b"b=2\0.flags=a:d\0ab=3\0a=1\0\0after")?;
     has(&rt, &vars, ".flags=a:d;a=1;ab=3;b=2;")?;
@@ -126,6 +141,17 @@ fn a_default_is_overwritten_once(rt: HostRuntime) -> Result<(), Fail> {
     let steps = "p=2;p=3|NoOverwrite;p|NoDelete;q=1;q=2|NoOverwrite;!q=2";
     make(&rt, &mut vars, &defaults, steps);
     has(&rt, &vars, ".flags=p:sc,q:sc;p=2;q=2;")
+}
+
+#[test]
+fn a_default_that_was_overwritten_is_not_deleted(rt: HostRuntime) -> Result<(), Fail> {
+    let none = Vars::empty(rt.alloc(), 60);
+    let mut defaults = Vars::empty(rt.alloc(), 60);
+    make(&rt, &mut defaults, &none, "!.flags=p:sc;!p=1");
+    assert!(rt; defaults.used() <= 60);
+    let mut vars = defaults.copy(rt.alloc(), 60)?;
+    make(&rt, &mut vars, &defaults, "p=2;p=3|NoOverwrite;p|NoDelete");
+    has(&rt, &vars, ".flags=p:sc;p=2;")
 }
 
 #[test]

@@ -5,7 +5,7 @@ use Rattle.std.proofs.lemmas.List.{take_all}
 use Rattle.std.proofs.KnownBytes.{Appends-nil, Keeps-refl}
 use Rattle.std.specs.Io.KnownBytes.{Appends, Keeps}
 use Rattle.envimg_core.specs.Pieces.{entries_of, vars_of}
-use Rattle.envimg_core.specs.declared.order.Order.{Order}
+use Rattle.envimg_core.specs.declared.geometry.Order.{Order}
 use Rattle.envimg_core.specs.declared.state.CopyState.{CopyState}
 use Rattle.envimg_core.specs.declared.state.CopyState.TheVariants.{Good}
 use Rattle.fw_engines.specs.Shown.{shown, shown_in, state_shown, listing}

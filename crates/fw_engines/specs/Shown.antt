@@ -6,7 +6,7 @@ use Rattle.envimg_core.specs.Environment.{Environment, Pair, entry_text}
 use Rattle.envimg_core.specs.Pieces.{entries_of, vars_of}
 use Rattle.envimg_core.specs.State.{state_of}
 use Rattle.envimg_core.specs.declared.geometry.Layout.TheVariants.{Single}
-use Rattle.envimg_core.specs.declared.order.Order.{Order}
+use Rattle.envimg_core.specs.declared.geometry.Order.{Order}
 use Rattle.envimg_core.specs.declared.state.CopyState.{CopyState}
 use Rattle.envimg_core.specs.declared.state.CopyState.TheVariants.{Good, BadLength, BadCrc, Unterminated}
 use Rattle.fw_engines.specs.Streams.{Streams, writers_of}

@@ -6,8 +6,8 @@ use Rattle.std.proofs.lemmas.List.{map-append, take-map, take_all}
 use Rattle.std.proofs.lemmas.Grind.{replicate_next}
 use Rattle.arrayvec.specs.ArrayVec.{ArrayVec}
 use Rattle.env_session.specs.Session.{Held, marked}
-use Rattle.env_session.specs.declared.faults.MarkFault.{MarkFault}
-use Rattle.env_session.specs.declared.faults.MarkFault.TheVariants.{Full}
+use Rattle.env_session.specs.declared.marks.MarkFault.{MarkFault}
+use Rattle.env_session.specs.declared.marks.MarkFault.TheVariants.{Full}
 use Rattle.fw_session.specs.Replies.{standing}
 use Rattle.fw_session.specs.NamedSessions.{names_of, named_session, MarksNamed}
 

@@ -7,9 +7,9 @@ use Rattle.std.proofs.lemmas.List.{take_more}
 use Rattle.std.proofs.Common.{append_assoc}
 use Rattle.envimg_core.specs.Environment.{Environment, Pair}
 use Rattle.env_session.specs.Session.{Held, undone, IsStoppedUndo, UndoesTo, saved, side_of, last_saved}
-use Rattle.env_session.specs.declared.faults.UndoFault.{UndoFault}
-use Rattle.env_session.specs.declared.faults.UndoFault.TheVariants.{Memory}
-use Rattle.env_session.specs.declared.stored.Side.{Side}
+use Rattle.env_session.specs.declared.undo.UndoFault.{UndoFault}
+use Rattle.env_session.specs.declared.undo.UndoFault.TheVariants.{Memory}
+use Rattle.env_session.specs.declared.session.Side.{Side}
 use Rattle.hush_commands.specs.Listing.{line_of}
 use Rattle.hush_commands.specs.Saving.{saved_line}
 use Rattle.fw_session.proofs.StreamLemmas.{adds_none, adds_then, adds_first}

@@ -2,7 +2,7 @@
 use Rattle.std.proofs.Common.{◌≡◌, ℕ, List, Option, Some, None, Bor, option_map, codes, refl}
 use Rattle.std.specs.Prelude.{Ok, unwrap_or}
 use Rattle.clap.specs.Words.{Row, Text, first_of}
-use Rattle.envimg_core.specs.declared.order.Order.{Order}
+use Rattle.envimg_core.specs.declared.geometry.Order.{Order}
 use Rattle.fw_tools.specs.Calls.{Job, with_files}
 use Rattle.fw_tools.specs.Values.{first_or}
 use Rattle.fw_tools.specs.Words.{big_endian, either_order, order_by, source_in}

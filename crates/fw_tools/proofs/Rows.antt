@@ -2,7 +2,7 @@
 use Rattle.std.proofs.Common.{◌≡◌, [], ◌∷◌, Some, None, codes, refl}
 use Rattle.clap.proofs.OnLiterals.{clap_on_literals}
 use Rattle.clap.specs.declared.error.kind.ErrorKind.TheVariants.{ArgumentConflict, DisplayHelp, DisplayVersion, InvalidSubcommand, MissingRequiredArgument, TooManyValues, UnknownArgument}
-use Rattle.envimg_core.specs.declared.order.Order.TheVariants.{Little, Big}
+use Rattle.envimg_core.specs.declared.geometry.Order.TheVariants.{Little, Big}
 use Rattle.fw_tools.specs.DryRuns.{number_in}
 use Rattle.fw_tools.specs.Words.{faults, order_of}
 

@@ -13,8 +13,8 @@ use Rattle.clap.specs.Simple.{App, HasMatchesOf, is_simple}
 use Rattle.clap.specs.Walk.{Row, Text, row_of, rows_of}
 use Rattle.clap.specs.declared.parser.matches.ArgMatches.{ArgMatches}
 use Rattle.clap.specs.declared.parser.matches.Found.{Found}
-use Rattle.envimg_core.specs.declared.order.Order.{Order}
-use Rattle.envimg_core.specs.declared.order.Order.TheVariants.{Little}
+use Rattle.envimg_core.specs.declared.geometry.Order.{Order}
+use Rattle.envimg_core.specs.declared.geometry.Order.TheVariants.{Little}
 use Rattle.fw_tools.specs.Words.{big_endian, called_by, faults, fwenv, order_by, order_in, order_of, source_in}
 use Rattle.clap.specs.Words.{is_simple_and_free, subcommand_rows_of}
 use Rattle.fw_tools.specs.Acting.{Called}

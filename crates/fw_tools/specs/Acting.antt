@@ -3,7 +3,7 @@ use Rattle.std.specs.Prelude.{◌≡◌, ◌⊎◌, ℕ, List, [], ◌∷◌, Op
 use Rattle.env_session.specs.Session.{Held, opened}
 use Rattle.envimg_core.specs.Geometry.{Shape}
 use Rattle.envimg_core.specs.Pieces.{Entry}
-use Rattle.envimg_core.specs.declared.order.Order.{Order}
+use Rattle.envimg_core.specs.declared.geometry.Order.{Order}
 use Rattle.envvars_core.specs.Variables.{Contents}
 use Rattle.clap.specs.Words.{Text}
 use Rattle.fw_tools.specs.Calls.{Call, Job, Tool, Tries, Task}

@@ -3,7 +3,7 @@ use Rattle.std.specs.Prelude.{Bool, List, [], ◌∷◌, ◌++◌, Option, Some,
 use Rattle.std.specs.Borrow.{Bor}
 use Rattle.std.specs.Str.{bytes_eq}
 use Rattle.clap.specs.Words.{Row, Text, first_of}
-use Rattle.envimg_core.specs.declared.order.Order.{Order}
+use Rattle.envimg_core.specs.declared.geometry.Order.{Order}
 use Rattle.fw_tools.specs.DryRuns.{DryRun, dry_run_of, dry_run_view}
 use Rattle.fw_tools.specs.Values.{all_values, first_or, is_given}
 use Rattle.fw_tools.specs.Words.{big_endian, either_order, order_by, source_in}

@@ -2,7 +2,7 @@
 use Rattle.std.specs.Prelude.{ℕ, ◌+◌, Bool, ◌&&◌, nat_lt, List, [], ◌∷◌, Option, Some, None, Vec, if◌then◌else◌, option_map}
 use Rattle.std.specs.Str.{bytes_eq}
 use Rattle.std.specs.declared.alloc.Global.{Global}
-use Rattle.env_session.specs.declared.stored.Stored.{Stored}
+use Rattle.env_session.specs.declared.session.Stored.{Stored}
 use Rattle.envcfg_core.specs.declared.place.Place.{Place}
 use Rattle.fw_tools.specs.declared.closing.Change.{Change}
 use Rattle.fw_tools.specs.declared.copies.ReadCopy.{ReadCopy}

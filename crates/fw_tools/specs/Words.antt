@@ -10,8 +10,8 @@ use Rattle.clap.specs.declared.builder.action.ArgAction.TheVariants.{SetTrue}
 use Rattle.clap.specs.declared.parser.matches.ArgMatches.{ArgMatches}
 use Rattle.clap.specs.declared.parser.matches.ValueSource.{ValueSource}
 use Rattle.clap.specs.declared.parser.matches.ValueSource.TheVariants.{CommandLine}
-use Rattle.envimg_core.specs.declared.order.Order.{Order}
-use Rattle.envimg_core.specs.declared.order.Order.TheVariants.{Little, Big}
+use Rattle.envimg_core.specs.declared.geometry.Order.{Order}
+use Rattle.envimg_core.specs.declared.geometry.Order.TheVariants.{Little, Big}
 
 -- an argument that takes no value
 abbrev pub flag : Text → Rule

@@ -1,8 +1,8 @@
 -- What `saveenv` prints and leaves (docs/runs.md, "Commands").
 use Rattle.std.specs.Prelude.{◌≡◌, ℕ, ◌<◌, List, ◌++◌, codes, length, Result, Ok, Err}
 use Rattle.env_session.specs.Session.{Held, saved, side_of}
-use Rattle.env_session.specs.declared.stored.Side.{Side}
-use Rattle.env_session.specs.declared.stored.Side.TheVariants.{First, Second}
+use Rattle.env_session.specs.declared.session.Side.{Side}
+use Rattle.env_session.specs.declared.session.Side.TheVariants.{First, Second}
 use Rattle.hush_commands.specs.declared.output.PrintFault.{PrintFault}
 use Rattle.hush_commands.specs.declared.output.PrintFault.TheVariants.{Output, Memory}
 use Rattle.hush_commands.specs.Output.{Printed, printed}

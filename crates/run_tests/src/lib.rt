@@ -10,3 +10,5 @@ mod fixtures;
 mod frames;
 #[cfg(test)]
 mod running;
+#[cfg(test)]
+mod undoing;

@@ -8,6 +8,7 @@
 #![tactic(auto)]
 
 mod defaulting;
+mod deleted;
 mod frames;
 mod keeping;
 mod large;
@@ -67,6 +68,7 @@ fn sweep_small(rt: &HostRuntime) -> io::Result<()> {
     many::sweep(rt.alloc(), &mut rt.stdout())?;
     defaulting::sweep(rt.alloc(), &mut rt.stdout())?;
     sessions::sweep(rt.alloc(), &mut rt.stdout())?;
+    deleted::sweep(rt.alloc(), &mut rt.stdout())?;
     pairs::sweep(rt.alloc(), &mut rt.stdout())?;
     tools::sweep(rt.alloc(), &mut rt.stdout())?;
     scripts::sweep(rt.alloc(), &mut rt.stdout())?;

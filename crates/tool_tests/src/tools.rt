@@ -2,6 +2,7 @@
 
 mod defaulting;
 mod printing;
+mod sessions;
 mod showing;
 
 /// An image of the one variable `a=b`.

@@ -120,37 +120,64 @@ fn a_single_image_is_written_in_place(rt: HostRuntime) -> Result<(), Fail> {
     go(&rt, rt.alloc(), &mut session, &rows)
 }
 
-/// Copies of 9 bytes each or not, a default environment, and the fault.
+#[test]
+fn the_smallest_image_has_room_for_no_variable(rt: HostRuntime) -> Result<(), Fail> {
+    let bad = [255; 8];
+    let blank = Copies::single(Choice::Neither, &bad);
+    let rows = [(
+        Step::Refused("a", Some("b"), Refusal::Full),
+        "",
+        0,
+        0,
+        blank,
+    )];
+    let mut session = single(&rt, rt.alloc(), &bad, "")?;
+    assert_eq!(rt; session.vars().room(), 4);
+    go(&rt, rt.alloc(), &mut session, &rows)?;
+    assert_eq!(rt; session.vars().used(), 1);
+    Ok(())
+}
+
+/// The layout and the size of a copy, the copies, a default environment, and the fault.
 type Start = (
     Layout,
+    u32,
     &'static [u8],
     Option<&'static [u8]>,
     &'static str,
     StartFault,
 );
 
-const STARTS: [Start; 6] = [
-    (Layout::Single, &[0; 7], None, "", StartFault::Length),
+/// Nine bytes for a copy of size 9.
+const NINE: &[u8] = &[0; 9];
+
+const STARTS: [Start; 8] = [
+    (Layout::Single, 8, &[0; 7], None, "", StartFault::Length),
     (
         Layout::Single,
-        &[0; 9],
-        Some(&[0; 9]),
-        "",
-        StartFault::Length,
+        8,
+        &[0; 8],
+        None,
+        "a=b",
+        StartFault::DefaultTooBig,
     ),
-    (Layout::Redundant, &[0; 9], None, "", StartFault::Length),
+    (Layout::Single, 9, &[0; 7], None, "", StartFault::Length),
+    (Layout::Single, 9, NINE, Some(NINE), "", StartFault::Length),
+    (Layout::Redundant, 9, NINE, None, "", StartFault::Length),
     (
         Layout::Redundant,
-        &[0; 9],
+        9,
+        NINE,
         Some(&[0; 8]),
         "",
         StartFault::Length,
     ),
-    (Layout::Redundant, &[0; 9], None, "a=b", StartFault::Length),
+    (Layout::Redundant, 9, NINE, None, "a=b", StartFault::Length),
     (
         Layout::Redundant,
-        &[0; 9],
-        Some(&[0; 9]),
+        9,
+        NINE,
+        Some(NINE),
         "a=b",
         StartFault::DefaultTooBig,
     ),
@@ -158,8 +185,8 @@ const STARTS: [Start; 6] = [
 
 #[test]
 fn what_no_session_starts_with(rt: HostRuntime) -> Result<(), Fail> {
-    for (layout, first, second, lines, wanted) in STARTS {
-        let geometry = geometry(&rt, layout, 9, Order::Little);
+    for (layout, size, first, second, lines, wanted) in STARTS {
+        let geometry = geometry(&rt, layout, size, Order::Little);
         let stored = stored(rt.alloc(), geometry, first, second)?;
         let vars = defaults(&rt, rt.alloc(), lines);
         let Err((stored, fault)) = Session::start(rt.alloc(), stored, vars) else {

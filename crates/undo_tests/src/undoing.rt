@@ -47,6 +47,20 @@ fn the_room_is_passed_on_the_way_back(rt: HostRuntime) -> Result<(), Fail> {
 }
 
 #[test]
+fn a_deleted_default_and_the_bytes_before_a_save_come_back(rt: HostRuntime) -> Result<(), Fail> {
+    let bytes = [255; 16];
+    let blank = Copies::single(Choice::Neither, &bytes);
+    let saved = Copies::single(Choice::First, b"\x6F\xC6\xD5\x7B\0\0\0\0\0\0\0\0\0\0\0\0");
+    let rows = [
+        (Step::Write("a", None), "", 1, 0, blank),
+        (Step::Save(Side::First), "", 1, 0, saved),
+        (Step::Undo, "a=1;", 0, 0, blank),
+    ];
+    let mut session = single(&rt, rt.alloc(), &bytes, "a=1")?;
+    go(&rt, rt.alloc(), &mut session, &rows)
+}
+
+#[test]
 fn a_deleted_default_and_two_saves_come_back(rt: HostRuntime) -> Result<(), Fail> {
     let bytes = [255; 16];
     let blank = Copies::single(Choice::Neither, &bytes);

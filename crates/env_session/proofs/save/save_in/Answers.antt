@@ -1,7 +1,7 @@
 use Rattle.std.proofs.Common.{◌≡◌, ℕ, ap, sym, ◌∙◌}
 use Rattle.envimg_core.specs.Image.{image_of}
 use Rattle.envimg_core.specs.declared.geometry.Layout.{Layout}
-use Rattle.env_session.specs.declared.stored.Side.TheVariants as Side
+use Rattle.env_session.specs.declared.session.Side.TheVariants as Side
 use Rattle.env_session.specs.Session.{with_copy, saved_flag, saved_side}
 use Rattle.env_session.specs.Spans.{now_of}
 use Rattle.env_session.proofs.ImageLemmas.{saved_marks, sound_first, sound_second, is_redundant, not_first, not_second}

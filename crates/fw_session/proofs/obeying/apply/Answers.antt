@@ -1,5 +1,5 @@
 use Rattle.std.proofs.Common.{sym, ap, ◌∙◌}
-use Rattle.env_session.specs.declared.stored.Side.TheVariants.{First, Second}
+use Rattle.env_session.specs.declared.session.Side.TheVariants.{First, Second}
 use Rattle.fw_session.specs.Requests.{change_view}
 use Rattle.fw_session.specs.NamedSessions.{named_session, names_of}
 use Rattle.fw_session.proofs.RequestLemmas.{save_done, save_refused, obeyed_as}
