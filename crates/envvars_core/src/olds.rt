@@ -1,37 +1,43 @@
 //! What is kept of variables that change, so that they can be brought back.
 
-ghost use Rattle.std.specs.Prelude.{◌≡◌, ℕ, List, fold, Some, false, not, if◌then◌else◌, IfOk, OnOk, OnErr, IfSome, IsTrue, MatchOption, option_copied, option_map};
+ghost use Rattle.std.specs.Prelude.{◌≡◌, fold, not, if◌then◌else◌, IfOk, OnOk, OnErr, IfSome, IsTrue, MatchOption, All, Some, false, option_copied, option_map};
 ghost use Rattle.std.specs.List.{list_all};
 ghost use Rattle.std.specs.FinMap as env;
-ghost use Rattle.envimg_core.specs.Environment.{is_name, is_value, IsVariable};
+ghost use Rattle.envimg_core.specs.Environment.{is_name, is_value};
 ghost use Rattle.envimg_core.specs.Pieces.{with_value, after_entry};
-ghost use Rattle.envvars_store.specs.Tags.{untagged};
 ghost use Rattle.envvars_core.specs.Olds.{kept, restored, has_place};
-ghost use Rattle.envvars_core.specs.Kept.{kept_entries};
+ghost use Rattle.envvars_core.specs.Kept.{old_value, kept_entries, IsNamed};
 
 use crate::refusals::Memory;
-use envvars_store::{Hint, OwnedVariable, OwnedVariables, Variables, untagged};
-use std::alloc::Global;
+use envvars_store::{OwnedVariable, Variables};
+use std::alloc::{AllocError, Global};
+use std::collections::BTreeMap;
 use std::marker::Model;
+
+/// For each name the variable that it had, or that it had none.
+type Values = BTreeMap<Vec<u8>, Option<OwnedVariable>>;
 
 /// For each changed name its first old value, or that it had none.
 ///
-/// They stand as variables in the order of their names, each value with a tag behind it, and a tag alone for none.
+/// An old value stands as the variable that it was, so that bringing it back takes no memory.
 #[derive(Drop)]
 pub struct Olds {
-    pub(crate) tagged: OwnedVariables,
+    pub(crate) values: Values,
     pub(crate) alloc: Global,
 }
 
 impl Model for Olds {
+    ghost use Rattle.std.specs.FinMap as env;
     ghost use Rattle.envvars_core.specs.Olds.{OldValues, olds_code};
-    ghost use Rattle.envvars_core.specs.Kept.{kept_in};
+    ghost use Rattle.envvars_core.specs.Kept.{kept_entries, AreKept};
 
     ghost Value = { OldValues };
 
     ghost coded = { olds_code };
 
-    ghost view = { λ a. kept_in a.tagged };
+    ghost view = { λ a. env.from_sorted (kept_entries a.values.entries) };
+
+    ghost invariant = { λ a. AreKept a.values.entries };
 }
 
 impl Olds {
@@ -40,7 +46,7 @@ impl Olds {
         ensures { result ≡ env.empty }
     {
         Olds {
-            tagged: OwnedVariables::new(alloc),
+            values: BTreeMap::new(alloc),
             alloc,
         }
     }
@@ -49,17 +55,16 @@ impl Olds {
     pub fn len(&self) -> usize
         ensures { result ≡ env.len self.now }
     {
-        self.tagged.len()
+        self.values.len()
     }
 
     /// The old value of a kept name, or that it had none.
     pub fn old(&self, name: &[u8]) -> Option<Option<&[u8]>>
         ensures { option_map (λ old. option_map (λ v. v.now) old) result ≡ env.get self.now name.now }
     {
-        let (kept, _) = self.tagged.find(name);
-        match kept {
+        match self.values.get(name) {
             None => None,
-            Some(value) => Some(untagged(value)),
+            Some(old) => Some(value_of(old)),
         }
     }
 
@@ -72,26 +77,18 @@ impl Olds {
 
     /// Keeps the old value of a name, unless one is kept already, and answers whether it is kept only now.
     /// Where memory runs out, nothing has changed.
-    /// `hint` is where a look-up of the name ended among the variables. It comes back with the number of the kept name.
-    pub(crate) fn keep(
-        &mut self,
-        hint: Hint,
-        name: &[u8],
-        old: Option<&[u8]>,
-    ) -> Result<(bool, Hint), Memory>
+    pub(crate) fn keep(&mut self, name: &[u8], old: Option<&[u8]>) -> Result<bool, Memory>
         requires name_form { IsTrue (is_name name.now) }
         requires value_form { IfSome (option_copied old) (λ v. IsTrue (is_value v)) }
         ensures kept { OnOk result (self.new ≡ kept self.old name.now (option_copied old.entry)) }
-        ensures added { IfOk result (λ kept. kept.0 ≡ not (env.contains_key self.old name.now)) }
+        ensures added { IfOk result (λ added. added ≡ not (env.contains_key self.old name.now)) }
         ensures unchanged { OnErr result (self.new ≡ self.old) }
     {
-        let (is_kept, at) = self.find(hint, name);
-        let hint = hint.numbered_as(at);
-        if is_kept {
-            return Ok((false, hint));
+        if self.has(name) {
+            return Ok(false);
         }
-        self.add(at, name, old)?;
-        Ok((true, hint))
+        self.add(name, old)?;
+        Ok(true)
     }
 
     /// Keeps a name no more, where it was kept only now. It takes no memory.
@@ -107,49 +104,42 @@ impl Olds {
     pub(crate) fn clear(&mut self)
         ensures { self.new ≡ env.empty }
     {
-        self.tagged = OwnedVariables::new(self.alloc);
+        self.values.clear();
     }
 
-    /// Takes out one of the kept names, with its tagged old value. It takes no memory.
-    pub(crate) fn pop(&mut self) -> Option<OwnedVariable>
-        ensures { MatchOption result ((self.old ≡ env.empty) × (self.new ≡ env.empty))
-            (λ t. (env.get self.old t.0 ≡ Some (untagged t.1)) × (self.new ≡ env.remove self.old t.0)) }
+    /// Takes out one of the kept names, with the variable that it had. It takes no memory.
+    pub(crate) fn pop(&mut self) -> Option<(Vec<u8>, Option<OwnedVariable>)>
+        ensures taken { MatchOption result ((self.old ≡ env.empty) × (self.new ≡ env.empty))
+            (λ e. (env.get self.old e.0.items ≡ Some (old_value e.1)) × (self.new ≡ env.remove self.old e.0.items)) }
+        ensures named { IfSome result IsNamed }
     {
-        self.tagged.take_last()
+        self.values.pop_first()
     }
 
     /// Whether each kept value has its place among the variables.
     pub(crate) fn have_places(&self, variables: &Variables) -> bool
         ensures { result ≡ list_all (has_place variables.now) (env.entries self.now) }
     {
-        have_places(&self.tagged, variables)
+        have_places(&self.values, variables)
     }
 
     /// Puts each kept value back among the variables.
     pub(crate) fn put_back(&self, variables: &mut Variables) -> Result<(), Memory>
         ensures { OnOk result (variables.new ≡ restored variables.old self.now) }
     {
-        put_back(&self.tagged, variables)
-    }
-
-    /// Whether a name is kept, and where it was found or would stand. What has the number that is given is looked at
-    /// first.
-    fn find(&self, hint: Hint, name: &[u8]) -> (bool, Hint)
-        ensures { result.0 ≡ env.contains_key self.now name.now }
-    {
-        self.tagged.find_near(hint, name)
+        put_back(&self.values, variables)
     }
 
     /// Keeps the old value of a name that isn't kept yet. Where memory runs out, nothing has changed.
-    fn add(&mut self, hint: Hint, name: &[u8], old: Option<&[u8]>) -> Result<(), Memory>
+    fn add(&mut self, name: &[u8], old: Option<&[u8]>) -> Result<(), Memory>
         requires name_form { IsTrue (is_name name.now) }
         requires value_form { IfSome (option_copied old) (λ v. IsTrue (is_value v)) }
-        requires new { env.contains_key self.old name.now ≡ false }
         ensures ok { OnOk result (self.new ≡ env.insert self.old name.now (option_copied old.entry)) }
         ensures err { OnErr result (self.new ≡ self.old) }
     {
-        let variable = OwnedVariable::tagged(self.alloc, name, old)?;
-        self.tagged.add(hint, variable)?;
+        let variable = variable_of(self.alloc, name, old)?;
+        let key = Vec::from_slice(self.alloc, name)?;
+        let _none = self.values.insert(key, variable)?;
         Ok(())
     }
 
@@ -157,51 +147,82 @@ impl Olds {
     fn take_out(&mut self, name: &[u8])
         ensures { self.new ≡ env.remove self.old name.now }
     {
-        self.tagged.remove(name);
+        let _old = self.values.remove(name);
     }
 }
 
-/// Whether each kept value, which is tagged, has its place among the variables.
-fn have_places(tagged: &OwnedVariables, variables: &Variables) -> bool
-    ensures { result ≡ list_all (has_place variables.now) (kept_entries (env.entries tagged.now)) }
+/// The variable of a name that had a value, if it had one.
+fn variable_of(
+    alloc: Global,
+    name: &[u8],
+    old: Option<&[u8]>,
+) -> Result<Option<OwnedVariable>, AllocError>
+    requires name_form { IsTrue (is_name name.now) }
+    requires value_form { IfSome (option_copied old) (λ v. IsTrue (is_value v)) }
+    ensures value { IfOk result (λ variable. old_value variable ≡ option_copied old.entry) }
+    ensures named { IfOk result (λ variable. IfSome variable (λ p. p.0 ≡ name.now)) }
 {
-    for (name, value) in tagged.iter() {
-        if !has_place(variables, name, value) {
+    match old {
+        Some(value) => Ok(Some(OwnedVariable::new(alloc, name, value)?)),
+        None => Ok(None),
+    }
+}
+
+/// The value of a variable, if there is one.
+pub(crate) fn value_of(old: &Option<OwnedVariable>) -> Option<&[u8]>
+    ensures { option_copied result ≡ old_value old.now }
+{
+    match old {
+        Some(variable) => Some(variable.value()),
+        None => None,
+    }
+}
+
+/// Whether each kept value has its place among the variables.
+fn have_places(values: &Values, variables: &Variables) -> bool
+    ensures { result ≡ list_all (has_place variables.now) (kept_entries values.now.entries) }
+{
+    for (name, old) in values {
+        if !has_place(variables, name, old) {
             return false;
         }
     }
     true
 }
 
-/// Whether a kept value, which is tagged, has its place among the variables.
-fn has_place(variables: &Variables, name: &[u8], value: &[u8]) -> bool
-    ensures { result ≡ has_place variables.now (name.now, untagged value.now) }
+/// Whether a kept value has its place among the variables.
+fn has_place(variables: &Variables, name: &[u8], old: &Option<OwnedVariable>) -> bool
+    ensures { result ≡ has_place variables.now (name.now, old_value old.now) }
 {
-    match untagged(value) {
+    match old {
         None => true,
         Some(_) => variables.get(name).is_some(),
     }
 }
 
-/// Puts each kept value back, which is tagged.
-fn put_back(tagged: &OwnedVariables, variables: &mut Variables) -> Result<(), Memory>
-    ensures { OnOk result (variables.new ≡ fold after_entry variables.old (kept_entries (env.entries tagged.now))) }
+/// Puts each kept value back.
+fn put_back(values: &Values, variables: &mut Variables) -> Result<(), Memory>
+    requires { All IsNamed values.now.entries }
+    ensures { OnOk result (variables.new ≡ fold after_entry variables.old (kept_entries values.now.entries)) }
 {
-    for (name, value) in tagged.iter() {
-        put_back_one(variables, name, value)?;
+    for (name, old) in values {
+        put_back_one(variables, name, old)?;
     }
     Ok(())
 }
 
-/// Puts one kept value back, which is tagged.
-fn put_back_one(variables: &mut Variables, name: &[u8], value: &[u8]) -> Result<(), Memory>
-    requires { IsVariable (name.now, value.now) }
-    ensures { OnOk result (variables.new ≡ with_value variables.old name.now (untagged value.now)) }
+/// Puts one kept value back.
+fn put_back_one(
+    variables: &mut Variables,
+    name: &[u8],
+    old: &Option<OwnedVariable>,
+) -> Result<(), Memory>
+    requires { IfSome old.now (λ p. p.0 ≡ name.now) }
+    ensures { OnOk result (variables.new ≡ with_value variables.old name.now (old_value old.now)) }
 {
-    let (_, hint) = variables.find(name);
-    match untagged(value) {
-        Some(value) => variables.insert(hint, name, value)?,
-        None => variables.remove(hint, name),
+    match old {
+        Some(variable) => variables.insert(variable.name(), variable.value())?,
+        None => variables.remove(name),
     }
     Ok(())
 }

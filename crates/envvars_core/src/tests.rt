@@ -12,6 +12,6 @@ fn nothing_but_old_values_is_kept(rt: HostRuntime) {
         let written = vars.write_kept(b"a", Some(value), false, &defaults, &mut olds);
         assert!(rt; written.is_ok());
     }
-    let Olds { tagged, alloc: _ } = &olds;
-    assert_eq!(rt; tagged.len(), 1);
+    let Olds { values, alloc: _ } = &olds;
+    assert_eq!(rt; values.len(), 1);
 }

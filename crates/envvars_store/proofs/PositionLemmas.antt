@@ -1,21 +1,20 @@
 -- What a write at a position makes of the variables.
-use Rattle.std.proofs.Common.{◌≡◌, ℕ, zero, suc, ◌-◌, ◌<◌, ◌≤◌, Less, Equal, Greater, append_assoc, take, T, List, [], ◌∷◌, ◌++◌, length, drop, get_or, All, vec_len, Some, None, is_some, true, sym, ap, subst, ◌∙◌, refl, arith}
+use Rattle.std.proofs.Common.{◌≡◌, ℕ, zero, suc, ◌<◌, T, List, [], ◌∷◌, ◌++◌, length, drop, get_or, All, vec_len, Some, None, is_some, true, sym, ap, subst, ◌∙◌, refl, arith}
 use Rattle.std.specs.FinMap as env
 use Rattle.std.specs.FinMap.Entries.{put, find, is_sorted}
-use Rattle.std.proofs.Math.Seq.{drop-cons, take-suc}
-use Rattle.std.proofs.lemmas.List.{map-append, drop_all, length-map}
+use Rattle.std.proofs.Math.Seq.{drop-cons}
+use Rattle.std.proofs.lemmas.List.{map-append}
 use Rattle.std.proofs.lemmas.List.Elements.{All-append, All-cons}
 use Rattle.envimg_core.specs.Environment.{Pair, bytes_cmp, Environment, IsVariable}
-use Rattle.envvars_store.specs.Order.{AllBefore, StartsAfter, IsFound}
 use Rattle.envvars_store.specs.Laying.{pair_of, LiesIn}
 use Rattle.envvars_store.specs.Runs.{Run, flat, pairs, listed, variables_at, front, rest, later, IsFilled, HoldsVariable, AreInOrder, IsPositionOf, BelongsAt}
 use Rattle.envvars_store.specs.declared.variable.Variable.{Variable}
 use Rattle.envvars_store.specs.declared.runs.Position.{Position}
 use Rattle.envimg_core.proofs.Facts.{same_name}
-use Rattle.envvars_store.proofs.OrderLemmas.{all_before_equal, all_before_greater, all_before_push, put_between, put_over, find_at, find_missed, without, without_at, without_missed}
+use Rattle.envvars_store.proofs.OrderLemmas.{put_between, put_over, find_at, find_missed, without, without_at, without_missed}
 use Rattle.envvars_store.proofs.MapLemmas.{env_of, sorted_put, sorted_without, given_put, given_without, given_entries}
-use Rattle.envvars_store.proofs.RunLemmas.{whole, gap_whole, variables_read, variables_long, long}
-use Rattle.envvars_store.proofs.FindLemmas.{All_front, All_back, pair_read}
+use Rattle.envvars_store.proofs.RunLemmas.{whole, gap_whole, variables_read, variables_long}
+use Rattle.envvars_store.proofs.FindLemmas.{All_front, All_back}
 
 -- the variable at an index
 variable_there : (variables : List Variable) (k : ℕ) → k < length variables → (x : Variable) × (x ≡ get_or variables k x)
@@ -190,70 +189,3 @@ got_formed area lent runs s q v x l f e at is =
     let given : v ≡ (pair_of area x).1 = is ∙ ap (λ a. (pair_of a x).1) at in
     let with_name : IsVariable (q, (pair_of area x).1) = subst (λ n. IsVariable (n, (pair_of area x).1)) (sym (same_name q (pair_of area x).0 (f.equal x e))) formed in
     subst (λ w. IsVariable (q, w)) (sym given) with_name
-
--- a variable that was read at a position and has the name
-pub found_here : (q area : List ℕ) (runs : List Run) (s : Position) (r : Run) (x : Variable) → AreInOrder area runs → s.run < length runs → r ≡ get_or runs s.run r → x ≡ get_or r.items s.index x → s.index < vec_len r → bytes_cmp q (pair_of area x).0 ≡ Equal → IsPositionOf q area runs s
-found_here q area runs s r x l h at is w eq =
-    let e : variables_at runs s.run ≡ r.items = variables_read runs s.run r h at in
-    let within : s.index < length (variables_at runs s.run) = omega (arith, ap length e, long r) in
-    let there : x ≡ get_or (variables_at runs s.run) s.index x = is ∙ ap (λ m. get_or m s.index x) (sym e) in
-    let sorted = subst (λ xs. T (is_sorted bytes_cmp xs)) (ap (pairs area) (position_cut runs s x h within there) ∙ pairs_cut area (front runs s) x (later runs s)) l.sorted in
-    record {
-      run = h;
-      index = within;
-      before = all_before_equal q (pairs area (front runs s)) (pair_of area x) (pairs area (later runs s)) sorted eq;
-      equal = λ y f. ap (λ (p : Pair). bytes_cmp q p.0) (sym (pair_read area (variables_at runs s.run) s.index y within f) ∙ pair_read area (variables_at runs s.run) s.index x within there) ∙ eq;
-    }
-
--- what stands at an index of a list
-some_at : {A : Type 0} (xs : List A) (k : ℕ) → k < length xs → (x : A) × ((d : A) → x ≡ get_or xs k d)
-some_at [] k h = absurd (omega arith)
-some_at (x ∷ xs) zero h = (x, λ d. refl)
-some_at (x ∷ xs) (suc k) h = some_at xs k (omega arith)
-
--- a variable that was found in one run
-pub found_in_run : (q area : List ℕ) (runs : List Run) (r k : ℕ) (x : Run) → AreInOrder area runs → r < length runs → x ≡ get_or runs r x → IsFound q (pairs area x.items) k → IsPositionOf q area runs (record { run = r; index = k })
-found_in_run q area runs r k x l h at f =
-    let within : k < length x.items = omega (arith, f.within, length-map x.items (pair_of area)) in
-    let v = some_at x.items k within in
-    let there : v.0 ≡ get_or x.items k v.0 = v.1 v.0 in
-    let eq = ap (λ (p : Pair). bytes_cmp q p.0) (sym (pair_read area x.items k v.0 within there)) ∙ f.equal in
-    found_here q area runs (record { run = r; index = k }) x v.0 l h at there (omega (arith, within, long x)) eq
-
--- nothing stands in front of the first position
-pub front_none : (q area : List ℕ) (runs : List Run) (s : Position) → s.index ≡ 0 → s.run ≡ 0 → AllBefore q (pairs area (front runs s))
-front_none q area runs s p z =
-    let none : front runs s ≡ [] = ap (λ k. flat (take k runs) ++ take s.index (variables_at runs s.run)) z ∙ ap (λ k. take k (variables_at runs s.run)) p in
-    subst (λ xs. AllBefore q (pairs area xs)) (sym none) tt
-
--- a name behind the variable in front of a position, and one before the variable at it
-pub behind_here : (q area : List ℕ) (runs : List Run) (s : Position) (r : Run) (x : Variable) → AreInOrder area runs → s.run < length runs → r ≡ get_or runs s.run r → 0 < s.index → s.index ≤ vec_len r → x ≡ get_or r.items (s.index - 1) x → bytes_cmp q (pair_of area x).0 ≡ Greater → AllBefore q (pairs area (front runs s))
-behind_here q area runs s r x l h at some w is c =
-    let variables = variables_at runs s.run in
-    let k = s.index - 1 in
-    let p : Position = record { run = s.run; index = k } in
-    let e : variables ≡ r.items = variables_read runs s.run r h at in
-    let within : k < length variables = omega (arith, ap length e, long r) in
-    let there : x ≡ get_or variables k x = is ∙ ap (λ m. get_or m k x) (sym e) in
-    let sorted = subst (λ xs. T (is_sorted bytes_cmp xs)) (ap (pairs area) (position_cut runs p x h within there) ∙ pairs_cut area (front runs p) x (later runs p)) l.sorted in
-    let before = all_before_push q (pairs area (front runs p)) (pair_of area x) (all_before_greater q (pairs area (front runs p)) (pair_of area x) (pairs area (later runs p)) sorted c) c in
-    let up : s.index ≡ suc k = omega arith in
-    let step : front runs s ≡ front runs p ++ x ∷ [] =
-    ap (λ n. flat (take s.run runs) ++ take n variables) up
-    ∙ ap (λ m. flat (take s.run runs) ++ m) (take-suc variables k x within ∙ ap (λ y. take k variables ++ y ∷ []) (sym there))
-    ∙ sym (append_assoc (flat (take s.run runs)) (take k variables) (x ∷ [])) in
-    subst (AllBefore q) (sym (ap (pairs area) step ∙ pairs_cut area (front runs p) x [])) before
-
-pub before_here : (q area : List ℕ) (runs : List Run) (s : Position) (r : Run) (x : Variable) → s.run < length runs → r ≡ get_or runs s.run r → s.index < vec_len r → x ≡ get_or r.items s.index x → bytes_cmp q (pair_of area x).0 ≡ Less → StartsAfter q (pairs area (rest runs s))
-before_here q area runs s r x h at w is c =
-    let variables = variables_at runs s.run in
-    let e : variables ≡ r.items = variables_read runs s.run r h at in
-    let within : s.index < length variables = omega (arith, ap length e, long r) in
-    let there : x ≡ get_or variables s.index x = is ∙ ap (λ m. get_or m s.index x) (sym e) in
-    subst (λ d. StartsAfter q (pairs area (d ++ flat (drop (suc s.run) runs)))) (sym (drop-cons variables s.index x within ∙ ap (λ v. v ∷ drop (suc s.index) variables) (sym there))) c
-
-pub before_next : (q area : List ℕ) (runs : List Run) (s : Position) (r : Run) → s.run < length runs → r ≡ get_or runs s.run r → vec_len r ≤ s.index → StartsAfter q (listed area (drop (suc s.run) runs)) → StartsAfter q (pairs area (rest runs s))
-before_next q area runs s r h at w a =
-    let variables = variables_at runs s.run in
-    let e : variables ≡ r.items = variables_read runs s.run r h at in
-    subst (λ d. StartsAfter q (pairs area (d ++ flat (drop (suc s.run) runs)))) (sym (drop_all s.index variables (omega (arith, ap length e, long r)))) a

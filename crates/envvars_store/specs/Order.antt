@@ -1,6 +1,5 @@
 -- Where a name stands among variables in the order of their names.
-use Rattle.std.specs.Prelude.{◌≡◌, ◌≢◌, slice_index, ℕ, Bool, not, ◌+◌, ◌<◌, ◌≤◌, List, [], ◌∷◌, length, take, drop, slice_index_or}
-use Rattle.std.specs.Int.{w32, from_be_bytes}
+use Rattle.std.specs.Prelude.{◌≡◌, ◌≢◌, slice_index, ℕ, Bool, not, ◌<◌, ◌≤◌, List, [], ◌∷◌, length, take, drop, slice_index_or}
 use Rattle.std.specs.Ordering.{eq_by_cmp}
 use Rattle.std.specs.declared.cmp.Ordering.TheVariants.{Less, Equal, Greater}
 use Rattle.envimg_core.specs.Environment.{Pair, bytes_cmp}
@@ -37,8 +36,3 @@ pub record IsShared (xs ys : List ℕ) (n : ℕ) : Type 0 where
   pub second : n ≤ length ys
   pub same : take n xs ≡ take n ys
   pub differ : n < length xs → n < length ys → slice_index xs n ≢ slice_index ys n
-
--- four bytes of a text as one number, the first of them the highest
-abbrev pub four_at : List ℕ → ℕ → ℕ
-four_at xs i =
-    from_be_bytes w32 (slice_index xs i ∷ slice_index xs (i + 1) ∷ slice_index xs (i + 2) ∷ slice_index xs (i + 3) ∷ [])

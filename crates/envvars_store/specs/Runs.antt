@@ -57,11 +57,6 @@ pub record AreInOrder (area : List ℕ) (runs : List Run) : Type 0 where
   pub sorted : T (is_sorted bytes_cmp (listed area runs))
   pub formed : All (HoldsVariable area) (flat runs)
 
--- what holds of runs of owned variables alone: they are in order over no area, and the count is their number
-pub record AreOwned (runs : List Run) (count : ℕ) : Type 0 where
-  pub in_order : AreInOrder [] runs
-  pub counted : count ≡ length (listed [] runs)
-
 -- the last run whose first variable doesn't come after the name
 pub record IsRunFor (name area : List ℕ) (runs : List Run) (r : ℕ) : Type 0 where
   pub within : r < length runs

@@ -2,7 +2,6 @@
 ghost use Rattle.std.specs.Prelude.{◌≡◌, IfOk, All};
 ghost use Rattle.envvars_store.specs.Runs.{flat, IsFilled};
 
-use crate::firsts::Firsts;
 use crate::runs::{FEW, Run};
 use crate::store::Variables;
 use crate::variable::Variable;
@@ -19,7 +18,6 @@ impl Variables {
         Ok(Variables {
             area: copied(alloc, &self.area)?,
             runs: copied_runs(alloc, &self.runs)?,
-            firsts: Firsts::new(alloc),
         })
     }
 }

@@ -11,8 +11,7 @@ ghost use Rattle.envimg_core.specs.Environment.{is_equals};
 use crate::changing::{forget, set};
 use crate::comparing::rising_end;
 use crate::copying::copied;
-use crate::firsts::Firsts;
-use crate::runs::{Run, add, end_of, run_of_one};
+use crate::runs::{Run, add, run_of_one};
 use crate::scanning::{LOOK, near, rises};
 use crate::store::Variables;
 use crate::variable::{Extent, Variable};
@@ -28,15 +27,14 @@ impl Variables {
         ensures { IfOk result (λ v. v ≡ vars_of (entries_of area.now)) }
     {
         let area = copied(alloc, area)?;
-        let mut firsts = Firsts::new(alloc);
-        let runs = loaded(alloc, &area, &mut firsts)?;
-        Ok(Variables { area, runs, firsts })
+        let runs = loaded(alloc, &area)?;
+        Ok(Variables { area, runs })
     }
 }
 
 /// The variables of an area as extents of it: as far as its names rise without a search, and from there on entry by
 /// entry.
-fn loaded(alloc: Global, area: &[u8], firsts: &mut Firsts) -> Result<Vec<Run>, AllocError>
+fn loaded(alloc: Global, area: &[u8]) -> Result<Vec<Run>, AllocError>
     requires { length area.now ≤ greatest_size }
     ensures in_order { IfOk result (λ runs. AreInOrder area.now runs.items) }
     ensures variables { IfOk result (λ runs.
@@ -48,7 +46,7 @@ fn loaded(alloc: Global, area: &[u8], firsts: &mut Firsts) -> Result<Vec<Run>, A
         match piece_end(area, at) {
             None => return Ok(runs),
             Some(end) => {
-                read_entry(alloc, area, &mut runs, firsts, at, end)?;
+                read_entry(alloc, area, &mut runs, at, end)?;
                 at = end + 1;
             }
         }
@@ -181,7 +179,6 @@ fn read_entry(
     alloc: Global,
     area: &[u8],
     runs: &mut Vec<Run>,
-    firsts: &mut Firsts,
     start: usize,
     end: usize,
 ) -> Result<(), AllocError>
@@ -195,25 +192,16 @@ fn read_entry(
 {
     let piece = &area[start..end];
     match memchr(EQUALS, piece) {
-        None => forget(area, runs, firsts, piece, end_of(runs)),
+        None => forget(area, runs, piece),
         Some(0) => {}
-        Some(length) if length + 1 == piece.len() => {
-            forget(area, runs, firsts, &piece[..length], end_of(runs))
-        }
+        Some(length) if length + 1 == piece.len() => forget(area, runs, &piece[..length]),
         Some(length) => {
             let extent = Extent {
                 start: start as u32,
                 middle: (start + length) as u32,
                 end: end as u32,
             };
-            set(
-                alloc,
-                area,
-                runs,
-                firsts,
-                Variable::Loaded(extent),
-                end_of(runs),
-            )?;
+            set(alloc, area, runs, Variable::Loaded(extent))?;
         }
     }
     Ok(())

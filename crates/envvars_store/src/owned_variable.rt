@@ -1,16 +1,11 @@
 //! One variable that owns its bytes.
-ghost use Rattle.std.specs.Prelude.{◌≡◌, ◌++◌, None, Some, IfOk, IfErr, IfSome, IsTrue, option_copied, option_map};
+ghost use Rattle.std.specs.Prelude.{◌≡◌, IfOk, IsTrue};
 ghost use Rattle.envimg_core.specs.Environment.{is_name, is_value, IsVariable, entry_text};
-ghost use Rattle.envvars_store.specs.Tags.{tagged, untagged};
 
-use crate::naming::NO_NUMBER;
 use envimg_core::EQUALS;
 use smallvec::SmallVec;
 use std::alloc::{AllocError, Global};
 use std::marker::Model;
-
-/// What stands behind a value that may be none.
-const TAG: u8 = b'-';
 
 /// How many bytes of name, `=` and value stand in the variable itself. Only a longer text takes memory.
 const INLINE: usize = 16;
@@ -22,8 +17,6 @@ const INLINE: usize = 16;
 pub struct OwnedVariable {
     bytes: SmallVec<u8, INLINE>,
     middle: u32,
-    // The number under which the name may be kept: a hint.
-    number: u32,
 }
 
 impl Model for OwnedVariable {
@@ -41,38 +34,22 @@ impl Model for OwnedVariable {
 
 impl OwnedVariable {
     /// The variable `name` with the value `value`.
-    /// The name is a name and the value a value (docs/images.md); it is refused only for memory.
+    /// The name is a name and the value a value (docs/images.md); it is refused only for memory, of which there is none
+    /// for a name of 4 GiB.
     pub fn new(alloc: Global, name: &[u8], value: &[u8]) -> Result<OwnedVariable, AllocError>
         requires name_form { IsTrue (is_name name.now) }
         requires value_form { IsTrue (is_value value.now) }
         ensures { IfOk result (λ t. t ≡ (name.now, value.now)) }
     {
-        OwnedVariable::put_together(alloc, name, value, &[])
-    }
-
-    /// A variable that says what `name` had: its value `old`, or none, with a tag behind it.
-    pub fn tagged(
-        alloc: Global,
-        name: &[u8],
-        old: Option<&[u8]>,
-    ) -> Result<OwnedVariable, AllocError>
-        requires name_form { IsTrue (is_name name.now) }
-        requires value_form { IfSome (option_copied old) (λ v. IsTrue (is_value v)) }
-        ensures { IfOk result (λ t. t ≡ (name.now, tagged (option_copied old.entry))) }
-    {
-        OwnedVariable::put_together(alloc, name, old.unwrap_or(&[]), &[TAG])
-    }
-
-    /// The variable without its tag, or the same variable again where a tag is its whole value.
-    pub fn untagged(mut self) -> Result<OwnedVariable, OwnedVariable>
-        ensures value { IfOk result (λ t. (t.0 ≡ self.0) × (untagged self.1 ≡ Some t.1)) }
-        ensures none { IfErr result (λ t. (t ≡ self) × (untagged self.1 ≡ None)) }
-    {
-        if self.bytes.len() - (self.middle as usize) < 3 {
-            return Err(self);
-        }
-        let _tag = self.bytes.pop();
-        Ok(self)
+        let Ok(middle) = u32::try_from(name.len()) else {
+            return Err(AllocError);
+        };
+        let length = (name.len() + 1).saturating_add(value.len());
+        let mut bytes = SmallVec::with_capacity(alloc, length)?;
+        bytes.extend_from_slice(name)?;
+        bytes.push(EQUALS)?;
+        bytes.extend_from_slice(value)?;
+        Ok(OwnedVariable { bytes, middle })
     }
 
     /// Its name.
@@ -105,58 +82,6 @@ impl OwnedVariable {
         Ok(OwnedVariable {
             bytes: SmallVec::from_slice(alloc, &self.bytes)?,
             middle: self.middle,
-            number: self.number,
         })
     }
-
-    /// The same variable with another number.
-    pub(crate) fn numbered(mut self, number: u32) -> OwnedVariable
-        ensures { result ≡ self }
-    {
-        self.number = number;
-        self
-    }
-
-    /// Its number.
-    pub(crate) fn number(&self) -> u32 {
-        self.number
-    }
-
-    /// The variable `name` whose value is a front and a rest. For a name of 4 GiB there is no memory.
-    #[inline(always)]
-    fn put_together(
-        alloc: Global,
-        name: &[u8],
-        front: &[u8],
-        rest: &[u8],
-    ) -> Result<OwnedVariable, AllocError>
-        requires name_form { IsTrue (is_name name.now) }
-        requires value_form { IsTrue (is_value (front.now ++ rest.now)) }
-        ensures { IfOk result (λ t. t ≡ (name.now, front.now ++ rest.now)) }
-    {
-        let Ok(middle) = u32::try_from(name.len()) else {
-            return Err(AllocError);
-        };
-        let length = (name.len() + front.len() + 1).saturating_add(rest.len());
-        let mut bytes = SmallVec::with_capacity(alloc, length)?;
-        bytes.extend_from_slice(name)?;
-        bytes.push(EQUALS)?;
-        bytes.extend_from_slice(front)?;
-        if !rest.is_empty() {
-            bytes.extend_from_slice(rest)?;
-        }
-        Ok(OwnedVariable {
-            bytes,
-            middle,
-            number: NO_NUMBER,
-        })
-    }
-}
-
-/// What was tagged, from a value with its tag.
-pub fn untagged(value: &[u8]) -> Option<&[u8]>
-    ensures { option_map (λ v. v.now) result ≡ untagged value.now }
-{
-    let old = &value[..value.len().saturating_sub(1)];
-    if old.is_empty() { None } else { Some(old) }
 }

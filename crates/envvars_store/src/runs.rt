@@ -1,5 +1,5 @@
 //! Variables in runs of a bounded length, so that a write moves one run at most.
-ghost use Rattle.std.specs.Prelude.{◌≡◌, ◌+◌, ◌<◌, ◌≤◌, suc, [], ◌∷◌, ◌++◌, length, All, IfOk, OnOk, OnErr, MatchOption};
+ghost use Rattle.std.specs.Prelude.{◌≡◌, ◌+◌, ◌<◌, ◌≤◌, suc, [], ◌∷◌, ◌++◌, length, All, IfOk, OnOk, OnErr};
 ghost use Rattle.envvars_store.specs.Runs.{flat, front, rest, later, variables_at, IsFilled};
 
 use crate::variable::Variable;
@@ -20,17 +20,6 @@ pub(crate) const FEW: usize = 48;
 pub(crate) struct Position {
     pub(crate) run: usize,
     pub(crate) index: usize,
-}
-
-/// The position behind all variables.
-pub(crate) fn end_of(runs: &[Run]) -> Position {
-    match runs.last() {
-        Some(run) => Position {
-            run: runs.len() - 1,
-            index: run.len(),
-        },
-        None => Position { run: 0, index: 0 },
-    }
 }
 
 /// Puts a variable behind those of a run that stands behind all others and not yet among them; a full one goes there
@@ -177,24 +166,6 @@ fn take_at(runs: &mut Vec<Run>, at: Position)
     if runs[at.run].is_empty() {
         let _run = runs.remove(at.run);
     }
-}
-
-/// Takes out the last variable, and its run where that was its last. It takes no memory.
-pub(crate) fn take_last(runs: &mut Vec<Run>) -> Option<Variable>
-    requires { All IsFilled runs.old.items }
-    ensures taken { MatchOption result ((runs.old.items ≡ []) × (runs.new.items ≡ []))
-        (λ variable. flat runs.old.items ≡ flat runs.new.items ++ variable ∷ []) }
-    ensures filled { All IsFilled runs.new.items }
-{
-    if runs.is_empty() {
-        return None;
-    }
-    let last = runs.len() - 1;
-    let variable = runs[last].pop()?;
-    if runs[last].is_empty() {
-        let _run = runs.remove(last);
-    }
-    Some(variable)
 }
 
 /// Makes a run and the one behind it one run, where they are short and it has the room.

@@ -6,11 +6,9 @@ ghost use Rattle.envvars_store.specs.Runs.{listed, AreInOrder};
 
 use crate::changing::{forget, set};
 use crate::finding::locate;
-use crate::firsts::Firsts;
 use crate::iterating::{Iter, Lines};
-use crate::naming::NO_NUMBER;
 use crate::owned_variable::OwnedVariable;
-use crate::runs::{Position, Run, replace_at};
+use crate::runs::{Run, replace_at};
 use crate::variable::Variable;
 use std::alloc::{AllocError, Global};
 use std::marker::Model;
@@ -23,7 +21,6 @@ use std::marker::Model;
 pub struct Variables {
     pub(crate) area: Vec<u8>,
     pub(crate) runs: Vec<Run>,
-    pub(crate) firsts: Firsts,
 }
 
 impl Model for Variables {
@@ -41,26 +38,6 @@ impl Model for Variables {
     ghost invariant = { λ v. AreInOrder v.area.items v.runs.items };
 }
 
-/// Where a look-up ended: a hint. A write of the same name that is given it needs no search of its own;
-/// given any other it does the same, more slowly.
-#[derive(Clone, Copy)]
-pub struct Hint {
-    pub(crate) position: Position,
-    // The number that the name has, or gets, among owned variables.
-    pub(crate) number: u32,
-}
-
-impl Hint {
-    /// The same position, with the number that a look-up of the name found among owned variables. A write keeps it with
-    /// the variable.
-    pub fn numbered_as(self, other: Hint) -> Hint {
-        Hint {
-            position: self.position,
-            number: other.number,
-        }
-    }
-}
-
 impl Variables {
     /// No variables. It takes no memory.
     pub fn new(alloc: Global) -> Variables
@@ -69,7 +46,6 @@ impl Variables {
         Variables {
             area: Vec::new(alloc),
             runs: Vec::new(alloc),
-            firsts: Firsts::new(alloc),
         }
     }
 
@@ -78,46 +54,27 @@ impl Variables {
         ensures value { option_map (λ v. v.now) result ≡ env.get self.now name.now }
         ensures formed { IfSome result (λ v. IsVariable (name.now, v.now)) }
     {
-        let (value, _) = self.find(name);
-        value
-    }
-
-    /// The value of a name, if it has one, and where it was found or would stand.
-    pub fn find(&self, name: &[u8]) -> (Option<&[u8]>, Hint)
-        ensures value { option_map (λ v. v.now) result.0 ≡ env.get self.now name.now }
-        ensures formed { IfSome result.0 (λ v. IsVariable (name.now, v.now)) }
-    {
-        find_among(&self.area, &self.runs, &self.firsts, name)
+        value_among(&self.area, &self.runs, name)
     }
 
     /// Gives a name a value. The name is a name and the value a value (docs/images.md).
     /// It is refused only for memory, and then nothing has changed.
-    /// `hint` is where a look-up of the name ended.
-    pub fn insert(&mut self, hint: Hint, name: &[u8], value: &[u8]) -> Result<(), AllocError>
+    pub fn insert(&mut self, name: &[u8], value: &[u8]) -> Result<(), AllocError>
         requires name_form { IsTrue (is_name name.now) }
         requires value_form { IsTrue (is_value value.now) }
         ensures ok { OnOk result (self.new ≡ env.insert self.old name.now value.now) }
         ensures err { OnErr result (self.new ≡ self.old) }
     {
         let alloc = *self.area.allocator();
-        let variable = OwnedVariable::new(alloc, name, value)?.numbered(hint.number);
-        set(
-            alloc,
-            &self.area,
-            &mut self.runs,
-            &mut self.firsts,
-            Variable::Written(variable),
-            hint.position,
-        )
+        let variable = Variable::Written(OwnedVariable::new(alloc, name, value)?);
+        set(alloc, &self.area, &mut self.runs, variable)
     }
 
     /// Takes the variable of a name away, if there is one. It takes no memory.
-    /// `hint` is where a look-up of the name ended.
-    pub fn remove(&mut self, hint: Hint, name: &[u8])
+    pub fn remove(&mut self, name: &[u8])
         ensures { self.new ≡ env.remove self.old name.now }
     {
-        let at = hint.position;
-        forget(&self.area, &mut self.runs, &mut self.firsts, name, at);
+        forget(&self.area, &mut self.runs, name);
     }
 
     /// Puts a variable in the place of the one that has its name, which takes no memory.
@@ -128,7 +85,7 @@ impl Variables {
         ensures err { OnErr result (self.new ≡ self.old) }
         ensures back { IfErr result (λ t. t ≡ variable) }
     {
-        match locate(&self.area, &self.runs, &self.firsts, variable.name()) {
+        match locate(&self.area, &self.runs, variable.name()) {
             Ok(at) => {
                 replace_at(&mut self.runs, at, Variable::Written(variable));
                 Ok(())
@@ -154,37 +111,18 @@ impl Variables {
     }
 }
 
-/// The value of a name among variables, if it has one, and where it was found or would stand.
-#[inline(always)]
-pub(crate) fn find_among<'a>(
-    area: &'a [u8],
-    runs: &'a [Run],
-    firsts: &Firsts,
-    name: &[u8],
-) -> (Option<&'a [u8]>, Hint)
+/// The value of a name among variables, if it has one.
+fn value_among<'a>(area: &'a [u8], runs: &'a [Run], name: &[u8]) -> Option<&'a [u8]>
     requires { AreInOrder area.now runs.now }
-    ensures value { option_map (λ v. v.now) result.0
+    ensures value { option_map (λ v. v.now) result
         ≡ env.get (env.from_sorted {R = bytes_cmp} (listed area.now runs.now)) name.now }
-    ensures formed { IfSome result.0 (λ v. IsVariable (name.now, v.now)) }
+    ensures formed { IfSome result (λ v. IsVariable (name.now, v.now)) }
 {
-    match locate(area, runs, firsts, name) {
+    match locate(area, runs, name) {
         Ok(at) => {
             let variable = &runs[at.run][at.index];
-            let number = variable.number();
-            (
-                Some(variable.value(area)),
-                Hint {
-                    position: at,
-                    number,
-                },
-            )
+            Some(variable.value(area))
         }
-        Err(position) => (
-            None,
-            Hint {
-                position,
-                number: NO_NUMBER,
-            },
-        ),
+        Err(_) => None,
     }
 }

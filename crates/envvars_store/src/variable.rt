@@ -3,8 +3,6 @@ ghost use Rattle.std.specs.Prelude.{◌≡◌, IfOk};
 ghost use Rattle.envvars_store.specs.Laying.{pair_of, LiesIn};
 ghost use Rattle.envimg_core.specs.Environment.{entry_text};
 
-use crate::firsts::{Front, front_of};
-use crate::naming::NO_NUMBER;
 use crate::owned_variable::OwnedVariable;
 use std::alloc::{AllocError, Global};
 
@@ -38,19 +36,6 @@ impl Variable {
         }
     }
 
-    /// The front of its name: a hint. That of a name which doesn't lie in the area is 0.
-    pub(crate) fn front(&self, area: &[u8]) -> Front {
-        match self {
-            Variable::Loaded(extent) => {
-                match area.get(extent.start as usize..extent.middle as usize) {
-                    Some(name) => front_of(name),
-                    None => 0,
-                }
-            }
-            Variable::Written(owned) => front_of(owned.name()),
-        }
-    }
-
     /// Its value.
     pub(crate) fn value<'a>(&'a self, area: &'a [u8]) -> &'a [u8]
         requires { LiesIn area.now self.now }
@@ -59,14 +44,6 @@ impl Variable {
         match self {
             Variable::Loaded(extent) => &area[extent.middle as usize + 1..extent.end as usize],
             Variable::Written(owned) => owned.value(),
-        }
-    }
-
-    /// The number under which its name may be kept: a hint.
-    pub(crate) fn number(&self) -> u32 {
-        match self {
-            Variable::Loaded(_) => NO_NUMBER,
-            Variable::Written(owned) => owned.number(),
         }
     }
 

@@ -3,7 +3,7 @@ ghost use Rattle.std.specs.Prelude.{◌≡◌, ◌≤◌, ◌||◌, IsTrue, leng
 ghost use Rattle.std.specs.List.{list_any};
 ghost use Rattle.envimg_core.specs.Environment.{is_equals, is_name, is_value, is_zero};
 
-use envvars_store::{Hint, Variables};
+use envvars_store::Variables;
 use std::alloc::{AllocError, Global};
 use std::collections::BTreeMap;
 use std::process::Abort;
@@ -77,48 +77,34 @@ impl Numbers {
     }
 }
 
-/// The store and the plain map, and where a look-up ended some time ago.
+/// The store and the plain map.
 #[derive(Drop)]
 struct Both {
     store: Variables,
     plain: BTreeMap<Vec<u8>, Vec<u8>>,
-    stale: Hint,
     alloc: Global,
 }
 
 impl Both {
     fn new(alloc: Global) -> Both {
-        let store = Variables::new(alloc);
-        let (_, stale) = store.find(b"n");
         Both {
-            store,
+            store: Variables::new(alloc),
             plain: BTreeMap::new(alloc),
-            stale,
             alloc,
         }
     }
 
-    /// Where a write of the name is to begin: where its look-up ended, or where another one did before other writes.
-    fn hint(&mut self, name: &[u8], is_late: bool) -> Hint {
-        if is_late {
-            return self.stale;
-        }
-        let (_, hint) = self.store.find(name);
-        self.stale = hint;
-        hint
-    }
-
-    fn write(&mut self, hint: Hint, name: Vec<u8>, value: Vec<u8>) -> Result<(), AllocError>
+    fn write(&mut self, name: Vec<u8>, value: Vec<u8>) -> Result<(), AllocError>
         requires name_form { IsTrue (is_name name.items) }
         requires value_form { IsTrue (is_value value.items) }
     {
-        self.store.insert(hint, &name, &value)?;
+        self.store.insert(&name, &value)?;
         self.plain.insert(name, value)?;
         Ok(())
     }
 
-    fn remove(&mut self, hint: Hint, name: &[u8]) {
-        self.store.remove(hint, name);
+    fn remove(&mut self, name: &[u8]) {
+        self.store.remove(name);
         let _gone = self.plain.remove(name);
     }
 
@@ -133,11 +119,10 @@ impl Both {
         let value = numbers.value(self.alloc)?;
         assert!(rt; is_name(&name) && is_value(&value));
         self.has_value(rt, &name);
-        let hint = self.hint(&name, numbers.next() % 4 == 0);
         if (numbers.next() % 4 == 0) != is_growing {
-            self.write(hint, name, value)?;
+            self.write(name, value)?;
         } else {
-            self.remove(hint, &name);
+            self.remove(&name);
         }
         Ok(())
     }
@@ -159,8 +144,7 @@ impl Both {
     fn go_on_with_a_copy(&mut self, rt: &impl Abort) -> Result<(), AllocError> {
         let copy = self.store.try_clone(self.alloc)?;
         for (name, _) in &self.plain {
-            let (_, hint) = self.store.find(name);
-            self.store.remove(hint, name);
+            self.store.remove(name);
         }
         assert!(rt; self.store.iter().next().is_none());
         is_listed(rt, &copy, &self.plain);

@@ -4,18 +4,18 @@ ghost use Rattle.std.specs.Prelude.{◌≡◌, ◌≤◌, ◌%◌, ◌^◌, ◌�
 ghost use Rattle.std.specs.FinMap as env;
 ghost use Rattle.envimg_core.specs.Environment.{used, is_name, is_value};
 ghost use Rattle.envimg_core.specs.Pieces.{with_value};
-ghost use Rattle.envvars_store.specs.Tags.{untagged};
 ghost use Rattle.envvars_core.specs.Refusals.{given, after, refusal};
 ghost use Rattle.envvars_core.specs.Variables.{size_of};
+ghost use Rattle.envvars_core.specs.Kept.{old_value};
 ghost use Rattle.envvars_core.specs.Olds.{same_value, kept, kept_by, restored, goes_in_place, RestoredFits};
 ghost use Rattle.envvars_core.specs.Steps.{HavePlaces};
 
 use super::{Vars, size_of_all};
 use crate::checks::{given, same_value};
 use crate::flags::{FLAGS_NAME, Flags};
-use crate::olds::Olds;
+use crate::olds::{Olds, value_of};
 use crate::refusals::{Memory, Refusal};
-use envvars_store::{Hint, OwnedVariable, Variables, untagged};
+use envvars_store::{OwnedVariable, Variables};
 
 impl Vars {
     /// Writes a new value, or deletes the variable where there is none or an empty one, and keeps the old value
@@ -51,14 +51,14 @@ impl Vars {
     {
         // for the proof: what is used fits
         prove!(self.used <= self.room);
-        let (old, hint) = self.find(name);
+        let old = self.get(name);
         let size = self.size_left(name, new, force, defaults, old)?;
         let value = given(new);
         if same_value(old, value) {
             return Ok(());
         }
-        let (added, hint) = olds.keep(hint, name, old)?;
-        match self.set(hint, name, value, size) {
+        let added = olds.keep(name, old)?;
+        match self.set(name, value, size) {
             Ok(()) => Ok(()),
             Err(Memory) => {
                 olds.forget(name, added);
@@ -139,35 +139,41 @@ fn swap_all(variables: &mut Variables, olds: &mut Olds, mut size: usize) -> usiz
     'kept: loop {
         match olds.pop() {
             None => return size,
-            Some(variable) => size = swap_one(variables, variable, size),
+            Some((name, old)) => size = swap_one(variables, &name, old, size),
         }
     }
 }
 
-/// Swaps one kept value in, which is tagged, and counts what it takes in place of the present one.
-fn swap_one(variables: &mut Variables, variable: OwnedVariable, size: usize) -> usize
-    requires place { IfSome (untagged variable.1) (λ v. IsSome (env.get variables.old variable.0)) }
+/// Swaps one kept value in, and counts what it takes in place of the present one.
+fn swap_one(
+    variables: &mut Variables,
+    name: &[u8],
+    old: Option<OwnedVariable>,
+    size: usize,
+) -> usize
+    requires named { IfSome old (λ p. p.0 ≡ name.now) }
+    requires place { IfSome (old_value old) (λ v. IsSome (env.get variables.old name.now)) }
     requires sized { size ≡ used variables.old % 2 ^ 64 }
-    ensures swapped { variables.new ≡ with_value variables.old variable.0 (untagged variable.1) }
-    ensures sized { result ≡ used (with_value variables.old variable.0 (untagged variable.1)) % 2 ^ 64 }
+    ensures swapped { variables.new ≡ with_value variables.old name.now (old_value old) }
+    ensures sized { result ≡ used (with_value variables.old name.now (old_value old)) % 2 ^ 64 }
 {
-    let (present, hint) = variables.find(variable.name());
-    let present = size_of(variable.name(), present);
-    let kept = size_of(variable.name(), untagged(variable.value()));
-    swap_variable(variables, hint, variable);
+    let present = size_of(name, variables.get(name));
+    let kept = size_of(name, value_of(&old));
+    swap_variable(variables, name, old);
     size.wrapping_sub(present).wrapping_add(kept)
 }
 
-/// Swaps one kept value in, which is tagged.
-fn swap_variable(variables: &mut Variables, hint: Hint, variable: OwnedVariable)
-    requires { IfSome (untagged variable.1) (λ v. IsSome (env.get variables.old variable.0)) }
-    ensures { variables.new ≡ with_value variables.old variable.0 (untagged variable.1) }
+/// Swaps one kept value in.
+fn swap_variable(variables: &mut Variables, name: &[u8], old: Option<OwnedVariable>)
+    requires named { IfSome old (λ p. p.0 ≡ name.now) }
+    requires place { IfSome (old_value old) (λ v. IsSome (env.get variables.old name.now)) }
+    ensures { variables.new ≡ with_value variables.old name.now (old_value old) }
 {
-    match variable.untagged() {
-        Ok(variable) => {
+    match old {
+        Some(variable) => {
             let _swapped = variables.replace(variable);
         }
-        Err(variable) => variables.remove(hint, variable.name()),
+        None => variables.remove(name),
     }
 }
 

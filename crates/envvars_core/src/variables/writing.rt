@@ -14,7 +14,7 @@ use crate::attributes::Access;
 use crate::checks::{attr_refusal, given, has_form, is_nothing};
 use crate::flags::{FLAGS_NAME, Flags};
 use crate::refusals::{Memory, Refusal};
-use envvars_store::{Hint, Variables};
+use envvars_store::Variables;
 use std::alloc::{AllocError, Global};
 
 /// A name and the value that it had before a write.
@@ -78,11 +78,11 @@ impl Vars {
     {
         // for the proof: what is used fits
         prove!(self.used <= self.room);
-        let (old, hint) = self.find(name);
-        let size = self.size_left(name, new, force, defaults, old)?;
-        let previous = previous_value(self.alloc, name, old)?;
-        self.set(hint, name, given(new), size)?;
-        Ok(previous)
+        let before = self.get(name);
+        let size = self.size_left(name, new, force, defaults, before)?;
+        let was = was_of(self.alloc, name, before)?;
+        self.set(name, given(new), size)?;
+        Ok(was)
     }
 
     /// The size that a write leaves, or the first of the checks that refuses it. The old value is given.
@@ -139,13 +139,7 @@ impl Vars {
     }
 
     /// Gives a name a value or takes its variable away, which leaves this size.
-    pub(super) fn set(
-        &mut self,
-        hint: Hint,
-        name: &[u8],
-        value: Option<&[u8]>,
-        size: u32,
-    ) -> Result<(), Memory>
+    pub(super) fn set(&mut self, name: &[u8], value: Option<&[u8]>, size: u32) -> Result<(), Memory>
         requires name_form { IsTrue (is_name name.now) }
         requires value_form { IfSome (option_copied value) (λ v. IsTrue (is_value v)) }
         requires sized { size ≡ used (with_value self.old.env name.now (option_copied value)) }
@@ -155,20 +149,14 @@ impl Vars {
         ensures err { OnErr result (self.new ≡ self.old) }
     {
         if name == FLAGS_NAME {
-            self.set_flags(hint, value, size)
+            self.set_flags(value, size)
         } else {
-            self.set_other(hint, name, value, size)
+            self.set_other(name, value, size)
         }
     }
 
     /// Gives a name a value or takes its variable away, where the name is not `.flags`.
-    fn set_other(
-        &mut self,
-        hint: Hint,
-        name: &[u8],
-        value: Option<&[u8]>,
-        size: u32,
-    ) -> Result<(), Memory>
+    fn set_other(&mut self, name: &[u8], value: Option<&[u8]>, size: u32) -> Result<(), Memory>
         requires name_form { IsTrue (is_name name.now) }
         requires value_form { IfSome (option_copied value) (λ v. IsTrue (is_value v)) }
         requires other { name.now ≢ flags_name }
@@ -178,13 +166,13 @@ impl Vars {
             ≡ record self.old { env = with_value self.old.env name.now (option_copied value.entry) }) }
         ensures err { OnErr result (self.new ≡ self.old) }
     {
-        change(&mut self.variables, hint, name, value)?;
+        change(&mut self.variables, name, value)?;
         self.used = size;
         Ok(())
     }
 
     /// Gives `.flags` a value or takes it away.
-    fn set_flags(&mut self, hint: Hint, value: Option<&[u8]>, size: u32) -> Result<(), Memory>
+    fn set_flags(&mut self, value: Option<&[u8]>, size: u32) -> Result<(), Memory>
         requires value_form { IfSome (option_copied value) (λ v. IsTrue (is_value v)) }
         requires sized { size ≡ used (with_value self.old.env flags_name (option_copied value)) }
         requires fits { size ≤ self.old.room }
@@ -193,7 +181,7 @@ impl Vars {
         ensures err { OnErr result (self.new ≡ self.old) }
     {
         let flags = Flags::parse(self.alloc, text_of(value))?;
-        change(&mut self.variables, hint, FLAGS_NAME, value)?;
+        change(&mut self.variables, FLAGS_NAME, value)?;
         self.flags = flags;
         self.used = size;
         Ok(())
@@ -214,11 +202,11 @@ fn default_for<'a>(access: Access, defaults: &'a Vars, name: &[u8]) -> Option<&'
 }
 
 /// A name and its value before a write, in memory of their own.
-fn previous_value(alloc: Global, name: &[u8], value: Option<&[u8]>) -> Result<Was, Memory>
-    ensures { IfOk result (λ previous. IsWas previous name.now (option_copied value.entry)) }
+fn was_of(alloc: Global, name: &[u8], before: Option<&[u8]>) -> Result<Was, Memory>
+    ensures { IfOk result (λ was. IsWas was name.now (option_copied before.entry)) }
 {
     let name = name.to_vec(alloc)?;
-    let before = copied(alloc, value)?;
+    let before = copied(alloc, before)?;
     Ok(Was { name, before })
 }
 
@@ -233,21 +221,16 @@ fn copied(alloc: Global, value: Option<&[u8]>) -> Result<Option<Vec<u8>>, AllocE
 }
 
 /// The change itself: gives a name a value, or takes its variable away.
-fn change(
-    variables: &mut Variables,
-    hint: Hint,
-    name: &[u8],
-    value: Option<&[u8]>,
-) -> Result<(), AllocError>
+fn change(variables: &mut Variables, name: &[u8], value: Option<&[u8]>) -> Result<(), AllocError>
     requires name_form { IsTrue (is_name name.now) }
     requires value_form { IfSome (option_copied value) (λ v. IsTrue (is_value v)) }
     ensures ok { OnOk result (variables.new ≡ with_value variables.old name.now (option_copied value.entry)) }
     ensures err { OnErr result (variables.new ≡ variables.old) }
 {
     match value {
-        Some(value) => variables.insert(hint, name, value),
+        Some(value) => variables.insert(name, value),
         None => {
-            variables.remove(hint, name);
+            variables.remove(name);
             Ok(())
         }
     }

@@ -1,6 +1,6 @@
 use Rattle.std.proofs.Common.{ap, sym, refl, ◌∙◌, Some}
 use Rattle.envvars_store.proofs.PositionLemmas.{position_read, position_within, position_placed, got, got_nothing, got_formed}
-use Rattle.envvars_store.proofs.store.find_among.Goals as goal
+use Rattle.envvars_store.proofs.store.value_among.Goals as goal
 
 pub index-variable-requires : goal.index-variable-requires
 index-variable-requires c = position_within c.args.name.now c.args.area.now c.args.runs.now c.in-Ok.at c.index-runs-at.result c.in-Ok.ensures c.index-runs-at.is
@@ -21,4 +21,4 @@ returns-in-Ok-clause-formed c =
     got_formed c.args.area.now c.args.area.now c.args.runs.now c.in-Ok.at c.args.name.now c.value.result.now c.index-variable.result.now c.requires c.in-Ok.ensures x refl c.value.ensures
 
 pub returns-in-Err-clause-value : goal.returns-in-Err-clause-value
-returns-in-Err-clause-value c = sym (got_nothing _ _ c.in-Err.position c.args.name.now c.requires c.in-Err.ensures)
+returns-in-Err-clause-value c = sym (got_nothing _ _ c.in-Err.field-0 c.args.name.now c.requires c.in-Err.ensures)

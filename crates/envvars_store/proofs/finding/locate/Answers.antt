@@ -5,7 +5,7 @@ use Rattle.envvars_store.specs.Laying.{LiesIn}
 use Rattle.envvars_store.specs.Order.{IsFound, IsGap}
 use Rattle.envvars_store.specs.Runs.{pairs}
 use Rattle.envvars_store.proofs.FindLemmas.{run_placed, run_sorted, found_position, gap_position}
-use Rattle.envvars_store.proofs.finding.halve.Goals as goal
+use Rattle.envvars_store.proofs.finding.locate.Goals as goal
 
 pub index_of-requires-clause-lies : goal.index_of-requires-clause-lies
 index_of-requires-clause-lies c =
