@@ -12,4 +12,3 @@ pub mod BufferLemmas
 pub mod WordLemmas
 pub mod OutputLemmas
 pub mod CommandRows
-pub mod ChangeLemmas

@@ -15,7 +15,6 @@ pub mod Saving
 pub mod Listing
 pub mod Naming
 pub mod Carrying
-pub mod Changes
 pub mod Following
 pub mod Deletion
 -- What the steps of the code do: no promise speaks of these.

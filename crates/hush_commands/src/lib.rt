@@ -2,13 +2,12 @@
 //! the stand-ins for commands that need hardware, and what is said where a command fails. docs/runs.md states the rules.
 //!
 //! To read in this order: limits; statuses, stand_in_line, short_names, long_names, named, gathered, stand_ins; locals,
-//! scope, expansion_fault, expansion, field_buffer, field_queue; builtins, command, carrying, changes; commands, writing, listing,
+//! scope, expansion_fault, expansion, field_buffer, field_queue; builtins, command, carrying; commands, writing, listing,
 //! deletion; follow; messages, output.
 #![tactic(auto)]
 
 mod builtins;
 mod carrying;
-mod changes;
 mod command;
 pub mod commands;
 mod deletion;
@@ -33,7 +32,6 @@ mod statuses;
 pub mod writing;
 
 pub use carrying::carry_out;
-pub use changes::may_change;
 pub use command::Command;
 pub use deletion::delete;
 pub use expansion_fault::ExpansionFault;

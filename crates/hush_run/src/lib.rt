@@ -17,7 +17,5 @@ mod turns;
 mod walk;
 
 pub use ending::Ending;
-pub use hush_commands::{
-    Limits, MOST_DEPTH, MOST_OUTPUT, MOST_STEPS, MOST_WORD, StubFault, Stubs,
-};
+pub use hush_commands::{Limits, MOST_DEPTH, MOST_OUTPUT, MOST_STEPS, MOST_WORD, StubFault, Stubs};
 pub use outcome::{Outcome, run};
