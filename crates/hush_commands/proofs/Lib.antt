@@ -1,11 +1,6 @@
 pub mod BlankLemmas
-pub mod BuiltinLemmas
 pub mod EntryLemmas
-pub mod ShortNameLemmas
-pub mod OrderLemmas
-pub mod ToldLemmas
-pub mod GatheringLemmas
-pub mod TableLemmas
+pub mod StandInLemmas
 pub mod Rows
 pub mod ItemLemmas
 pub mod BufferLemmas

@@ -18,9 +18,4 @@ pub mod Carrying
 pub mod Following
 pub mod Deletion
 -- What the steps of the code do: no promise speaks of these.
-pub mod StandInViews
-pub mod ShortNames
-pub mod LongNames
-pub mod NamedLines
-pub mod Gathering
 pub mod Entries

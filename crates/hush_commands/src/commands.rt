@@ -6,7 +6,7 @@ ghost use Rattle.hush_commands.specs.Commands.{spaced, behind_spaces, echo_of, s
 
 use crate::builtins::is_text;
 use crate::output::{Output, PrintFault};
-use crate::statuses::read_status;
+use crate::stand_in_line::read_status;
 use envvars_core::Vars;
 use hush_calc::{Fields, test};
 

@@ -1,7 +1,7 @@
 //! One simple command of a dry run: its words are expanded to fields, and it is carried out by them. Also a run's limits,
 //! the stand-ins for commands that need hardware, and what is said where a command fails. docs/runs.md states the rules.
 //!
-//! To read in this order: limits; statuses, stand_in_line, short_names, long_names, named, gathered, stand_ins; locals,
+//! To read in this order: limits; stand_in_line, stand_ins; locals,
 //! scope, expansion_fault, expansion, field_buffer, field_queue; builtins, command, carrying; commands, writing, listing,
 //! deletion; follow; messages, output.
 #![tactic(auto)]
@@ -16,19 +16,14 @@ mod expansion_fault;
 mod field_buffer;
 mod field_queue;
 mod follow;
-mod gathered;
 mod limits;
 pub mod listing;
 mod locals;
-mod long_names;
 mod messages;
-mod named;
 mod output;
 mod scope;
-mod short_names;
 mod stand_in_line;
 mod stand_ins;
-mod statuses;
 pub mod writing;
 
 pub use carrying::carry_out;
