@@ -1,5 +1,5 @@
 -- Which writes are refused, and what an accepted one leaves (docs/variables.md, "The checks of a write").
-use Rattle.std.specs.Prelude.{ℕ, ◌≤◌, IfSome, IsTrue, ◌&&◌, Bool, true, false, not, List, Option, Some, None, Result, Ok, Err, is_none, nat_lt, if◌then◌else◌}
+use Rattle.std.specs.Prelude.{ℕ, ◌≤◌, ◌++◌, IfSome, IsTrue, ◌&&◌, Bool, true, false, not, List, codes, Option, Some, None, Result, Ok, Err, is_none, nat_lt, if◌then◌else◌}
 use Rattle.std.specs.List.{list_any}
 use Rattle.std.specs.Option.{option_and_then, option_or}
 use Rattle.std.specs.Str.{bytes_eq}
@@ -12,7 +12,7 @@ use Rattle.envvars_core.specs.declared.types.Kind.{Kind}
 use Rattle.envvars_core.specs.declared.attributes.Access.{Access}
 use Rattle.envvars_core.specs.declared.attributes.Access.TheVariants.{Any, ReadOnly, WriteOnce, ChangeDefault}
 use Rattle.envvars_core.specs.declared.refusals.Refusal.{Refusal}
-use Rattle.envvars_core.specs.declared.refusals.Refusal.TheVariants.{BadForm, BadType, NoCreate, NoDelete, NoOverwrite, Full}
+use Rattle.envvars_core.specs.declared.refusals.Refusal.TheVariants.{BadForm, BadType, NoCreate, NoDelete, NoOverwrite, Full, Memory}
 
 -- a value as it is written: an empty one is none
 abbrev pub given : Option (List ℕ) → Option (List ℕ)
@@ -89,3 +89,21 @@ pub record IsAccepted (env : Environment) (room : ℕ) (n : List ℕ) (new : Opt
   pub named : IsTrue (is_name n)
   pub valued : IfSome (given new) (λ v. IsTrue (is_value v))
   pub fits : used (after env n new) ≤ room
+
+-- what a refusal's text has before the name that was to be written
+abbrev pub before_name : Refusal → List ℕ
+before_name BadForm = codes "## Error: bad name or value for \""
+before_name BadType = codes "## Error: type check failure for \""
+before_name NoCreate = codes "## Error: Can't create \""
+before_name NoDelete = codes "## Error: Can't delete \""
+before_name NoOverwrite = codes "## Error: Can't overwrite \""
+before_name Full = codes "## Error: no room for \""
+before_name Memory = codes "## Error: out of memory for \""
+
+-- what it has after the name
+abbrev pub after_name : Refusal → List ℕ
+after_name r = codes "\"\n"
+
+-- the text about a refused write of a name
+abbrev pub refusal_text : Refusal → List ℕ → List ℕ
+refusal_text r name = before_name r ++ (name ++ after_name r)

@@ -1,4 +1,6 @@
 //! Why a write is refused (docs/variables.md, "The checks of a write").
+ghost use Rattle.std.specs.Prelude.{◌≡◌};
+ghost use Rattle.envvars_core.specs.Refusals.{before_name, after_name};
 
 use std::alloc::{AllocError, AllocFailed};
 use std::error::Error;
@@ -60,5 +62,29 @@ impl From<Memory> for Refusal {
 
     fn from(_refused: Memory) -> Refusal {
         Refusal::Memory
+    }
+}
+
+impl Refusal {
+    /// What its text has before the name that was to be written.
+    pub fn before_name(self) -> &'static [u8]
+        ensures { result.now ≡ before_name self }
+    {
+        match self {
+            Refusal::BadForm => b"## Error: bad name or value for \"",
+            Refusal::BadType => b"## Error: type check failure for \"",
+            Refusal::NoCreate => b"## Error: Can't create \"",
+            Refusal::NoDelete => b"## Error: Can't delete \"",
+            Refusal::NoOverwrite => b"## Error: Can't overwrite \"",
+            Refusal::Full => b"## Error: no room for \"",
+            Refusal::Memory => b"## Error: out of memory for \"",
+        }
+    }
+
+    /// What its text has after the name.
+    pub fn after_name(self) -> &'static [u8]
+        ensures { result.now ≡ after_name self }
+    {
+        b"\"\n"
     }
 }
