@@ -6,4 +6,5 @@ pub mod ItemLemmas
 pub mod BufferLemmas
 pub mod WordLemmas
 pub mod OutputLemmas
+pub mod CarryingLemmas
 pub mod CommandRows

@@ -1,6 +1,7 @@
 //! The names of the commands that a run has itself (docs/runs.md, "Names of builtins").
 ghost use Rattle.std.specs.Prelude.{◌≡◌};
-ghost use Rattle.std.specs.Str.{bytes_eq};
+
+use hush_calc::is_text;
 
 /// A command that a run has itself.
 #[derive(Clone, Copy, Debug, PartialEq, Eq)]
@@ -70,11 +71,4 @@ impl Builtin {
             Builtin::Exit => is_text(name, b"exit"),
         }
     }
-}
-
-/// Whether a word is this text.
-pub(crate) fn is_text(name: &[u8], text: &[u8]) -> bool
-    ensures { result ≡ bytes_eq text.now name.now }
-{
-    text == name
 }

@@ -26,17 +26,17 @@ pub(crate) fn simple_step(
         (state_of session.new progress.new) result }
 {
     progress.expand(given, session, text, words)?;
-    let status = progress.status;
-    progress.status = carry_out(
+    let (status, follow) = carry_out(
         given.alloc,
         session,
         given.stand_ins,
         &progress.fields,
-        status,
+        progress.status,
         &mut progress.output,
     )?;
+    progress.status = status;
     progress.steps += 1;
-    match Follow::of(given.alloc, &mut progress.fields, status) {
+    match follow {
         Follow::End => Err(Stop::Ended(Reason::Exited)),
         follow => Ok(follow),
     }

@@ -2,8 +2,8 @@ use Rattle.std.proofs.Common.{◌++◌, length}
 use Rattle.std.specs.Prelude.{Result}
 use Rattle.hush_commands.specs.declared.output.PrintFault.{PrintFault}
 use Rattle.hush_commands.specs.Output.{Printed, Prints}
-use Rattle.hush_commands.specs.Commands.{behind_spaces}
-use Rattle.hush_commands.proofs.commands.print_behind_spaces.Given as goal
+use Rattle.hush_commands.specs.Output.{behind_spaces}
+use Rattle.hush_commands.proofs.execution.print_behind_spaces.Given as goal
 
 -- what is printed for the words that are left completes what is printed for all of them
 abbrev pub invariant-loop-word : goal.invariant-loop-word

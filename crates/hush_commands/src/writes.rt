@@ -1,56 +1,39 @@
 //! Commands that write variables (docs/runs.md, "Commands").
 ghost use Rattle.std.specs.Prelude.{◌≡◌, ◌++◌, OnOk, IfOk};
-ghost use Rattle.hush_commands.specs.Commands.{spaced, behind_spaces};
-ghost use Rattle.hush_commands.specs.Writing.{CarriesOut, message_of, write_of, set_of, calculated_of};
+ghost use Rattle.hush_commands.specs.Output.{spaced, behind_spaces};
+ghost use Rattle.hush_commands.specs.Writing.{CarriesOut, message_of, write_of, calculated_of};
+ghost use Rattle.hush_commands.specs.Carrying.{Carries, deletion_of};
 
-use crate::builtins::is_text;
 use crate::messages::Message;
+use crate::output::{Output, PrintFault};
 use env_session::Session;
 use envvars_core::{Memory, Refusal};
 use hush_calc::{Fields, SetexprFault, setexpr};
 use std::alloc::{AllocError, Global};
 
-/// What a command says where it fails: a message, and the name that it is about.
+/// What a command says when it fails: a message, and the name that it is about.
 #[derive(Clone, Copy, Debug, PartialEq, Eq)]
-pub struct Complaint<'a> {
+pub(crate) struct Complaint<'a> {
     /// The message.
-    pub message: Message,
+    pub(crate) message: Message,
     /// The name.
-    pub name: &'a [u8],
+    pub(crate) name: &'a [u8],
 }
 
-/// `setenv`: writes the words behind the name, joined by one space; without words, or with an empty text, it deletes.
-/// `-f` as the first word forces.
-pub fn set<'a>(
-    alloc: Global,
+/// `setexpr`: writes what its words evaluate to.
+pub(crate) fn calculate<'a>(
     session: &mut Session,
-    command: &'a [u8],
+    called: &'a [u8],
     words: Fields<'a>,
 ) -> Result<Option<Complaint<'a>>, Memory>
-    ensures { CarriesOut (set_of session.old command.now words.entry) session.old session.new result }
-{
-    let mut rest = words;
-    match rest.next() {
-        Some(first) if is_text(first, b"-f") => match rest.next() {
-            Some(name) => write_words(alloc, session, name, rest, true),
-            None => Ok(Some(wrong_use(command))),
-        },
-        Some(name) => write_words(alloc, session, name, rest, false),
-        None => Ok(Some(wrong_use(command))),
-    }
-}
-
-/// `setexpr`: writes what its words come to.
-pub fn calculate<'a>(
-    session: &mut Session,
-    command: &'a [u8],
-    words: Fields<'a>,
-) -> Result<Option<Complaint<'a>>, Memory>
-    ensures { CarriesOut (calculated_of session.old command.now words.entry) session.old session.new result }
+    ensures { CarriesOut (calculated_of session.old called.now words.entry) session.old session.new result }
 {
     match setexpr(words) {
         Ok(calculated) => write(session, calculated.name, calculated.value.as_bytes(), false),
-        Err(SetexprFault::WrongUse) => Ok(Some(wrong_use(command))),
+        Err(SetexprFault::WrongUse) => Ok(Some(Complaint {
+            message: Message::WrongUse,
+            name: called,
+        })),
         Err(SetexprFault::DivisionByZero) => Ok(Some(Complaint {
             message: Message::DivisionByZero,
             name: b"",
@@ -59,7 +42,7 @@ pub fn calculate<'a>(
 }
 
 /// Writes a text.
-pub(crate) fn write<'a>(
+fn write<'a>(
     session: &mut Session,
     name: &'a [u8],
     text: &[u8],
@@ -76,19 +59,37 @@ pub(crate) fn write<'a>(
     }
 }
 
-/// The complaint about words that a command can't have.
-fn wrong_use(command: &[u8]) -> Complaint<'_>
-    ensures message { result.message ≡ Message.WrongUse }
-    ensures name { result.name.now ≡ command.now }
+/// Deletes a name of `env delete`: answers the status, which is 1 if this or an earlier name of the command failed. If its
+/// message doesn't fit or memory is refused, nothing has changed.
+pub fn delete(
+    session: &mut Session,
+    name: &[u8],
+    force: bool,
+    failed: bool,
+    output: &mut Output,
+) -> Result<u8, PrintFault>
+    ensures { Carries (deletion_of session.old name.now force failed) session.old session.new output.old output.new result }
 {
-    Complaint {
-        message: Message::WrongUse,
-        name: command,
+    if session.vars().get(name).is_none() {
+        Message::NotDefined.tell(name, output)?;
+        return Ok(1);
+    }
+    match write(session, name, b"", force) {
+        Ok(None) => {
+            // Does nothing: it tells the prover that what was printed is within the limit.
+            let _printed = output.text();
+            Ok(if failed { 1 } else { 0 })
+        }
+        Ok(Some(complaint)) => {
+            complaint.message.tell(complaint.name, output)?;
+            Ok(1)
+        }
+        Err(Memory) => Err(PrintFault::Memory),
     }
 }
 
-/// Writes words, joined by one space.
-fn write_words<'a>(
+/// `setenv`: writes words, joined by one space; an empty text deletes.
+pub(crate) fn write_words<'a>(
     alloc: Global,
     session: &mut Session,
     name: &'a [u8],
@@ -103,18 +104,13 @@ fn write_words<'a>(
     }
 }
 
-/// The message about a refused write; want of memory has none.
+/// The message about a refused write; out of memory has none.
 fn message_of(refusal: Refusal) -> Option<Message>
     ensures { result ≡ message_of refusal }
 {
     match refusal {
-        Refusal::BadForm => Some(Message::BadForm),
-        Refusal::BadType => Some(Message::BadType),
-        Refusal::NoCreate => Some(Message::NoCreate),
-        Refusal::NoDelete => Some(Message::NoDelete),
-        Refusal::NoOverwrite => Some(Message::NoOverwrite),
-        Refusal::Full => Some(Message::Full),
         Refusal::Memory => None,
+        _ => Some(Message::Refused(refusal)),
     }
 }
 
@@ -133,7 +129,7 @@ fn joined(alloc: Global, words: Fields<'_>) -> Result<Vec<u8>, AllocError>
     }
 }
 
-/// Appends words, each behind a space.
+/// Appends words, each after a space.
 fn append_behind_spaces(words: Fields<'_>, text: &mut Vec<u8>) -> Result<(), AllocError>
     ensures { OnOk result (text.new.items ≡ text.old.items ++ behind_spaces words.entry) }
 {
