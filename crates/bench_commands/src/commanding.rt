@@ -33,7 +33,7 @@ pub fn setexpr(rt: &HostRuntime, task: Task) -> io::Result<Outcome> {
                 0,
                 &mut output,
             );
-            refused = refused.wrapping_add(u32::from(answer != Ok(0)));
+            refused = refused.wrapping_add(u32::from(!matches!(answer, Ok((0, _)))));
         }
     }
     let taken = start.elapsed(rt)?.as_nanos();
@@ -72,7 +72,7 @@ pub fn test(rt: &HostRuntime, task: Task) -> io::Result<Outcome> {
                 0,
                 &mut output,
             );
-            refused = refused.wrapping_add(u32::from(answer != Ok(0)));
+            refused = refused.wrapping_add(u32::from(!matches!(answer, Ok((0, _)))));
         }
     }
     let taken = start.elapsed(rt)?.as_nanos();

@@ -1,37 +1,9 @@
 //! Simple commands by their rules (docs/runs.md, "Commands"). Texts and statuses are worked out by hand.
 
-use crate::fixtures::{carried, fields, session};
-use env_session::{Session, Side};
-use hush_commands::{Command, Output, PrintFault, Stubs};
-use std::alloc::{AllocError, Global};
-use std::process::Abort;
+use crate::fixtures::{answer, answer_all, session};
+use env_session::Side;
+use hush_commands::{Output, PrintFault};
 use std::test::Fail;
-
-/// What the words of a text answer.
-fn answer(
-    alloc: Global,
-    session: &mut Session,
-    text: &[u8],
-    output: &mut Output,
-) -> Result<Result<u8, PrintFault>, AllocError> {
-    let command = fields(alloc, text)?;
-    carried(alloc, session, &command, output)
-}
-
-/// Each command, one after the other in one session, answers this status and this text.
-fn answer_all(rt: &impl Abort, alloc: Global, table: &[(&[u8], u8, &[u8])]) -> Result<(), Fail> {
-    let mut session = session(alloc, 64)?;
-    for (text, status, expected) in table {
-        let mut output = Output::new(alloc, 256);
-        let carried = answer(alloc, &mut session, text, &mut output)?;
-        assert_eq!(rt;
-            (carried, output.text()),
-            (Ok(*status), *expected),
-            "of {text:?}"
-        );
-    }
-    Ok(())
-}
 
 #[test]
 fn commands_that_change_nothing(rt: HostRuntime) -> Result<(), Fail> {
@@ -54,7 +26,7 @@ fn commands_that_change_nothing(rt: HostRuntime) -> Result<(), Fail> {
         (b"ls -l", 1, b"Unknown command 'ls' - try 'help'\n"),
         (b"Echo a", 1, b"Unknown command 'Echo' - try 'help'\n"),
     ];
-    answer_all(&rt, rt.alloc(), &table)
+    answer_all(&rt, rt.alloc(), &mut session(rt.alloc(), 64)?, &table)
 }
 
 #[test]
@@ -77,7 +49,7 @@ fn commands_over_variables(rt: HostRuntime) -> Result<(), Fail> {
         (b"env delete -f k", 7, b""),
         (b"env exists k", 0, b""),
     ];
-    answer_all(&rt, rt.alloc(), &table)
+    answer_all(&rt, rt.alloc(), &mut session(rt.alloc(), 64)?, &table)
 }
 
 #[test]
@@ -91,7 +63,7 @@ fn writes_that_are_refused(rt: HostRuntime) -> Result<(), Fail> {
         (b"setexpr k 1 / 0", 1, b"## Error: division by zero\n"),
         (b"setexpr.l k", 1, b"## Error: wrong use of 'setexpr.l'\n"),
     ];
-    answer_all(&rt, rt.alloc(), &table)
+    answer_all(&rt, rt.alloc(), &mut session(rt.alloc(), 64)?, &table)
 }
 
 #[test]
@@ -110,7 +82,7 @@ fn commands_with_other_words(rt: HostRuntime) -> Result<(), Fail> {
         (b"env", 1, b"## Error: wrong use of 'env'\n"),
         (b"env default -a", 1, b"## Error: wrong use of 'env'\n"),
     ];
-    answer_all(&rt, rt.alloc(), &table)
+    answer_all(&rt, rt.alloc(), &mut session(rt.alloc(), 64)?, &table)
 }
 
 #[test]
@@ -158,35 +130,5 @@ fn a_save_with_words_saves_nothing(rt: HostRuntime) -> Result<(), Fail> {
         assert_eq!(rt; carried, Ok(1), "of {text:?}");
     }
     assert_eq!(rt; session.copy(Side::First), Some([0xFFu8; 64].as_slice()));
-    Ok(())
-}
-
-#[test]
-fn commands_leave_the_words_behind_their_name(rt: HostRuntime) -> Result<(), Fail> {
-    let table: [(&[u8], &[u8], Command, Option<&[u8]>); 12] = [
-        (b"setenv", b"n 1", Command::Set, Some(b"n")),
-        (b"env", b"set n 1", Command::Set, Some(b"n")),
-        (b"env", b"print", Command::Print, None),
-        (b"env", b"save", Command::Save, None),
-        (b"env", b"run a b", Command::Run, Some(b"a")),
-        (b"env", b"delete -f a", Command::Delete, Some(b"-f")),
-        (b"env", b"exists a", Command::Exists, Some(b"a")),
-        (b"env", b"settle a", Command::WrongUse, Some(b"a")),
-        (b"env", b"", Command::WrongUse, None),
-        (b"setexpr.q", b"a 1", Command::Calculate, Some(b"a")),
-        (b"mmc", b"dev 0", Command::StandIn(3), Some(b"dev")),
-        (b"mmcinfo", b"0", Command::Unknown, Some(b"0")),
-    ];
-    match Stubs::parse(rt.alloc(), b"mmc 3") {
-        Ok(stand_ins) => {
-            for (name, text, command, next) in table {
-                let behind = fields(rt.alloc(), text)?;
-                let mut words = behind.fields();
-                let found = Command::of(&stand_ins, name, &mut words);
-                assert_eq!(rt; (found, words.next()), (command, next), "of {name:?}");
-            }
-        }
-        Err(fault) => assert!(rt; false, "{fault:?}"),
-    }
     Ok(())
 }

@@ -5,10 +5,12 @@ use env_session::{Session, Stored};
 use envimg_core::{Geometry, Layout};
 use envvars_core::Vars;
 use hush_commands::{
-    ExpansionFault, FieldBuffer, Locals, Output, PrintFault, Scope, Stubs, carry_out,
+    ExpansionFault, FieldBuffer, Follow, Locals, Output, PrintFault, Scope, Stubs, carry_out,
 };
 use hush_words::Text;
 use std::alloc::{AllocError, Global};
+use std::process::Abort;
+use std::test::Fail;
 
 /// The largest word.
 pub(crate) const WORD: u32 = 65_536;
@@ -50,15 +52,58 @@ pub(crate) fn fields(alloc: Global, text: &[u8]) -> Result<FieldBuffer, AllocErr
     Ok(fields)
 }
 
-/// What a command answers where `mmc` is a stand-in with status 3, and the status that was is 7.
+/// What a command answers, and what follows it, where `mmc` is a stand-in with status 3, and the status that was is 7.
+pub(crate) fn carried_and_followed(
+    alloc: Global,
+    session: &mut Session,
+    command: &FieldBuffer,
+    output: &mut Output,
+) -> Result<Result<(u8, Follow), PrintFault>, AllocError> {
+    match Stubs::parse(alloc, b"mmc 3") {
+        Ok(stand_ins) => Ok(carry_out(alloc, session, &stand_ins, command, 7, output)),
+        Err(_) => Err(AllocError),
+    }
+}
+
+/// What a command answers there.
 pub(crate) fn carried(
     alloc: Global,
     session: &mut Session,
     command: &FieldBuffer,
     output: &mut Output,
 ) -> Result<Result<u8, PrintFault>, AllocError> {
-    match Stubs::parse(alloc, b"mmc 3") {
-        Ok(stand_ins) => Ok(carry_out(alloc, session, &stand_ins, command, 7, output)),
-        Err(_) => Err(AllocError),
+    match carried_and_followed(alloc, session, command, output)? {
+        Ok((status, _follow)) => Ok(Ok(status)),
+        Err(fault) => Ok(Err(fault)),
     }
+}
+
+/// What the words of a text answer.
+pub(crate) fn answer(
+    alloc: Global,
+    session: &mut Session,
+    text: &[u8],
+    output: &mut Output,
+) -> Result<Result<u8, PrintFault>, AllocError> {
+    let command = fields(alloc, text)?;
+    carried(alloc, session, &command, output)
+}
+
+/// Each command, one after the other, answers this status and this text.
+pub(crate) fn answer_all(
+    rt: &impl Abort,
+    alloc: Global,
+    session: &mut Session,
+    table: &[(&[u8], u8, &[u8])],
+) -> Result<(), Fail> {
+    for (text, status, expected) in table {
+        let mut output = Output::new(alloc, 256);
+        let carried = answer(alloc, session, text, &mut output)?;
+        assert_eq!(rt;
+            (carried, output.text()),
+            (Ok(*status), *expected),
+            "of {text:?}"
+        );
+    }
+    Ok(())
 }

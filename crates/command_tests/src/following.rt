@@ -1,6 +1,6 @@
-//! What comes behind a simple command, and one name of `env delete` (docs/runs.md, "Commands").
+//! What follows a simple command, and one name of `env delete` (docs/runs.md, "Commands").
 
-use crate::fixtures::{fields, session};
+use crate::fixtures::{carried_and_followed, fields, session};
 use hush_commands::{FieldQueue, Follow, Message, Output, PrintFault, delete};
 use std::alloc::{AllocError, Global};
 use std::test::Fail;
@@ -26,7 +26,7 @@ fn joined(alloc: Global, word: &[u8], names: FieldQueue) -> Result<Vec<u8>, Allo
     Ok(text)
 }
 
-/// What comes behind, with its names.
+/// What follows, with its names.
 fn shown(alloc: Global, follow: Follow) -> Result<Vec<u8>, AllocError> {
     match follow {
         Follow::Next => Vec::from_slice(alloc, b"next"),
@@ -41,19 +41,19 @@ fn shown(alloc: Global, follow: Follow) -> Result<Vec<u8>, AllocError> {
 }
 
 #[test]
-fn steps_behind_commands(rt: HostRuntime) -> Result<(), Fail> {
+fn steps_after_commands(rt: HostRuntime) -> Result<(), Fail> {
     let table: [(&[u8], &[u8]); 18] = [
         (b"", b"next"),
         (b"true run a", b"next"),
         (b"run a b", b"run|a|b|"),
         (b"run '' b", b"run||b|"),
-        (b"run", b"run|"),
+        (b"run", b"next"),
         (b"env run a", b"run|a|"),
         (b"env delete a b", b"delete|a|b|"),
         (b"env delete -f a", b"delete -f|a|"),
         (b"env delete a -f", b"delete|a|-f|"),
-        (b"env delete -f", b"delete -f|"),
-        (b"env delete", b"delete|"),
+        (b"env delete -f", b"next"),
+        (b"env delete", b"next"),
         (b"env set a b", b"next"),
         (b"env", b"next"),
         (b"exit", b"end"),
@@ -62,11 +62,17 @@ fn steps_behind_commands(rt: HostRuntime) -> Result<(), Fail> {
         (b"exit 1 2", b"next"),
         (b"mmc run", b"next"),
     ];
+    let mut session = session(rt.alloc(), 64)?;
+    let mut output = Output::new(rt.alloc(), 1_024);
     for (text, expected) in table {
-        let mut command = fields(rt.alloc(), text)?;
-        let follow = Follow::of(rt.alloc(), &mut command, 7);
-        let found = shown(rt.alloc(), follow)?;
-        assert_eq!(rt; found.as_slice(), expected, "of {text:?}");
+        let command = fields(rt.alloc(), text)?;
+        match carried_and_followed(rt.alloc(), &mut session, &command, &mut output)? {
+            Ok((_status, follow)) => {
+                let found = shown(rt.alloc(), follow)?;
+                assert_eq!(rt; found.as_slice(), expected, "of {text:?}");
+            }
+            Err(fault) => assert!(rt; false, "{fault:?} of {text:?}"),
+        }
     }
     Ok(())
 }

@@ -5,8 +5,6 @@
 #[cfg(test)]
 mod carrying;
 #[cfg(test)]
-mod changes;
-#[cfg(test)]
 mod commands;
 #[cfg(test)]
 mod expansions;

@@ -1,23 +1,24 @@
-//! What a run prints where a command fails (docs/runs.md, "Messages").
+//! What a run prints when a command fails (docs/runs.md, "Messages").
 
-use hush_calc::Fields;
-use hush_commands::commands::stand_in;
+use envvars_core::Refusal;
 use hush_commands::{Message, Output};
 use std::alloc::Global;
 use std::process::Abort;
 use std::test::Fail;
 
-/// Each message stands behind what was printed before.
+/// Each message is printed after what was printed before.
 fn are_printed(
     rt: &impl Abort,
     alloc: Global,
     table: &[(Message, &[u8], &[u8])],
 ) -> Result<(), Fail> {
     for (message, name, expected) in table {
-        let mut output = Output::new(alloc, 64);
-        let _told = stand_in(0, Fields::new(b"mmc", &[3]), &mut output);
-        let _printed = message.print(name, &mut output);
-        assert_eq!(rt; output.text(), *expected);
+        let mut output = Output::new(alloc, 80);
+        let before = Message::DivisionByZero.tell(b"", &mut output);
+        let start = output.text().len();
+        let told = message.tell(name, &mut output);
+        assert_eq!(rt; (before, told), (Ok(()), Ok(())));
+        assert_eq!(rt; output.text().get(start..), Some(*expected));
     }
     Ok(())
 }
@@ -31,17 +32,17 @@ fn names_and_words_that_are_not_there(rt: HostRuntime) -> Result<(), Fail> {
             (
                 Message::NotDefined,
                 b"n",
-                b"+ mmc\n## Error: \"n\" not defined\n",
+                b"## Error: \"n\" not defined\n",
             ),
             (
                 Message::UnknownCommand,
                 b"mmc",
-                b"+ mmc\nUnknown command 'mmc' - try 'help'\n",
+                b"Unknown command 'mmc' - try 'help'\n",
             ),
             (
                 Message::WrongUse,
                 b"env",
-                b"+ mmc\n## Error: wrong use of 'env'\n",
+                b"## Error: wrong use of 'env'\n",
             ),
         ],
     )
@@ -54,31 +55,31 @@ fn writes_that_are_refused(rt: HostRuntime) -> Result<(), Fail> {
         rt.alloc(),
         &[
             (
-                Message::BadForm,
+                Message::Refused(Refusal::BadForm),
                 b"a=b",
-                b"+ mmc\n## Error: bad name or value for \"a=b\"\n",
+                b"## Error: bad name or value for \"a=b\"\n",
             ),
             (
-                Message::BadType,
+                Message::Refused(Refusal::BadType),
                 b"n",
-                b"+ mmc\n## Error: type check failure for \"n\"\n",
+                b"## Error: type check failure for \"n\"\n",
             ),
             (
-                Message::NoCreate,
+                Message::Refused(Refusal::NoCreate),
                 b"n",
-                b"+ mmc\n## Error: Can't create \"n\"\n",
+                b"## Error: Can't create \"n\"\n",
             ),
             (
-                Message::NoDelete,
+                Message::Refused(Refusal::NoDelete),
                 b"n",
-                b"+ mmc\n## Error: Can't delete \"n\"\n",
+                b"## Error: Can't delete \"n\"\n",
             ),
             (
-                Message::NoOverwrite,
+                Message::Refused(Refusal::NoOverwrite),
                 b"n",
-                b"+ mmc\n## Error: Can't overwrite \"n\"\n",
+                b"## Error: Can't overwrite \"n\"\n",
             ),
-            (Message::Full, b"", b"+ mmc\n## Error: no room for \"\"\n"),
+            (Message::Refused(Refusal::Full), b"", b"## Error: no room for \"\"\n"),
         ],
     )
 }
@@ -92,17 +93,17 @@ fn scripts_that_cannot_go_on(rt: HostRuntime) -> Result<(), Fail> {
             (
                 Message::IsVariable,
                 b"\xFF",
-                b"+ mmc\n## Error: \"\xFF\" is an environment variable\n",
+                b"## Error: \"\xFF\" is an environment variable\n",
             ),
             (
                 Message::NoScript,
                 b"n",
-                b"+ mmc\n## Error: syntax error in \"n\"\n",
+                b"## Error: syntax error in \"n\"\n",
             ),
             (
                 Message::DivisionByZero,
                 b"n",
-                b"+ mmc\n## Error: division by zero\n",
+                b"## Error: division by zero\n",
             ),
         ],
     )

@@ -1,9 +1,6 @@
 //! Stand-in files.
 
-use crate::fixtures::repeated;
 use hush_commands::{StubFault, Stubs};
-use std::alloc::{AllocError, Global};
-use std::process::Abort;
 use std::test::Fail;
 
 #[test]
@@ -127,95 +124,6 @@ fn many_stand_ins_are_read(rt: HostRuntime) -> Result<(), Fail> {
     text.extend_from_slice(b"n54321")?;
     let fault = Stubs::parse(rt.alloc(), &text).err();
     assert_eq!(rt; fault, Some(StubFault::Twice(100_001)));
-    Ok(())
-}
-
-/// The longest name of [`names_of_each_length`].
-const LONGEST: u8 = 40;
-
-/// A stand-in file with a name of each length, `n`, `nn` and so on, which has its length as status.
-fn names_of_each_length(alloc: Global) -> Result<Vec<u8>, AllocError> {
-    let mut text = Vec::new(alloc);
-    for length in 1..=LONGEST {
-        text.extend_from_slice(&repeated(alloc, b"n", u32::from(length))?)?;
-        text.extend_from_slice(format!(in alloc; " {length}\n")?.as_bytes())?;
-    }
-    Ok(text)
-}
-
-/// Two texts, one behind the other.
-fn joined(alloc: Global, first: &[u8], second: &[u8]) -> Result<Vec<u8>, AllocError> {
-    let mut text = Vec::from_slice(alloc, first)?;
-    text.extend_from_slice(second)?;
-    Ok(text)
-}
-
-/// Asks for the name of a length, and for names that differ from it in one byte or by a 0 byte at an end.
-fn tell_apart(rt: &impl Abort, alloc: Global, stand_ins: &Stubs, length: u8) -> Result<(), Fail> {
-    let name = repeated(alloc, b"n", u32::from(length))?;
-    assert_eq!(rt; stand_ins.status(&name), Some(length), "{length} bytes");
-    let front = repeated(alloc, b"n", u32::from(length).wrapping_sub(1))?;
-    let others = [
-        joined(alloc, &front, b"m")?,
-        joined(alloc, &front, b"\0")?,
-        joined(alloc, b"m", &front)?,
-        joined(alloc, &name, b"\0")?,
-        joined(alloc, b"\0", &name)?,
-    ];
-    for other in &others {
-        assert_eq!(rt; stand_ins.status(other), None, "{other:?}");
-    }
-    Ok(())
-}
-
-#[test]
-fn names_of_each_length_are_told_apart(rt: HostRuntime) -> Result<(), Fail> {
-    let text = names_of_each_length(rt.alloc())?;
-    match Stubs::parse(rt.alloc(), &text) {
-        Ok(stand_ins) => {
-            for length in 1..=LONGEST {
-                tell_apart(&rt, rt.alloc(), &stand_ins, length)?;
-            }
-        }
-        Err(fault) => assert!(rt; false, "{fault:?}"),
-    }
-    Ok(())
-}
-
-#[test]
-fn a_name_of_any_length_stands_once(rt: HostRuntime) -> Result<(), Fail> {
-    let text = names_of_each_length(rt.alloc())?;
-    for length in 1..=LONGEST {
-        let name = repeated(rt.alloc(), b"n", u32::from(length))?;
-        let twice = joined(rt.alloc(), &text, &name)?;
-        let fault = Stubs::parse(rt.alloc(), &twice).err();
-        assert_eq!(rt; fault, Some(StubFault::Twice(41)), "{length} bytes");
-    }
-    Ok(())
-}
-
-#[test]
-fn long_names_are_told_apart_by_their_first_bytes_and_by_the_others(
-    rt: HostRuntime,
-) -> Result<(), Fail> {
-    let text = b"z-long-one-of-16 1\na-long-one-of-26 2\na-long-one-of-16 3\na-long-one-of-16- 4\n";
-    let table: [(&[u8], Option<u8>); 7] = [
-        (b"z-long-one-of-16", Some(1)),
-        (b"a-long-one-of-26", Some(2)),
-        (b"a-long-one-of-16", Some(3)),
-        (b"a-long-one-of-16-", Some(4)),
-        (b"a-long-one-of-1", None),
-        (b"b-long-one-of-16", None),
-        (b"a-long-one-of-36", None),
-    ];
-    match Stubs::parse(rt.alloc(), text) {
-        Ok(stand_ins) => {
-            for (name, expected) in table {
-                assert_eq!(rt; stand_ins.status(name), expected, "{name:?}");
-            }
-        }
-        Err(fault) => assert!(rt; false, "{fault:?}"),
-    }
     Ok(())
 }
 

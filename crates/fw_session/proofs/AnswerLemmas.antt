@@ -1,43 +1,205 @@
--- Blocks and dot lines, one behind the other.
-use Rattle.std.proofs.Common.{◌≡◌, ◌==◌, ◌-◌, take, drop, length-drop, ℕ, ◌++◌, List, [], ◌∷◌, length, Bool, true, false, sym, ap, subst, ◌∙◌, arith}
+-- One item after another.
+use Rattle.std.proofs.Common.{◌≡◌, ◌==◌, ◌-◌, take, drop, get_or, length-drop, length-append, ℕ, ◌++◌, List, [], ◌∷◌, length, Option, Bool, true, false, refl, sym, ap, subst, ◌∙◌, inl, inr, arith, append_assoc, append-nil}
+use Rattle.std.proofs.KnownBytes.{Appends-trans, Appends-nil}
+use Rattle.std.specs.Io.KnownBytes.{Appends}
 use Rattle.std.specs.Prelude.{Vec, vec_len}
 use Rattle.std.specs.declared.alloc.Global.{Global}
+use Rattle.fw_session.specs.Input.{Item, Block, Dot}
+use Rattle.fw_session.specs.Streams.{Counts}
+use Rattle.hush_run.specs.Meaning.{Rules}
+use Rattle.fw_session.specs.Replies.{NamedSession, Note, reply, replies, MayStand, AllStand, Request, request_of}
+use Rattle.fw_session.specs.Ends.{AllAnswered, CutShort, IsLast, AnsweredOrCut}
+use Rattle.fw_session.specs.Handling.{ItemAnswered, RequestAnswered, block_items}
 use Rattle.std.proofs.lemmas.Bool.{eqb-true, eqb-false}
 use Rattle.std.proofs.lemmas.List.{take_all}
-use Rattle.hush_run.specs.Meaning.{Rules}
-use Rattle.fw_session.specs.Input.{Item, Block, Dot}
-use Rattle.fw_session.specs.Streams.{Sink}
-use Rattle.fw_session.specs.Replies.{NamedSession, Request, request_of}
-use Rattle.fw_session.specs.Handling.{block_items}
-use Rattle.fw_session.specs.Saying.{Says, SaysRequest}
-use Rattle.fw_session.proofs.SayingLemmas.{says_none, says_then, says_more}
+use Rattle.fw_session.proofs.StreamLemmas.{counts_none, counts_then}
 
-pub says_no_block : (rules : Rules) (s : Sink) (t : NamedSession) (bytes : List ℕ) (k : ℕ) → length bytes ≡ k → (k == 0) ≡ true → Says rules s t (block_items bytes) s t true
-says_no_block rules s t [] k l e = says_none rules s t
-says_no_block rules s t (b ∷ bs) k l e = absurd (let bad : k ≡ 0 = eqb-true _ _ e in omega arith)
+pub after_text : (rules : Rules) (h : NamedSession) (xs ys : List Item) (ns ms : List Note) → AllStand rules h xs ns →
+    (replies rules h (xs ++ ys) (ns ++ ms)).text ≡ (replies rules h xs ns).text ++ (replies rules (replies rules h xs ns).session ys ms).text
+unfolding replies AllStand
+after_text rules h [] ys [] ms s = refl
+after_text rules h [] ys (n ∷ ns) ms s = absurd s
+after_text rules h (x ∷ xs) ys [] ms s = absurd s
+after_text rules h (x ∷ xs) ys (n ∷ ns) ms s =
+    let r = reply rules h x n in ap (λ t. r.text ++ t) (after_text rules r.session xs ys ns ms s.1) ∙ sym (append_assoc r.text (replies rules r.session xs ns).text (replies rules (replies rules r.session xs ns).session ys ms).text)
 
-pub says_block : (rules : Rules) (t t' : NamedSession) (bytes block : List ℕ) (k : ℕ) (s s' : Sink) (ok : Bool) → length bytes ≡ k → (k == 0) ≡ false → block ≡ bytes → Says rules s t (Block block ∷ []) s' t' ok →
-    Says rules s t (block_items bytes) s' t' ok
-says_block rules t t' [] block k s s' ok l e is p = absurd (eqb-false _ _ e (sym l))
-says_block rules t t' (b ∷ bs) block k s s' ok l e is p = subst (λ v. Says rules s t (Block v ∷ []) s' t' ok) is p
+pub after_held : (rules : Rules) (h : NamedSession) (xs ys : List Item) (ns ms : List Note) → AllStand rules h xs ns →
+    (replies rules h (xs ++ ys) (ns ++ ms)).session ≡ (replies rules (replies rules h xs ns).session ys ms).session
+unfolding replies AllStand
+after_held rules h [] ys [] ms s = refl
+after_held rules h [] ys (n ∷ ns) ms s = absurd s
+after_held rules h (x ∷ xs) ys [] ms s = absurd s
+after_held rules h (x ∷ xs) ys (n ∷ ns) ms s = after_held rules (reply rules h x n).session xs ys ns ms s.1
+
+pub after_stand : (rules : Rules) (h : NamedSession) (xs ys : List Item) (ns ms : List Note) → AllStand rules h xs ns → AllStand rules (replies rules h xs ns).session ys ms → AllStand rules h (xs ++ ys) (ns ++ ms)
+unfolding replies AllStand
+after_stand rules h [] ys [] ms s t = t
+after_stand rules h [] ys (n ∷ ns) ms s t = absurd s
+after_stand rules h (x ∷ xs) ys [] ms s t = absurd s
+after_stand rules h (x ∷ xs) ys (n ∷ ns) ms s t = (s.0, after_stand rules (reply rules h x n).session xs ys ns ms s.1 t)
+
+pub answered_none : (rules : Rules) (h : NamedSession) (out : Option (List ℕ)) (n : ℕ) → AllAnswered rules h [] out out n n h
+unfolding replies AllStand
+answered_none rules h out n = record { notes = []; stand = tt; text = Appends-nil out; count = counts_none n; session = refl }
+
+pub answered_then : (rules : Rules) (h h' h'' : NamedSession) (xs ys : List Item) (out out' out'' : Option (List ℕ)) (n n' n'' : ℕ) →
+    AllAnswered rules h xs out out' n n' h' → AllAnswered rules h' ys out' out'' n' n'' h'' → AllAnswered rules h (xs ++ ys) out out'' n n'' h''
+answered_then rules h h' h'' xs ys out out' out'' n n' n'' p q =
+    let mid = (replies rules h xs p.notes).session in
+    let stand : AllStand rules mid ys q.notes = subst (λ s. AllStand rules s ys q.notes) p.session q.stand in
+    let text : Appends out' out'' (replies rules mid ys q.notes).text = subst (λ s. Appends out' out'' (replies rules s ys q.notes).text) p.session q.text in
+    let count : Counts n' n'' (replies rules mid ys q.notes).text = subst (λ s. Counts n' n'' (replies rules s ys q.notes).text) p.session q.count in
+    let table : h'' ≡ (replies rules mid ys q.notes).session = subst (λ s. h'' ≡ (replies rules s ys q.notes).session) p.session q.session in
+    let e = after_text rules h xs ys p.notes q.notes p.stand in
+    record {
+      notes = p.notes ++ q.notes;
+      stand = after_stand rules h xs ys p.notes q.notes p.stand stand;
+      text = subst (λ t. Appends out out'' t) (sym e) (Appends-trans out out' out'' (replies rules h xs p.notes).text (replies rules mid ys q.notes).text p.text text);
+      count = subst (λ t. Counts n n'' t) (sym e) (counts_then n n' n'' (replies rules h xs p.notes).text (replies rules mid ys q.notes).text p.count count);
+      session = table ∙ sym (after_held rules h xs ys p.notes q.notes p.stand);
+    }
+
+pub answered_cut_short : (rules : Rules) (h h' h'' : NamedSession) (xs ys : List Item) (out out' out'' : Option (List ℕ)) (n n' n'' : ℕ) →
+    AllAnswered rules h xs out out' n n' h' → CutShort rules h' ys out' out'' n' n'' h'' → CutShort rules h (xs ++ ys) out out'' n n'' h''
+answered_cut_short rules h h' h'' xs ys out out' out'' n n' n'' p q =
+    let mid = (replies rules h xs p.notes).session in
+    let stand : AllStand rules mid q.before q.notes = subst (λ s. AllStand rules s q.before q.notes) p.session q.stand in
+    let may : MayStand rules (replies rules mid q.before q.notes).session q.item q.note = subst (λ s. MayStand rules (replies rules s q.before q.notes).session q.item q.note) p.session q.may in
+    let text : (reply rules (replies rules mid q.before q.notes).session q.item q.note).text ≡ q.front ++ q.rest = subst (λ s. (reply rules (replies rules s q.before q.notes).session q.item q.note).text ≡ q.front ++ q.rest) p.session q.text in
+    let wrote : Appends out' out'' ((replies rules mid q.before q.notes).text ++ q.front) = subst (λ s. Appends out' out'' ((replies rules s q.before q.notes).text ++ q.front)) p.session q.wrote in
+    let count : Counts n' n'' ((replies rules mid q.before q.notes).text ++ q.front) = subst (λ s. Counts n' n'' ((replies rules s q.before q.notes).text ++ q.front)) p.session q.count in
+    let table : h'' ≡ (reply rules (replies rules mid q.before q.notes).session q.item q.note).session = subst (λ s. h'' ≡ (reply rules (replies rules s q.before q.notes).session q.item q.note).session) p.session q.session in
+    let a = (replies rules h xs p.notes).text in
+    let b = (replies rules mid q.before q.notes).text in
+    let e : (replies rules h (xs ++ q.before) (p.notes ++ q.notes)).text ++ q.front ≡ a ++ (b ++ q.front) = ap (λ t. t ++ q.front) (after_text rules h xs q.before p.notes q.notes p.stand) ∙ append_assoc a b q.front in
+    let k : (replies rules h (xs ++ q.before) (p.notes ++ q.notes)).session ≡ (replies rules mid q.before q.notes).session = after_held rules h xs q.before p.notes q.notes p.stand in
+    record {
+      before = xs ++ q.before;
+      item = q.item;
+      after = q.after;
+      cut = ap (λ t. xs ++ t) q.cut ∙ sym (append_assoc xs q.before (q.item ∷ q.after));
+      last = q.last;
+      notes = p.notes ++ q.notes;
+      stand = after_stand rules h xs q.before p.notes q.notes p.stand stand;
+      note = q.note;
+      may = subst (λ s. MayStand rules s q.item q.note) (sym k) may;
+      front = q.front;
+      rest = q.rest;
+      text = subst (λ s. (reply rules s q.item q.note).text ≡ q.front ++ q.rest) (sym k) text;
+      left = q.left;
+      wrote = subst (λ t. Appends out out'' t) (sym e) (Appends-trans out out' out'' a (b ++ q.front) p.text wrote);
+      count = subst (λ t. Counts n n'' t) (sym e) (counts_then n n' n'' a (b ++ q.front) p.count count);
+      session = subst (λ s. h'' ≡ (reply rules s q.item q.note).session) (sym k) table;
+    }
+
+one_alone : (x item : Item) (before after : List Item) → x ∷ [] ≡ before ++ item ∷ after → (item ≡ x) × (after ≡ [])
+one_alone x item [] after e = (ap (λ items. get_or items 0 item) (sym e), ap (drop 1) (sym e))
+one_alone x item (y ∷ ys) after e = absurd (omega (arith, ap length e, length-append ys (item ∷ after)))
+
+-- a block that was cut short is the last item before its dot line
+last_of_block : (block line : List ℕ) (before after : List Item) (item : Item) → block_items block ≡ before ++ item ∷ after → IsLast item (after ++ Dot line ∷ [])
+last_of_block [] line before after item e = absurd (omega (arith, ap length e, length-append before (item ∷ after)))
+last_of_block (b ∷ bs) line before after item e =
+    let alone = one_alone (Block (b ∷ bs)) item before after e in
+    subst (λ i. IsLast i (after ++ Dot line ∷ [])) (sym alone.0) (inr (line, ap (λ items. items ++ Dot line ∷ []) alone.1))
+
+cut_short_more : (rules : Rules) (h h' : NamedSession) (block line : List ℕ) (out out' : Option (List ℕ)) (n n' : ℕ) → CutShort rules h (block_items block) out out' n n' h' → CutShort rules h (block_items block ++ Dot line ∷ []) out out' n n' h'
+cut_short_more rules h h' block line out out' n n' p = record {
+  before = p.before;
+  item = p.item;
+  after = p.after ++ Dot line ∷ [];
+  cut = ap (λ t. t ++ Dot line ∷ []) p.cut ∙ append_assoc p.before (p.item ∷ p.after) (Dot line ∷ []);
+  last = last_of_block block line p.before p.after p.item p.cut;
+  notes = p.notes;
+  stand = p.stand;
+  note = p.note;
+  may = p.may;
+  front = p.front;
+  rest = p.rest;
+  text = p.text;
+  left = p.left;
+  wrote = p.wrote;
+  count = p.count;
+  session = p.session;
+}
+
+pub answers_then : (rules : Rules) (h h' h'' : NamedSession) (xs ys : List Item) (out out' out'' : Option (List ℕ)) (n n' n'' : ℕ) (ok : Bool) →
+    AllAnswered rules h xs out out' n n' h' → AnsweredOrCut rules h' ys out' out'' n' n'' h'' ok → AnsweredOrCut rules h (xs ++ ys) out out'' n n'' h'' ok
+answers_then rules h h' h'' xs ys out out' out'' n n' n'' true p q = answered_then rules h h' h'' xs ys out out' out'' n n' n'' p q
+answers_then rules h h' h'' xs ys out out' out'' n n' n'' false p q = answered_cut_short rules h h' h'' xs ys out out' out'' n n' n'' p q
+
+last_alone : (item : Item) → IsLast item []
+last_alone (Block text) = inl refl
+last_alone (Dot line) = refl
+
+-- one item alone
+pub answers_one : (rules : Rules) (h h' : NamedSession) (item : Item) (out out' : Option (List ℕ)) (n n' : ℕ) (ok : Bool) → ItemAnswered rules h item out out' n n' h' ok → AnsweredOrCut rules h (item ∷ []) out out' n n' h' ok
+unfolding replies AllStand
+answers_one rules h h' item out out' n n' true p =
+    let e : (reply rules h item p.note).text ++ [] ≡ (reply rules h item p.note).text = append-nil (reply rules h item p.note).text in
+    record {
+      notes = p.note ∷ [];
+      stand = (p.may, tt);
+      text = subst (λ t. Appends out out' t) (sym e) p.wrote.0;
+      count = subst (λ t. Counts n n' t) (sym e) p.wrote.1;
+      session = p.session;
+    }
+answers_one rules h h' item out out' n n' false p = record {
+  before = [];
+  item = item;
+  after = [];
+  cut = refl;
+  last = last_alone item;
+  notes = [];
+  stand = tt;
+  note = p.note;
+  may = p.may;
+  front = p.wrote.0;
+  rest = p.wrote.1;
+  text = p.wrote.2;
+  left = p.wrote.3;
+  wrote = p.wrote.4;
+  count = p.wrote.5;
+  session = p.session;
+}
+
+pub answers_request : (rules : Rules) (h h' : NamedSession) (line : List ℕ) (a : Request) (out out' : Option (List ℕ)) (n n' : ℕ) (ok : Bool) → a ≡ request_of line → RequestAnswered h a out out' n n' h' ok → AnsweredOrCut rules h (Dot line ∷ []) out out' n n' h' ok
+unfolding reply MayStand
+answers_request rules h h' line a out out' n n' ok e p =
+    let q : RequestAnswered h (request_of line) out out' n n' h' ok = subst (λ o. RequestAnswered h o out out' n n' h' ok) e p in
+    answers_one rules h h' (Dot line) out out' n n' ok (record { note = q.note; may = q.may; wrote = q.wrote; session = q.session })
+
+pub answers_no_block : (rules : Rules) (h : NamedSession) (bytes : List ℕ) (k : ℕ) (out : Option (List ℕ)) (n : ℕ) → length bytes ≡ k → (k == 0) ≡ true → AllAnswered rules h (block_items bytes) out out n n h
+answers_no_block rules h [] k out n l e = answered_none rules h out n
+answers_no_block rules h (b ∷ bs) k out n l e = absurd (let bad : k ≡ 0 = eqb-true _ _ e in omega arith)
+
+pub answers_block : (rules : Rules) (h h' : NamedSession) (bytes block : List ℕ) (k : ℕ) (out out' : Option (List ℕ)) (n n' : ℕ) (ok : Bool) → length bytes ≡ k → (k == 0) ≡ false → block ≡ bytes → ItemAnswered rules h (Block block) out out' n n' h' ok →
+    AnsweredOrCut rules h (block_items bytes) out out' n n' h' ok
+answers_block rules h h' [] block k out out' n n' ok l e is p = absurd (eqb-false _ _ e (sym l))
+answers_block rules h h' (b ∷ bs) block k out out' n n' ok l e is p = answers_one rules h h' (Block (b ∷ bs)) out out' n n' ok (subst (λ v. ItemAnswered rules h (Block v) out out' n n' h' ok) is p)
 
 -- a block and then a dot line
-pub says_both : (rules : Rules) (t t' t'' : NamedSession) (block block' line line' : List ℕ) (a : Request) (s s' s'' : Sink) (ok : Bool) → block' ≡ block → a ≡ request_of line' → line' ≡ line →
-    Says rules s t (block_items block') s' t' true → SaysRequest t' a s' s'' t'' ok → Says rules s t (block_items block ++ Dot line ∷ []) s'' t'' ok
-says_both rules t t' t'' block block' line line' a s s' s'' ok eb ea el p q =
-    says_then rules t t' t'' (block_items block) (Dot line ∷ []) s s' s'' ok (subst (λ b. Says rules s t (block_items b) s' t' true) eb p) (q rules line (ea ∙ ap request_of el))
+pub answers_both : (rules : Rules) (h h' h'' : NamedSession) (block block' line line' : List ℕ) (a : Request) (out out' out'' : Option (List ℕ)) (n n' n'' : ℕ) (ok : Bool) → block' ≡ block → a ≡ request_of line' → line' ≡ line →
+    AllAnswered rules h (block_items block') out out' n n' h' → RequestAnswered h' a out' out'' n' n'' h'' ok → AnsweredOrCut rules h (block_items block ++ Dot line ∷ []) out out'' n n'' h'' ok
+answers_both rules h h' h'' block block' line line' a out out' out'' n n' n'' ok eb eo el p q =
+    answers_then rules h h' h'' (block_items block) (Dot line ∷ []) out out' out'' n n' n'' ok (subst (λ b. AllAnswered rules h (block_items b) out out' n n' h') eb p)
+    (answers_request rules h' h'' line a out' out'' n' n'' ok (eo ∙ ap request_of el) q)
 
-pub says_first : (rules : Rules) (t t' : NamedSession) (block block' line : List ℕ) (s s' : Sink) (ok : Bool) → ok ≡ false → block' ≡ block → Says rules s t (block_items block') s' t' ok →
-    Says rules s t (block_items block ++ Dot line ∷ []) s' t' ok
-says_first rules t t' block block' line s s' ok not eb p =
-    subst (λ v. Says rules s t (block_items block ++ Dot line ∷ []) s' t' v) (sym not)
-    (says_more rules t t' (block_items block) (Dot line ∷ []) s s' (subst (λ b. Says rules s t (block_items b) s' t' false) eb (subst (λ v. Says rules s t (block_items block') s' t' v) not p)))
+pub answers_first : (rules : Rules) (h h' : NamedSession) (block block' line : List ℕ) (out out' : Option (List ℕ)) (n n' : ℕ) (ok : Bool) → ok ≡ false → block' ≡ block → AnsweredOrCut rules h (block_items block') out out' n n' h' ok →
+    AnsweredOrCut rules h (block_items block ++ Dot line ∷ []) out out' n n' h' ok
+answers_first rules h h' block block' line out out' n n' ok not eb p =
+    subst (λ v. AnsweredOrCut rules h (block_items block ++ Dot line ∷ []) out out' n n' h' v) (sym not)
+    (subst (λ b. CutShort rules h (block_items b ++ Dot line ∷ []) out out' n n' h') eb
+    (cut_short_more rules h h' block' line out out' n n' (subst (λ v. AnsweredOrCut rules h (block_items block') out out' n n' h' v) not p)))
 
-pub says_items : (rules : Rules) (t t' : NamedSession) (xs ys : List Item) (s s' : Sink) (ok : Bool) → ys ≡ xs → Says rules s t xs s' t' ok → Says rules s t ys s' t' ok
-says_items rules t t' xs ys s s' ok e p = subst (λ v. Says rules s t v s' t' ok) (sym e) p
+pub answers_items : (rules : Rules) (h h' : NamedSession) (xs ys : List Item) (out out' : Option (List ℕ)) (n n' : ℕ) (ok : Bool) → ys ≡ xs → AnsweredOrCut rules h xs out out' n n' h' ok → AnsweredOrCut rules h ys out out' n n' h' ok
+answers_items rules h h' xs ys out out' n n' ok e p = subst (λ v. AnsweredOrCut rules h v out out' n n' h' ok) (sym e) p
 
-pub says_as : (rules : Rules) (t t' : NamedSession) (items : List Item) (s s' : Sink) (ok ok' : Bool) → ok ≡ ok' → Says rules s t items s' t' ok → Says rules s t items s' t' ok'
-says_as rules t t' items s s' ok ok' e p = subst (λ v. Says rules s t items s' t' v) e p
+pub answers_true : (rules : Rules) (h h' : NamedSession) (items : List Item) (out out' : Option (List ℕ)) (n n' : ℕ) (ok : Bool) → ok ≡ true → AnsweredOrCut rules h items out out' n n' h' ok → AllAnswered rules h items out out' n n' h'
+answers_true rules h h' items out out' n n' ok e s = subst (λ v. AnsweredOrCut rules h items out out' n n' h' v) e s
+
+pub answers_false : (rules : Rules) (h h' : NamedSession) (items : List Item) (out out' : Option (List ℕ)) (n n' : ℕ) (ok : Bool) → ok ≡ false → AnsweredOrCut rules h items out out' n n' h' ok → CutShort rules h items out out' n n' h'
+answers_false rules h h' items out out' n n' ok e s = subst (λ v. AnsweredOrCut rules h items out out' n n' h' v) e s
 
 -- a slice to the end
 pub slice_rest : (n : ℕ) (xs ys : List ℕ) → ys ≡ xs → take (length ys - n) (drop n ys) ≡ drop n xs

@@ -6,6 +6,5 @@ mod HandlingLemmas
 mod MarkLemmas
 mod NameLemmas
 mod RequestLemmas
-mod SayingLemmas
 mod SessionRows
 mod StreamLemmas

@@ -1,5 +1,5 @@
 -- Dot lines and what they print.
-use Rattle.std.proofs.Common.{inl, inr, ◌≡◌, ℕ, suc, ◌+◌, ◌-◌, ◌<◌, ◌≤◌, length, take, get_or, ◌++◌, List, [], ◌∷◌, Option, Some, None, Err, Bool, true, false, refl, sym, ap, subst, ◌∙◌, codes, arith}
+use Rattle.std.proofs.Common.{◌≡◌, ℕ, suc, ◌+◌, ◌-◌, ◌<◌, ◌≤◌, length, take, get_or, ◌++◌, List, [], ◌∷◌, Option, Some, None, Err, Bool, true, false, refl, sym, ap, subst, ◌∙◌, codes, arith}
 use Rattle.std.specs.Prelude.{map, if◌then◌else◌, zero, nat_lt}
 use Rattle.std.specs.List.{flat_map}
 use Rattle.std.specs.FinMap as env
@@ -12,87 +12,85 @@ use Rattle.env_session.specs.declared.undo.UndoFault.TheVariants.{Memory}
 use Rattle.env_session.specs.declared.session.Side.{Side}
 use Rattle.hush_commands.specs.Listing.{line_of}
 use Rattle.hush_commands.specs.Saving.{saved_line}
-use Rattle.fw_session.proofs.StreamLemmas.{adds_none, adds_then, adds_first}
+use Rattle.fw_session.proofs.StreamLemmas.{writes_none, writes_then, writes_cut_short}
 use Rattle.fw_session.specs.Requests.{request_view}
-use Rattle.fw_session.specs.Streams.{Sink, Adds}
+use Rattle.fw_session.specs.Streams.{Writes}
 use Rattle.fw_session.specs.NamedSessions.{named_session, MarksNamed}
 use Rattle.fw_session.specs.Replies.{NamedSession, Through, Refused, Stopped, Request, Undo, Save, Print, Mark, UndoTo, Unknown, with_newline, listing, standing, last_named, trimmed, onto_trimmed, is_end_blank, request_in, request_of}
-use Rattle.fw_session.specs.Saying.{RequestAnswered, UndoAnswered}
-use Rattle.fw_session.specs.declared.requests.Request as code
+use Rattle.fw_session.specs.Handling.{RequestAnswered, UndoAnswered}
+use Rattle.fw_session.specs.declared.dot_lines.Request as code
 
 -- an undo to a mark that stands
-pub undo_done : (h h' : Held) (names : List (Option (List ℕ))) (k : ℕ) (o o' : Sink) (ok : Bool) → h' ≡ undone k h → Adds o o' (with_newline (codes "[Undone]")) ok →
-    UndoAnswered (named_session h names) (Some k) o o' (named_session h' names) ok
-undo_done h h' names k o o' ok e w = record { note = Through; may = tt; adds = w; session = ap (λ v. named_session v names) e }
+pub undo_done : (h h' : Held) (names : List (Option (List ℕ))) (k : ℕ) (out out' : Option (List ℕ)) (n n' : ℕ) (ok : Bool) → h' ≡ undone k h → Writes out out' n n' (with_newline (codes "[Undone]")) ok →
+    UndoAnswered (named_session h names) (Some k) out out' n n' (named_session h' names) ok
+undo_done h h' names k out out' n n' ok e w = record { note = Through; may = tt; wrote = w; session = ap (λ v. named_session v names) e }
 
-pub undo_stopped : (h h' : Held) (names : List (Option (List ℕ))) (k j : ℕ) (o o' : Sink) (ok : Bool) → IsStoppedUndo k h h' j → Adds o o' (with_newline (codes "[Memory]")) ok →
-    UndoAnswered (named_session h names) (Some k) o o' (named_session h' names) ok
-undo_stopped h h' names k j o o' ok s w =
-    record { note = Stopped j; may = subst (λ v. IsStoppedUndo k h v j) s.left s; adds = w; session = ap (λ v. named_session v names) s.left }
+pub undo_stopped : (h h' : Held) (names : List (Option (List ℕ))) (k j : ℕ) (out out' : Option (List ℕ)) (n n' : ℕ) (ok : Bool) → IsStoppedUndo k h h' j → Writes out out' n n' (with_newline (codes "[Memory]")) ok →
+    UndoAnswered (named_session h names) (Some k) out out' n n' (named_session h' names) ok
+undo_stopped h h' names k j out out' n n' ok s w =
+    record { note = Stopped j; may = subst (λ v. IsStoppedUndo k h v j) s.left s; wrote = w; session = ap (λ v. named_session v names) s.left }
 
 pub undo_refused : (k : ℕ) (h h' : Held) (fault : UndoFault) → fault ≡ Memory → UndoesTo k h h' (Err fault) → (j : ℕ) × IsStoppedUndo k h h' j
 undo_refused k h h' fault e u = subst (λ f. UndoesTo k h h' (Err f)) e u
 
-pub undo_obeyed : (t t' : NamedSession) (o o' : Sink) (ok : Bool) → o.waiting ≡ [] → UndoAnswered t (Some 0) o o' t' ok → RequestAnswered t Undo o o' t' ok
-undo_obeyed t t' o o' ok none u = record { note = u.note; may = u.may; adds = u.adds; session = u.session; quiet = inl none }
+pub undo_obeyed : (t t' : NamedSession) (out out' : Option (List ℕ)) (n n' : ℕ) (ok : Bool) → UndoAnswered t (Some 0) out out' n n' t' ok → RequestAnswered t Undo out out' n n' t' ok
+undo_obeyed t t' out out' n n' ok u = record { note = u.note; may = u.may; wrote = u.wrote; session = u.session }
 
-undo_to_obeyed : (t t' : NamedSession) (name : List ℕ) (found : Option ℕ) (o o' : Sink) (ok : Bool) → o.waiting ≡ [] → found ≡ last_named name (standing t) → UndoAnswered t found o o' t' ok → RequestAnswered t (UndoTo name) o o' t' ok
-undo_to_obeyed t t' name found o o' ok none e u =
-    let v : UndoAnswered t (last_named name (standing t)) o o' t' ok = subst (λ f. UndoAnswered t f o o' t' ok) e u in
-    record { note = v.note; may = v.may; adds = v.adds; session = v.session; quiet = inl none }
+undo_to_obeyed : (t t' : NamedSession) (name : List ℕ) (found : Option ℕ) (out out' : Option (List ℕ)) (n n' : ℕ) (ok : Bool) → found ≡ last_named name (standing t) → UndoAnswered t found out out' n n' t' ok → RequestAnswered t (UndoTo name) out out' n n' t' ok
+undo_to_obeyed t t' name found out out' n n' ok e u =
+    let v : UndoAnswered t (last_named name (standing t)) out out' n n' t' ok = subst (λ f. UndoAnswered t f out out' n n' t' ok) e u in
+    record { note = v.note; may = v.may; wrote = v.wrote; session = v.session }
 
-pub found_obeyed : (t t' : NamedSession) (name : List ℕ) (k : ℕ) (marks : List (Option (List ℕ))) (o o' : Sink) (ok : Bool) → o.waiting ≡ [] → marks ≡ standing t → Some k ≡ last_named name marks → UndoAnswered t (Some k) o o' t' ok →
-    RequestAnswered t (UndoTo name) o o' t' ok
-found_obeyed t t' name k marks o o' ok none s e u = undo_to_obeyed t t' name (Some k) o o' ok none (e ∙ ap (last_named name) s) u
+pub found_obeyed : (t t' : NamedSession) (name : List ℕ) (k : ℕ) (marks : List (Option (List ℕ))) (out out' : Option (List ℕ)) (n n' : ℕ) (ok : Bool) → marks ≡ standing t → Some k ≡ last_named name marks → UndoAnswered t (Some k) out out' n n' t' ok →
+    RequestAnswered t (UndoTo name) out out' n n' t' ok
+found_obeyed t t' name k marks out out' n n' ok s e u = undo_to_obeyed t t' name (Some k) out out' n n' ok (e ∙ ap (last_named name) s) u
 
-pub gone_obeyed : (t : NamedSession) (name : List ℕ) (marks : List (Option (List ℕ))) (o o' : Sink) (ok : Bool) → o.waiting ≡ [] → marks ≡ standing t → None ≡ last_named name marks → Adds o o' (with_newline (codes "[Gone]")) ok →
-    RequestAnswered t (UndoTo name) o o' t ok
-gone_obeyed t name marks o o' ok none s e w =
-    let u : UndoAnswered t None o o' t ok = record { note = Through; may = tt; adds = w; session = refl } in
-    undo_to_obeyed t t name None o o' ok none (e ∙ ap (last_named name) s) u
+pub gone_obeyed : (t : NamedSession) (name : List ℕ) (marks : List (Option (List ℕ))) (out out' : Option (List ℕ)) (n n' : ℕ) (ok : Bool) → marks ≡ standing t → None ≡ last_named name marks → Writes out out' n n' (with_newline (codes "[Gone]")) ok →
+    RequestAnswered t (UndoTo name) out out' n n' t ok
+gone_obeyed t name marks out out' n n' ok s e w =
+    let u : UndoAnswered t None out out' n n' t ok = record { note = Through; may = tt; wrote = w; session = refl } in
+    undo_to_obeyed t t name None out out' n n' ok (e ∙ ap (last_named name) s) u
 
-pub save_done : (h h' : Held) (names : List (Option (List ℕ))) (side : Side) (o o' : Sink) (ok : Bool) → o.waiting ≡ [] → side ≡ side_of h → h' ≡ saved h → Adds o o' (saved_line side) ok →
-    RequestAnswered (named_session h names) Save o o' (named_session h' names) ok
-save_done h h' names side o o' ok none which e w =
-    record { note = Through; may = tt; adds = subst (λ v. Adds o o' (saved_line v) ok) which w; session = ap (λ v. named_session v names) e; quiet = inl none }
+pub save_done : (h h' : Held) (names : List (Option (List ℕ))) (side : Side) (out out' : Option (List ℕ)) (n n' : ℕ) (ok : Bool) → side ≡ side_of h → h' ≡ saved h → Writes out out' n n' (saved_line side) ok →
+    RequestAnswered (named_session h names) Save out out' n n' (named_session h' names) ok
+save_done h h' names side out out' n n' ok which e w =
+    record { note = Through; may = tt; wrote = subst (λ s. Writes out out' n n' (saved_line s) ok) which w; session = ap (λ v. named_session v names) e }
 
-pub save_refused : (h h' : Held) (names : List (Option (List ℕ))) (o o' : Sink) (ok : Bool) → o.waiting ≡ [] → h' ≡ h → last_saved (side_of h) h.marks ≡ false → Adds o o' (with_newline (codes "[Memory]")) ok →
-    RequestAnswered (named_session h names) Save o o' (named_session h' names) ok
-save_refused h h' names o o' ok none e may w = record { note = Refused; may = may; adds = w; session = ap (λ v. named_session v names) e; quiet = inl none }
+pub save_refused : (h h' : Held) (names : List (Option (List ℕ))) (out out' : Option (List ℕ)) (n n' : ℕ) (ok : Bool) → h' ≡ h → last_saved (side_of h) h.marks ≡ false → Writes out out' n n' (with_newline (codes "[Memory]")) ok →
+    RequestAnswered (named_session h names) Save out out' n n' (named_session h' names) ok
+save_refused h h' names out out' n n' ok e may w = record { note = Refused; may = may; wrote = w; session = ap (λ v. named_session v names) e }
 
-pub print_done : (t : NamedSession) (o o' : Sink) (ok : Bool) → Adds o o' (listing t.held.now.env) ok → RequestAnswered t Print o o' t ok
-print_done t o o' ok w = record { note = Through; may = tt; adds = w; session = refl; quiet = inr refl }
+pub print_done : (t : NamedSession) (out out' : Option (List ℕ)) (n n' : ℕ) (ok : Bool) → Writes out out' n n' (listing t.held.now.env) ok → RequestAnswered t Print out out' n n' t ok
+print_done t out out' n n' ok w = record { note = Through; may = tt; wrote = w; session = refl }
 
-pub unknown_told : (t : NamedSession) (o o' : Sink) (ok : Bool) → Adds o o' (with_newline (codes "[Unknown]")) ok → RequestAnswered t Unknown o o' t ok
-unknown_told t o o' ok w = record { note = Through; may = tt; adds = w; session = refl; quiet = inr refl }
+pub unknown_told : (t : NamedSession) (out out' : Option (List ℕ)) (n n' : ℕ) (ok : Bool) → Writes out out' n n' (with_newline (codes "[Unknown]")) ok → RequestAnswered t Unknown out out' n n' t ok
+unknown_told t out out' n n' ok w = record { note = Through; may = tt; wrote = w; session = refl }
 
-pub mark_made : (t t' : NamedSession) (name : List ℕ) (made : Bool) (o o' : Sink) (ok : Bool) → o.waiting ≡ [] → MarksNamed t name t' made → made ≡ true → Adds o o' (with_newline (codes "[Marked]")) ok → RequestAnswered t (Mark name) o o' t' ok
-mark_made t t' name false o o' ok none m e w = absurd (cc)
-mark_made t t' name true o o' ok none m e w =
+pub mark_made : (t t' : NamedSession) (name : List ℕ) (made : Bool) (out out' : Option (List ℕ)) (n n' : ℕ) (ok : Bool) → MarksNamed t name t' made → made ≡ true → Writes out out' n n' (with_newline (codes "[Marked]")) ok → RequestAnswered t (Mark name) out out' n n' t' ok
+mark_made t t' name false out out' n n' ok m e w = absurd (cc)
+mark_made t t' name true out out' n n' ok m e w =
     let room : (nat_lt 64 (length t.held.marks)) ≡ false = m.0 in
     record {
       note = Through;
       may = tt;
-      adds = rw room w;
+      wrote = rw room w;
       session = rw room m.1;
-      quiet = inl none;
     }
 
-pub mark_full : (t t' : NamedSession) (name : List ℕ) (made : Bool) (o o' : Sink) (ok : Bool) → o.waiting ≡ [] → MarksNamed t name t' made → made ≡ false → Adds o o' (with_newline (codes "[Full]")) ok → RequestAnswered t (Mark name) o o' t' ok
-mark_full t t' name true o o' ok none m e w = absurd (cc)
-mark_full t t' name false o o' ok none m e w =
+pub mark_full : (t t' : NamedSession) (name : List ℕ) (made : Bool) (out out' : Option (List ℕ)) (n n' : ℕ) (ok : Bool) → MarksNamed t name t' made → made ≡ false → Writes out out' n n' (with_newline (codes "[Full]")) ok → RequestAnswered t (Mark name) out out' n n' t' ok
+mark_full t t' name true out out' n n' ok m e w = absurd (cc)
+mark_full t t' name false out out' n n' ok m e w =
     let full : (nat_lt 64 (length t.held.marks)) ≡ true = m.0 in
     record {
       note = Through;
       may = tt;
-      adds = rw full w;
+      wrote = rw full w;
       session = rw full m.1;
-      quiet = inl none;
     }
 
 -- what a dot line asks for
-pub obeyed_as : (t t' : NamedSession) (a a' : Request) (o o' : Sink) (ok : Bool) → a' ≡ a → RequestAnswered t a o o' t' ok → RequestAnswered t a' o o' t' ok
-obeyed_as t t' a a' o o' ok e k = subst (λ v. RequestAnswered t v o o' t' ok) (sym e) k
+pub obeyed_as : (t t' : NamedSession) (a a' : Request) (out out' : Option (List ℕ)) (n n' : ℕ) (ok : Bool) → a' ≡ a → RequestAnswered t a out out' n n' t' ok → RequestAnswered t a' out out' n n' t' ok
+obeyed_as t t' a a' out out' n n' ok e o = subst (λ v. RequestAnswered t v out out' n n' t' ok) (sym e) o
 
 lines_joined : (ps : List Pair) → flat_map (λ x. x ++ 10 ∷ []) (map (λ p. p.0 ++ 61 ∷ p.1) ps) ≡ flat_map line_of ps
 lines_joined [] = refl
@@ -100,40 +98,31 @@ lines_joined (p ∷ ps) =
     ap (λ t. t ++ flat_map (λ x. x ++ 10 ∷ []) (map (λ p. p.0 ++ 61 ∷ p.1) ps)) (append_assoc p.0 (61 ∷ p.1) (10 ∷ []))
     ∙ ap (λ t. line_of p ++ t) (lines_joined ps)
 
-pub lines_init : (vars vars' : Environment) (lines : List (List ℕ)) (o : Sink) → vars' ≡ vars → lines ≡ map (λ p. p.0 ++ 61 ∷ p.1) (env.entries vars') →
-    (front : List ℕ) × (listing vars ≡ front ++ flat_map (λ x. x ++ 10 ∷ []) lines) × Adds o o front true
+pub lines_init : (vars vars' : Environment) (lines : List (List ℕ)) (out : Option (List ℕ)) (n : ℕ) → vars' ≡ vars → lines ≡ map (λ p. p.0 ++ 61 ∷ p.1) (env.entries vars') →
+    (front : List ℕ) × (listing vars ≡ front ++ flat_map (λ x. x ++ 10 ∷ []) lines) × Writes out out n n front true
 unfolding listing
-lines_init vars vars' lines o e is = (
+lines_init vars vars' lines out n e is = (
   [],
   sym (ap (flat_map (λ x. x ++ 10 ∷ [])) is ∙ lines_joined (env.entries vars') ∙ ap (λ v. flat_map line_of (env.entries v)) e),
-  adds_none o,
+  writes_none out n,
 )
 
-lines_more : (all line : List ℕ) (lines lines' : List (List ℕ)) (o o' o'' : Sink) →
-    (front : List ℕ) × (all ≡ front ++ flat_map (λ x. x ++ 10 ∷ []) lines) × Adds o o' front true → lines ≡ line ∷ lines' → Adds o' o'' (line ++ 10 ∷ []) true →
-    (front : List ℕ) × (all ≡ front ++ flat_map (λ x. x ++ 10 ∷ []) lines') × Adds o o'' front true
-lines_more all line lines lines' o o' o'' was is w = (
+pub lines_more : (all line : List ℕ) (lines lines' : List (List ℕ)) (out out' out'' : Option (List ℕ)) (n n' n'' : ℕ) →
+    (front : List ℕ) × (all ≡ front ++ flat_map (λ x. x ++ 10 ∷ []) lines) × Writes out out' n n' front true → lines ≡ line ∷ lines' → Writes out' out'' n' n'' (line ++ 10 ∷ []) true →
+    (front : List ℕ) × (all ≡ front ++ flat_map (λ x. x ++ 10 ∷ []) lines') × Writes out out'' n n'' front true
+lines_more all line lines lines' out out' out'' n n' n'' was is w = (
   was.0 ++ (line ++ 10 ∷ []),
   was.1 ∙ ap (λ t. was.0 ++ flat_map (λ x. x ++ 10 ∷ []) t) is ∙ sym (append_assoc was.0 (line ++ 10 ∷ []) (flat_map (λ x. x ++ 10 ∷ []) lines')),
-  adds_then o o' o'' was.0 (line ++ 10 ∷ []) true was.2 w,
+  writes_then out out' out'' n n' n'' was.0 (line ++ 10 ∷ []) true was.2 w,
 )
 
-lines_cut_short : (all line : List ℕ) (lines lines' : List (List ℕ)) (o o' o'' : Sink) →
-    (front : List ℕ) × (all ≡ front ++ flat_map (λ x. x ++ 10 ∷ []) lines) × Adds o o' front true → lines ≡ line ∷ lines' → Adds o' o'' (line ++ 10 ∷ []) false →
-    Adds o o'' all false
-lines_cut_short all line lines lines' o o' o'' was is w =
-    subst (λ t. Adds o o'' t false)
+pub lines_cut_short : (all line : List ℕ) (lines lines' : List (List ℕ)) (out out' out'' : Option (List ℕ)) (n n' n'' : ℕ) →
+    (front : List ℕ) × (all ≡ front ++ flat_map (λ x. x ++ 10 ∷ []) lines) × Writes out out' n n' front true → lines ≡ line ∷ lines' → Writes out' out'' n' n'' (line ++ 10 ∷ []) false →
+    Writes out out'' n n'' all false
+lines_cut_short all line lines lines' out out' out'' n n' n'' was is w =
+    subst (λ t. Writes out out'' n n'' t false)
     (append_assoc was.0 (line ++ 10 ∷ []) (flat_map (λ x. x ++ 10 ∷ []) lines') ∙ sym (was.1 ∙ ap (λ t. was.0 ++ flat_map (λ x. x ++ 10 ∷ []) t) is))
-    (adds_first o o'' (was.0 ++ (line ++ 10 ∷ [])) (flat_map (λ x. x ++ 10 ∷ []) lines') (adds_then o o' o'' was.0 (line ++ 10 ∷ []) false was.2 w))
-
-pub lines_more_as : (all line : List ℕ) (lines lines' : List (List ℕ)) (o o' o'' : Sink) (ok : Bool) → ok ≡ true →
-    (front : List ℕ) × (all ≡ front ++ flat_map (λ x. x ++ 10 ∷ []) lines) × Adds o o' front true → lines ≡ line ∷ lines' → Adds o' o'' (line ++ 10 ∷ []) ok →
-    (front : List ℕ) × (all ≡ front ++ flat_map (λ x. x ++ 10 ∷ []) lines') × Adds o o'' front true
-lines_more_as all line lines lines' o o' o'' ok e was is w = lines_more all line lines lines' o o' o'' was is (subst (λ v. Adds o' o'' (line ++ 10 ∷ []) v) e w)
-
-pub lines_cut_short_as : (all line : List ℕ) (lines lines' : List (List ℕ)) (o o' o'' : Sink) (ok : Bool) → ok ≡ false →
-    (front : List ℕ) × (all ≡ front ++ flat_map (λ x. x ++ 10 ∷ []) lines) × Adds o o' front true → lines ≡ line ∷ lines' → Adds o' o'' (line ++ 10 ∷ []) ok → Adds o o'' all false
-lines_cut_short_as all line lines lines' o o' o'' ok e was is w = lines_cut_short all line lines lines' o o' o'' was is (subst (λ v. Adds o' o'' (line ++ 10 ∷ []) v) e w)
+    (writes_cut_short out out'' n n'' (was.0 ++ (line ++ 10 ∷ [])) (flat_map (λ x. x ++ 10 ∷ []) lines') (writes_then out out' out'' n n' n'' was.0 (line ++ 10 ∷ []) false was.2 w))
 
 -- the last byte of a line
 trimmed_snoc : (xs : List ℕ) (b : ℕ) → is_end_blank b ≡ true → trimmed (xs ++ b ∷ []) ≡ trimmed xs
@@ -164,6 +153,6 @@ pub trim_none : (line : List ℕ) (n : ℕ) → n ≤ 0 → (n ≤ length line) 
 trim_none line zero z was = was.1
 trim_none line (suc n) z was = absurd (omega arith)
 
-pub request_known : (line word name : List ℕ) (request : code.Request) → request_view request name ≡ request_in word → trimmed line ≡ word → request_view request name ≡ request_of line
+pub request_known : (line word : List ℕ) (request : code.Request) → request_view request ≡ request_in word → trimmed line ≡ word → request_view request ≡ request_of line
 unfolding request_of
-request_known line word name request e t = e ∙ ap request_in (sym t)
+request_known line word request e t = e ∙ ap request_in (sym t)

@@ -1,12 +1,12 @@
 -- How a session over a reader and a writer ends.
-use Rattle.std.specs.Prelude.{◌≡◌, ◌⊎◌, ℕ, ◌<◌, ◌≤◌, List, [], ◌∷◌, ◌++◌, Option, length}
+use Rattle.std.specs.Prelude.{◌≡◌, ◌⊎◌, ℕ, ◌<◌, ◌≤◌, Bool, true, false, List, [], ◌∷◌, ◌++◌, Option, length}
 use Rattle.std.specs.Io.KnownBytes.{Appends, Consumes, IsAtEnd}
-use Rattle.fw_session.specs.Input.{Item, items_of, to_last_dot}
+use Rattle.fw_session.specs.Input.{Item, Block, Dot, items_of, to_last_dot}
 use Rattle.fw_session.specs.Streams.{Counts}
 use Rattle.hush_run.specs.Meaning.{Rules}
 use Rattle.fw_session.specs.Replies.{NamedSession, Note, reply, replies, MayStand, AllStand}
-use Rattle.fw_session.specs.declared.ending.SessionEnding.{SessionEnding}
-use Rattle.fw_session.specs.declared.ending.SessionEnding.TheVariants.{Done, ReadFault, TooLong, WriteFault, Memory}
+use Rattle.fw_session.specs.declared.session_end.SessionEnding.{SessionEnding}
+use Rattle.fw_session.specs.declared.session_end.SessionEnding.TheVariants.{Done, ReadFault, TooLong, WriteFault, Memory}
 
 -- for some notes, all these items were answered
 pub record AllAnswered (rules : Rules) (h : NamedSession) (items : List Item) (out out' : Option (List ℕ)) (n n' : ℕ)
@@ -17,14 +17,19 @@ pub record AllAnswered (rules : Rules) (h : NamedSession) (items : List Item) (o
   pub count : Counts n n' (replies rules h items notes).text
   pub session : h' ≡ (replies rules h items notes).session
 
--- some were answered, and of the next one's text a front went out and no more; it was done, and nothing after it has changed
--- the session
+-- after an item, of the same line: a block is answered at the dot line after it, or at the end
+abbrev pub IsLast : Item → List Item → Type 0
+IsLast (Block text) after = (after ≡ []) ⊎ ((line : List ℕ) × (after ≡ Dot line ∷ []))
+IsLast (Dot line) after = after ≡ []
+
+-- some were answered, and of the next one's text a prefix went out and no more; it was done, and nothing after it was begun
 pub record CutShort (rules : Rules) (h : NamedSession) (items : List Item) (out out' : Option (List ℕ)) (n n' : ℕ)
     (h' : NamedSession) : Type 0 where
   pub before : List Item
   pub item : Item
   pub after : List Item
   pub cut : items ≡ before ++ item ∷ after
+  pub last : IsLast item after
   pub notes : List Note
   pub stand : AllStand rules h before notes
   pub note : Note
@@ -37,9 +42,18 @@ pub record CutShort (rules : Rules) (h : NamedSession) (items : List Item) (out 
   pub count : Counts n n' ((replies rules h before notes).text ++ front)
   pub session : h' ≡ (reply rules (replies rules h before notes).session item note).session
 
+abbrev pub AnsweredOrCut : Rules → NamedSession → List Item → Option (List ℕ) → Option (List ℕ) → ℕ → ℕ →
+    NamedSession → Bool → Type 0
+AnsweredOrCut rules h items out out' n n' h' true = AllAnswered rules h items out out' n n' h'
+AnsweredOrCut rules h items out out' n n' h' false = CutShort rules h items out out' n n' h'
+
 -- the most bytes that are handled
 abbrev pub input_limit : ℕ
 input_limit = 16777216
+
+-- the most bytes that one read gives
+abbrev pub read_limit : ℕ
+read_limit = 4096
 
 abbrev pub IsRead : Option (List ℕ) → Option (List ℕ) → List ℕ → ℕ → Type 0
 IsRead input input' bytes read = Consumes input input' bytes × (read ≡ length bytes) × (length bytes ≤ input_limit)
@@ -56,7 +70,8 @@ Ends TooLong rules h input input' out out' read written h' =
     × AllAnswered rules h (to_last_dot (items_of bytes)) out out' 0 written h'
 Ends WriteFault rules h input input' out out' read written h' =
     (bytes : List ℕ) × IsRead input input' bytes read
-    × (((front : List ℕ) × (rest : List ℕ) × (bytes ≡ front ++ rest) × CutShort rules h (to_last_dot (items_of front)) out out' 0 written h')
+    × (((front : List ℕ) × (rest : List ℕ) × (bytes ≡ front ++ rest) × (length rest < read_limit)
+    × CutShort rules h (to_last_dot (items_of front)) out out' 0 written h')
     ⊎ (IsAtEnd input' × CutShort rules h (items_of bytes) out out' 0 written h'))
 Ends Memory rules h input input' out out' read written h' =
     (bytes : List ℕ) × IsRead input input' bytes read

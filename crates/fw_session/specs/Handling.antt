@@ -1,11 +1,11 @@
 -- A line after another: what is answered, and what waits.
-use Rattle.std.specs.Prelude.{◌≡◌, ℕ, ◌<◌, ◌≤◌, ◌==◌, Bool, true, false, not, List, [], ◌∷◌, ◌++◌, length, take, drop}
+use Rattle.std.specs.Prelude.{◌≡◌, ℕ, ◌<◌, ◌≤◌, ◌==◌, Bool, true, not, List, [], ◌∷◌, ◌++◌, Option, length, take, drop}
 use Rattle.std.specs.List.{list_all}
 use Rattle.fw_session.specs.Input.{Item, Block, joined, items_of, to_last_dot}
-use Rattle.fw_session.specs.Streams.{Sink}
+use Rattle.fw_session.specs.Streams.{Writes}
 use Rattle.hush_run.specs.Meaning.{Rules}
-use Rattle.fw_session.specs.Replies.{NamedSession}
-use Rattle.fw_session.specs.Saying.{Says}
+use Rattle.fw_session.specs.Replies.{NamedSession, Note, Request, reply, undo_reply, request_reply, MayStand, UndoNote, RequestNote}
+use Rattle.fw_session.specs.Ends.{AllAnswered, CutShort}
 
 -- an item for these bytes, if there are any
 abbrev pub block_items : List ℕ → List Item
@@ -42,15 +42,42 @@ pub record IsLine (bytes : List ℕ) (start : ℕ) : Type 0 where
 unfoldable pub EndWhole : List Item → Type 0
 EndWhole items = (rest : List Item) → to_last_dot (items ++ rest) ≡ items ++ to_last_dot rest
 
--- the bytes `bytes` waited, and `piece` came: some items were done, and the bytes `bytes'` wait
-pub record Handled (rules : Rules) (bytes piece bytes' : List ℕ) (s : Sink) (t : NamedSession) (s' : Sink) (t' : NamedSession)
-    (ok : Bool) : Type 0 where
+-- the bytes `bytes` waited, and `piece` came: some items were answered, and the bytes `bytes'` wait
+pub record Handled (rules : Rules) (bytes piece bytes' : List ℕ) (h h' : NamedSession) (out out' : Option (List ℕ))
+    (n n' : ℕ) : Type 0 where
   pub items : List Item
   pub cuts : (xs : List ℕ) → items_of (bytes ++ (piece ++ xs)) ≡ items ++ items_of (bytes' ++ xs)
   pub whole : EndWhole items
-  pub says : Says rules s t items s' t' ok
+  pub answered : AllAnswered rules h items out out' n n' h'
 
--- the same, and the writer failed at one of them; what waits then is lost
-abbrev pub HandledUntilCut : Rules → List ℕ → List ℕ → Sink → NamedSession → Sink → NamedSession → Type 0
-HandledUntilCut rules bytes piece s t s' t' =
-    (rest : List ℕ) × (start : ℕ) × IsPending rest start × Handled rules bytes piece rest s t s' t' false
+-- the same, and the writer failed at one of them
+pub record HandledUntilCut (rules : Rules) (bytes piece : List ℕ) (h h' : NamedSession) (out out' : Option (List ℕ))
+    (n n' : ℕ) : Type 0 where
+  pub items : List Item
+  pub cuts : (xs : List ℕ) → items_of (bytes ++ (piece ++ xs)) ≡ items ++ items_of xs
+  pub whole : EndWhole items
+  pub cut_short : CutShort rules h items out out' n n' h'
+
+-- an undo to a mark that was found
+pub record UndoAnswered (t : NamedSession) (found : Option ℕ) (out out' : Option (List ℕ)) (n n' : ℕ)
+    (t' : NamedSession) (ok : Bool) : Type 0 where
+  pub note : Note
+  pub may : UndoNote found t.held note
+  pub wrote : Writes out out' n n' (undo_reply found t note).text ok
+  pub session : t' ≡ (undo_reply found t note).session
+
+-- a dot line obeyed
+pub record RequestAnswered (t : NamedSession) (request : Request) (out out' : Option (List ℕ)) (n n' : ℕ)
+    (t' : NamedSession) (ok : Bool) : Type 0 where
+  pub note : Note
+  pub may : RequestNote t request note
+  pub wrote : Writes out out' n n' (request_reply t request note).text ok
+  pub session : t' ≡ (request_reply t request note).session
+
+-- an item answered
+pub record ItemAnswered (rules : Rules) (h : NamedSession) (item : Item) (out out' : Option (List ℕ)) (n n' : ℕ)
+    (h' : NamedSession) (ok : Bool) : Type 0 where
+  pub note : Note
+  pub may : MayStand rules h item note
+  pub wrote : Writes out out' n n' (reply rules h item note).text ok
+  pub session : h' ≡ (reply rules h item note).session

@@ -6,7 +6,5 @@ pub mod Ends
 pub mod NamedSessions
 -- What the steps of the code do: no promise speaks of these.
 pub mod Requests
-pub mod Saying
-pub mod Waiting
 pub mod Handling
 pub mod Talks

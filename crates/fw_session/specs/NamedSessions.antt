@@ -2,7 +2,7 @@
 use Rattle.std.specs.Prelude.{◌≡◌, ℕ, Bool, true, false, nat_lt, List, [], ◌∷◌, ◌++◌, length, map, option_map, replicate, Option, Some, None}
 use Rattle.env_session.specs.Session.{Held, most_marks, marked}
 use Rattle.arrayvec.specs.ArrayVec.{ArrayVec}
-use Rattle.fw_session.specs.declared.talking.Talk.{Talk}
+use Rattle.fw_session.specs.declared.talk.Talk.{Talk}
 use Rattle.fw_session.specs.Replies.{NamedSession, standing}
 
 -- the names as the definitions have them

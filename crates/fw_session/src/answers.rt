@@ -1,70 +1,67 @@
-//! The answers of a session: what a writer took of them, and what waits to be written.
-ghost use Rattle.std.specs.Prelude.{◌≡◌, [], true};
-ghost use Rattle.fw_session.specs.Streams.{Adds, Moves};
-ghost use Rattle.fw_session.specs.Waiting.{sink};
+//! Answers: a text is written whole, and counted.
+ghost use Rattle.std.specs.Prelude.{◌≡◌, ◌++◌, [], ◌∷◌, ℕ, List};
+ghost use Rattle.fw_session.specs.Replies.{listing};
+ghost use Rattle.fw_session.specs.Streams.{Writes};
 
-use crate::streams::write_text;
-use arrayvec::ArrayVec;
+use env_session::Session;
+use std::alloc::Global;
 use std::io::Write;
 
-/// How many bytes of text may wait.
-const MOST_WAITING: usize = 65_536;
-
-/// Texts that wait behind those that were written. What waits is written before a dot line that may change the session,
-/// before the first step of a block that may, and before more of the input is read.
-#[derive(Drop)]
-pub(crate) struct Answers {
-    /// The texts that wait, one behind the other.
-    pub(crate) waiting: ArrayVec<u8, MOST_WAITING>,
-    /// How many bytes the writer took, 2^64 - 1 where there are more.
-    pub(crate) written: u64,
+/// Writes a text, as often as the writer takes a part of it; false where it fails or takes nothing, with a front of the
+/// text written. Counts what was written.
+pub(crate) fn write_text<W: Write>(writer: &mut W, text: &[u8], written: &mut u64) -> bool
+    ensures { Writes (W.contents writer.old) (W.contents writer.new) written.old written.new text.now result }
+{
+    let mut rest = text;
+    while !rest.is_empty() {
+        match writer.write(rest) {
+            Ok(0) | Err(_) => return false,
+            Ok(count) => {
+                *written = written.saturating_add(count as u64);
+                rest = &rest[count..];
+            }
+        }
+    }
+    true
 }
 
-impl Answers {
-    /// Nothing was written, and nothing waits.
-    pub(crate) fn none() -> Answers
-        ensures waiting { result.waiting.items ≡ [] }
-        ensures written { result.written ≡ 0 }
-    {
-        Answers {
-            waiting: ArrayVec::new(),
-            written: 0,
-        }
+/// Writes every variable in one text; if there is no memory for it, line by line.
+pub(crate) fn write_listing<W: Write>(
+    alloc: Global,
+    session: &Session,
+    output: &mut W,
+    written: &mut u64,
+) -> bool
+    ensures { Writes (W.contents output.old) (W.contents output.new) written.old written.new (listing session.now.now.env) result }
+{
+    let mut text: Vec<u8> = Vec::new(alloc);
+    if write_lines(session, &mut text, &mut 0) {
+        write_text(output, &text, written)
+    } else {
+        write_lines(session, output, written)
     }
+}
 
-    /// Writes what waits; false where the writer fails.
-    pub(crate) fn write_out<W: Write>(&mut self, output: &mut W) -> bool
-        ensures moves { Moves (sink (W.contents output.old) self.old) (sink (W.contents output.new) self.new) result }
-        ensures empty { result ≡ true → self.new.waiting.items ≡ [] }
-    {
-        if write_text(output, &self.waiting, &mut self.written) {
-            self.waiting.clear();
-            true
-        } else {
-            false
+/// Writes every variable.
+fn write_lines<W: Write>(session: &Session, output: &mut W, written: &mut u64) -> bool
+    ensures { Writes (W.contents output.old) (W.contents output.new) written.old written.new (listing session.now.now.env) result }
+{
+    for line in session.vars().lines() {
+        if !write_both(output, line, b"\n", written) {
+            return false;
         }
     }
+    true
+}
 
-    /// Lets a text wait behind the others. Where there is no room for it, these are written before; false where the writer
-    /// fails.
-    #[inline(always)]
-    pub(crate) fn add<W: Write>(&mut self, text: &[u8], output: &mut W) -> bool
-        ensures { Adds (sink (W.contents output.old) self.old) (sink (W.contents output.new) self.new) text.now result }
-    {
-        match self.waiting.try_extend_from_slice(text) {
-            Ok(()) => true,
-            Err(_full) => self.write_out(output) && self.add_alone(text, output),
-        }
-    }
-
-    /// The same where nothing waits: a text that is longer than what may wait is written.
-    fn add_alone<W: Write>(&mut self, text: &[u8], output: &mut W) -> bool
-        requires { self.old.waiting.items ≡ [] }
-        ensures { Adds (sink (W.contents output.old) self.old) (sink (W.contents output.new) self.new) text.now result }
-    {
-        match self.waiting.try_extend_from_slice(text) {
-            Ok(()) => true,
-            Err(_full) => write_text(output, text, &mut self.written),
-        }
-    }
+/// Writes one text and then another.
+pub(crate) fn write_both<W: Write>(
+    output: &mut W,
+    first: &[u8],
+    second: &[u8],
+    written: &mut u64,
+) -> bool
+    ensures { Writes (W.contents output.old) (W.contents output.new) written.old written.new (first.now ++ second.now) result }
+{
+    write_text(output, first, written) && write_text(output, second, written)
 }

@@ -1,18 +1,15 @@
 //! Dry runs over streams: blocks of script and dot lines are read, and what they do is written.
 //! docs/dry-runs.md states the rules.
 //!
-//! To read in this order: ending, talking; running; requests, obeying; names, marks; answers, streams.
+//! To read in this order: session_end, talk; blocks, dot_lines; marks; answers.
 #![tactic(auto)]
 
 mod answers;
-mod ending;
+mod blocks;
+mod dot_lines;
 mod marks;
-mod names;
-mod obeying;
-mod requests;
-mod running;
-mod streams;
-mod talking;
+mod session_end;
+mod talk;
 
-pub use ending::{SessionEnd, SessionEnding};
-pub use talking::session;
+pub use session_end::{SessionEnd, SessionEnding};
+pub use talk::session;

@@ -13,7 +13,7 @@ use Rattle.fw_engines.specs.Exporting.{export_texts, status_for}
 use Rattle.fw_engines.specs.Printing.{complaint, named, one_name, printed, status_of}
 use Rattle.fw_engines.specs.Setting.{Changing, Effect, Ends, count_status, script_effect, unless_refused}
 use Rattle.fw_tools.specs.Talking.{ClosesDryRun, Reports, is_kept, text_for}
-use Rattle.fw_session.specs.declared.ending.SessionEnding.{SessionEnding}
+use Rattle.fw_session.specs.declared.session_end.SessionEnding.{SessionEnding}
 use Rattle.fw_engines.specs.Streams.{AppendsFront, Streams, Writers}
 use Rattle.fw_engines.specs.Tool.{Printed, Texts}
 use Rattle.fw_engines.specs.declared.ending.StreamFault.{StreamFault}

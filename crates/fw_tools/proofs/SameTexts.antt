@@ -6,7 +6,7 @@ use Rattle.std.specs.List.{flat_map}
 use Rattle.std.specs.FinMap.{entries}
 use Rattle.envimg_core.specs.Environment.{Environment, Pair}
 use Rattle.envvars_core.specs.declared.refusals.Refusal.TheVariants.{BadForm, BadType, NoCreate, NoDelete, NoOverwrite, Full}
-use Rattle.hush_commands.specs.Commands as scripts
+use Rattle.hush_commands.specs.Output as scripts
 use Rattle.hush_commands.specs.Listing as scripts_listing
 use Rattle.hush_commands.specs.Messages.{text_of}
 use Rattle.hush_commands.specs.Writing.{message_of}

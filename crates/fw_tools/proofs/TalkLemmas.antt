@@ -5,7 +5,7 @@ use Rattle.std.specs.FinMap as names
 use Rattle.std.specs.Result.{result_ok}
 use Rattle.env_session.specs.Session.{Held}
 use Rattle.hush_commands.specs.Stubs.{Statuses, stand_ins_of}
-use Rattle.fw_session.specs.declared.ending.SessionEnding.{SessionEnding}
+use Rattle.fw_session.specs.declared.session_end.SessionEnding.{SessionEnding}
 use Rattle.fw_tools.specs.DryRuns.{DryRun}
 use Rattle.fw_tools.specs.Saying.{SaysSome}
 use Rattle.fw_tools.specs.Talking.{ClosesDryRun, Reports, AreStubsOf, TriesOver, TriesWith, text_for}

@@ -8,8 +8,8 @@ use Rattle.hush_run.specs.Runs.{rules}
 use Rattle.fw_session.specs.Ends.{Ends}
 use Rattle.fw_session.specs.Replies.{NamedSession}
 use Rattle.fw_session.specs.NamedSessions.{unnamed}
-use Rattle.fw_session.specs.declared.ending.SessionEnding.{SessionEnding}
-use Rattle.fw_session.specs.declared.ending.SessionEnding.TheVariants as ending
+use Rattle.fw_session.specs.declared.session_end.SessionEnding.{SessionEnding}
+use Rattle.fw_session.specs.declared.session_end.SessionEnding.TheVariants as ending
 use Rattle.fw_tools.specs.DryRuns.{DryRun}
 use Rattle.fw_tools.specs.Saying.{SaysSome, Stops, message_of}
 use Rattle.fw_engines.specs.Streams.{AppendsFront, Streams, writers_of}

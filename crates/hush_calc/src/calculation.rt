@@ -2,7 +2,7 @@
 ghost use Rattle.std.specs.Prelude.{◌≡◌, [], ◌∷◌};
 ghost use Rattle.hush_calc.specs.Setexpr.{answer_view, is_first_value, is_value, setexpr_of};
 
-use crate::comparison::is_text;
+use crate::fields::is_text;
 use crate::numbers::value_of;
 use crate::operator::Operator;
 use crate::{Fields, Hexadecimal};

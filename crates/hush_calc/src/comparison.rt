@@ -1,7 +1,7 @@
 //! The words of a test, and the comparisons (docs/commands.md, "test").
 ghost use Rattle.std.specs.Prelude.{◌≡◌};
-ghost use Rattle.std.specs.Str.{bytes_eq};
 
+use crate::fields::is_text;
 use crate::numbers::integer_of;
 
 /// A comparison of two words: the first four of their bytes, the others of the numbers in them.
@@ -145,11 +145,4 @@ impl Joint {
             Joint::Or => left || right,
         }
     }
-}
-
-/// Whether a word is this text.
-pub(crate) fn is_text(word: &[u8], text: &[u8]) -> bool
-    ensures { result ≡ bytes_eq text.now word.now }
-{
-    text == word
 }

@@ -1,7 +1,8 @@
 //! The fields of a command, lent one after the other.
 ghost use Rattle.std.specs.Prelude.{◌≡◌, ℕ, List};
 ghost use Rattle.std.specs.Iterator.{YieldsFirstBy, item_count};
-ghost use Rattle.hush_calc.specs.Fields.{pieces, field_view};
+ghost use Rattle.std.specs.Str.{bytes_eq};
+ghost use Rattle.hush_calc.specs.Fields.{pieces, field_view, split_option};
 
 use std::marker::Model;
 
@@ -27,6 +28,34 @@ impl<'a> Fields<'a> {
     {
         Fields { bytes, lengths }
     }
+
+    /// The same fields once more.
+    pub fn again(&self) -> Fields<'a>
+        ensures { result ≡ self.now }
+    {
+        Fields {
+            bytes: self.bytes,
+            lengths: self.lengths,
+        }
+    }
+
+    /// The bytes in which the fields are, and their lengths: what [`Fields::new`] makes these fields of.
+    pub fn parts(&self) -> (&'a [u8], &'a [usize])
+        ensures { pieces result.0.now result.1.now ≡ self.now }
+    {
+        (self.bytes, self.lengths)
+    }
+
+    /// Whether the first field is this option, and the fields without it.
+    pub fn split_option(self, option: &[u8]) -> (bool, Fields<'a>)
+        ensures { result ≡ split_option option.now self.entry }
+    {
+        let mut rest = self.again();
+        match rest.next() {
+            Some(first) if is_text(first, option) => (true, rest),
+            _ => (false, self),
+        }
+    }
 }
 
 impl<'a> Iterator for Fields<'a> {
@@ -43,4 +72,11 @@ impl<'a> Iterator for Fields<'a> {
         self.bytes = bytes;
         Some(field)
     }
+}
+
+/// Whether a field is this text.
+pub fn is_text(field: &[u8], text: &[u8]) -> bool
+    ensures { result ≡ bytes_eq text.now field.now }
+{
+    text == field
 }

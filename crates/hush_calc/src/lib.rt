@@ -15,5 +15,5 @@ mod operator;
 
 pub use calculation::{Calculated, SetexprFault, setexpr};
 pub use expression::test;
-pub use fields::Fields;
+pub use fields::{Fields, is_text};
 pub use hexadecimal::Hexadecimal;

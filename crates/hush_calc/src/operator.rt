@@ -1,7 +1,7 @@
 //! The operators of `setexpr` (docs/commands.md, "setexpr").
 ghost use Rattle.std.specs.Prelude.{◌≡◌, ◌<◌};
 
-use crate::comparison::is_text;
+use crate::fields::is_text;
 
 /// What is made of two values, modulo 2 to the 64th.
 #[derive(Clone, Copy)]

@@ -1,46 +1,49 @@
 -- Worked examples of docs/runs.md, "Commands", which the checker computes from the definitions.
-use Rattle.std.proofs.Common.{◌≡◌, ℕ, List, [], ◌∷◌, None, Some, refl}
+use Rattle.std.proofs.Common.{◌≡◌, ℕ, true, List, [], ◌∷◌, None, Some, refl}
 use Rattle.std.specs.Prelude.{codes}
 use Rattle.std.specs.FinMap.{empty}
 use Rattle.env_session.specs.Session.{Held}
-use Rattle.hush_commands.specs.declared.command.Command.TheVariants.{Echo, Set, Delete, Calculate, WrongUse, StandIn, Unknown}
+use Rattle.hush_commands.specs.declared.command.Command.TheVariants.{Set, Delete, Calculate, WrongUse, Other}
+use Rattle.hush_commands.specs.declared.follow.Follow.TheVariants.{Next, End, Starts}
 use Rattle.hush_commands.specs.Builtins.{builtin_of}
+use Rattle.hush_commands.specs.Commands.{command_of}
 use Rattle.hush_commands.specs.Stubs.{Statuses}
 use Rattle.hush_commands.specs.Output.{answer}
-use Rattle.hush_commands.specs.Naming.{Named, command_of, named_by}
-use Rattle.hush_commands.specs.Carrying.{Done, done_of, done_by}
+use Rattle.hush_commands.specs.Carrying.{Done, done_of, other_of}
+use Rattle.hush_commands.specs.Following.{follow_of}
 
--- what a name and the words behind it are where nothing has a stand-in
-named : List ℕ → List (List ℕ) → Named
-named name words = let none : Statuses = empty in command_of none name words
-
-set : named (codes "env") (codes "set" ∷ codes "n" ∷ []) ≡ (Set, codes "n" ∷ [])
-unfolding named builtin_of
+set : command_of (codes "env" ∷ codes "set" ∷ codes "-f" ∷ codes "n" ∷ codes "1" ∷ []) ≡ Set true (codes "n") (codes "1" ∷ [])
+unfolding builtin_of
 set = refl
 
-delete : named (codes "env") (codes "delete" ∷ codes "-f" ∷ []) ≡ (Delete, codes "-f" ∷ [])
-unfolding named builtin_of
+delete : command_of (codes "env" ∷ codes "delete" ∷ codes "-f" ∷ codes "n" ∷ []) ≡ Delete true (codes "n" ∷ [])
+unfolding builtin_of
 delete = refl
 
-no_word : named (codes "env") [] ≡ (WrongUse, [])
-unfolding named builtin_of
+no_word : command_of (codes "env" ∷ []) ≡ WrongUse (codes "env")
+unfolding builtin_of
 no_word = refl
 
-suffix : named (codes "setexpr.q") (codes "n" ∷ []) ≡ (Calculate, codes "n" ∷ [])
-unfolding named builtin_of
+suffix : command_of (codes "setexpr.q" ∷ codes "n" ∷ []) ≡ Calculate (codes "setexpr.q") (codes "n" ∷ [])
+unfolding builtin_of
 suffix = refl
 
-unknown : named_by (builtin_of (codes "envs")) None (codes "set" ∷ []) ≡ (Unknown, codes "set" ∷ [])
+no_builtin : command_of (codes "envs" ∷ codes "set" ∷ []) ≡ Other (codes "envs") (codes "set" ∷ [])
 unfolding builtin_of
-unknown = refl
+no_builtin = refl
 
-stand_in : named_by (builtin_of (codes "mmc")) (Some 3) (codes "dev" ∷ []) ≡ (StandIn 3, codes "dev" ∷ [])
+-- what follows
+run_starts : follow_of (codes "run" ∷ codes "a" ∷ codes "b" ∷ []) ≡ Starts (codes "a" ∷ codes "b" ∷ [])
 unfolding builtin_of
-stand_in = refl
+run_starts = refl
 
-builtin_first : named_by (builtin_of (codes "echo")) (Some 3) [] ≡ (Echo, [])
+exit_ends : follow_of (codes "exit" ∷ codes "3" ∷ []) ≡ End
 unfolding builtin_of
-builtin_first = refl
+exit_ends = refl
+
+wrong_exit_goes_on : follow_of (codes "exit" ∷ codes "256" ∷ []) ≡ Next
+unfolding builtin_of
+wrong_exit_goes_on = refl
 
 -- what fields do after status 7 where nothing has a stand-in
 done : List (List ℕ) → Held → Done
@@ -74,8 +77,8 @@ exit_past_255 : (held : Held) → done (codes "exit" ∷ codes "256" ∷ []) hel
 unfolding done builtin_of
 exit_past_255 held = refl
 
-unknown_command : (held : Held) → done_by (Unknown, codes "-l" ∷ []) (codes "ls") 7 held ≡ (answer 1 (codes "Unknown command 'ls' - try 'help'\n"), held)
-unknown_command held = refl
+unknown_command : other_of None (codes "ls") (codes "-l" ∷ []) ≡ answer 1 (codes "Unknown command 'ls' - try 'help'\n")
+unknown_command = refl
 
-stand_in_command : (held : Held) → done_by (StandIn 3, codes "dev" ∷ []) (codes "mmc") 7 held ≡ (answer 3 (codes "+ mmc dev\n"), held)
-stand_in_command held = refl
+stand_in_command : other_of (Some 3) (codes "mmc") (codes "dev" ∷ []) ≡ answer 3 (codes "+ mmc dev\n")
+stand_in_command = refl

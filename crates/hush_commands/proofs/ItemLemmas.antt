@@ -14,8 +14,8 @@ use Rattle.hush_commands.specs.Expansion.{Known, value_in, atom_items, Item, Byt
 use Rattle.hush_commands.specs.Buffers.{Made, whole, opened, closed, with_bytes, ended, with_items, joined, kept, AddsItems, CutsAtBlank, with_item}
 use Rattle.std.specs.Prelude.{Ok, Err, Result, decimal}
 use Rattle.hush_words.specs.Words.{Atom}
-use Rattle.hush_commands.specs.declared.expansion_fault.ExpansionFault.{ExpansionFault}
-use Rattle.hush_commands.specs.declared.expansion_fault.ExpansionFault.TheVariants.{Word, Memory}
+use Rattle.hush_commands.specs.declared.expansion.ExpansionFault.{ExpansionFault}
+use Rattle.hush_commands.specs.declared.expansion.ExpansionFault.TheVariants.{Word, Memory}
 
 abbrev making : List (List ℕ) → Option (List ℕ) → Made
 making done begun = record { done = done; begun = begun }

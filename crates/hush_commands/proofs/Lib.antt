@@ -1,15 +1,10 @@
 pub mod BlankLemmas
-pub mod BuiltinLemmas
 pub mod EntryLemmas
-pub mod ShortNameLemmas
-pub mod OrderLemmas
-pub mod ToldLemmas
-pub mod GatheringLemmas
-pub mod TableLemmas
+pub mod StandInLemmas
 pub mod Rows
 pub mod ItemLemmas
 pub mod BufferLemmas
 pub mod WordLemmas
 pub mod OutputLemmas
+pub mod CarryingLemmas
 pub mod CommandRows
-pub mod ChangeLemmas

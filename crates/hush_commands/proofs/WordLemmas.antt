@@ -12,8 +12,8 @@ use Rattle.std.proofs.Math.Seq.{take-suc, drop-cons}
 use Rattle.hush_words.specs.Words.{Atom}
 use Rattle.hush_words.specs.Parts.{Written, word_atoms}
 use Rattle.hush_words.specs.declared.parts.Word.{Word as Range}
-use Rattle.hush_commands.specs.declared.expansion_fault.ExpansionFault.{ExpansionFault}
-use Rattle.hush_commands.specs.declared.expansion_fault.ExpansionFault.TheVariants.{Word, Memory}
+use Rattle.hush_commands.specs.declared.expansion.ExpansionFault.{ExpansionFault}
+use Rattle.hush_commands.specs.declared.expansion.ExpansionFault.TheVariants.{Word, Memory}
 use Rattle.hush_commands.specs.Expansion.{Known, items_of, size, fields, fits, word_fields, expanded, expanded_value}
 use Rattle.hush_commands.specs.Buffers.{Made, whole, ended, with_bytes, with_items, kept, AddsItems, Expands}
 use Rattle.hush_commands.proofs.ItemLemmas.{fields_made, value_made, size-kept}

@@ -2,8 +2,8 @@
 use Rattle.std.specs.Prelude.{◌≡◌, ℕ, ◌+◌, ◌<◌, ◌≤◌, Bool, true, false, List, [], ◌∷◌, ◌++◌, drop, length, map, option_map, fold, sum, Option, Some, None, Result, Ok, Err}
 use Rattle.hush_calc.specs.Fields.{pieces}
 use Rattle.hush_commands.specs.Expansion.{Item, Byte, Split, Mark, size, substituted}
-use Rattle.hush_commands.specs.declared.expansion_fault.ExpansionFault.{ExpansionFault}
-use Rattle.hush_commands.specs.declared.expansion_fault.ExpansionFault.TheVariants.{Word, Memory}
+use Rattle.hush_commands.specs.declared.expansion.ExpansionFault.{ExpansionFault}
+use Rattle.hush_commands.specs.declared.expansion.ExpansionFault.TheVariants.{Word, Memory}
 
 -- the fields that are done, and the one that is begun
 pub record Made : Type 0 where

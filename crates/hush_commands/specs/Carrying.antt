@@ -1,21 +1,23 @@
 -- What a simple command does (docs/runs.md, "Commands").
-use Rattle.std.specs.Prelude.{◌≡◌, ℕ, ◌<◌, ◌≤◌, List, [], ◌∷◌, ◌++◌, length, Option, Some, None, Result, Ok, Err}
+use Rattle.std.specs.Prelude.{◌≡◌, ℕ, ◌<◌, ◌≤◌, Bool, true, false, if◌then◌else◌, List, [], ◌∷◌, ◌++◌, codes, length, Option, Some, None, unwrap_or, is_some, Result, Ok, Err}
+use Rattle.std.specs.FinMap as names
 use Rattle.envvars_core.specs.declared.refusals.Memory.{Memory}
 use Rattle.env_session.specs.Session.{Held, saved, side_of}
 use Rattle.hush_calc.specs.Test.{test_of}
+use Rattle.hush_commands.specs.declared.command.Command.{Command}
 use Rattle.hush_commands.specs.declared.command.Command.TheVariants as command
+use Rattle.hush_commands.specs.declared.follow.Follow.{Follow}
 use Rattle.hush_commands.specs.declared.messages.Message.TheVariants as message
 use Rattle.hush_commands.specs.declared.output.PrintFault.{PrintFault}
 use Rattle.hush_commands.specs.declared.output.PrintFault.TheVariants as fault
-use Rattle.hush_commands.specs.declared.writing.Complaint.{Complaint}
+use Rattle.hush_commands.specs.declared.writes.Complaint.{Complaint}
 use Rattle.hush_commands.specs.Stubs.{Statuses}
 use Rattle.hush_commands.specs.Messages.{text_of}
-use Rattle.hush_commands.specs.Output.{Printed, printed, Answer, answer, Answers}
-use Rattle.hush_commands.specs.Commands.{status_if, echo_of, stand_in_of, exists_of, exit_of, run_of, delete_of}
-use Rattle.hush_commands.specs.Listing.{print_of}
+use Rattle.hush_commands.specs.Output.{Printed, printed, Answer, answer, Answers, status_if, behind_spaces, spaced}
+use Rattle.hush_commands.specs.Commands.{command_of}
+use Rattle.hush_commands.specs.Listing.{listed}
 use Rattle.hush_commands.specs.Saving.{saved_line}
-use Rattle.hush_commands.specs.Writing.{Change, set_of, calculated_of}
-use Rattle.hush_commands.specs.Naming.{Named, command_of}
+use Rattle.hush_commands.specs.Writing.{Change, write_of, calculated_of}
 
 -- what a command answers, and the session that it leaves
 abbrev pub Done : Type 0
@@ -24,45 +26,65 @@ Done = Answer × Held
 abbrev pub quiet : ℕ → Held → Done
 quiet status held = (answer status [], held)
 
-abbrev pub wrong_use : (name : List ℕ) → Answer
-wrong_use name = answer 1 (text_of message.WrongUse name)
+-- echo: the words, and perhaps a newline
+abbrev pub line_end : (newline : Bool) → List ℕ
+line_end newline = if newline then codes "\n" else []
 
--- a status, or wrong use
-abbrev pub status_or_wrong : (name : List ℕ) → Option ℕ → Answer
-status_or_wrong name None = wrong_use name
-status_or_wrong name (Some status) = answer status []
+abbrev pub echo_of : (newline : Bool) → List (List ℕ) → Answer
+echo_of newline words = answer 0 (spaced words ++ line_end newline)
+
+-- a stand-in prints its name and the words, and has its own status
+abbrev pub stand_in_of : ℕ → (called : List ℕ) → List (List ℕ) → Answer
+stand_in_of status called words = answer status (codes "+ " ++ (called ++ (behind_spaces words ++ codes "\n")))
+
+-- no builtin: a stand-in, if the name has a status
+abbrev pub other_of : Option ℕ → (called : List ℕ) → List (List ℕ) → Answer
+other_of (Some status) called words = stand_in_of status called words
+other_of None called words = answer 1 (text_of message.UnknownCommand called)
 
 -- a write, and its complaint
 abbrev pub told : Change → Done
 told (None, held) = quiet 0 held
 told (Some (message, name), held) = (answer 1 (text_of message name), held)
 
--- saveenv takes no words
-abbrev pub saved_by : (name : List ℕ) → List (List ℕ) → Held → Done
-saved_by name [] held = (answer 0 (saved_line (side_of held)), saved held)
-saved_by name (word ∷ words) held = (wrong_use name, held)
+-- a save
+abbrev pub save_of : Held → Done
+save_of held = (answer 0 (saved_line (side_of held)), saved held)
 
-abbrev pub done_by : Named → (name : List ℕ) → (status : ℕ) → Held → Done
-done_by (command.True, words) name status held = quiet 0 held
-done_by (command.False, words) name status held = quiet 1 held
-done_by (command.Echo, words) name status held = (echo_of words, held)
-done_by (command.Set, words) name status held = told (set_of held name words)
-done_by (command.Print, words) name status held = (print_of held.now.env words, held)
-done_by (command.Save, words) name status held = saved_by name words held
-done_by (command.Run, words) name status held = (status_or_wrong name (run_of status words), held)
-done_by (command.Delete, words) name status held = (status_or_wrong name (delete_of status words), held)
-done_by (command.Exists, words) name status held = (status_or_wrong name (exists_of held.now.env words), held)
-done_by (command.Test, words) name status held = quiet (status_if (test_of words)) held
-done_by (command.Calculate, words) name status held = told (calculated_of held name words)
-done_by (command.Exit, words) name status held = (status_or_wrong name (exit_of status words), held)
-done_by (command.WrongUse, words) name status held = (wrong_use name, held)
-done_by (command.StandIn own, words) name status held = (stand_in_of own (name ∷ words), held)
-done_by (command.Unknown, words) name status held = (answer 1 (text_of message.UnknownCommand name), held)
+-- the status is the one before the command
+abbrev pub done_by : Statuses → Command → (status : ℕ) → Held → Done
+done_by stand_ins command.True status held = quiet 0 held
+done_by stand_ins command.False status held = quiet 1 held
+done_by stand_ins (command.Echo newline words) status held = (echo_of newline words, held)
+done_by stand_ins (command.Set force name words) status held = told (write_of held name (spaced words) force)
+done_by stand_ins (command.Print all names) status held = (listed all held.now.env names, held)
+done_by stand_ins command.Save status held = save_of held
+done_by stand_ins (command.Run names) status held = quiet status held
+done_by stand_ins (command.Delete force names) status held = quiet status held
+done_by stand_ins (command.Exists name) status held = quiet (status_if (is_some (names.get held.now.env name))) held
+done_by stand_ins (command.Test words) status held = quiet (status_if (test_of words)) held
+done_by stand_ins (command.Calculate called words) status held = told (calculated_of held called words)
+done_by stand_ins (command.Exit own) status held = quiet (unwrap_or own status) held
+done_by stand_ins (command.WrongUse called) status held = (answer 1 (text_of message.WrongUse called), held)
+done_by stand_ins (command.Other called words) status held = (other_of (names.get stand_ins called) called words, held)
 
--- a simple command without fields has status 0
+-- what the command of these fields does
 abbrev pub done_of : Statuses → List (List ℕ) → (status : ℕ) → Held → Done
-done_of stand_ins [] status held = quiet 0 held
-done_of stand_ins (name ∷ words) status held = done_by (command_of stand_ins name words) name status held
+done_of stand_ins fields status held = done_by stand_ins (command_of fields) status held
+
+-- A name of `env delete`.
+-- the status is 1 also if an earlier name failed
+abbrev pub deletion_told : (failed : Bool) → Change → Done
+deletion_told failed (None, held) = quiet (if failed then 1 else 0) held
+deletion_told failed (Some (message, name), held) = (answer 1 (text_of message name), held)
+
+abbrev pub deletion_by : Held → (name : List ℕ) → (force failed : Bool) → Option (List ℕ) → Done
+deletion_by held name force failed None = (answer 1 (text_of message.NotDefined name), held)
+deletion_by held name force failed (Some value) = deletion_told failed (write_of held name [] force)
+
+-- a name that is absent has a message; one that is there is deleted, or the refusal has a message
+abbrev pub deletion_of : Held → (name : List ℕ) → (force failed : Bool) → Done
+deletion_of held name force failed = deletion_by held name force failed (names.get held.now.env name)
 
 -- a command did this; or its text doesn't fit, or memory was refused, and the session is as it was
 abbrev pub Attempts : Done → Held → Held → Printed → Printed → Result ℕ PrintFault → Type 0
@@ -76,6 +98,11 @@ Carries done held after old new (Ok status) =
 Carries done held after old new (Err fault.Output) =
     (old.limit < length (old.text ++ done.0.text)) × (after ≡ held) × (new ≡ old)
 Carries done held after old new (Err fault.Memory) = (after ≡ held) × (new ≡ old)
+
+-- the status that a command answers, beside what follows it
+abbrev pub status_in : Result (ℕ × Follow) PrintFault → Result ℕ PrintFault
+status_in (Ok (status, follow)) = Ok status
+status_in (Err fault) = Err fault
 
 -- the complaint of a write is told, if it has one
 abbrev pub Tells : Result (Option Complaint) Memory → Printed → Printed → Result ℕ PrintFault → Type 0

@@ -1,51 +1,108 @@
--- What the commands of a script answer (docs/runs.md, "Commands").
-use Rattle.std.specs.Prelude.{ℕ, Bool, if◌then◌else◌, List, [], ◌∷◌, ◌++◌, codes, Option, Some, None, is_some}
-use Rattle.std.specs.List.{flat_map}
+-- Which command the fields of a simple command are, with its operands (docs/runs.md, "Commands").
+use Rattle.std.specs.Prelude.{ℕ, Bool, not, if◌then◌else◌, List, [], ◌∷◌, codes, Option, Some, None}
 use Rattle.std.specs.Str.{bytes_eq}
-use Rattle.std.specs.FinMap.{get}
-use Rattle.envimg_core.specs.Environment.{Environment}
-use Rattle.hush_commands.specs.Output.{Answer, answer}
+use Rattle.hush_calc.specs.Fields.{split_option}
+use Rattle.hush_commands.specs.declared.builtins.Builtin.{Builtin}
+use Rattle.hush_commands.specs.declared.builtins.Builtin.TheVariants as builtin
+use Rattle.hush_commands.specs.declared.command.Command.{Command}
+use Rattle.hush_commands.specs.declared.command.Command.TheVariants as command
+use Rattle.hush_commands.specs.Builtins.{builtin_of}
 use Rattle.hush_commands.specs.Statuses.{status_of}
 
--- true has status 0
-abbrev pub status_if : Bool → ℕ
-status_if holds = if holds then 0 else 1
+-- an option, if it is the first word, and the words after it
+abbrev pub Optioned : Type 0
+Optioned = Bool × List (List ℕ)
 
--- words each behind a space, and words joined by one
-abbrev pub behind_spaces : List (List ℕ) → List ℕ
-behind_spaces words = flat_map (λ word. 32 ∷ word) words
+-- `echo [-n] words`: a newline unless `-n` is the first word
+abbrev pub echo_with : Optioned → Command
+echo_with (is_bare, words) = command.Echo (not is_bare) words
 
-abbrev pub spaced : List (List ℕ) → List ℕ
-spaced [] = []
-spaced (word ∷ words) = word ++ behind_spaces words
+abbrev pub echo_command : List (List ℕ) → Command
+echo_command words = echo_with (split_option (codes "-n") words)
 
--- echo: a newline behind the words unless `-n` is the first
-abbrev pub echo_of : List (List ℕ) → Answer
-echo_of [] = answer 0 (codes "\n")
-echo_of (first ∷ words) = if bytes_eq (codes "-n") first then answer 0 (spaced words) else answer 0 (spaced (first ∷ words) ++ codes "\n")
+-- `setenv [-f] name words`
+abbrev pub set_with : (called : List ℕ) → Optioned → Command
+set_with called (force, []) = command.WrongUse called
+set_with called (force, name ∷ words) = command.Set force name words
 
--- a stand-in
-abbrev pub stand_in_of : ℕ → List (List ℕ) → Answer
-stand_in_of status fields = answer status (codes "+" ++ (behind_spaces fields ++ codes "\n"))
+abbrev pub set_command : (called : List ℕ) → List (List ℕ) → Command
+set_command called words = set_with called (split_option (codes "-f") words)
 
--- the status of `env exists`, which has exactly one name; none for wrong use
-abbrev pub exists_of : Environment → List (List ℕ) → Option ℕ
-exists_of env [] = None
-exists_of env (name ∷ []) = Some (status_if (is_some (get env name)))
-exists_of env (name ∷ more ∷ words) = None
+-- `printenv [-a] names`
+abbrev pub print_with : Optioned → Command
+print_with (all, names) = command.Print all names
 
--- the status that `exit` ends the run with: without a word the one that was; none for wrong use
-abbrev pub exit_of : ℕ → List (List ℕ) → Option ℕ
-exit_of status [] = Some status
-exit_of status (digits ∷ []) = status_of digits
-exit_of status (digits ∷ more ∷ words) = None
+abbrev pub print_command : List (List ℕ) → Command
+print_command words = print_with (split_option (codes "-a") words)
 
--- the simple command of `run` leaves the status; none, wrong use, where it has no name
-abbrev pub run_of : ℕ → List (List ℕ) → Option ℕ
-run_of status [] = None
-run_of status (name ∷ names) = Some status
+-- `saveenv` takes no words
+abbrev pub save_command : (called : List ℕ) → List (List ℕ) → Command
+save_command called [] = command.Save
+save_command called (word ∷ words) = command.WrongUse called
 
--- the same of `env delete [-f]`
-abbrev pub delete_of : ℕ → List (List ℕ) → Option ℕ
-delete_of status [] = None
-delete_of status (first ∷ words) = if bytes_eq (codes "-f") first then run_of status words else Some status
+-- `run names`: one at least
+abbrev pub run_command : (called : List ℕ) → List (List ℕ) → Command
+run_command called [] = command.WrongUse called
+run_command called (name ∷ names) = command.Run (name ∷ names)
+
+-- `env delete [-f] names`: one at least
+abbrev pub delete_with : (called : List ℕ) → Optioned → Command
+delete_with called (force, []) = command.WrongUse called
+delete_with called (force, name ∷ names) = command.Delete force (name ∷ names)
+
+abbrev pub delete_command : (called : List ℕ) → List (List ℕ) → Command
+delete_command called words = delete_with called (split_option (codes "-f") words)
+
+-- `env exists name`
+abbrev pub exists_command : (called : List ℕ) → List (List ℕ) → Command
+exists_command called [] = command.WrongUse called
+exists_command called (name ∷ []) = command.Exists name
+exists_command called (name ∷ more ∷ names) = command.WrongUse called
+
+-- `exit [status]`
+abbrev pub exit_with : (called : List ℕ) → Option ℕ → Command
+exit_with called None = command.WrongUse called
+exit_with called (Some status) = command.Exit (Some status)
+
+abbrev pub exit_command : (called : List ℕ) → List (List ℕ) → Command
+exit_command called [] = command.Exit None
+exit_command called (digits ∷ []) = exit_with called (status_of digits)
+exit_command called (digits ∷ more ∷ words) = command.WrongUse called
+
+-- the commands of `env`
+abbrev pub env_word : (called word : List ℕ) → List (List ℕ) → Command
+env_word called word words =
+    if bytes_eq (codes "set") word then set_command called words
+    else if bytes_eq (codes "print") word then print_command words
+    else if bytes_eq (codes "save") word then save_command called words
+    else if bytes_eq (codes "run") word then run_command called words
+    else if bytes_eq (codes "delete") word then delete_command called words
+    else if bytes_eq (codes "exists") word then exists_command called words
+    else command.WrongUse called
+
+abbrev pub env_command : (called : List ℕ) → List (List ℕ) → Command
+env_command called [] = command.WrongUse called
+env_command called (word ∷ words) = env_word called word words
+
+abbrev pub builtin_command : Builtin → (called : List ℕ) → List (List ℕ) → Command
+builtin_command builtin.True called words = command.True
+builtin_command builtin.False called words = command.False
+builtin_command builtin.Echo called words = echo_command words
+builtin_command builtin.SetEnv called words = set_command called words
+builtin_command builtin.PrintEnv called words = print_command words
+builtin_command builtin.SaveEnv called words = save_command called words
+builtin_command builtin.Run called words = run_command called words
+builtin_command builtin.Env called words = env_command called words
+builtin_command builtin.Test called words = command.Test words
+builtin_command builtin.SetExpr called words = command.Calculate called words
+builtin_command builtin.Exit called words = exit_command called words
+
+-- builtins come first
+abbrev pub named_command : Option Builtin → (called : List ℕ) → List (List ℕ) → Command
+named_command (Some builtin) called words = builtin_command builtin called words
+named_command None called words = command.Other called words
+
+-- no fields are as `true`
+abbrev pub command_of : List (List ℕ) → Command
+command_of [] = command.True
+command_of (called ∷ words) = named_command (builtin_of called) called words

@@ -12,6 +12,10 @@ entry_view view e = (e.0.items, view e.1)
 abbrev pub entries_view : {V W : Type 0} → (V → W) → List (Entry V) → List (List ℕ × W)
 entries_view view es = map (entry_view view) es
 
+-- a status as it is
+abbrev pub status_view : ℕ → ℕ
+status_view status = status
+
 -- the bytes of a value
 abbrev pub bytes_view : Vec ℕ Global → List ℕ
 bytes_view value = value.items

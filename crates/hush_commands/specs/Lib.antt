@@ -2,6 +2,7 @@
 pub mod Limits
 pub mod Builtins
 pub mod Statuses
+pub mod Commands
 pub mod StandInLines
 pub mod Stubs
 pub mod Messages
@@ -9,19 +10,10 @@ pub mod Expansion
 pub mod Scopes
 pub mod Buffers
 pub mod Output
-pub mod Commands
 pub mod Writing
 pub mod Saving
 pub mod Listing
-pub mod Naming
 pub mod Carrying
-pub mod Changes
 pub mod Following
-pub mod Deletion
 -- What the steps of the code do: no promise speaks of these.
-pub mod StandInViews
-pub mod ShortNames
-pub mod LongNames
-pub mod NamedLines
-pub mod Gathering
 pub mod Entries

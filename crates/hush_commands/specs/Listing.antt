@@ -1,15 +1,13 @@
 -- What `printenv` prints (docs/runs.md, "Commands").
 use Rattle.std.specs.Prelude.{ℕ, ◌||◌, Bool, true, false, not, if◌then◌else◌, List, [], ◌∷◌, ◌++◌, codes, filter, Option, Some, None, is_some, Result, Ok, Err, ◌≡◌}
 use Rattle.std.specs.List.{flat_map, list_all}
-use Rattle.std.specs.Str.{bytes_eq}
 use Rattle.std.specs.FinMap.{get, entries}
 use Rattle.envimg_core.specs.Environment.{Environment, Pair}
 use Rattle.text_parts.specs.Bytes.{begins_with}
 use Rattle.hush_commands.specs.declared.output.PrintFault.{PrintFault}
 use Rattle.hush_commands.specs.declared.messages.Message.TheVariants.{NotDefined}
 use Rattle.hush_commands.specs.Messages.{text_of}
-use Rattle.hush_commands.specs.Output.{Answer, answer, Printed, Prints}
-use Rattle.hush_commands.specs.Commands.{status_if}
+use Rattle.hush_commands.specs.Output.{Answer, answer, Printed, Prints, status_if}
 
 -- name=value and a newline
 abbrev pub line_of : Pair → List ℕ
@@ -22,7 +20,7 @@ dot = 46
 abbrev pub is_hidden : List ℕ → Bool
 is_hidden name = begins_with dot name
 
--- hidden names are shown only where all are asked for
+-- hidden names are shown only if all are asked for
 abbrev pub is_shown : (all : Bool) → Pair → Bool
 is_shown all p = all || not (is_hidden p.0)
 
@@ -40,15 +38,10 @@ line_in env name = named_line name (get env name)
 abbrev pub is_defined : Environment → List ℕ → Bool
 is_defined env name = is_some (get env name)
 
--- without names all lines in order of names; with names theirs, and status 1 where one isn't defined
+-- without names all lines in order of names; with names theirs, and status 1 if one isn't defined
 abbrev pub listed : (all : Bool) → Environment → List (List ℕ) → Answer
 listed all env [] = answer 0 (lines_of all (entries env))
 listed all env (name ∷ names) = answer (status_if (list_all (is_defined env) (name ∷ names))) (flat_map (line_in env) (name ∷ names))
-
--- printenv: `[-a] names`
-abbrev pub print_of : Environment → List (List ℕ) → Answer
-print_of env [] = listed false env []
-print_of env (first ∷ words) = if bytes_eq (codes "-a") first then listed true env words else listed false env (first ∷ words)
 
 -- a name is printed, and whether it is defined is answered
 abbrev pub PrintsNamed : Environment → List ℕ → Printed → Printed → Result Bool PrintFault → Type 0

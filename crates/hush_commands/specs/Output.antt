@@ -1,5 +1,6 @@
--- What a run has printed, and what is printed behind it.
-use Rattle.std.specs.Prelude.{◌≡◌, ℕ, ◌<◌, ◌≤◌, List, ◌++◌, length, Result, Ok, Err}
+-- What a run has printed, and what is printed after it.
+use Rattle.std.specs.Prelude.{◌≡◌, ℕ, ◌<◌, ◌≤◌, Bool, if◌then◌else◌, List, [], ◌∷◌, ◌++◌, length, Result, Ok, Err}
+use Rattle.std.specs.List.{flat_map}
 use Rattle.hush_commands.specs.declared.output.PrintFault.{PrintFault}
 use Rattle.hush_commands.specs.declared.output.PrintFault.TheVariants.{Output, Memory}
 
@@ -11,7 +12,7 @@ pub record Printed : Type 0 where
 abbrev pub printed : List ℕ → ℕ → Printed
 printed text limit = record { text = text; limit = limit }
 
--- what was printed stands, and perhaps something behind it
+-- what was printed stands, and perhaps something after it
 abbrev pub GoesOn : Printed → Printed → Type 0
 GoesOn old new = (more : List ℕ) × (new ≡ printed (old.text ++ more) old.limit)
 
@@ -39,3 +40,15 @@ answer status text = record { status = status; text = text }
 abbrev pub Answers : Answer → Printed → Printed → Result ℕ PrintFault → Type 0
 Answers a old new (Ok status) = (status ≡ a.status) × Prints a.text old new (Ok tt)
 Answers a old new (Err fault) = Prints a.text old new (Err fault)
+
+-- true has status 0
+abbrev pub status_if : Bool → ℕ
+status_if holds = if holds then 0 else 1
+
+-- words each after a space, and words joined by one
+abbrev pub behind_spaces : List (List ℕ) → List ℕ
+behind_spaces words = flat_map (λ word. 32 ∷ word) words
+
+abbrev pub spaced : List (List ℕ) → List ℕ
+spaced [] = []
+spaced (word ∷ words) = word ++ behind_spaces words

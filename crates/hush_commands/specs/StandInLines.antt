@@ -1,5 +1,6 @@
 -- The lines of a stand-in file (docs/runs.md, "Stand-ins").
-use Rattle.std.specs.Prelude.{ℕ, Bool, List, [], ◌∷◌, is_some, Option, Some, None, Result, Ok, Err, if◌then◌else◌}
+use Rattle.std.specs.Prelude.{ℕ, Bool, List, [], ◌∷◌, is_some, Option, Some, None, option_map, Result, Ok, Err, if◌then◌else◌}
+use Rattle.std.specs.Borrow.{Bor}
 use Rattle.std.specs.List.{list_any}
 use Rattle.envimg_core.specs.Environment.{is_zero}
 use Rattle.text_parts.specs.Bytes.{begins_with, hash, is_blank}
@@ -45,3 +46,8 @@ read_line number text =
     if list_any is_zero text then Err (Line number)
     else if is_comment text then Ok None
     else read_words number (words_of text)
+
+-- what the code answers for a line
+abbrev pub line_view : Result (Option (Bor (List ℕ) × ℕ)) StubFault → StandInLine
+line_view (Ok found) = Ok (option_map (λ stand_in. (stand_in.0.now, stand_in.1)) found)
+line_view (Err fault) = Err fault

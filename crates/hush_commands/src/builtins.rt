@@ -1,9 +1,7 @@
 //! The names of the commands that a run has itself (docs/runs.md, "Names of builtins").
-ghost use Rattle.std.specs.Prelude.{◌≡◌, ℕ, List, ◌∷◌, find};
-ghost use Rattle.std.specs.Str.{bytes_eq};
+ghost use Rattle.std.specs.Prelude.{◌≡◌};
 
-/// How many bytes the shortest of their names have: `env` and `run`.
-const SHORTEST: usize = 3;
+use hush_calc::is_text;
 
 /// A command that a run has itself.
 #[derive(Clone, Copy, Debug, PartialEq, Eq)]
@@ -24,43 +22,29 @@ pub(crate) enum Builtin {
 impl Builtin {
     ghost use Rattle.hush_commands.specs.Builtins.{builtin_of, is_called};
 
+    const ALL: [Builtin; 11] = [
+        Builtin::True,
+        Builtin::False,
+        Builtin::Echo,
+        Builtin::SetEnv,
+        Builtin::PrintEnv,
+        Builtin::SaveEnv,
+        Builtin::Run,
+        Builtin::Env,
+        Builtin::Test,
+        Builtin::SetExpr,
+        Builtin::Exit,
+    ];
+
     /// The builtin of a name.
-    #[inline(always)]
+    #[tactic(auto, unfolding(crate::specs::Builtins::builtin_of))]
     pub(crate) fn of(name: &[u8]) -> Option<Builtin>
         ensures { result ≡ builtin_of name.now }
     {
-        if name.len() < SHORTEST {
-            return None;
-        }
-        match name.first() {
-            Some(initial) => Builtin::among(Builtin::with_initial(*initial), name),
-            None => None,
-        }
-    }
-
-    /// The first of these builtins that a command of the name is.
-    fn among(builtins: &[Builtin], name: &[u8]) -> Option<Builtin>
-        ensures { result ≡ find (λ builtin. is_called builtin name.now) builtins.now }
-    {
-        builtins
+        Builtin::ALL
             .iter()
             .copied()
             .find(|builtin| builtin.is_called(name))
-    }
-
-    /// The builtins whose names begin with this byte.
-    fn with_initial(initial: u8) -> &'static [Builtin]
-        ensures { (rest : List ℕ) → find (λ builtin. is_called builtin (initial ∷ rest)) result.now ≡ builtin_of (initial ∷ rest) }
-    {
-        match initial {
-            b't' => &[Builtin::True, Builtin::Test],
-            b'f' => &[Builtin::False],
-            b'e' => &[Builtin::Echo, Builtin::Env, Builtin::Exit],
-            b's' => &[Builtin::SetEnv, Builtin::SaveEnv, Builtin::SetExpr],
-            b'p' => &[Builtin::PrintEnv],
-            b'r' => &[Builtin::Run],
-            _ => &[],
-        }
     }
 
     /// Whether a command of this name is it. The suffixes of `setexpr` say how much memory an address reads.
@@ -87,11 +71,4 @@ impl Builtin {
             Builtin::Exit => is_text(name, b"exit"),
         }
     }
-}
-
-/// Whether a word is this text.
-pub(crate) fn is_text(name: &[u8], text: &[u8]) -> bool
-    ensures { result ≡ bytes_eq text.now name.now }
-{
-    text == name
 }

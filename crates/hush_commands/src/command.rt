@@ -1,100 +1,276 @@
-//! Which command the fields of a simple command name (docs/runs.md, "Commands").
+//! Which command the fields of a simple command are, with its operands (docs/runs.md, "Commands").
 ghost use Rattle.std.specs.Prelude.{◌≡◌};
-ghost use Rattle.hush_commands.specs.Naming.{env_command, builtin_named, command_of};
 
-use crate::builtins::{Builtin, is_text};
-use crate::stand_ins::Stubs;
-use hush_calc::Fields;
+use crate::builtins::Builtin;
+use crate::stand_in_line::read_status;
+use hush_calc::{Fields, is_text};
+use std::marker::Model;
 
-/// A command by its name.
-#[derive(Clone, Copy, Debug, PartialEq, Eq)]
-pub enum Command {
-    /// `true`
+/// A name among the fields: that of a variable, or of the command itself.
+#[derive(Drop)]
+pub(crate) struct Name<'a> {
+    bytes: &'a [u8],
+}
+
+impl<'a> Model for Name<'a> {
+    ghost use Rattle.std.specs.Prelude.{ℕ, List};
+
+    ghost Value = { List ℕ };
+
+    ghost view = { λ a. a.bytes.now };
+}
+
+impl<'a> Name<'a> {
+    fn of(bytes: &'a [u8]) -> Name<'a>
+        ensures { result ≡ bytes.now }
+    {
+        Name { bytes }
+    }
+
+    pub(crate) fn bytes(&self) -> &'a [u8]
+        ensures { result.now ≡ self.now }
+    {
+        self.bytes
+    }
+}
+
+/// A command with its operands.
+#[derive(Drop)]
+pub(crate) enum Command<'a> {
+    /// `true`, or no fields at all
     True,
     /// `false`
     False,
-    /// `echo`
-    Echo,
-    /// `setenv` and `env set`
-    Set,
-    /// `printenv` and `env print`
-    Print,
+    /// `echo [-n] words`
+    Echo {
+        newline: bool,
+        words: Fields<'a>,
+    },
+    /// `setenv [-f] name words` and `env set`
+    Set {
+        force: bool,
+        name: Name<'a>,
+        words: Fields<'a>,
+    },
+    /// `printenv [-a] names` and `env print`
+    Print {
+        all: bool,
+        names: Fields<'a>,
+    },
     /// `saveenv` and `env save`
     Save,
-    /// `run` and `env run`
-    Run,
-    /// `env delete`
-    Delete,
-    /// `env exists`
-    Exists,
-    /// `test`
-    Test,
-    /// `setexpr`
-    Calculate,
-    /// `exit`
-    Exit,
-    /// `env` with another word or none
-    WrongUse,
-    /// A stand-in, with its status.
-    StandIn(u8),
-    /// No command has the name.
-    Unknown,
+    /// `run names` and `env run`
+    Run {
+        names: Fields<'a>,
+    },
+    /// `env delete [-f] names`
+    Delete {
+        force: bool,
+        names: Fields<'a>,
+    },
+    /// `env exists name`
+    Exists {
+        name: Name<'a>,
+    },
+    /// `test words`
+    Test {
+        words: Fields<'a>,
+    },
+    /// `setexpr words`, by the name that it was called by
+    Calculate {
+        called: Name<'a>,
+        words: Fields<'a>,
+    },
+    /// `exit [status]`
+    Exit {
+        status: Option<u8>,
+    },
+    /// A command of this name, with words that it can't have
+    WrongUse {
+        called: Name<'a>,
+    },
+    /// No builtin: a stand-in, or unknown
+    Other {
+        called: Name<'a>,
+        words: Fields<'a>,
+    },
 }
 
-impl Command {
-    /// The command of a name, which leaves the words behind it: builtins come first, then stand-ins.
-    pub fn of(stand_ins: &Stubs, name: &[u8], words: &mut Fields<'_>) -> Command
-        ensures { (result, words.new) ≡ command_of stand_ins.now name.now words.old }
+impl<'a> Command<'a> {
+    ghost use Rattle.hush_commands.specs.Commands.{command_of, builtin_command};
+    ghost use Rattle.hush_commands.specs.Commands.{env_command, env_word, echo_command, set_command, print_command};
+    ghost use Rattle.hush_commands.specs.Commands.{save_command, run_command, delete_command, exists_command};
+    ghost use Rattle.hush_commands.specs.Commands.{exit_command, exit_with};
+
+    /// The command of these fields.
+    pub(crate) fn of(fields: Fields<'a>) -> Command<'a>
+        ensures { result ≡ command_of fields.entry }
     {
-        match Builtin::of(name) {
-            Some(builtin) => Command::of_builtin(builtin, words),
-            None => match stand_ins.status(name) {
-                Some(status) => Command::StandIn(status),
-                None => Command::Unknown,
+        let mut words = fields;
+        match words.next() {
+            Some(called) => match Builtin::of(called) {
+                Some(builtin) => Command::of_builtin(builtin, called, words),
+                None => Command::Other {
+                    called: Name::of(called),
+                    words,
+                },
             },
+            None => Command::True,
         }
     }
 
-    /// The command that `env` with this word is.
-    pub(crate) fn of_env(word: &[u8]) -> Command
-        ensures { result ≡ env_command word.now }
-    {
-        if is_text(word, b"set") {
-            Command::Set
-        } else if is_text(word, b"print") {
-            Command::Print
-        } else if is_text(word, b"save") {
-            Command::Save
-        } else if is_text(word, b"run") {
-            Command::Run
-        } else if is_text(word, b"delete") {
-            Command::Delete
-        } else if is_text(word, b"exists") {
-            Command::Exists
-        } else {
-            Command::WrongUse
-        }
-    }
-
-    /// The command that a builtin is, with the words behind its name; `env` takes one of them.
-    pub(crate) fn of_builtin(builtin: Builtin, words: &mut Fields<'_>) -> Command
-        ensures { (result, words.new) ≡ builtin_named builtin words.old }
+    fn of_builtin(builtin: Builtin, called: &'a [u8], words: Fields<'a>) -> Command<'a>
+        ensures { result ≡ builtin_command builtin called.now words.entry }
     {
         match builtin {
             Builtin::True => Command::True,
             Builtin::False => Command::False,
-            Builtin::Echo => Command::Echo,
-            Builtin::SetEnv => Command::Set,
-            Builtin::PrintEnv => Command::Print,
-            Builtin::SaveEnv => Command::Save,
-            Builtin::Run => Command::Run,
-            Builtin::Env => match words.next() {
-                Some(word) => Command::of_env(word),
-                None => Command::WrongUse,
+            Builtin::Echo => Command::echo(words),
+            Builtin::SetEnv => Command::set(called, words),
+            Builtin::PrintEnv => Command::print(words),
+            Builtin::SaveEnv => Command::save(called, words),
+            Builtin::Run => Command::run(called, words),
+            Builtin::Env => Command::env(called, words),
+            Builtin::Test => Command::Test { words },
+            Builtin::SetExpr => Command::Calculate {
+                called: Name::of(called),
+                words,
             },
-            Builtin::Test => Command::Test,
-            Builtin::SetExpr => Command::Calculate,
-            Builtin::Exit => Command::Exit,
+            Builtin::Exit => Command::exit(called, words),
+        }
+    }
+
+    /// `env` with the name of one of its commands.
+    fn env(called: &'a [u8], words: Fields<'a>) -> Command<'a>
+        ensures { result ≡ env_command called.now words.entry }
+    {
+        let mut rest = words;
+        match rest.next() {
+            Some(word) => Command::env_word(called, word, rest),
+            None => Command::wrong_use(called),
+        }
+    }
+
+    fn env_word(called: &'a [u8], word: &[u8], words: Fields<'a>) -> Command<'a>
+        ensures { result ≡ env_word called.now word.now words.entry }
+    {
+        if is_text(word, b"set") {
+            Command::set(called, words)
+        } else if is_text(word, b"print") {
+            Command::print(words)
+        } else if is_text(word, b"save") {
+            Command::save(called, words)
+        } else if is_text(word, b"run") {
+            Command::run(called, words)
+        } else if is_text(word, b"delete") {
+            Command::delete(called, words)
+        } else if is_text(word, b"exists") {
+            Command::exists(called, words)
+        } else {
+            Command::wrong_use(called)
+        }
+    }
+
+    fn echo(words: Fields<'a>) -> Command<'a>
+        ensures { result ≡ echo_command words.entry }
+    {
+        let (is_bare, words) = words.split_option(b"-n");
+        Command::Echo {
+            newline: !is_bare,
+            words,
+        }
+    }
+
+    fn set(called: &'a [u8], words: Fields<'a>) -> Command<'a>
+        ensures { result ≡ set_command called.now words.entry }
+    {
+        let (force, mut rest) = words.split_option(b"-f");
+        match rest.next() {
+            Some(name) => Command::Set {
+                force,
+                name: Name::of(name),
+                words: rest,
+            },
+            None => Command::wrong_use(called),
+        }
+    }
+
+    fn print(words: Fields<'a>) -> Command<'a>
+        ensures { result ≡ print_command words.entry }
+    {
+        let (all, names) = words.split_option(b"-a");
+        Command::Print { all, names }
+    }
+
+    fn save(called: &'a [u8], words: Fields<'a>) -> Command<'a>
+        ensures { result ≡ save_command called.now words.entry }
+    {
+        let mut rest = words;
+        match rest.next() {
+            Some(_word) => Command::wrong_use(called),
+            None => Command::Save,
+        }
+    }
+
+    fn run(called: &'a [u8], names: Fields<'a>) -> Command<'a>
+        ensures { result ≡ run_command called.now names.entry }
+    {
+        let mut rest = names.again();
+        match rest.next() {
+            Some(_name) => Command::Run { names },
+            None => Command::wrong_use(called),
+        }
+    }
+
+    fn delete(called: &'a [u8], words: Fields<'a>) -> Command<'a>
+        ensures { result ≡ delete_command called.now words.entry }
+    {
+        let (force, names) = words.split_option(b"-f");
+        let mut rest = names.again();
+        match rest.next() {
+            Some(_name) => Command::Delete { force, names },
+            None => Command::wrong_use(called),
+        }
+    }
+
+    fn exists(called: &'a [u8], words: Fields<'a>) -> Command<'a>
+        ensures { result ≡ exists_command called.now words.entry }
+    {
+        let mut rest = words;
+        match (rest.next(), rest.next()) {
+            (Some(name), None) => Command::Exists {
+                name: Name::of(name),
+            },
+            _ => Command::wrong_use(called),
+        }
+    }
+
+    fn exit(called: &'a [u8], words: Fields<'a>) -> Command<'a>
+        ensures { result ≡ exit_command called.now words.entry }
+    {
+        let mut rest = words;
+        match (rest.next(), rest.next()) {
+            (None, _) => Command::Exit { status: None },
+            (Some(digits), None) => Command::exit_with(called, read_status(digits)),
+            _ => Command::wrong_use(called),
+        }
+    }
+
+    /// `exit` with a word that spells this status, or none.
+    fn exit_with(called: &'a [u8], status: Option<u8>) -> Command<'a>
+        ensures { result ≡ exit_with called.now status }
+    {
+        match status {
+            Some(_status) => Command::Exit { status },
+            None => Command::wrong_use(called),
+        }
+    }
+
+    fn wrong_use(called: &'a [u8]) -> Command<'a>
+        ensures { result ≡ Command.WrongUse called.now }
+    {
+        Command::WrongUse {
+            called: Name::of(called),
         }
     }
 }

@@ -2,17 +2,67 @@
 ghost use Rattle.std.specs.Prelude.{◌≡◌, [], ◌∷◌, map, option_map, OnOk, MatchOption, false};
 ghost use Rattle.hush_words.specs.Parts.{part_atoms, word_atoms};
 ghost use Rattle.hush_words.specs.Ranges.{Fits};
-ghost use Rattle.hush_commands.specs.Expansion.{Byte, items_of, substituted, expanded, expanded_value};
+ghost use Rattle.hush_commands.specs.Expansion.{Byte, items_of, substituted, expanded, expanded_value, value_in};
 ghost use Rattle.hush_commands.specs.Buffers.{with_items, kept, AddsItems, CutsAtBlank, Expands};
 ghost use Rattle.hush_commands.specs.Scopes.{known};
 
-use crate::expansion_fault::ExpansionFault;
 use crate::field_buffer::FieldBuffer;
-use crate::scope::Scope;
-use hush_syntax::{Part, Word};
+use crate::locals::Locals;
+use envvars_core::Vars;
+use hush_syntax::{Part, Text, Word};
 use itoa::Buffer;
 use memchr::memchr3;
 use std::alloc::AllocError;
+use thiserror::Error;
+
+/// What words are expanded with: their text, the variables of the environment, the local ones, and the status.
+#[derive(Clone, Copy)]
+pub struct Scope<'a> {
+    /// The text of the words.
+    pub text: &'a Text,
+    /// The variables of the environment.
+    pub vars: &'a Vars,
+    /// The local variables.
+    pub locals: &'a Locals,
+    /// The status of what ran before.
+    pub status: u8,
+}
+
+impl<'a> Scope<'a> {
+    /// The value of a name: the environment's, else the local variable's, else nothing.
+    pub(crate) fn value(&self, name: &[u8]) -> &'a [u8]
+        ensures { result.now ≡ value_in (known self.now) name.now }
+    {
+        match self.vars.get(name) {
+            Some(value) => value,
+            None => match self.locals.get(name) {
+                Some(value) => value,
+                None => &[],
+            },
+        }
+    }
+}
+
+/// Why words aren't expanded.
+#[derive(Clone, Copy, Debug, PartialEq, Eq, Error)]
+pub enum ExpansionFault {
+    /// A word is larger than the limit.
+    #[error("Word")]
+    Word,
+    /// A growth was refused.
+    #[error("Memory")]
+    Memory,
+}
+
+impl From<AllocError> for ExpansionFault {
+    ghost use Rattle.hush_commands.specs.declared.expansion.ExpansionFault.TheVariants.{Memory};
+
+    ghost from_gives = { λ _ fault. fault ≡ Memory };
+
+    fn from(_refused: AllocError) -> ExpansionFault {
+        ExpansionFault::Memory
+    }
+}
 
 impl FieldBuffer {
     /// Makes the fields of words in place of those that it holds. A word has at most `limit` items that aren't marks.

@@ -1,7 +1,8 @@
 //! Fields that are taken one after the other.
-ghost use Rattle.std.specs.Prelude.{◌≡◌, ◌==◌, length, drop};
+ghost use Rattle.std.specs.Prelude.{◌≡◌, ◌==◌, length, drop, IfOk};
 
 use hush_calc::Fields;
+use std::alloc::{AllocError, Global};
 use std::marker::Model;
 
 /// The fields of a command that are left to be done, one after the other. It owns their bytes.
@@ -25,6 +26,21 @@ impl Model for FieldQueue {
 }
 
 impl FieldQueue {
+    /// These fields, in memory of their own.
+    pub(crate) fn of(alloc: Global, fields: &Fields<'_>) -> Result<FieldQueue, AllocError>
+        ensures { IfOk result (λ queue. queue ≡ fields.now) }
+    {
+        let (bytes, lengths) = fields.parts();
+        let bytes = Vec::from_slice(alloc, bytes)?;
+        let lengths = Vec::from_slice(alloc, lengths)?;
+        Ok(FieldQueue {
+            bytes,
+            lengths,
+            start: 0,
+            done: 0,
+        })
+    }
+
     /// The fields that are left.
     pub fn fields(&self) -> Fields<'_>
         ensures { result ≡ self.now }

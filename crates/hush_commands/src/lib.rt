@@ -1,42 +1,28 @@
 //! One simple command of a dry run: its words are expanded to fields, and it is carried out by them. Also a run's limits,
-//! the stand-ins for commands that need hardware, and what is said where a command fails. docs/runs.md states the rules.
+//! the stand-ins for commands that need hardware, and what is said when a command fails. docs/runs.md states the rules.
 //!
-//! To read in this order: limits; statuses, stand_in_line, short_names, long_names, named, gathered, stand_ins; locals,
-//! scope, expansion_fault, expansion, field_buffer, field_queue; builtins, command, carrying, changes; commands, writing, listing,
-//! deletion; follow; messages, output.
+//! To read in this order: limits; builtins, stand_in_line, stand_ins; locals, expansion, field_buffer, field_queue;
+//! command, follow, execution; writes, listing; messages, output.
 #![tactic(auto)]
 
 mod builtins;
-mod carrying;
-mod changes;
 mod command;
-pub mod commands;
-mod deletion;
+mod execution;
 mod expansion;
-mod expansion_fault;
 mod field_buffer;
 mod field_queue;
 mod follow;
-mod gathered;
 mod limits;
-pub mod listing;
+mod listing;
 mod locals;
-mod long_names;
 mod messages;
-mod named;
 mod output;
-mod scope;
-mod short_names;
 mod stand_in_line;
 mod stand_ins;
-mod statuses;
-pub mod writing;
+mod writes;
 
-pub use carrying::carry_out;
-pub use changes::may_change;
-pub use command::Command;
-pub use deletion::delete;
-pub use expansion_fault::ExpansionFault;
+pub use execution::carry_out;
+pub use expansion::{ExpansionFault, Scope};
 pub use field_buffer::FieldBuffer;
 pub use field_queue::FieldQueue;
 pub use follow::Follow;
@@ -44,6 +30,6 @@ pub use limits::{Limits, MOST_DEPTH, MOST_OUTPUT, MOST_STEPS, MOST_WORD};
 pub use locals::Locals;
 pub use messages::Message;
 pub use output::{Output, PrintFault};
-pub use scope::Scope;
 pub use stand_in_line::StubFault;
 pub use stand_ins::Stubs;
+pub use writes::delete;

@@ -2,43 +2,36 @@
 ghost use Rattle.std.specs.Prelude.{◌≡◌, ◌∷◌, false};
 ghost use Rattle.std.specs.FinMap.{entries};
 ghost use Rattle.hush_commands.specs.Output.{Prints, Answers};
-ghost use Rattle.hush_commands.specs.Listing.{line_of, lines_of, print_of, listed, PrintsNamed};
+ghost use Rattle.hush_commands.specs.Listing.{line_of, lines_of, listed, PrintsNamed};
 
-use crate::builtins::is_text;
-use crate::commands::status_if;
+use crate::execution::status_if;
 use crate::messages::Message;
 use crate::output::{Output, PrintFault};
 use envvars_core::Vars;
 use hush_calc::Fields;
 use text_parts::begins_with_byte;
 
-/// `printenv`: without names prints all variables in order of names, those that begin with `.` only where `-a` is the
-/// first word; with names prints these, and for one that isn't defined a message, with status 1.
-pub fn print_variables(
+/// `printenv`: without names prints all variables in order of names, those that begin with `.` only if all are asked for;
+/// with names prints these, and for one that isn't defined a message, with status 1.
+pub(crate) fn print_variables(
     vars: &Vars,
-    words: Fields<'_>,
+    all: bool,
+    names: Fields<'_>,
     output: &mut Output,
 ) -> Result<u8, PrintFault>
-    ensures { Answers (print_of vars.now.env words.entry) output.old output.new result }
+    ensures { Answers (listed all vars.now.env names.entry) output.old output.new result }
 {
-    let mut rest = words;
+    let mut rest = names;
     match rest.next() {
-        Some(first) if is_text(first, b"-a") => match rest.next() {
-            Some(name) => print_named(vars, name, rest, output),
-            None => {
-                print_all(vars, true, output)?;
-                Ok(0)
-            }
-        },
         Some(name) => print_named(vars, name, rest, output),
         None => {
-            print_all(vars, false, output)?;
+            print_all(vars, all, output)?;
             Ok(0)
         }
     }
 }
 
-/// Prints all variables, those whose names begin with `.` only where all are asked for.
+/// Prints all variables, those whose names begin with `.` only if all are asked for.
 fn print_all(vars: &Vars, all: bool, output: &mut Output) -> Result<(), PrintFault>
     ensures { Prints (lines_of all (entries vars.now.env)) output.old output.new result }
 {
@@ -50,7 +43,7 @@ fn print_all(vars: &Vars, all: bool, output: &mut Output) -> Result<(), PrintFau
     Ok(())
 }
 
-/// Prints names that are asked for, this one and those behind it.
+/// Prints names that are asked for, this one and those after it.
 fn print_named(
     vars: &Vars,
     first: &[u8],

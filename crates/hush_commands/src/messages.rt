@@ -4,6 +4,7 @@ ghost use Rattle.hush_commands.specs.Output.{Prints, PrintsWhole, Answers, answe
 ghost use Rattle.hush_commands.specs.Messages.{text_of, parts_of};
 
 use crate::output::{Output, PrintFault};
+use envvars_core::Refusal;
 
 /// A text about a name. Each ends with a newline.
 #[derive(Clone, Copy, Debug, PartialEq, Eq)]
@@ -14,18 +15,8 @@ pub enum Message {
     UnknownCommand,
     /// The command of the name has no such words.
     WrongUse,
-    /// A write is refused: a name or a value hasn't its form.
-    BadForm,
-    /// A write is refused: the value hasn't the type.
-    BadType,
-    /// A write is refused: the variable can't be created.
-    NoCreate,
-    /// A write is refused: the variable can't be deleted.
-    NoDelete,
-    /// A write is refused: the variable can't be overwritten.
-    NoOverwrite,
-    /// A write is refused: there is no room.
-    Full,
+    /// A write is refused.
+    Refused(Refusal),
     /// An assignment or a for's variable has the name of a variable of the environment.
     IsVariable,
     /// The value that `run` was to start isn't a script.
@@ -35,9 +26,9 @@ pub enum Message {
 }
 
 impl Message {
-    /// Prints the text about a name, given as raw bytes. Where it can't be printed a front of it may stand; [`Message::tell`]
+    /// Prints the text about a name, given as raw bytes. If it can't be printed a prefix of it may be left; [`Message::tell`]
     /// leaves nothing.
-    pub fn print(self, name: &[u8], output: &mut Output) -> Result<(), PrintFault>
+    pub(crate) fn print(self, name: &[u8], output: &mut Output) -> Result<(), PrintFault>
         ensures { Prints (text_of self name.now) output.old output.new result }
     {
         let (front, name, back) = self.parts(name);
@@ -78,12 +69,7 @@ impl Message {
             Message::NotDefined => (b"## Error: \"", name, b"\" not defined\n"),
             Message::UnknownCommand => (b"Unknown command '", name, b"' - try 'help'\n"),
             Message::WrongUse => (b"## Error: wrong use of '", name, b"'\n"),
-            Message::BadForm => (b"## Error: bad name or value for \"", name, b"\"\n"),
-            Message::BadType => (b"## Error: type check failure for \"", name, b"\"\n"),
-            Message::NoCreate => (b"## Error: Can't create \"", name, b"\"\n"),
-            Message::NoDelete => (b"## Error: Can't delete \"", name, b"\"\n"),
-            Message::NoOverwrite => (b"## Error: Can't overwrite \"", name, b"\"\n"),
-            Message::Full => (b"## Error: no room for \"", name, b"\"\n"),
+            Message::Refused(refusal) => (refusal.before_name(), name, refusal.after_name()),
             Message::IsVariable => (b"## Error: \"", name, b"\" is an environment variable\n"),
             Message::NoScript => (b"## Error: syntax error in \"", name, b"\"\n"),
             Message::DivisionByZero => (b"## Error: division by zero", b"", b"\n"),

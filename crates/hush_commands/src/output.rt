@@ -7,7 +7,6 @@ ghost use Rattle.hush_commands.specs.Saving.{saved_line, Saves};
 use env_session::{Session, Side};
 use std::alloc::Global;
 use std::marker::Model;
-use std::mem;
 use thiserror::Error;
 
 /// Why a text isn't printed.
@@ -50,22 +49,6 @@ impl Output {
         }
     }
 
-    /// No text, with room for `limit` bytes, in the memory of a text whose bytes are of no account.
-    pub fn in_room(mut text: Vec<u8>, limit: u32) -> Output
-        ensures { result ≡ printed [] limit }
-    {
-        text.clear();
-        Output { text, limit }
-    }
-
-    /// No text any more, with room for `limit` bytes, in the memory of the text before.
-    pub fn reset(&mut self, limit: u32)
-        ensures { self.new ≡ printed [] limit }
-    {
-        self.text.clear();
-        self.limit = limit;
-    }
-
     /// What was printed.
     pub fn text(&self) -> &[u8]
         ensures text { result.now ≡ self.now.text }
@@ -74,12 +57,11 @@ impl Output {
         self.text.as_slice()
     }
 
-    /// What was printed, for its owner: no text is left here.
-    pub fn take_text(&mut self, alloc: Global) -> Vec<u8>
-        ensures text { result.items ≡ self.old.text }
-        ensures left { self.new ≡ printed [] self.old.limit }
+    /// What was printed, for its owner.
+    pub fn into_text(self) -> Vec<u8>
+        ensures { result.items ≡ self.text }
     {
-        mem::replace(&mut self.text, Vec::new(alloc))
+        self.text
     }
 
     /// Prints a text. Where it can't be printed, what was printed before stands.

@@ -1,14 +1,15 @@
 //! A line of a stand-in file.
 ghost use Rattle.std.specs.Prelude.{◌≡◌, [], ◌∷◌, MatchOption};
 ghost use Rattle.std.specs.Str.Lines.{strip_carriage_return};
-ghost use Rattle.hush_commands.specs.StandInLines.{read_line, rest_status, words_of};
-ghost use Rattle.hush_commands.specs.StandInViews.{line_view};
+ghost use Rattle.hush_commands.specs.Statuses.{status_of};
+ghost use Rattle.hush_commands.specs.StandInLines.{line_view, read_line, rest_status, words_of};
 
 use crate::builtins::Builtin;
-use crate::statuses::read_status;
 use memchr::memchr2;
 use std::alloc::{AllocError, AllocFailed};
-use text_parts::{begins_with_byte, contains_byte, strip_carriage_return, without_blanks};
+use text_parts::{
+    Base, begins_with_byte, contains_byte, numeral, strip_carriage_return, without_blanks,
+};
 use thiserror::Error;
 
 /// Why a stand-in file is refused (docs/runs.md, "Stand-ins"). Lines count from 1.
@@ -81,6 +82,17 @@ fn read_rest(rest: &[u8]) -> Option<u8>
         },
         None => Some(0),
     }
+}
+
+/// Reads a status: decimal digits, one or more, that spell 0 to 255; leading zeros are fine.
+pub(crate) fn read_status(text: &[u8]) -> Option<u8>
+    ensures { result ≡ status_of text.now }
+{
+    let status = numeral(Base::Decimal, text, 256)?;
+    if status > 255 {
+        return None;
+    }
+    Some(status as u8)
 }
 
 /// The first word of a line, and what follows it.

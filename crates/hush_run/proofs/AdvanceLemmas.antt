@@ -1,5 +1,5 @@
 -- Steps one behind the other.
-use Rattle.std.proofs.Common.{◌≡◌, ℕ, suc, ◌+◌, ◌-◌, ◌<◌, ◌≤◌, Bool, true, false, if◌then◌else◌, List, [], ◌∷◌, length, Option, Some, None, Result, Ok, Err, refl, sym, ap, subst, ◌∙◌, arith, is_some, IfOk}
+use Rattle.std.proofs.Common.{◌≡◌, ℕ, suc, ◌+◌, ◌-◌, ◌≤◌, Bool, true, false, if◌then◌else◌, List, [], ◌∷◌, length, Option, Some, None, Result, Ok, Err, refl, sym, ap, subst, ◌∙◌, arith, is_some, IfOk}
 use Rattle.hush_syntax.specs.declared.nodes.NodeId.{NodeId}
 use Rattle.hush_syntax.specs.Scripts.{Parsed, tree_of, subtree_at, RootIs}
 use Rattle.hush_syntax.specs.Nodes.{Subtree, OfChains, OfCommand}
@@ -7,21 +7,17 @@ use Rattle.hush_words.specs.Words.{Atom}
 use Rattle.hush_syntax.specs.Grammar.{Chains, For}
 use Rattle.hush_run.specs.declared.frames.Frame.{Frame}
 use Rattle.hush_run.specs.declared.frames.Frame.TheVariants as frame
-use Rattle.hush_run.specs.declared.turns.Due.{Due}
-use Rattle.hush_run.specs.declared.turns.Due.TheVariants as due
-use Rattle.hush_run.specs.declared.ending.Reason.TheVariants as reason
+use Rattle.hush_run.specs.declared.due.Due.{Due}
+use Rattle.hush_run.specs.declared.due.Due.TheVariants as due
 use Rattle.hush_run.specs.declared.ending.Stop.{Stop}
 use Rattle.hush_run.specs.declared.ending.Stop.TheVariants as stop
-use Rattle.hush_run.specs.declared.advancing.Halt.{Halt}
-use Rattle.hush_run.specs.declared.advancing.Halt.TheVariants as halt
 use Rattle.hush_run.specs.Meaning.{Rules, Begin, State, Out, Goes, ◌>>=◌, ◌then◌, with_status, if_ok, in_turn, bindings, deletions, ended, script, chains, start, run_from, within}
 use Rattle.hush_run.specs.Resume.{begin_in, at_in, behind, levels, resume, subtree_does, room, at_command, of_for, Leads}
 use Rattle.hush_run.specs.Turns.{IsDue, IsPart, due_does, due_room}
 use Rattle.hush_run.specs.Rises.{IsLeft}
-use Rattle.hush_run.specs.Steps.{Did, MayStep, Started}
-use Rattle.hush_run.specs.Advances.{IsReady, Advances, AdvancesOrWaits, Waits, RanOn, RanOrWaits, due_left}
+use Rattle.hush_run.specs.Steps.{Did, Started}
+use Rattle.hush_run.specs.Advances.{IsReady, Advances, Ran, due_left}
 use Rattle.hush_run.specs.Stacks.{script_frames}
-use Rattle.hush_run.specs.Changing.{step_may_change}
 use Rattle.hush_run.proofs.Parts.{bind_goes, bind_assoc}
 use Rattle.hush_run.proofs.Descends.{stack-frame}
 use Rattle.hush_run.proofs.Halting.{due-halts, chains-halt}
@@ -31,19 +27,9 @@ halted : (rules : Rules) (calls : List Parsed) (old : List Frame) (d : Due) (s :
 halted rules calls old d s is part = ap (λ (o : Out). (ended (o >>= resume (within s.steps rules) calls old)).1) (due-halts (within s.steps rules) (levels (within s.steps rules) calls) (at_in calls) d is part s (omega arith))
 
 -- a step that stops
-pub stopped : (rules : Rules) (calls after : List Parsed) (old new : List Frame) (depth : ℕ) (d : Due) (s t : State) (why : Stop) → IsDue (at_in calls) d → IsPart d → Did rules (λ r begin. due_does r begin (at_in calls) d) (λ (u : Unit {0}) r begin. Goes) s t (Err why) → Advances rules calls old d s after new depth t (Err why)
+pub stopped : (rules : Rules) (calls after : List Parsed) (old new : List Frame) (depth : ℕ) (d : Due) (s t : State) (halt : Stop) → IsDue (at_in calls) d → IsPart d → Did rules (λ r begin. due_does r begin (at_in calls) d) (λ (u : Unit {0}) r begin. Goes) s t (Err halt) → Advances rules calls old d s after new depth t (Err halt)
 stopped rules calls after old new depth d s t (stop.Ended e) is part did = ap (λ (o : Out). ended (o >>= resume rules calls old)) (did (begin_in rules calls))
 stopped rules calls after old new depth d s t stop.Memory is part did = (ap (λ (x : State). x.steps) did, halted rules calls old d s is part ∙ sym did)
-
--- no step is left
-pub no_step_left : (rules : Rules) (calls : List Parsed) (old : List Frame) (depth : ℕ) (d : Due) (s : State) (why : Stop) → IsDue (at_in calls) d → IsPart d → MayStep rules s.steps (Err why) → Advances rules calls old d s calls old depth s (Err why)
-no_step_left rules calls old depth d s (stop.Ended reason.Steps) is part may = ap (λ (o : Out). ended (o >>= resume rules calls old)) (due-halts rules (levels rules calls) (at_in calls) d is part s may)
-no_step_left rules calls old depth d s (stop.Ended reason.Finished) is part may = absurd may
-no_step_left rules calls old depth d s (stop.Ended reason.Exited) is part may = absurd may
-no_step_left rules calls old depth d s (stop.Ended reason.Depth) is part may = absurd may
-no_step_left rules calls old depth d s (stop.Ended reason.Word) is part may = absurd may
-no_step_left rules calls old depth d s (stop.Ended reason.Output) is part may = absurd may
-no_step_left rules calls old depth d s stop.Memory is part may = absurd may
 
 -- a node
 module _ (rules : Rules) (top : Parsed) (rest : List Parsed) (old new : List Frame) (depth after : ℕ) (id node : NodeId) (s t : State) (ready : IsReady rules (top ∷ rest) old depth (due.Node id)) (le : s.steps ≤ rules.limits.steps) (same : after ≡ depth) (down : Leads top old new id node) where
@@ -57,7 +43,7 @@ module _ (rules : Rules) (top : Parsed) (rest : List Parsed) (old new : List Fra
             ∙ ap (λ (o : Out). o >>= resume (within n rules) (top ∷ rest) new) (did.1 n (begin_in (within n rules) (top ∷ rest)) more),
       )
 
-  node-stops : (why : Stop) → Did rules (λ r begin. subtree_does r begin (subtree_at top node)) (λ (d : Due) r begin. due_does r begin (subtree_at top) d) s t (Err why) → Advances rules (top ∷ rest) old (due.Node id) s (top ∷ rest) new after t (Err why)
+  node-stops : (halt : Stop) → Did rules (λ r begin. subtree_does r begin (subtree_at top node)) (λ (d : Due) r begin. due_does r begin (subtree_at top) d) s t (Err halt) → Advances rules (top ∷ rest) old (due.Node id) s (top ∷ rest) new after t (Err halt)
   node-stops (stop.Ended e) did = ap ended (down.2 rules rest s le ∙ ap (λ (o : Out). o >>= resume rules (top ∷ rest) new) (did (begin_in rules (top ∷ rest))))
   node-stops stop.Memory did = (ap (λ (x : State). x.steps) did, halted rules (top ∷ rest) old (due.Node id) s ready.is_due tt ∙ sym did)
 
@@ -68,24 +54,7 @@ node_advances rules calls top old new depth after id node s t result is ready le
   where
     by : (r : Result Due Stop) → IsReady rules (top ∷ behind calls) old depth (due.Node id) → Did rules (λ r begin. subtree_does r begin (subtree_at top node)) (λ d r begin. due_does r begin (subtree_at top) d) s t r → IfOk r (λ (d : Due). IsDue (subtree_at top) d × (due_room (subtree_at top) d ≤ room (subtree_at top node))) → Advances rules (top ∷ behind calls) old (due.Node id) s (top ∷ behind calls) new after t r
     by (Ok next) now did fits = node-goes rules top (behind calls) old new depth after id node s t now le same down next did fits.0 fits.1
-    by (Err why) now did fits = node-stops rules top (behind calls) old new depth after id node s t now le same down why did
-
--- a node whose step waits
-pub node_waits : (rules : Rules) (calls : List Parsed) (top : Parsed) (old new : List Frame) (depth after : ℕ) (id node : NodeId) (s t : State) → calls ≡ top ∷ behind calls → IsReady rules calls old depth (due.Node id) → after ≡ depth → Leads top old new id node → step_may_change rules (subtree_at top node) s ≡ true → (t ≡ s) × (s.steps < rules.limits.steps) → Waits rules calls old (due.Node id) s calls new after t (due.Node node)
-node_waits rules calls top old new depth after id node s t is ready same down changes still =
-    subst (λ (cs : List Parsed). Waits rules cs old (due.Node id) s cs new after t (due.Node node)) (sym is)
-    (subst (λ (u : State). Waits rules (top ∷ behind calls) old (due.Node id) s (top ∷ behind calls) new after u (due.Node node)) (sym still.0) (by (subst (λ (cs : List Parsed). IsReady rules cs old depth (due.Node id)) is ready)))
-  where
-    by : IsReady rules (top ∷ behind calls) old depth (due.Node id) → Waits rules (top ∷ behind calls) old (due.Node id) s (top ∷ behind calls) new after s (due.Node node)
-    by now =
-        let m = down.1 (behind calls) now.stack now.frames_fit in
-        record {
-          counted = omega arith;
-          fits = still.1;
-          ready = record { stack = m.0; is_due = down.0; some = now.some; calls_fit = now.calls_fit; frames_fit = m.1; same_depth = same ∙ now.same_depth };
-          changes = changes;
-          same = λ n le. down.2 (within n rules) (behind calls) s le;
-        }
+    by (Err halt) now did fits = node-stops rules top (behind calls) old new depth after id node s t now le same down halt did
 
 -- a name of `env delete`
 pub delete_goes : (rules : Rules) (calls : List Parsed) (old : List Frame) (depth : ℕ) (force failed again : Bool) (name : List ℕ) (names left : List (List ℕ)) (next : Due) (s t : State) → names ≡ name ∷ left → IsReady rules calls old depth (due.Delete force failed names) → Did rules (λ r begin. deletions r force failed (name ∷ left)) (λ flag r begin. deletions r force flag left) s t (Ok again) → IsDue (at_in calls) next → due_room (at_in calls) next ≡ 0 → ((r : Rules) (begin : Begin) (u : State) → deletions r force again left u ≡ due_does r begin (at_in calls) next u) → Advances rules calls old (due.Delete force failed names) s calls old depth t (Ok next)
@@ -101,9 +70,9 @@ pub delete_over : (r : Rules) (force again : Bool) (left : List (List ℕ)) (u :
 delete_over r force again [] u e = refl
 delete_over r force again (n ∷ ns) u e = absurd (omega (arith, e))
 
-pub delete_stops_so : (rules : Rules) (calls after : List Parsed) (old new : List Frame) (depth : ℕ) (force failed : Bool) (name : List ℕ) (names left : List (List ℕ)) (s t : State) (why : Stop) → names ≡ name ∷ left → IsDue (at_in calls) (due.Delete force failed names) → Did rules (λ r begin. deletions r force failed (name ∷ left)) (λ flag r begin. deletions r force flag left) s t (Err why) → Advances rules calls old (due.Delete force failed names) s after new depth t (Err why)
-delete_stops_so rules calls after old new depth force failed name names left s t why is isdue did =
-    stopped rules calls after old new depth (due.Delete force failed names) s t why isdue tt (subst (λ (ns : List (List ℕ)). Did rules (λ r begin. deletions r force failed ns) (λ (u : Unit {0}) r begin. Goes) s t (Err why)) (sym is) (as-unit why did))
+pub delete_stops_so : (rules : Rules) (calls after : List Parsed) (old new : List Frame) (depth : ℕ) (force failed : Bool) (name : List ℕ) (names left : List (List ℕ)) (s t : State) (halt : Stop) → names ≡ name ∷ left → IsDue (at_in calls) (due.Delete force failed names) → Did rules (λ r begin. deletions r force failed (name ∷ left)) (λ flag r begin. deletions r force flag left) s t (Err halt) → Advances rules calls old (due.Delete force failed names) s after new depth t (Err halt)
+delete_stops_so rules calls after old new depth force failed name names left s t halt is isdue did =
+    stopped rules calls after old new depth (due.Delete force failed names) s t halt isdue tt (subst (λ (ns : List (List ℕ)). Did rules (λ r begin. deletions r force failed ns) (λ (u : Unit {0}) r begin. Goes) s t (Err halt)) (sym is) (as-unit halt did))
   where
     as-unit : (h : Stop) → Did rules (λ r begin. deletions r force failed (name ∷ left)) (λ (flag : Bool) r begin. deletions r force flag left) s t (Err h) → Did rules (λ r begin. deletions r force failed (name ∷ left)) (λ (u : Unit {0}) r begin. Goes) s t (Err h)
     as-unit (stop.Ended e) d = d
@@ -136,7 +105,7 @@ module _ (rules : Rules) (top : Parsed) (rest : List Parsed) (old : List Frame) 
     λ n more. first (within n rules) ∙ ap (λ (o : Out). o >>= resume (within n rules) (top ∷ rest) old) (did.1 n (begin_in (within n rules) (top ∷ rest)) more),
   )
 
-  pub bound_stops : (why : Stop) → Did rules (λ r begin. bindings r name (chains r begin d) (field ∷ left)) (λ bound r begin. if bound then (chains r begin d then bindings r name (chains r begin d) left) else Goes) s t (Err why) → Advances rules (top ∷ rest) old (due.Binding node fields) s (top ∷ rest) old depth t (Err why)
+  pub bound_stops : (halt : Stop) → Did rules (λ r begin. bindings r name (chains r begin d) (field ∷ left)) (λ bound r begin. if bound then (chains r begin d then bindings r name (chains r begin d) left) else Goes) s t (Err halt) → Advances rules (top ∷ rest) old (due.Binding node fields) s (top ∷ rest) old depth t (Err halt)
   bound_stops (stop.Ended x) did = ap ended (first rules ∙ ap (λ (o : Out). o >>= resume rules (top ∷ rest) old) (did (begin_in rules (top ∷ rest))))
   bound_stops stop.Memory did = (ap (λ (x : State). x.steps) did, halted rules (top ∷ rest) old (due.Binding node fields) s ready.is_due tt ∙ sym did)
 
@@ -191,7 +160,7 @@ module _ (rules : Rules) (calls : List Parsed) (old : List Frame) (depth : ℕ) 
         ∙ ap (λ (o : Option Subtree). subtree_does (within n rules) (begin_in (within n rules) (p ∷ calls)) o t >>= resume (within n rules) (p ∷ calls) (frame.Started left ∷ old)) (sym r.1),
   )
 
-  pub start_stops : (why : Stop) → Started rules (rules.limits.depth + 1 - length calls) name s t (Err why) → Advances rules calls old (due.Start names) s calls old depth t (Err why)
+  pub start_stops : (halt : Stop) → Started rules (rules.limits.depth + 1 - length calls) name s t (Err halt) → Advances rules calls old (due.Start names) s calls old depth t (Err halt)
   start_stops (stop.Ended x) b = ap ended (first_start rules.limits.steps ∙ ap (λ (o : Out). o >>= if_ok (in_turn (begin_in rules calls) left) Goes >>= resume rules calls old) b)
   start_stops stop.Memory b = (ap (λ (x : State). x.steps) b, halted rules calls old (due.Start names) s ready.is_due tt ∙ sym b)
 
@@ -201,45 +170,35 @@ rise_then rules calls calls1 calls2 old frames1 new status1 depth due1 s t (Ok d
 rise_then rules calls calls1 calls2 old frames1 new status1 depth due1 s t (Err (stop.Ended e)) le l a = ap ended (l.5 rules s le) ∙ a
 rise_then rules calls calls1 calls2 old frames1 new status1 depth due1 s t (Err stop.Memory) le l a = (a.0, ap (λ (o : Out). (ended o).1) (l.5 (within s.steps rules) s (omega arith)) ∙ a.1)
 
--- the same where it waits
-pub rise_or_wait : (may_change : Bool) (rules : Rules) (calls calls1 calls2 : List Parsed) (old frames1 new : List Frame) (status1 depth : ℕ) (due1 : Due) (s t : State) (r : Result Due Halt) → s.steps ≤ rules.limits.steps → IsLeft calls old s.status calls1 frames1 status1 due1 → AdvancesOrWaits may_change rules calls1 frames1 due1 (with_status status1 s) calls2 new depth t r → AdvancesOrWaits may_change rules calls old due.Over s calls2 new depth t r
-rise_or_wait may_change rules calls calls1 calls2 old frames1 new status1 depth due1 s t (Ok d) le l a = rise_then rules calls calls1 calls2 old frames1 new status1 depth due1 s t (Ok d) le l a
-rise_or_wait may_change rules calls calls1 calls2 old frames1 new status1 depth due1 s t (Err (halt.Stops why)) le l a = rise_then rules calls calls1 calls2 old frames1 new status1 depth due1 s t (Err why) le l a
-rise_or_wait may_change rules calls calls1 calls2 old frames1 new status1 depth due1 s t (Err (halt.Waits next)) le l a =
-    (a.0, record { counted = a.1.counted; fits = a.1.fits; ready = a.1.ready; changes = a.1.changes; same = λ n h. l.5 (within n rules) s (omega (arith, a.1.counted, h)) ∙ a.1.same n h })
+-- the run from a state is what is due, and the frames behind it
+abbrev pub Same : Rules → Option Chains → State → List Parsed → List Frame → Due → State → Type 0
+Same rules tree s calls frames d now = (n : ℕ) → now.steps ≤ n → script (within n rules) (start (within n rules) rules.limits.depth) tree s ≡ due_left (within n rules) calls frames d now
 
--- what was due, and the frames behind it, is what is due now, and the frames behind that
-abbrev pub Same : Rules → List Parsed → List Frame → Due → State → List Parsed → List Frame → Due → State → Type 0
-Same rules calls frames d s calls' frames' d' now = (n : ℕ) → now.steps ≤ n → due_left (within n rules) calls frames d s ≡ due_left (within n rules) calls' frames' d' now
+pub same_ends : (rules : Rules) (tree : Option Chains) (s now t : State) (calls after : List Parsed) (frames new : List Frame) (depth : ℕ) (d : Due) (halt : Stop) → now.steps ≤ rules.limits.steps → Same rules tree s calls frames d now → Advances rules calls frames d now after new depth t (Err halt) → Ran rules tree s t halt
+same_ends rules tree s now t calls after frames new depth d (stop.Ended e) le same a = ap ended (same rules.limits.steps le) ∙ a
+same_ends rules tree s now t calls after frames new depth d stop.Memory le same a =
+    (omega (arith, a.0, le), ap (λ (n : ℕ). (run_from (within n rules) tree s).1) a.0 ∙ ap (λ (o : Out). (ended o).1) (same now.steps (omega arith)) ∙ a.1)
 
-pub same_none : (rules : Rules) (calls : List Parsed) (frames : List Frame) (d : Due) (s : State) → Same rules calls frames d s calls frames d s
-same_none rules calls frames d s n le = refl
+pub same_on : (rules : Rules) (tree : Option Chains) (s now t : State) (calls after : List Parsed) (frames new : List Frame) (depth : ℕ) (d next : Due) → Same rules tree s calls frames d now → Advances rules calls frames d now after new depth t (Ok next) → Same rules tree s after new next t
+same_on rules tree s now t calls after frames new depth d next same a n le = same n (omega (arith, a.0.0, le)) ∙ a.2 n (omega (arith, a.0.0, le))
 
-pub same_ends : (rules : Rules) (calls calls1 after : List Parsed) (frames frames1 new : List Frame) (depth : ℕ) (d d1 : Due) (s now t : State) (why : Stop) → s.steps ≤ now.steps → now.steps ≤ rules.limits.steps → Same rules calls frames d s calls1 frames1 d1 now → Advances rules calls1 frames1 d1 now after new depth t (Err why) → RanOn rules calls frames d s t why
-same_ends rules calls calls1 after frames frames1 new depth d d1 s now t (stop.Ended e) from le same a = (λ no. absurd (cc), ap ended (same rules.limits.steps le) ∙ a)
-same_ends rules calls calls1 after frames frames1 new depth d d1 s now t stop.Memory from le same a =
-    (λ yes. omega (arith, a.0, from), (omega (arith, a.0, le), ap (λ (n : ℕ). (ended (due_left (within n rules) calls frames d s)).1) a.0 ∙ ap (λ (o : Out). (ended o).1) (same now.steps (omega arith)) ∙ a.1))
+pub same_root : (rules : Rules) (p : Parsed) (root : NodeId) (s : State) → RootIs p (Some root) → Same rules (tree_of p) s (p ∷ []) [] (due.Node root) s
+same_root rules p root s r n le =
+    ap (λ (o : Option Chains). script (within n rules) (start (within n rules) rules.limits.depth) o s) r.2
+    ∙ ap (λ (k : ℕ). chains (within n rules) (start (within n rules) k) r.0 s) (let e : rules.limits.depth ≡ rules.limits.depth - 0 = omega arith in e)
+    ∙ ap (λ (o : Option Subtree). subtree_does (within n rules) (begin_in (within n rules) (p ∷ [])) o s) (sym r.1)
+    ∙ sym (bind_goes (subtree_does (within n rules) (begin_in (within n rules) (p ∷ [])) (subtree_at p root) s))
 
-pub same_on : (rules : Rules) (calls calls1 after : List Parsed) (frames frames1 new : List Frame) (depth : ℕ) (d d1 next : Due) (s now t : State) → Same rules calls frames d s calls1 frames1 d1 now → Advances rules calls1 frames1 d1 now after new depth t (Ok next) → Same rules calls frames d s after new next t
-same_on rules calls calls1 after frames frames1 new depth d d1 next s now t same a n le = same n (omega (arith, a.0.0, le)) ∙ a.2 n (omega (arith, a.0.0, le))
-
-pub same_halts : (may_change : Bool) (rules : Rules) (calls calls1 after : List Parsed) (frames frames1 new : List Frame) (depth : ℕ) (d d1 : Due) (s now t : State) (h : Halt) → s.steps ≤ now.steps → now.steps ≤ rules.limits.steps → Same rules calls frames d s calls1 frames1 d1 now → AdvancesOrWaits may_change rules calls1 frames1 d1 now after new depth t (Err h) → RanOrWaits may_change rules calls frames d s after new depth t h
-same_halts may_change rules calls calls1 after frames frames1 new depth d d1 s now t (halt.Stops why) from le same a = same_ends rules calls calls1 after frames frames1 new depth d d1 s now t why from le same a
-same_halts may_change rules calls calls1 after frames frames1 new depth d d1 s now t (halt.Waits next) from le same a =
-    (a.0, record { counted = omega (arith, from, a.1.counted); fits = a.1.fits; ready = a.1.ready; changes = a.1.changes; same = λ n more. same n (omega (arith, a.1.counted, more)) ∙ a.1.same n more })
-
--- a run is what is due at its root
-pub is_run : (rules : Rules) (p : Parsed) (root : NodeId) (s : State) → RootIs p (Some root) → (n : ℕ) → run_from (within n rules) (tree_of p) s ≡ ended (due_left (within n rules) (p ∷ []) [] (due.Node root) s)
-is_run rules p root s r n =
-    ap (λ (o : Option Chains). run_from (within n rules) o s) r.2
-    ∙ ap (λ (k : ℕ). ended (chains (within n rules) (start (within n rules) k) r.0 s)) (let e : rules.limits.depth ≡ rules.limits.depth - 0 = omega arith in e)
-    ∙ ap (λ (o : Option Subtree). ended (subtree_does (within n rules) (begin_in (within n rules) (p ∷ [])) o s)) (sym r.1)
-    ∙ ap ended (sym (bind_goes (subtree_does (within n rules) (begin_in (within n rules) (p ∷ [])) (subtree_at p root) s)))
+pub same_empty : (rules : Rules) (p : Parsed) (s : State) → RootIs p None → Same rules (tree_of p) s (p ∷ []) [] due.Over s
+same_empty rules p s r n le = ap (λ (o : Option Chains). script (within n rules) (start (within n rules) rules.limits.depth) o s) r
 
 pub ready_root : (rules : Rules) (p : Parsed) (root : NodeId) → RootIs p (Some root) → IsReady rules (p ∷ []) [] rules.limits.depth (due.Node root)
 ready_root rules p root r = record { stack = tt; is_due = ap (λ (o : Option Subtree). is_some o) r.1; some = omega arith; calls_fit = omega arith; frames_fit = omega (arith, ap room r.1, r.3); same_depth = refl }
 
+pub ready_empty : (rules : Rules) (p : Parsed) → IsReady rules (p ∷ []) [] rules.limits.depth due.Over
+ready_empty rules p = record { stack = tt; is_due = tt; some = omega arith; calls_fit = omega arith; frames_fit = omega arith; same_depth = refl }
+
 -- before the first step
-pub none_counted : (rules : Rules) (tree : Option Chains) (s : State) → s.steps ≡ 0 → (run_from (within 0 rules) tree s).1 ≡ s
-none_counted rules None s none = refl
-none_counted rules (Some cs) s none = ap (λ (o : Out). (ended o).1) (chains-halt (within 0 rules) (start (within 0 rules) rules.limits.depth) cs s (omega (arith, none)))
+pub none_counted : (rules : Rules) (tree : Option Chains) (s : State) → s.steps ≤ rules.limits.steps → Ran rules tree s s stop.Memory
+none_counted rules None s le = (le, refl)
+none_counted rules (Some cs) s le = (le, ap (λ (o : Out). (ended o).1) (chains-halt (within s.steps rules) (start (within s.steps rules) rules.limits.depth) cs s (omega arith)))

@@ -1,11 +1,10 @@
 -- Going down from a node.
-use Rattle.std.proofs.Common.{◌≡◌, suc, ◌+◌, ◌*◌, ◌<◌, ◌≤◌, List, ◌∷◌, length, Option, Some, None, refl, ap, ◌∙◌, arith, IsSome}
+use Rattle.std.proofs.Common.{◌≡◌, ◌+◌, ◌*◌, ◌≤◌, List, ◌∷◌, length, Some, refl, ◌∙◌, arith, IsSome}
 use Rattle.hush_syntax.specs.declared.nodes.NodeId.{NodeId}
 use Rattle.hush_run.specs.declared.frames.Frame.{Frame}
 use Rattle.hush_syntax.specs.Scripts.{Parsed, subtree_at}
-use Rattle.hush_run.specs.Meaning.{Rules, Out, ◌>>=◌, ◌then◌}
-use Rattle.hush_run.specs.Resume.{begin_in, subtree_does, frame_does, at_in, frame_room, owners, resume, IsFrame, IsStack, IsFirst, IsAlone, FirstPart, Leads, levels, room}
-use Rattle.hush_run.specs.Rises.{with_behind}
+use Rattle.hush_run.specs.Meaning.{Rules, ◌then◌}
+use Rattle.hush_run.specs.Resume.{begin_in, subtree_does, frame_does, at_in, frame_room, owners, resume, IsFrame, IsStack, FirstPart, Leads, levels}
 use Rattle.hush_run.specs.Stacks.{script_frames}
 use Rattle.hush_run.proofs.Counts.{start-counts}
 use Rattle.hush_run.proofs.Parts.{onto}
@@ -20,7 +19,7 @@ resume-frame rules scripts f fs same = rw same refl
 pub stack-frame : (scripts : List Parsed) (f : Frame) (fs : List Frame) → owners f scripts ≡ scripts → 1 ≤ length scripts → IsFrame (at_in scripts) f → length fs + frame_room (at_in scripts) f ≤ script_frames * length scripts → IsStack scripts fs → IsStack scripts (f ∷ fs)
 stack-frame scripts f fs same some is fits stack = rw same (some, is, fits, stack)
 
-leads_on : (script : Parsed) (old new : List Frame) (id node part : NodeId) (f : Frame) → Leads script old new id node → IsFirst (subtree_at script) node f part → Leads script old (f ∷ new) id part
+pub leads_on : (script : Parsed) (old new : List Frame) (id node part : NodeId) (f : Frame) → Leads script old new id node → FirstPart (subtree_at script) node (Some (f, part)) → Leads script old (f ∷ new) id part
 leads_on script old new id node part f l p = (
   p.0,
   (λ scripts stack fits. let m = l.1 scripts stack fits in (stack-frame (script ∷ scripts) f new (p.1 (script ∷ scripts)) (omega arith) p.2 (omega (arith, m.1, p.4)) m.0, omega (arith, m.1, p.3))),
@@ -31,21 +30,3 @@ leads_on script old new id node part f l p = (
       (p.5 rules (begin_in rules (script ∷ scripts)) (start-counts rules (levels rules (script ∷ scripts))) s le)
       (resume-frame rules (script ∷ scripts) f new (p.1 (script ∷ scripts))),
 )
-
-leads_alone : (script : Parsed) (old new : List Frame) (id node part : NodeId) → Leads script old new id node → IsAlone (subtree_at script) node part → Leads script old new id part
-leads_alone script old new id node part l p = (
-  p.0,
-  (λ scripts stack fits. let m = l.1 scripts stack fits in (m.0, omega (arith, m.1, p.1))),
-  λ rules scripts s le.
-      l.2 rules scripts s le ∙ ap (λ (o : Out). o >>= resume rules (script ∷ scripts) new) (p.2 rules (begin_in rules (script ∷ scripts)) s),
-)
-
-pub leads_first : (script : Parsed) (old new : List Frame) (id node part : NodeId) (behind : Option Frame) → Leads script old new id node → FirstPart (subtree_at script) node (Some (behind, part)) → Leads script old (with_behind behind new) id part
-leads_first script old new id node part None l p = leads_alone script old new id node part l p
-leads_first script old new id node part (Some f) l p = leads_on script old new id node part f l p
-
--- it needs less room than the node, with the frame too
-pub first_fits : (script : Parsed) (node part : NodeId) (behind : Option Frame) (frames : List Frame) → FirstPart (subtree_at script) node (Some (behind, part)) →
-    (room (subtree_at script part) < room (subtree_at script node)) × (length (with_behind behind frames) ≤ suc (length frames))
-first_fits script node part None frames p = (p.1, omega arith)
-first_fits script node part (Some f) frames p = (p.3, omega arith)

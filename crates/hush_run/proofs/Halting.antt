@@ -3,8 +3,8 @@ use Rattle.std.proofs.Common.{◌≡◌, ℕ, suc, ◌<◌, ◌≤◌, Bool, tru
 use Rattle.hush_syntax.specs.Nodes.{At, Subtree, OfChains, OfChain, OfCommand}
 use Rattle.hush_syntax.specs.Grammar.{Command, Simple, Assign, If, For, While, Until, Chain, First, Chains, Last, More}
 use Rattle.hush_run.specs.declared.ending.Reason.TheVariants.{Steps}
-use Rattle.hush_run.specs.declared.turns.Due.{Due}
-use Rattle.hush_run.specs.declared.turns.Due.TheVariants as due
+use Rattle.hush_run.specs.declared.due.Due.{Due}
+use Rattle.hush_run.specs.declared.due.Due.TheVariants as due
 use Rattle.hush_run.specs.Meaning.{Rules, Begin, State, Out, Goes, Ends, ◌>>=◌, ◌then◌, goes_on, with_status, turns, in_turn, deletions, bindings, fields_of, command, chain, chains, start}
 use Rattle.hush_run.specs.Resume.{subtree_does, at_command, of_for}
 use Rattle.hush_run.specs.Turns.{due_does, IsDue, IsPart, IsForNode}

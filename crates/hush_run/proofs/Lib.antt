@@ -9,5 +9,4 @@ mod NodeLemmas
 mod Halting
 mod AdvanceLemmas
 mod OutcomeLemmas
-mod RunLemmas
 mod MeaningRows

@@ -3,7 +3,7 @@ use Rattle.std.proofs.Common.{◌≡◌, Option, Some, Ok, Err, ap, ◌∙◌}
 use Rattle.hush_syntax.specs.declared.nodes.NodeId.{NodeId}
 use Rattle.hush_syntax.specs.Nodes.{At, Subtree, OfCommand}
 use Rattle.hush_syntax.specs.Grammar.{Command}
-use Rattle.hush_run.specs.declared.turns.Due.{Due}
+use Rattle.hush_run.specs.declared.due.Due.{Due}
 use Rattle.hush_run.specs.declared.ending.Stop.{Stop}
 use Rattle.hush_run.specs.declared.ending.Stop.TheVariants.{Ended, Memory}
 use Rattle.hush_run.specs.Meaning.{Rules, Begin, State, command, within}

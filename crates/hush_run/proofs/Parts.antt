@@ -1,5 +1,5 @@
 -- A node is its first part and what its frame does behind that.
-use Rattle.std.proofs.Common.{◌≡◌, ◌==◌, ◌<◌, ◌≤◌, ◌+◌, ◌*◌, true, false, List, [], ◌∷◌, length, get_or, Option, Some, None, refl, sym, ap, ◌∙◌, arith, if◌then◌else◌, IsSome, nat_lt, lt-ltb}
+use Rattle.std.proofs.Common.{◌≡◌, ◌==◌, ◌<◌, ◌≤◌, ◌+◌, ◌*◌, true, false, List, [], ◌∷◌, length, get_or, Option, Some, None, refl, sym, ap, ◌∙◌, arith, if◌then◌else◌, IsSome}
 use Rattle.hush_syntax.specs.declared.nodes.NodeId.{NodeId}
 use Rattle.hush_syntax.specs.declared.nodes.Link as link
 use Rattle.hush_syntax.specs.declared.nodes.Branch as branch
@@ -9,7 +9,6 @@ use Rattle.hush_syntax.specs.Grammar.{If, While, Until, Branches, Elif, Chain, F
 use Rattle.hush_syntax.specs.Reading.{bind}
 use Rattle.hush_run.specs.Meaning.{Rules, Begin, State, Out, Goes, Ends, ◌>>=◌, ◌then◌, joins, command, chain, linked, chains}
 use Rattle.hush_run.specs.Resume.{chain_list, link_list, run_chains, run_links, tagged, subtree_does, room, FirstPart}
-use Rattle.hush_run.specs.Turns.{behind_chain}
 use Rattle.hush_run.proofs.Counts.{turns-again, chains-count}
 
 pub bind_goes : (o : Out) → (o >>= Goes) ≡ o
@@ -48,23 +47,16 @@ member_does (Some (OfCommand x)) c e =
     let same : c ≡ First x End = cc in
     rw same (refl, omega arith, λ rules begin s. sym (bind_goes (command rules begin x s)))
 
-no_chains : (at : At) (cs : Chains) → AreChains at [] cs → ⊥
-no_chains at (Last c) a = a
-no_chains at (More c cs) a = a
-
 -- the first parts
-pub list_first : (at : At) (id child : NodeId) (ids : List NodeId) (cs : Chains) → at id ≡ Some (OfChains cs) → AreChains at ids cs → child ≡ get_or ids 0 child → FirstPart at id (Some (behind_chain id 1 ids, child))
+pub list_first : (at : At) (id child : NodeId) (ids : List NodeId) (cs : Chains) → at id ≡ Some (OfChains cs) → AreChains at ids cs → child ≡ get_or ids 0 child → FirstPart at id (Some (frame.List id 1, child))
 list_first at id child [] (Last c) e a is = absurd a
 list_first at id child [] (More c cs) e a is = absurd a
-list_first at id child (i ∷ []) (Last c) e a is =
+list_first at id child (i ∷ ids) (Last c) e a is =
     let m = member_does (at i) c a.0 in
-    rw (is, e) (m.0, omega (arith, m.1), λ rules begin s. sym (m.2 rules begin s))
-list_first at id child (i ∷ j ∷ ids) (Last c) e a is = absurd (omega (arith, ap (λ (xs : List NodeId). length xs) a.1))
-list_first at id child (i ∷ []) (More c cs) e a is = absurd (no_chains at cs a.1)
-list_first at id child (i ∷ j ∷ ids) (More c cs) e a is =
+    rw (is, e) (m.0, λ scripts. refl, refl, omega (arith, m.1), omega arith, λ rules begin counting s le. sym (bind_goes (chain rules begin c s)) ∙ ap (λ (o : Out). o >>= Goes) (sym (m.2 rules begin s)))
+list_first at id child (i ∷ ids) (More c cs) e a is =
     let m = member_does (at i) c a.0 in
-    let more : nat_lt 1 (length (i ∷ j ∷ ids)) ≡ true = lt-ltb 1 (length (i ∷ j ∷ ids)) (omega arith) in
-    rw (more, is, e) (
+    rw (is, e) (
       m.0,
       λ scripts. refl,
       refl,
@@ -75,22 +67,22 @@ list_first at id child (i ∷ j ∷ ids) (More c cs) e a is =
           ∙ ap (λ (o : Out). o >>= run_chains rules begin (chain_list cs)) (sym (m.2 rules begin s)),
     )
 
-pub chain_first : (at : At) (id : NodeId) (l : link.Link) (ls : List link.Link) (c : Chain) → at id ≡ Some (OfChain c) → IsChain at ls c → l ≡ get_or ls 0 l → FirstPart at id (Some (Some (frame.Chain id 1), l.command))
+pub chain_first : (at : At) (id : NodeId) (l : link.Link) (ls : List link.Link) (c : Chain) → at id ≡ Some (OfChain c) → IsChain at ls c → l ≡ get_or ls 0 l → FirstPart at id (Some (frame.Chain id 1, l.command))
 chain_first at id l [] (First c links) e a is = absurd a
 chain_first at id l (m ∷ ls) (First c links) e a is =
     rw (is, e, a.1) (refl, λ scripts. refl, refl, omega arith, omega arith, λ rules begin counting s le. bind_alike (command rules begin c s) _ _ (run_links-all rules begin links))
 
-pub if_first : (at : At) (id : NodeId) (b : branch.Branch) (bs : List branch.Branch) (last : Option NodeId) (c d : Chains) (branches : Branches) → at id ≡ Some (OfCommand (If c d branches)) → AreBranches at bs last (Elif c d branches) → b ≡ get_or bs 0 b → FirstPart at id (Some (Some (frame.Branch id 0), b.condition))
+pub if_first : (at : At) (id : NodeId) (b : branch.Branch) (bs : List branch.Branch) (last : Option NodeId) (c d : Chains) (branches : Branches) → at id ≡ Some (OfCommand (If c d branches)) → AreBranches at bs last (Elif c d branches) → b ≡ get_or bs 0 b → FirstPart at id (Some (frame.Branch id 0, b.condition))
 if_first at id b [] None c d branches e a is = absurd a
 if_first at id b [] (Some o) c d branches e a is = absurd a
 if_first at id b (m ∷ bs) last c d branches e a is =
     rw (is, e, a.0) (refl, λ scripts. refl, refl, omega arith, omega arith, λ rules begin counting s le. refl)
 
-pub while_first : (at : At) (id condition : NodeId) (c d : Chains) → at id ≡ Some (OfCommand (While c d)) → at condition ≡ Some (OfChains c) → FirstPart at id (Some (Some (frame.Condition id 0), condition))
+pub while_first : (at : At) (id condition : NodeId) (c d : Chains) → at id ≡ Some (OfCommand (While c d)) → at condition ≡ Some (OfChains c) → FirstPart at id (Some (frame.Condition id 0, condition))
 while_first at id condition c d e ec =
     rw (e, ec) (refl, λ scripts. refl, refl, omega arith, omega arith, λ rules begin counting s le. turns-again rules true (chains rules begin c) (chains rules begin d) 0 (chains-count rules begin counting c) (chains-count rules begin counting d) s le)
 
-pub until_first : (at : At) (id condition : NodeId) (c d : Chains) → at id ≡ Some (OfCommand (Until c d)) → at condition ≡ Some (OfChains c) → FirstPart at id (Some (Some (frame.Condition id 0), condition))
+pub until_first : (at : At) (id condition : NodeId) (c d : Chains) → at id ≡ Some (OfCommand (Until c d)) → at condition ≡ Some (OfChains c) → FirstPart at id (Some (frame.Condition id 0, condition))
 until_first at id condition c d e ec =
     rw (e, ec) (refl, λ scripts. refl, refl, omega arith, omega arith, λ rules begin counting s le. turns-again rules false (chains rules begin c) (chains rules begin d) 0 (chains-count rules begin counting c) (chains-count rules begin counting d) s le)
 

@@ -1,8 +1,8 @@
 -- Taking frames.
 use Rattle.std.proofs.Common.{◌≡◌, ℕ, ◌+◌, ◌*◌, ◌≤◌, List, [], ◌∷◌, length, Option, Some, None, refl, sym, ap, subst, ◌∙◌, arith}
 use Rattle.hush_run.specs.declared.frames.Frame.{Frame}
-use Rattle.hush_run.specs.declared.turns.Due.{Due}
-use Rattle.hush_run.specs.declared.turns.Due.TheVariants as due
+use Rattle.hush_run.specs.declared.due.Due.{Due}
+use Rattle.hush_run.specs.declared.due.Due.TheVariants as due
 use Rattle.hush_run.specs.declared.turns.Turn.{Turn}
 use Rattle.hush_run.specs.Meaning.{Rules, Out, ◌>>=◌, with_status}
 use Rattle.hush_run.specs.Resume.{begin_in, at_in, resume, levels, frame_does, frame_room, owners, behind, IsStack, IsFrame}

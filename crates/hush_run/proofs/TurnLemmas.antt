@@ -1,6 +1,5 @@
 -- What the frames come to.
-use Rattle.std.proofs.Common.{◌≡◌, ℕ, zero, suc, ◌+◌, ◌==◌, ◌<◌, ◌≤◌, Bool, true, false, List, [], ◌∷◌, drop, length, get_or, Option, Some, None, refl, sym, ap, subst, ◌∙◌, arith, if◌then◌else◌, is_some, add-one, length-drop, inl, inr, nat_lt, ltb-false}
-use Rattle.std.proofs.lemmas.Bool.{cases_Bool}
+use Rattle.std.proofs.Common.{◌≡◌, ℕ, zero, suc, ◌+◌, ◌==◌, ◌<◌, ◌≤◌, Bool, true, false, List, [], ◌∷◌, drop, length, get_or, Option, Some, None, refl, sym, ap, subst, ◌∙◌, arith, if◌then◌else◌, is_some, add-one, length-drop}
 use Rattle.std.proofs.Math.ListN.{drop_of_length-le}
 use Rattle.std.proofs.Math.Seq.{get_or-drop}
 use Rattle.hush_syntax.specs.declared.nodes.NodeId.{NodeId}
@@ -8,13 +7,13 @@ use Rattle.hush_syntax.specs.declared.nodes.Operator.{Operator}
 use Rattle.hush_syntax.specs.declared.nodes.Link as link
 use Rattle.hush_syntax.specs.declared.nodes.Branch as branch
 use Rattle.hush_run.specs.declared.frames.Frame.TheVariants as frame
-use Rattle.hush_run.specs.declared.turns.Due.TheVariants as due
+use Rattle.hush_run.specs.declared.due.Due.TheVariants as due
 use Rattle.hush_syntax.specs.Nodes.{At, Subtree, OfChains, OfChain, OfCommand, chain_of, ChainAt, AreChains, AreLinks, IsChain, AreBranches, IsOtherwise}
 use Rattle.hush_syntax.specs.Grammar.{Command, If, While, Until, Branches, Elif, Else, Fi, Chain, First, Links, End, Link, Chains, Last, More, depth, depth_in_chain, depth_inside, depth_in_links, depth_in_branches}
 use Rattle.hush_syntax.specs.Reading.{bind}
 use Rattle.hush_run.specs.Meaning.{Rules, Begin, State, Out, Goes, ◌>>=◌, ◌then◌, with_status, if_ok, command, otherwise, chains}
 use Rattle.hush_run.specs.Resume.{chain_list, link_list, subtree_does, run_chains, run_links, chain_links, tagged, joined, links_in, room, branch_does}
-use Rattle.hush_run.specs.Turns.{Turns, behind_chain}
+use Rattle.hush_run.specs.Turns.{Turns}
 use Rattle.hush_run.proofs.Counts.{turns-again, chains-count}
 use Rattle.hush_run.proofs.Parts.{bind_goes, member_does}
 
@@ -39,8 +38,8 @@ chains_end at (j ∷ js) (Last c) (suc k) a le = drop-nil k
 chains_end at (j ∷ js) (More c cs) zero a le = absurd (omega (arith, le))
 chains_end at (j ∷ js) (More c cs) (suc k) a le = chains_end at js cs k a.1 (omega (arith, le))
 
-list_more : (at : At) (node i : NodeId) (ids : List NodeId) (cs : Chains) (k status : ℕ) → at node ≡ Some (OfChains cs) → AreChains at ids cs → k < length ids → i ≡ get_or ids k i → Turns at (frame.List node k) status (record { due = due.Node i; behind = Some (frame.List node (k + 1)); status = status })
-list_more at node i ids cs k status e a lt is =
+pub list_goes : (at : At) (node i : NodeId) (ids : List NodeId) (cs : Chains) (k status : ℕ) → at node ≡ Some (OfChains cs) → AreChains at ids cs → k < length ids → i ≡ get_or ids k i → Turns at (frame.List node k) status (record { due = due.Node i; behind = Some (frame.List node (k + 1)); status = status })
+list_goes at node i ids cs k status e a lt is =
     let r = at_chain at ids cs k i a lt is in
     let m = member_does (at i) r.0 r.1 in
     rw (e, add-one) (
@@ -50,27 +49,6 @@ list_more at node i ids cs k status e a lt is =
           ap (λ (xs : List Chain). run_chains rules begin xs (with_status status s)) r.2
           ∙ ap (λ (o : Out). o >>= run_chains rules begin (drop (suc k) (chain_list cs))) (sym (m.2 rules begin (with_status status s))),
     )
-
--- the last chain leaves nothing behind
-list_last : (at : At) (node i : NodeId) (ids : List NodeId) (cs : Chains) (k status : ℕ) → at node ≡ Some (OfChains cs) → AreChains at ids cs → k < length ids → length ids ≤ k + 1 → i ≡ get_or ids k i → Turns at (frame.List node k) status (record { due = due.Node i; behind = None; status = status })
-list_last at node i ids cs k status e a lt le is =
-    let r = at_chain at ids cs k i a lt is in
-    let m = member_does (at i) r.0 r.1 in
-    rw e (
-      m.0,
-      omega (arith, r.3, m.1),
-      λ rules begin counting s le'.
-          ap (λ (xs : List Chain). run_chains rules begin xs (with_status status s)) r.2
-          ∙ ap (λ (o : Out). o >>= run_chains rules begin (drop (suc k) (chain_list cs))) (sym (m.2 rules begin (with_status status s)))
-          ∙ ap (λ (xs : List Chain). subtree_does rules begin (at i) (with_status status s) >>= run_chains rules begin xs) (chains_end at ids cs (suc k) a (omega (arith, le))),
-    )
-
-pub list_goes : (at : At) (node i : NodeId) (ids : List NodeId) (cs : Chains) (k status : ℕ) → at node ≡ Some (OfChains cs) → AreChains at ids cs → k < length ids → i ≡ get_or ids k i → Turns at (frame.List node k) status (record { due = due.Node i; behind = behind_chain node (k + 1) ids; status = status })
-list_goes at node i ids cs k status e a lt is =
-    elim (cases_Bool (nat_lt (k + 1) (length ids))) [
-      | inl more ↦ rw more (list_more at node i ids cs k status e a lt is)
-      | inr last ↦ rw last (list_last at node i ids cs k status e a lt (ltb-false _ _ last) is)
-    ]
 
 pub list_ends : (at : At) (node : NodeId) (ids : List NodeId) (cs : Chains) (k status : ℕ) → at node ≡ Some (OfChains cs) → AreChains at ids cs → length ids ≤ k → Turns at (frame.List node k) status (record { due = due.Over; behind = None; status = status })
 list_ends at node ids cs k status e a le =

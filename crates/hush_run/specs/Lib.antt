@@ -2,9 +2,7 @@
 pub mod Meaning
 pub mod Stacks
 pub mod Runs
-pub mod Changing
-pub mod Underway
--- What the steps of the code do: promises speak of these only through Underway.
+-- What the steps of the code do: no promise speaks of these.
 pub mod Stops
 pub mod Counting
 pub mod Calls

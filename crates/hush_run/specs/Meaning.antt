@@ -17,9 +17,8 @@ use Rattle.hush_commands.specs.Stubs.{Statuses}
 use Rattle.hush_commands.specs.Messages.{text_of}
 use Rattle.hush_commands.specs.Output.{Printed, printed, answer}
 use Rattle.hush_commands.specs.Expansion.{Known, expanded, expanded_value}
-use Rattle.hush_commands.specs.Carrying.{Done, done_of}
+use Rattle.hush_commands.specs.Carrying.{Done, done_of, deletion_of}
 use Rattle.hush_commands.specs.Following.{follow_of}
-use Rattle.hush_commands.specs.Deletion.{deletion_of}
 use Rattle.hush_run.specs.declared.ending.Reason.{Reason}
 use Rattle.hush_run.specs.declared.ending.Reason.TheVariants.{Finished, Exited, Steps, Depth, Word, Output}
 
@@ -104,7 +103,7 @@ exiting (follow.Deletes force names) e = e
 
 -- the step of a simple command with these fields
 unfoldable pub effect : Statuses → List (List ℕ) → State → Effect
-effect stand_ins fields s = exiting (follow_of fields s.status) (carries (done_of stand_ins fields s.status s.held) s)
+effect stand_ins fields s = exiting (follow_of fields) (carries (done_of stand_ins fields s.status s.held) s)
 
 -- the step of an assignment
 abbrev pub assigned_to : List ℕ → Option (List ℕ) → State → Effect
@@ -161,7 +160,7 @@ follows rules start (follow.Deletes force names) = deletions rules force false n
 -- a simple command with these fields, and what comes behind it
 abbrev pub simple : Rules → Begin → Option (List (List ℕ)) → State → Out
 simple rules start None s = step rules (λ t. Stops Word) s
-simple rules start (Some fields) s = step rules (effect rules.stand_ins fields) s >>= follows rules start (follow_of fields s.status)
+simple rules start (Some fields) s = step rules (effect rules.stand_ins fields) s >>= follows rules start (follow_of fields)
 
 -- each field is bound to the name, and the body run
 abbrev pub bindings : Rules → List ℕ → (State → Out) → List (List ℕ) → State → Out

@@ -196,25 +196,14 @@ IsStep (Some (OfCommand (For name words d))) = Unit {0}
 IsStep (Some (OfCommand (While c d))) = ⊥
 IsStep (Some (OfCommand (Until c d))) = ⊥
 
--- a node is its first part, and behind that what this frame does
-abbrev pub IsFirst : At → NodeId → Frame → NodeId → Type 0
-IsFirst at id f part =
-    IsSome (at part) × ((scripts : List Parsed) → owners f scripts ≡ scripts) × IsFrame at f
-    × (room (at part) < room (at id)) × (frame_room at f ≤ room (at id)) ×
-    ((rules : Rules) (begin : Begin) → Counting rules begin → (s : State) → s.steps ≤ rules.limits.steps →
-    subtree_does rules begin (at id) s ≡ subtree_does rules begin (at part) s >>= frame_does rules begin at f)
-
--- it is that part alone
-abbrev pub IsAlone : At → NodeId → NodeId → Type 0
-IsAlone at id part =
-    IsSome (at part) × (room (at part) < room (at id)) ×
-    ((rules : Rules) (begin : Begin) (s : State) → subtree_does rules begin (at id) s ≡ subtree_does rules begin (at part) s)
-
--- the first part of a node, and the frame that is left behind for the others, if there are any; none where the node is a step
-abbrev pub FirstPart : At → NodeId → Option (Option Frame × NodeId) → Type 0
+-- the first part of a node, and the frame that is left behind for the others; none where the node is a step
+abbrev pub FirstPart : At → NodeId → Option (Frame × NodeId) → Type 0
 FirstPart at id None = IsStep (at id)
-FirstPart at id (Some (Some f, part)) = IsFirst at id f part
-FirstPart at id (Some (None, part)) = IsAlone at id part
+FirstPart at id (Some part) =
+    IsSome (at part.1) × ((scripts : List Parsed) → owners part.0 scripts ≡ scripts) × IsFrame at part.0
+    × (room (at part.1) < room (at id)) × (frame_room at part.0 ≤ room (at id)) ×
+    ((rules : Rules) (begin : Begin) → Counting rules begin → (s : State) → s.steps ≤ rules.limits.steps →
+    subtree_does rules begin (at id) s ≡ subtree_does rules begin (at part.1) s >>= frame_does rules begin at part.0)
 
 -- going down from a node to a step in it leaves all as it is
 abbrev pub Leads : Parsed → List Frame → List Frame → NodeId → NodeId → Type 0

@@ -1,8 +1,8 @@
 -- What is left where a part is done. (How the code goes about it; what a run means stands in Meaning.)
 use Rattle.std.specs.Prelude.{◌≡◌, ℕ, ◌+◌, ◌*◌, ◌≤◌, List, [], ◌∷◌, length, Option, Some, None}
 use Rattle.hush_run.specs.declared.frames.Frame.{Frame}
-use Rattle.hush_run.specs.declared.turns.Due.{Due}
-use Rattle.hush_run.specs.declared.turns.Due.TheVariants as due
+use Rattle.hush_run.specs.declared.due.Due.{Due}
+use Rattle.hush_run.specs.declared.due.Due.TheVariants as due
 use Rattle.hush_syntax.specs.Scripts.{Parsed}
 use Rattle.hush_run.specs.Meaning.{Rules, State, ◌>>=◌, with_status}
 use Rattle.hush_run.specs.Resume.{begin_in, at_in, resume, IsStack}

@@ -36,12 +36,6 @@ Did rules meant left old new (Ok x) =
 Did rules meant left old new (Err (Ended e)) = (begin : Begin) → meant rules begin old ≡ Ends e new
 Did rules meant left old new (Err Memory) = new ≡ old
 
--- the same of a step that may have to wait: then nothing has changed, and one more step may be counted
-abbrev pub DidOrWaits : {X : Type 0} → Rules → Meant → (X → Meant) → State → State → Result (Option X) Stop → Type 0
-DidOrWaits rules meant left old new (Ok (Some x)) = Did rules meant left old new (Ok x)
-DidOrWaits rules meant left old new (Ok None) = (new ≡ old) × (old.steps < rules.limits.steps)
-DidOrWaits rules meant left old new (Err stop) = Did rules meant left old new (Err stop)
-
 -- one more step may be counted
 abbrev pub MayStep : Rules → ℕ → Result (Unit {0}) Stop → Type 0
 MayStep rules steps (Ok u) = steps < rules.limits.steps

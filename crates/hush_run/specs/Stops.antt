@@ -1,6 +1,6 @@
 -- Why a run stops. (How the code goes about it; what a run means stands in Meaning.)
-use Rattle.hush_commands.specs.declared.expansion_fault.ExpansionFault.{ExpansionFault}
-use Rattle.hush_commands.specs.declared.expansion_fault.ExpansionFault.TheVariants as expansion
+use Rattle.hush_commands.specs.declared.expansion.ExpansionFault.{ExpansionFault}
+use Rattle.hush_commands.specs.declared.expansion.ExpansionFault.TheVariants as expansion
 use Rattle.hush_commands.specs.declared.output.PrintFault.{PrintFault}
 use Rattle.hush_commands.specs.declared.output.PrintFault.TheVariants as print
 use Rattle.hush_run.specs.declared.ending.Reason.TheVariants as reason

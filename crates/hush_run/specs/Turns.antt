@@ -1,10 +1,10 @@
 -- What a frame comes to where what stood above it is done. (How the code goes about it; what a run means stands in Meaning.)
-use Rattle.std.specs.Prelude.{◌≡◌, ℕ, suc, ◌<◌, ◌≤◌, nat_lt, if◌then◌else◌, List, length, Option, Some, None, IsSome}
+use Rattle.std.specs.Prelude.{◌≡◌, ℕ, suc, ◌<◌, ◌≤◌, List, length, Option, Some, None, IsSome}
 use Rattle.hush_syntax.specs.declared.nodes.NodeId.{NodeId}
 use Rattle.hush_run.specs.declared.frames.Frame.{Frame}
 use Rattle.hush_run.specs.declared.frames.Frame.TheVariants as frame
-use Rattle.hush_run.specs.declared.turns.Due.{Due}
-use Rattle.hush_run.specs.declared.turns.Due.TheVariants as due
+use Rattle.hush_run.specs.declared.due.Due.{Due}
+use Rattle.hush_run.specs.declared.due.Due.TheVariants as due
 use Rattle.hush_run.specs.declared.turns.Turn.{Turn}
 use Rattle.hush_syntax.specs.declared.nodes.Branch.{Branch}
 use Rattle.hush_syntax.specs.Nodes.{At, Subtree, OfChains, OfChain, OfCommand, AreBranches}
@@ -24,10 +24,6 @@ due_does rules begin at (due.Delete force failed names) = deletions rules force 
 abbrev pub behind_does : Rules → Begin → At → Option Frame → State → Out
 behind_does rules begin at None = Goes
 behind_does rules begin at (Some f) = frame_does rules begin at f
-
--- what a list leaves to do from this chain on: nothing where there are no more
-abbrev pub behind_chain : NodeId → ℕ → List NodeId → Option Frame
-behind_chain node next chains = if nat_lt next (length chains) then Some (frame.List node next) else None
 
 abbrev pub IsForNode : Option Subtree → Type 0
 IsForNode None = ⊥

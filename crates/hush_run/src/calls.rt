@@ -1,18 +1,18 @@
 //! The scripts that run: the first, and those that were started inside one another.
-ghost use Rattle.std.specs.Prelude.{◌≡◌, ◌≤◌, [], ◌∷◌, OnOk, length, vec_capacity};
+ghost use Rattle.std.specs.Prelude.{◌≡◌, ◌≤◌, [], ◌∷◌, IfOk, length};
 ghost use Rattle.hush_commands.specs.Limits.{most_depth};
 ghost use Rattle.hush_run.specs.Resume.{behind};
 
 use hush_commands::MOST_DEPTH;
 use hush_syntax::Script;
-use std::alloc::AllocError;
+use std::alloc::{AllocError, Global};
 use std::marker::Model;
 
 /// The scripts that run, the innermost first.
 #[derive(Drop)]
 pub(crate) struct Calls<'s> {
     first: &'s Script,
-    started: &'s mut Vec<Script>,
+    started: Vec<Script>,
 }
 
 impl<'s> Model for Calls<'s> {
@@ -23,29 +23,18 @@ impl<'s> Model for Calls<'s> {
 
     ghost Value = { List Parsed };
 
-    ghost view = { λ a. calls_of a.first.now a.started.now.items };
+    ghost view = { λ a. calls_of a.first.now a.started.items };
 
-    ghost invariant = { λ a. most_depth ≤ vec_capacity a.started.now };
+    ghost invariant = { λ a. most_depth ≤ vec_capacity a.started };
 }
 
 impl<'s> Calls<'s> {
-    /// Drops the scripts of a run that is done, and takes room for those of the most starts inside one another that limits may
-    /// give ([`MOST_DEPTH`]), where there isn't room enough.
-    pub(crate) fn take_room(started: &mut Vec<Script>) -> Result<(), AllocError>
-        ensures none { started.new.items ≡ [] }
-        ensures room { OnOk result (most_depth ≤ vec_capacity started.new) }
+    /// The first alone, and room for those of the most starts inside one another that limits may give ([`MOST_DEPTH`]).
+    pub(crate) fn new(alloc: Global, first: &'s Script) -> Result<Calls<'s>, AllocError>
+        ensures { IfOk result (λ calls. calls ≡ first.entry.now ∷ []) }
     {
-        started.clear();
-        started.reserve(MOST_DEPTH as usize)
-    }
-
-    /// The first alone, with that room.
-    pub(crate) fn new(first: &'s Script, started: &'s mut Vec<Script>) -> Calls<'s>
-        requires none { started.old.items ≡ [] }
-        requires room { most_depth ≤ vec_capacity started.old }
-        ensures { result ≡ first.entry.now ∷ [] }
-    {
-        Calls { first, started }
+        let started = Vec::with_capacity(alloc, MOST_DEPTH as usize)?;
+        Ok(Calls { first, started })
     }
 
     /// The innermost.

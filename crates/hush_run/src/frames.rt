@@ -1,9 +1,10 @@
 //! The stack of a run (docs/runs.md, "The stack").
 ghost use Rattle.std.specs.Prelude.{◌≡◌, ◌<◌, ◌≤◌, [], ◌∷◌, IfOk, IfSome, IfNone, length};
 
+use envvars_core::Memory;
 use hush_commands::FieldQueue;
 use hush_syntax::NodeId;
-use std::alloc::{AllocError, Global};
+use std::alloc::Global;
 use std::marker::Model;
 
 /// What is left to do where a part of a script is done.
@@ -84,7 +85,6 @@ impl Model for Frames {
 impl Frames {
     ghost use Rattle.hush_commands.specs.Limits.{most_depth};
     ghost use Rattle.hush_run.specs.Stacks.{frame_limit};
-    ghost use Rattle.hush_run.specs.Rises.{with_behind};
 
     /// No frames, and room for those of a script and of `depth` starts inside one another: (depth + 1) x 195, where 195
     /// is three for each of 64 levels of nesting, and three for a list, its chain and its command.
@@ -92,31 +92,14 @@ impl Frames {
     /// # Errors
     ///
     /// The room is refused.
-    pub fn new(alloc: Global, depth: u32) -> Result<Frames, AllocError>
+    pub fn new(alloc: Global, depth: u32) -> Result<Frames, Memory>
         requires { depth ≤ most_depth }
         ensures { IfOk result (λ frames. frames ≡ record { frames = []; depth = depth }) }
     {
-        let items = Vec::with_capacity(alloc, (depth as usize + 1) * SCRIPT_FRAMES)?;
-        Ok(Frames { items, depth })
-    }
-
-    /// The same in the room of other frames, where that is for as many starts. Then it takes no memory.
-    pub(crate) fn again(
-        before: Option<Frames>,
-        alloc: Global,
-        depth: u32,
-    ) -> Result<Frames, AllocError>
-        requires { depth ≤ most_depth }
-        ensures { IfOk result (λ frames. frames ≡ record { frames = []; depth = depth }) }
-    {
-        if let Some(frames) = before {
-            if frames.depth == depth {
-                let mut items = frames.items;
-                items.clear();
-                return Ok(Frames { items, depth });
-            }
+        match Vec::with_capacity(alloc, (depth as usize + 1) * SCRIPT_FRAMES) {
+            Ok(items) => Ok(Frames { items, depth }),
+            Err(_refused) => Err(Memory),
         }
-        Frames::new(alloc, depth)
     }
 
     /// Puts a frame on top, where the room isn't full. It takes no memory.
@@ -127,17 +110,6 @@ impl Frames {
         let pushed = self.items.push(frame);
         // It tells the prover that room was reserved, so this isn't refused.
         prove!(pushed.is_ok());
-    }
-
-    /// Puts the frame that is left behind on top, if one is. It takes no memory.
-    pub(crate) fn keep(&mut self, behind: Option<Frame>)
-        requires { length self.old.frames < frame_limit self.old.depth }
-        ensures frames { self.new.frames ≡ with_behind behind self.old.frames }
-        ensures depth { self.new.depth ≡ self.old.depth }
-    {
-        if let Some(frame) = behind {
-            self.push(frame);
-        }
     }
 
     /// Takes the frame on top, if there is one.

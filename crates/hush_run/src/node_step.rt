@@ -1,59 +1,52 @@
 //! The step that a node is.
-ghost use Rattle.std.specs.Prelude.{◌≡◌, ℕ, List, ◌≤◌, Some, true, false, IfOk, IfSome, IfNone};
+ghost use Rattle.std.specs.Prelude.{◌≡◌, ℕ, List, ◌≤◌, Some, IfOk};
 ghost use Rattle.hush_words.specs.Words.{Atom};
 ghost use Rattle.hush_syntax.specs.Grammar.{For, Chains};
 ghost use Rattle.hush_syntax.specs.Nodes.{At, OfCommand};
 ghost use Rattle.hush_syntax.specs.Scripts.{subtree_at};
 ghost use Rattle.hush_run.specs.Meaning.{Rules, Begin, State, follows, bindings, chains};
 ghost use Rattle.hush_run.specs.Resume.{subtree_does, room, IsStep};
-ghost use Rattle.hush_run.specs.Steps.{state_of, rules_of, DidOrWaits};
+ghost use Rattle.hush_run.specs.Steps.{state_of, rules_of, Did};
 ghost use Rattle.hush_run.specs.Turns.{due_does, due_room, IsDue};
-ghost use Rattle.hush_run.specs.Changing.{step_may_change};
 
+use crate::due::Due;
 use crate::ending::Stop;
 use crate::progress::{Given, Progress};
 use crate::steps::{assign_step, head_step, simple_step};
-use crate::turns::Due;
 use env_session::Session;
 use hush_commands::{FieldQueue, Follow};
 use hush_syntax::{Node, NodeId, Script};
 
-/// Does the step that a node is: what is due behind it; none where it has to wait, and nothing has changed.
-#[inline(always)]
+/// Does the step that a node is: what is due behind it.
 pub(crate) fn node_step(
     given: &Given<'_>,
     session: &mut Session,
     progress: &mut Progress,
     script: &Script,
     node: NodeId,
-) -> Result<Option<Due>, Stop>
+) -> Result<Due, Stop>
     requires { IsStep (subtree_at script.now node) }
-    ensures step { DidOrWaits (rules_of given.now) (λ rules begin. subtree_does rules begin (subtree_at script.now node))
+    ensures step { Did (rules_of given.now) (λ rules begin. subtree_does rules begin (subtree_at script.now node))
         (λ due rules begin. due_does rules begin (subtree_at script.now) due) (state_of session.old progress.old)
         (state_of session.new progress.new) result }
-    ensures due { IfOk result (λ next. IfSome next (λ due. IsDue (subtree_at script.now) due × (due_room (subtree_at script.now) due ≤ room (subtree_at script.now node)))) }
-    ensures waits { IfOk result (λ next. IfNone next (given.now.may_change ≡ false)) }
-    ensures changes { IfOk result (λ next. IfNone next (step_may_change (rules_of given.now) (subtree_at script.now node)
-        (state_of session.old progress.old) ≡ true)) }
-    ensures keeps { given.now.may_change ≡ false → session.new ≡ session.old }
+    ensures due { IfOk result (λ due. IsDue (subtree_at script.now) due × (due_room (subtree_at script.now) due ≤ room (subtree_at script.now node))) }
 {
     match script.node(node) {
         Node::Simple { words } => {
             match simple_step(given, session, progress, script.text(), words) {
-                Ok(Some(follow)) => Ok(Some(due_behind(follow))),
-                Ok(None) => Ok(None),
+                Ok(follow) => Ok(due_behind(follow)),
                 Err(stop) => Err(stop),
             }
         }
         Node::Assign { name, value } => {
             match assign_step(given, session, progress, script.text(), name, value) {
-                Ok(()) => Ok(Some(Due::Over)),
+                Ok(()) => Ok(Due::Over),
                 Err(stop) => Err(stop),
             }
         }
         Node::For { words, .. } => {
             match head_step(given, session, progress, script.text(), words) {
-                Ok(fields) => Ok(Some(due_binding(node, fields))),
+                Ok(fields) => Ok(due_binding(node, fields)),
                 Err(stop) => Err(stop),
             }
         }
@@ -66,7 +59,6 @@ pub(crate) fn node_step(
 }
 
 /// What is due behind a simple command.
-#[inline(always)]
 fn due_behind(follow: Follow) -> Due
     ensures due { (at : At) → IsDue at result × (due_room at result ≤ 1) }
     ensures same { (rules : Rules) (begin : Begin) (at : At) (s : State) → follows rules begin follow s ≡ due_does rules begin at result s }

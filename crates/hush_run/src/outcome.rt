@@ -1,6 +1,21 @@
-//! What a run comes to.
+//! Runs a script without recursion: a loop over its steps, with one stack of frames and one list of scripts, both of
+//! them in room that is taken at the start.
+ghost use Rattle.std.specs.Prelude.{◌≡◌, ◌≤◌};
+ghost use Rattle.hush_syntax.specs.Scripts.{tree_of};
+ghost use Rattle.hush_commands.specs.Limits.{most_depth};
+ghost use Rattle.hush_run.specs.Advances.{Ran};
+ghost use Rattle.hush_run.specs.Runs.{rules, Runs};
+ghost use Rattle.hush_run.specs.Steps.{state_of, rules_of};
 
-use crate::ending::Ending;
+use crate::calls::Calls;
+use crate::due::{Due, advance};
+use crate::ending::{Ending, Stop};
+use crate::frames::Frames;
+use crate::progress::{Given, Progress};
+use env_session::Session;
+use hush_commands::{Limits, Stubs};
+use hush_syntax::Script;
+use std::alloc::Global;
 
 /// What a run came to.
 #[derive(Debug, Drop)]
@@ -13,4 +28,72 @@ pub struct Outcome {
     pub steps: u32,
     /// What it printed, at most as many bytes as the limit.
     pub text: Vec<u8>,
+}
+
+/// Runs a script over a session under limits: what docs/runs.md, "Meaning", gives for it, whatever the session holds.
+///
+/// A run begins with status 0 and no local variables; it makes no mark and lets none go. Where a growth is refused it
+/// ends as `Memory`, and what stands is what a run with the limit of the counted steps leaves. It doesn't recurse: the
+/// room for frames and scripts is taken at the start.
+pub fn run(
+    alloc: Global,
+    session: &mut Session,
+    script: &Script,
+    stand_ins: &Stubs,
+    limits: &Limits,
+) -> Outcome
+    ensures { Runs (rules stand_ins.now limits.now) (tree_of script.now) session.old session.new result }
+{
+    let given = Given {
+        alloc,
+        stand_ins,
+        limits: *limits,
+    };
+    // Does nothing: it tells the prover that the depth is at most MOST_DEPTH.
+    let _depth = limits.depth();
+    let mut progress = Progress::new(&given);
+    let stop = run_script(&given, session, &mut progress, script);
+    let Progress {
+        locals: _,
+        status,
+        output,
+        steps,
+        fields: _,
+        name: _,
+    } = progress;
+    Outcome {
+        ending: Ending::of(stop),
+        status,
+        steps,
+        text: output.into_text(),
+    }
+}
+
+/// Runs a script from where the session and the progress stand: why it stopped.
+pub(crate) fn run_script(
+    given: &Given<'_>,
+    session: &mut Session,
+    progress: &mut Progress,
+    script: &Script,
+) -> Stop
+    requires depth { given.now.limits.depth ≤ most_depth }
+    requires steps { progress.old.steps ≤ given.now.limits.steps }
+    ensures { Ran (rules_of given.now) (tree_of script.now) (state_of session.old progress.old) (state_of session.new progress.new) result }
+{
+    let Ok(mut frames) = Frames::new(given.alloc, given.limits.depth()) else {
+        return Stop::Memory;
+    };
+    let Ok(mut calls) = Calls::new(given.alloc, script) else {
+        return Stop::Memory;
+    };
+    let mut due = match script.root() {
+        Some(root) => Due::Node(root),
+        None => Due::Over,
+    };
+    loop {
+        match advance(given, session, progress, &mut calls, &mut frames, due) {
+            Ok(next) => due = next,
+            Err(stop) => return stop,
+        }
+    }
 }

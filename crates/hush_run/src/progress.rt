@@ -1,38 +1,22 @@
 //! What a run is given, and what it changes.
-ghost use Rattle.std.specs.Prelude.{◌≡◌, ◌<◌, ℕ, false, not, ◌&&◌, map, IfOk};
+ghost use Rattle.std.specs.Prelude.{◌≡◌, ◌<◌, map, IfOk};
 ghost use Rattle.hush_words.specs.Parts.{word_atoms};
 ghost use Rattle.env_session.specs.Session.{Held};
-ghost use Rattle.hush_commands.specs.Carrying.{done_of};
-ghost use Rattle.hush_commands.specs.Changes.{may_change};
 ghost use Rattle.hush_commands.specs.Limits.{most_steps};
 ghost use Rattle.hush_run.specs.Meaning.{Rules, Goes, step, fails, fields_of, first_state};
 
-use crate::ending::{Ending, Reason, Stop};
-use crate::outcome::Outcome;
+use crate::ending::{Reason, Stop};
 use env_session::Session;
-use hush_commands::{FieldBuffer, Limits, Locals, Message, Output, Scope, Stubs, may_change};
+use hush_commands::{FieldBuffer, Limits, Locals, Message, Output, Scope, Stubs};
 use hush_syntax::{Text, Word};
 use std::alloc::Global;
 
-/// What a run is given: what stands in for hardware, its limits, and whether it may change the session yet.
+/// What a run is given: what stands in for hardware, and its limits.
 #[derive(Clone, Copy)]
 pub(crate) struct Given<'a> {
     pub(crate) alloc: Global,
     pub(crate) stand_ins: &'a Stubs,
     pub(crate) limits: Limits,
-    pub(crate) may_change: bool,
-}
-
-impl<'a> Given<'a> {
-    /// Whether the simple command of these fields has to wait: it may change the session, and nothing may change it yet.
-    #[inline(always)]
-    pub(crate) fn holds_back(&self, fields: &FieldBuffer) -> bool
-        ensures holds { result ≡ (not self.now.may_change && may_change fields.now.done) }
-        ensures leaves { result ≡ false → self.now.may_change ≡ false → (status : ℕ) (held : Held) →
-            (done_of self.now.stand_ins.now fields.now.done status held).1 ≡ held }
-    {
-        !self.may_change && may_change(fields)
-    }
 }
 
 /// What a run changes, but for the session.
@@ -50,49 +34,23 @@ pub(crate) struct Progress {
 }
 
 impl Progress {
-    ghost use Rattle.hush_run.specs.Runs.{reason_of, stop_reason};
     ghost use Rattle.hush_run.specs.Steps.{state_of, rules_of, value_of, FieldsAre, MayStep, Did};
 
-    /// That of no run. It takes no memory.
-    pub(crate) fn nothing(alloc: Global) -> Progress {
+    /// Status 0, no local variables and no text. It takes no memory.
+    pub(crate) fn new(given: &Given<'_>) -> Progress
+        ensures { (held : Held) → state_of held result ≡ first_state (rules_of given.now) held }
+    {
         Progress {
-            locals: Locals::new(alloc),
+            locals: Locals::new(given.alloc),
             status: 0,
-            output: Output::new(alloc, 0),
+            output: Output::new(given.alloc, given.limits.output()),
             steps: 0,
-            fields: FieldBuffer::new(alloc),
-            name: Vec::new(alloc),
-        }
-    }
-
-    /// Begins a run in the room of the one before: status 0, no local variables, no text and no steps. What the buffers for
-    /// the fields and the name hold is of no account. It takes no memory.
-    pub(crate) fn begin(&mut self, given: &Given<'_>)
-        ensures { (held : Held) → state_of held self.new ≡ first_state (rules_of given.now) held }
-    {
-        self.locals = Locals::new(given.alloc);
-        self.status = 0;
-        self.output.reset(given.limits.output());
-        self.steps = 0;
-    }
-
-    /// What a run comes to that stops so here. The text is taken.
-    pub(crate) fn outcome(&mut self, alloc: Global, stop: Stop) -> Outcome
-        ensures ending { reason_of result.ending ≡ stop_reason stop }
-        ensures status { result.status ≡ self.old.status }
-        ensures steps { result.steps ≡ self.old.steps }
-        ensures text { result.text.items ≡ self.old.output.text }
-    {
-        Outcome {
-            ending: Ending::of(stop),
-            status: self.status,
-            steps: self.steps,
-            text: self.output.take_text(alloc),
+            fields: FieldBuffer::new(given.alloc),
+            name: Vec::new(given.alloc),
         }
     }
 
     /// Where one more step may be counted, expands words to the fields of that step.
-    #[inline(always)]
     pub(crate) fn expand(
         &mut self,
         given: &Given<'_>,
@@ -170,7 +128,6 @@ impl Progress {
     }
 
     /// Whether one more step may be counted.
-    #[inline(always)]
     pub(crate) fn may_step(&self, given: &Given<'_>) -> Result<(), Stop>
         ensures may { MayStep (rules_of given.now) self.now.steps result }
         ensures counts { IfOk result (λ u. self.now.steps < most_steps) }

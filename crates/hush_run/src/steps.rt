@@ -1,10 +1,9 @@
 //! The steps of a run (docs/runs.md, "Steps"). Each counts one, or stops with nothing changed.
-ghost use Rattle.std.specs.Prelude.{◌≡◌, ℕ, List, ◌∷◌, map, true, false, IfOk, IfNone, if◌then◌else◌};
+ghost use Rattle.std.specs.Prelude.{ℕ, List, ◌∷◌, map, if◌then◌else◌};
 ghost use Rattle.hush_words.specs.Parts.{word_atoms};
 ghost use Rattle.hush_syntax.specs.Trees.{name_in};
 ghost use Rattle.hush_run.specs.Meaning.{Goes, ◌then◌, simple, follows, fields_of, step, assigned, for, bindings, deletions};
-ghost use Rattle.hush_run.specs.Changing.{fields_may_change};
-ghost use Rattle.hush_run.specs.Steps.{state_of, rules_of, Meant, Did, DidOrWaits, Started};
+ghost use Rattle.hush_run.specs.Steps.{state_of, rules_of, Meant, Did, Started};
 
 use crate::ending::{Reason, Stop};
 use crate::names::read_name;
@@ -13,41 +12,33 @@ use env_session::Session;
 use hush_commands::{FieldQueue, Follow, Message, carry_out, delete};
 use hush_syntax::{FaultKind, Script, Text, Word};
 
-/// A simple command of these words: what comes behind it; none where it has to wait, and nothing has changed.
-#[inline(always)]
+/// A simple command of these words: what comes behind it.
 pub(crate) fn simple_step(
     given: &Given<'_>,
     session: &mut Session,
     progress: &mut Progress,
     text: &Text,
     words: &[Word],
-) -> Result<Option<Follow>, Stop>
-    ensures step { DidOrWaits (rules_of given.now)
+) -> Result<Follow, Stop>
+    ensures { Did (rules_of given.now)
         (λ rules begin s. simple rules begin (fields_of rules (map (word_atoms text.now) words.now) s) s)
         (λ follow rules begin. follows rules begin follow) (state_of session.old progress.old)
         (state_of session.new progress.new) result }
-    ensures waits { IfOk result (λ follow. IfNone follow (given.now.may_change ≡ false)) }
-    ensures changes { IfOk result (λ follow. IfNone follow (fields_may_change (fields_of (rules_of given.now)
-        (map (word_atoms text.now) words.now) (state_of session.old progress.old)) ≡ true)) }
-    ensures keeps { given.now.may_change ≡ false → session.new ≡ session.old }
 {
     progress.expand(given, session, text, words)?;
-    if given.holds_back(&progress.fields) {
-        return Ok(None);
-    }
-    let status = progress.status;
-    progress.status = carry_out(
+    let (status, follow) = carry_out(
         given.alloc,
         session,
         given.stand_ins,
         &progress.fields,
-        status,
+        progress.status,
         &mut progress.output,
     )?;
+    progress.status = status;
     progress.steps += 1;
-    match Follow::of(given.alloc, &mut progress.fields, status) {
+    match follow {
         Follow::End => Err(Stop::Ended(Reason::Exited)),
-        follow => Ok(Some(follow)),
+        follow => Ok(follow),
     }
 }
 

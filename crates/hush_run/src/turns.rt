@@ -1,39 +1,15 @@
 //! What a frame comes to where what stood above it is done.
-ghost use Rattle.std.specs.Prelude.{◌≡◌, IsSome};
+ghost use Rattle.std.specs.Prelude.{◌≡◌, ◌<◌, IsSome, get_or, length};
 ghost use Rattle.hush_syntax.specs.Scripts.{subtree_at};
 ghost use Rattle.hush_syntax.specs.Nodes.{At};
 ghost use Rattle.hush_run.specs.Resume.{IsFrame, joined};
-ghost use Rattle.hush_run.specs.Turns.{Turns, BranchesTurn, behind_chain};
+ghost use Rattle.hush_run.specs.Turns.{Turns, BranchesTurn};
 ghost use Rattle.hush_run.specs.declared.frames.Frame.TheVariants as frame;
 
+use crate::due::Due;
 use crate::frames::Frame;
-use crate::members::member;
 use hush_commands::FieldQueue;
 use hush_syntax::{Branch, Node, NodeId, Operator, Script};
-
-/// What is due.
-#[derive(Drop)]
-pub(crate) enum Due {
-    /// Nothing here: the frames go on.
-    Over,
-    /// A node.
-    Node(NodeId),
-    /// The binding of the first of these fields to the variable of a `for`.
-    Binding {
-        node: NodeId,
-        fields: FieldQueue,
-    },
-    /// The start of the first of these names.
-    Start {
-        names: FieldQueue,
-    },
-    /// The deletion of the first of these names; whether it is forced, and whether that of an earlier name failed.
-    Delete {
-        force: bool,
-        failed: bool,
-        names: FieldQueue,
-    },
-}
 
 /// What a frame comes to: what is due, the frame that is left behind it, and the status.
 #[derive(Drop)]
@@ -90,19 +66,11 @@ fn list_turn(script: &Script, node: NodeId, next: usize, status: u8) -> Turn
     if next >= chains.len() {
         return over(status);
     }
-    let behind = list_behind(node, next + 1, chains);
-    goes_to(member(chains, next), behind, status)
-}
-
-/// The frame of a list whose chains from this one on are left; none where none is.
-pub(crate) fn list_behind(node: NodeId, next: usize, chains: &[NodeId]) -> Option<Frame>
-    ensures { result ≡ behind_chain node next chains.now }
-{
-    if next < chains.len() {
-        Some(Frame::List { node, next })
-    } else {
-        None
-    }
+    let behind = Frame::List {
+        node,
+        next: next + 1,
+    };
+    goes_to(member(chains, next), Some(behind), status)
 }
 
 /// Whether a command behind this operator is run.
@@ -237,4 +205,12 @@ fn started_turn(names: FieldQueue, status: u8) -> Turn
         behind: None,
         status,
     }
+}
+
+/// The member of this index.
+pub(crate) fn member<T: Copy>(members: &[T], index: usize) -> T
+    requires { index < length members.now }
+    ensures { result ≡ get_or members.now index result }
+{
+    members[index]
 }

@@ -42,10 +42,13 @@ fn frames_hold_three_for_each_level(rt: HostRuntime) -> Result<(), Fail> {
         assert!(rt; false, "a root");
         return Ok(());
     };
-    let mut few = Frames::new(rt.alloc(), 0)?;
+    let (Ok(mut few), Ok(mut many)) = (Frames::new(rt.alloc(), 0), Frames::new(rt.alloc(), 16))
+    else {
+        assert!(rt; false, "room for frames");
+        return Ok(());
+    };
     push_all(&mut few, root, 195);
     assert!(rt; come_back(&mut few, 195));
-    let mut many = Frames::new(rt.alloc(), 16)?;
     push_all(&mut many, root, 3315);
     assert!(rt; come_back(&mut many, 3315));
     Ok(())

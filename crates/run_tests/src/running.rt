@@ -2,7 +2,7 @@
 
 use crate::fixtures::{prepare, session};
 use env_session::Session;
-use hush_run::{Ending, Outcome, Runner, run};
+use hush_run::{Ending, Outcome, run};
 use std::test::Fail;
 
 /// A script, and its ending, status, steps and text.
@@ -57,33 +57,6 @@ fn a_session_goes_on_behind_each_ending(rt: HostRuntime) -> Result<(), Fail> {
             &given.limits,
         );
         assert!(rt; is_row(row, &outcome, &session), "{:?}", row.0);
-    }
-    assert!(rt; mark == Some(1) && session.vars().get(b"n").is_none());
-    Ok(())
-}
-
-#[test]
-fn a_runner_sees_nothing_of_the_runs_before(rt: HostRuntime) -> Result<(), Fail> {
-    let Some(mut session) = session(rt.alloc())? else {
-        assert!(rt; false, "a session");
-        return Ok(());
-    };
-    let mark = session.mark().ok();
-    let mut runner = Runner::new(rt.alloc());
-    // Between the rows it has another depth, and nothing to run.
-    let between: [Row; 2] = [
-        (b"echo a b", Ending::Finished, 0, 1, b"a b\n"),
-        (b"# none\n", Ending::Finished, 0, 0, b""),
-    ];
-    for row in ROWS {
-        for (row, depth) in [(row, 1), (between[0], 16), (between[1], 0)] {
-            let Some(given) = prepare(rt.alloc(), row.0, depth)? else {
-                assert!(rt; false, "{:?} is given", row.0);
-                return Ok(());
-            };
-            let outcome = runner.run(&mut session, &given.script, &given.stand_ins, &given.limits);
-            assert!(rt; is_row(row, &outcome, &session), "{:?}", row.0);
-        }
     }
     assert!(rt; mark == Some(1) && session.vars().get(b"n").is_none());
     Ok(())

@@ -1,13 +1,13 @@
 //! Sessions over streams by their rules (docs/dry-runs.md). Texts and counts are worked out by hand.
 
 mod blocks;
+mod cut_streams;
 mod dots;
 mod faults;
 mod lengths;
 mod marks;
 mod rows;
 mod turns;
-mod waiting;
 
 use env_session::{Session, Side, Stored};
 use envimg_core::{Geometry, Layout};

@@ -33,6 +33,9 @@ pub fn sweep<W: Write>(alloc: Global, out: &mut W) -> io::Result<()> {
         return wrong(out, "start of 500 commands");
     };
     if is_whole(&told) {
+        if told.output.calls > 2 {
+            refused(out, "answer of a session as one text")?;
+        }
         return row(out, "500 commands of a session", AFTER);
     }
     if !is_right(alloc, out, &stand_ins, &input, &told)? {

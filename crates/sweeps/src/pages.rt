@@ -8,6 +8,8 @@ use std::io::{self, Write};
 pub struct Page {
     bytes: [u8; 1024],
     len: usize,
+    /// How often it was called, modulo 2^32.
+    pub calls: u32,
     ghost within: { len ≤ 1024 },
 }
 
@@ -17,6 +19,7 @@ impl Page {
         Page {
             bytes: [0; 1024],
             len: 0,
+            calls: 0,
         }
     }
 
@@ -28,6 +31,7 @@ impl Page {
 
 impl Write for Page {
     fn write(&mut self, text: &[u8]) -> io::Result<usize> {
+        self.calls = self.calls.wrapping_add(1);
         let start = self.len;
         let count = text.len().min(1024 - start);
         self.bytes[start..start + count].copy_from_slice(&text[..count]);

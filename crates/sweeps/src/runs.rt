@@ -133,14 +133,17 @@ fn expand<W: Write>(out: &mut W, words: &Words, run: &mut Run) -> io::Result<()>
 
 /// What the fields that stand in the buffer answer as a command.
 fn answered(alloc: Global, run: &mut Run, output: &mut Output) -> Result<u8, PrintFault> {
-    carry_out(
+    match carry_out(
         alloc,
         &mut run.session,
         &run.stand_ins,
         &run.fields,
         7,
         output,
-    )
+    ) {
+        Ok((status, _follow)) => Ok(status),
+        Err(fault) => Err(fault),
+    }
 }
 
 /// A command. Refused, it has printed nothing and changed nothing, and made again it does what it has to.

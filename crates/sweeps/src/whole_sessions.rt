@@ -255,6 +255,9 @@ pub fn sweep<W: Write>(alloc: Global, out: &mut W) -> io::Result<()> {
         return wrong(out, "start of a session over streams");
     };
     if is_whole(&told)? {
+        if told.output.calls as usize > ITEMS.len() {
+            refused(out, "answer of a session as one text")?;
+        }
         return row(out, "session", AFTER);
     }
     if !is_right(alloc, out, &stand_ins, &told)? {

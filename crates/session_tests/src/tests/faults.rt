@@ -8,7 +8,7 @@ use std::process::Abort;
 use std::test::Fail;
 
 /// A block or a dot line, what it prints, and the variables and the number of marks behind it.
-type Item = (&'static [u8], &'static [u8], &'static [&'static [u8]], u32);
+pub(super) type Item = (&'static [u8], &'static [u8], &'static [&'static [u8]], u32);
 
 /// A session with every dot line, and blocks of each kind; the last line has no newline.
 const ITEMS: &[Item] = &[
@@ -47,7 +47,7 @@ const ITEMS: &[Item] = &[
     (b"setenv c 1", b"[Finished 0 1]\n", &[b"c=1"], 0),
 ];
 
-fn items() -> &'static [Item] {
+pub(super) fn items() -> &'static [Item] {
     ITEMS
 }
 

@@ -1,7 +1,7 @@
 use Rattle.std.proofs.Common.{◌≡◌, ℕ, ◌&&◌, List, Ok, Err, subst, sym, ap, ◌∙◌, rules}
 use Rattle.std.specs.List.{flat_map, list_all}
 use Rattle.std.proofs.Math.Bool.{and-true}
-use Rattle.hush_commands.specs.Commands.{status_if}
+use Rattle.hush_commands.specs.Output.{status_if}
 use Rattle.hush_commands.specs.Output.{Prints}
 use Rattle.hush_commands.specs.Listing.{line_in, is_defined}
 use Rattle.hush_commands.proofs.OutputLemmas.{prints-nothing, prints-front}

@@ -3,27 +3,27 @@ use Rattle.hush_words.specs.Parts.{Written, word_atoms}
 use Rattle.hush_syntax.specs.Grammar.{Assign, For}
 use Rattle.hush_syntax.specs.Scripts.{subtree_at}
 use Rattle.hush_syntax.specs.Trees.{name_in, words_in}
-use Rattle.hush_run.specs.declared.turns.Due.TheVariants as due
+use Rattle.hush_run.specs.declared.due.Due.TheVariants as due
 use Rattle.hush_run.specs.Meaning.{Rules, Goes, step, assigned, for, fields_of, bindings, chains}
 use Rattle.hush_run.specs.Resume.{room}
 use Rattle.hush_run.specs.Steps.{Did, state_of, rules_of}
 use Rattle.hush_run.proofs.NodeLemmas.{node_did, node_stopped}
 use Rattle.hush_run.proofs.node_step.node_step.Goals as goal
 
-pub returns-in-Ok-Some-clause-due : goal.returns-in-Ok-Some-clause-due
-returns-in-Ok-Some-clause-due c =
+pub returns-in-Ok-clause-due : goal.returns-in-Ok-clause-due
+returns-in-Ok-clause-due c =
     let h = rw c.in-Simple.is at c.node.ensures in
     let d = c.due_behind.ensures.due (subtree_at c.args.script.now) in
     let e = ap room h in
     (d.0, omega (arith, d.1, e))
 
-pub returns-in-Ok-clause-step : goal.returns-in-Ok-clause-step
-returns-in-Ok-clause-step c =
+pub returns-in-Ok-assign_step-clause-step : goal.returns-in-Ok-assign_step-clause-step
+returns-in-Ok-assign_step-clause-step c =
     let r = rules_of c.args.given.now in
     let h = rw c.in-Assign.is at c.node.ensures in
     let s = state_of c.args.session.now c.args.progress.now in
     let t = state_of c.args.session.now c.assign_step.new.progress in
-    let did = subst (λ (text : Written). Did r (λ (q : Rules) begin. step q (assigned q (name_in text c.in-Assign.name) (word_atoms text c.in-Assign.value))) (λ (u : Unit {0}) q begin. Goes) s t (Ok tt)) c.text-in-Assign.ensures c.in-Ok.ensures in
+    let did = subst (λ (text : Written). Did r (λ (q : Rules) begin. step q (assigned q (name_in text c.in-Assign.name) (word_atoms text c.in-Assign.value))) (λ (u : Unit {0}) q begin. Goes) s t (Ok tt)) c.text-in-Assign.ensures c.in-Ok-assign_step.ensures in
     node_did r (subtree_at c.args.script.now) c.args.node (Assign (name_in c.args.script.now.text c.in-Assign.name) (word_atoms c.args.script.now.text c.in-Assign.value)) s t h (λ (u : Unit {0}) q begin. Goes) tt due.Over did (λ q begin u. refl)
 
 pub returns-in-Err-assign_step-clause-step : goal.returns-in-Err-assign_step-clause-step

@@ -1,5 +1,5 @@
 use Rattle.std.proofs.Common.{rules as allowed, ◌≡◌, ◌+◌, ◌∷◌, Err, add-one}
-use Rattle.hush_commands.specs.Deletion.{deletion_of}
+use Rattle.hush_commands.specs.Carrying.{deletion_of}
 use Rattle.hush_run.specs.Stops.{print_stop}
 use Rattle.hush_run.specs.Meaning.{deletions}
 use Rattle.hush_run.specs.Steps.{state_of, rules_of}

@@ -7,11 +7,8 @@ use Rattle.hush_run.specs.Steps.{Did, FieldsAre, state_of, rules_of}
 use Rattle.hush_run.proofs.StepLemmas.{made_fields, no_fields, simple_halts, simple_large, simple_done, simple_left, simple_unprinted}
 use Rattle.hush_run.proofs.steps.simple_step.Goals as goal
 
-pub returns-then-holds_back-clause-step : goal.returns-then-holds_back-clause-step
-returns-then-holds_back-clause-step c = (c.in_ok-expand.ensures.same c.args.session.now, c.in_ok-expand.ensures.fields.0)
-
-pub returns-in_err-expand-clause-step : goal.returns-in_err-expand-clause-step
-returns-in_err-expand-clause-step c =
+pub returns-in_err-expand : goal.returns-in_err-expand
+returns-in_err-expand c =
     let r = rules_of c.args.given.now in
     let words = map (word_atoms c.args.text.now) c.args.words.now in
     let s = state_of c.args.session.now c.args.progress.now in
@@ -21,8 +18,8 @@ returns-in_err-expand-clause-step c =
     (λ begin le. simple_halts r begin (fields_of r words s) s le)
     (λ begin lt e. simple_large r begin (fields_of r words s) s lt e)))
 
-pub returns-in_err-progress-clause-step : goal.returns-in_err-progress-clause-step
-returns-in_err-progress-clause-step c =
+pub returns-in_err-progress : goal.returns-in_err-progress
+returns-in_err-progress c =
     let r = rules_of c.args.given.now in
     let words = map (word_atoms c.args.text.now) c.args.words.now in
     let s = state_of c.args.session.now c.args.progress.now in
@@ -34,8 +31,8 @@ returns-in_err-progress-clause-step c =
     rw same (subst (λ (u : State). Did r (λ (q : Rules) begin v. simple q begin (fields_of q words v) v) (λ follow q begin. follows q begin follow) u new (Err (print_stop c.in_err-progress.field-0.0))) back
     (simple_unprinted r words t c.expand.new.self.fields.done are.0 (made_fields (fields_of r words t) c.expand.new.self.fields are.1) c.carry_out.new.session c.carry_out.new.output c.in_err-progress.field-0.0 c.in_err-progress.ensures))
 
-pub returns-in-End-clause-step : goal.returns-in-End-clause-step
-returns-in-End-clause-step c =
+pub returns-in-End : goal.returns-in-End
+returns-in-End c =
     let r = rules_of c.args.given.now in
     let words = map (word_atoms c.args.text.now) c.args.words.now in
     let s = state_of c.args.session.now c.args.progress.now in
@@ -46,8 +43,8 @@ returns-in-End-clause-step c =
     subst (λ (u : State). (begin : Begin) → simple r begin (fields_of r words u) u ≡ Ends Exited new) back
     (simple_left r words t c.expand.new.self.fields.done are.0 (made_fields (fields_of r words t) c.expand.new.self.fields are.1) c.carry_out.new.session c.carry_out.new.output c.in_ok-progress.field-0 (c.expand.new.self.steps + 1) c.in_ok-progress.ensures (add-one _) (sym c.of.ensures ∙ c.in-End.is))
 
-pub returns-in_default-clause-step : goal.returns-in_default-clause-step
-returns-in_default-clause-step c =
+pub returns-in_default : goal.returns-in_default
+returns-in_default c =
     let r = rules_of c.args.given.now in
     let words = map (word_atoms c.args.text.now) c.args.words.now in
     let s = state_of c.args.session.now c.args.progress.now in

@@ -1,10 +1,8 @@
-use Rattle.std.proofs.Common.{rules, Option, sym, subst}
+use Rattle.std.proofs.Common.{rules, sym, subst}
 use Rattle.hush_syntax.specs.Scripts.{subtree_at}
 use Rattle.hush_run.specs.Turns.{Turns}
 use Rattle.hush_run.specs.declared.turns.Turn.{Turn}
-use Rattle.hush_run.specs.declared.frames.Frame.{Frame}
 use Rattle.hush_run.specs.declared.frames.Frame.TheVariants as frame
-use Rattle.hush_run.specs.declared.turns.Due.TheVariants as due
 use Rattle.hush_run.proofs.TurnLemmas.{list_goes, list_ends}
 use Rattle.hush_run.proofs.turns.list_turn.Goals as goal
 
@@ -12,8 +10,7 @@ pub returns : goal.returns
 returns c =
     let h = rw c.in-List.is at c.node.ensures in
     subst (λ (t : Turn). Turns (subtree_at c.args.script.now) (frame.List c.args.node c.args.next) c.args.status t) (sym c.goes_to.ensures)
-    (subst (λ (behind : Option Frame). Turns (subtree_at c.args.script.now) (frame.List c.args.node c.args.next) c.args.status (record { due = due.Node c.member.result; behind = behind; status = c.args.status })) (sym c.list_behind-behind.ensures)
-    (list_goes (subtree_at c.args.script.now) c.args.node c.member.result c.in-List.chains.now h.0 c.args.next c.args.status h.1 h.2 (search (rules, c.if-next-chains.false)) c.member.ensures))
+    (list_goes (subtree_at c.args.script.now) c.args.node c.member.result c.in-List.chains.now h.0 c.args.next c.args.status h.1 h.2 (search (rules, c.if-next-chains.false)) c.member.ensures)
 
 pub returns-then-next-chains : goal.returns-then-next-chains
 returns-then-next-chains c =

@@ -1,0 +1,100 @@
+//! Blocks: a script is read, run, and what it comes to is written.
+ghost use Rattle.std.specs.Prelude.{◌≡◌, ℕ, List, Option, ◌+◌, ◌≤◌, ◌++◌, [], length};
+ghost use Rattle.fw_session.specs.Input.{Block};
+ghost use Rattle.fw_session.specs.Replies.{ending_name, ending_line};
+ghost use Rattle.fw_session.specs.Handling.{ItemAnswered};
+ghost use Rattle.fw_session.specs.Streams.{Writes};
+ghost use Rattle.fw_session.specs.NamedSessions.{named_session};
+ghost use Rattle.hush_run.specs.Runs.{rules};
+
+use crate::answers::{write_both, write_text};
+use arrayvec::ArrayVec;
+use env_session::Session;
+use hush_run::{Ending, Limits, Outcome, Stubs, run};
+use hush_syntax::{FaultKind, Script};
+use itoa::Buffer;
+use std::alloc::Global;
+use std::io::Write;
+
+/// Runs a block, and writes what it has to say.
+pub(crate) fn run_block<W: Write>(
+    alloc: Global,
+    session: &mut Session,
+    stand_ins: &Stubs,
+    limits: &Limits,
+    block: Vec<u8>,
+    output: &mut W,
+    written: &mut u64,
+) -> bool
+    ensures { (names : List (Option (List ℕ))) → ItemAnswered (rules stand_ins.now limits.now) (named_session session.old names)
+        (Block block.items) (W.contents output.old) (W.contents output.new) written.old written.new
+        (named_session session.new names) result }
+{
+    match Script::parse(alloc, block) {
+        Ok(script) => {
+            let outcome = run(alloc, session, &script, stand_ins, limits);
+            write_outcome(outcome, output, written)
+        }
+        Err(fault) => match fault.kind {
+            FaultKind::Memory => write_text(output, b"[Memory]\n", written),
+            _ => write_text(output, b"[Syntax]\n", written),
+        },
+    }
+}
+
+/// Writes the text of a run and how it ended as one text; if there is no memory for that, one after the other.
+fn write_outcome<W: Write>(outcome: Outcome, output: &mut W, written: &mut u64) -> bool
+    ensures { Writes (W.contents output.old) (W.contents output.new) written.old written.new
+        (outcome.text.items ++ ending_line outcome.ending outcome.status outcome.steps) result }
+{
+    let line = ending_line(&outcome);
+    let mut text = outcome.text;
+    if text.is_empty() {
+        return write_text(output, &line, written);
+    }
+    match text.extend_from_slice(&line) {
+        Ok(()) => write_text(output, &text, written),
+        Err(_) => write_both(output, &text, &line, written),
+    }
+}
+
+/// `[ENDING STATUS STEPS]` and a newline.
+fn ending_line(outcome: &Outcome) -> ArrayVec<u8, 64>
+    ensures { result.items ≡ ending_line outcome.now.ending outcome.now.status outcome.now.steps }
+{
+    let mut line = ArrayVec::new();
+    put(&mut line, b"[");
+    put(&mut line, name_of(outcome.ending));
+    put(&mut line, b" ");
+    put(&mut line, Buffer::new().format(outcome.status).as_bytes());
+    put(&mut line, b" ");
+    put(&mut line, Buffer::new().format(outcome.steps).as_bytes());
+    put(&mut line, b"]\n");
+    line
+}
+
+/// Puts a short text at the end of a line.
+fn put(line: &mut ArrayVec<u8, 64>, text: &[u8])
+    requires { length line.old.items + length text.now ≤ 64 }
+    ensures { line.new.items ≡ line.old.items ++ text.now }
+{
+    let appended = line.try_extend_from_slice(text);
+    // It tells the prover that the text fits, so this isn't refused.
+    prove!(appended.is_ok());
+}
+
+/// The name of an ending.
+fn name_of(ending: Ending) -> &'static [u8]
+    ensures name { result.now ≡ ending_name ending }
+    ensures short { length result.now ≤ 8 }
+{
+    match ending {
+        Ending::Finished => b"Finished",
+        Ending::Exited => b"Exited",
+        Ending::Steps => b"Steps",
+        Ending::Depth => b"Depth",
+        Ending::Word => b"Word",
+        Ending::Output => b"Output",
+        Ending::Memory => b"Memory",
+    }
+}

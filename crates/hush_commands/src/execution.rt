@@ -1,0 +1,194 @@
+//! What a simple command does (docs/runs.md, "Commands").
+ghost use Rattle.std.specs.Prelude.{◌≡◌, ◌++◌, IfOk};
+ghost use Rattle.std.specs.FinMap as names;
+ghost use Rattle.hush_commands.specs.Following.{follow_of};
+ghost use Rattle.hush_commands.specs.Output.{Prints, Answers, behind_spaces, spaced, status_if};
+ghost use Rattle.hush_commands.specs.Carrying.{echo_of, line_end, stand_in_of, other_of, save_of, done_by, done_of};
+ghost use Rattle.hush_commands.specs.Carrying.{Attempts, Carries, Tells, status_in};
+
+use crate::command::Command;
+use crate::field_buffer::FieldBuffer;
+use crate::follow::Follow;
+use crate::listing::print_variables;
+use crate::messages::Message;
+use crate::output::{Output, PrintFault};
+use crate::stand_ins::Stubs;
+use crate::writes::{Complaint, calculate, write_words};
+use env_session::Session;
+use envvars_core::Memory;
+use hush_calc::{Fields, test};
+use std::alloc::Global;
+
+/// Carries out the simple command of these fields: answers its status and what follows it, and leaves its text and its
+/// change.
+///
+/// The names of `run` and `env delete` are steps of their own, which follow: here these leave the status. `exit` answers
+/// the status with which the run ends. If the text doesn't fit or memory is refused, nothing has changed.
+pub fn carry_out(
+    alloc: Global,
+    session: &mut Session,
+    stand_ins: &Stubs,
+    fields: &FieldBuffer,
+    status: u8,
+    output: &mut Output,
+) -> Result<(u8, Follow), PrintFault>
+    ensures carries { Carries (done_of stand_ins.now fields.now.done status session.old) session.old session.new
+        output.old output.new (status_in result) }
+    ensures follows { IfOk result (λ done. done.1 ≡ follow_of fields.now.done status) }
+{
+    let command = Command::of(fields.fields());
+    let follow = match command.follow(alloc) {
+        Ok(follow) => follow,
+        Err(_) => return Err(PrintFault::Memory),
+    };
+    let start = output.text().len();
+    match attempt(alloc, session, stand_ins, command, status, output) {
+        Ok(status) => {
+            // Does nothing: it tells the prover that what was printed is within the limit.
+            let _printed = output.text();
+            Ok((status, follow))
+        }
+        Err(fault) => {
+            output.cut(start);
+            Err(fault)
+        }
+    }
+}
+
+/// Carries out a command, but if the text isn't printed, a part of it may be after what was printed before.
+fn attempt(
+    alloc: Global,
+    session: &mut Session,
+    stand_ins: &Stubs,
+    command: Command<'_>,
+    status: u8,
+    output: &mut Output,
+) -> Result<u8, PrintFault>
+    ensures { Attempts (done_by stand_ins.now command.entry status session.old) session.old session.new output.old
+        output.new result }
+{
+    match command {
+        Command::True => Ok(0),
+        Command::False => Ok(1),
+        Command::Echo { newline, words } => echo(newline, words, output),
+        Command::Set { force, name, words } => {
+            tell(
+                write_words(alloc, session, name.bytes(), words, force),
+                output,
+            )
+        }
+        Command::Print { all, names } => print_variables(session.vars(), all, names, output),
+        Command::Save => save(session, output),
+        Command::Run { .. } => Ok(status),
+        Command::Delete { .. } => Ok(status),
+        Command::Exists { name } => Ok(status_if(session.vars().get(name.bytes()).is_some())),
+        Command::Test { words } => Ok(status_if(test(words))),
+        Command::Calculate { called, words } => {
+            tell(calculate(session, called.bytes(), words), output)
+        }
+        Command::Exit { status: own } => Ok(own.unwrap_or(status)),
+        Command::WrongUse { called } => Message::WrongUse.fail(called.bytes(), output),
+        Command::Other { called, words } => other(stand_ins, called.bytes(), words, output),
+    }
+}
+
+/// `echo`: prints the words, joined by one space, and perhaps a newline.
+fn echo(newline: bool, words: Fields<'_>, output: &mut Output) -> Result<u8, PrintFault>
+    ensures { Answers (echo_of newline words.entry) output.old output.new result }
+{
+    print_words(words, line_end(newline), output)?;
+    Ok(0)
+}
+
+fn line_end(newline: bool) -> &'static [u8]
+    ensures { result.now ≡ line_end newline }
+{
+    if newline { b"\n" } else { b"" }
+}
+
+/// Saves, and prints which copy was written.
+fn save(session: &mut Session, output: &mut Output) -> Result<u8, PrintFault>
+    ensures { Attempts (save_of session.old) session.old session.new output.old output.new result }
+{
+    match output.save(session) {
+        Ok(()) => Ok(0),
+        Err(fault) => Err(fault),
+    }
+}
+
+/// A stand-in, or a command that isn't known.
+fn other(
+    stand_ins: &Stubs,
+    called: &[u8],
+    words: Fields<'_>,
+    output: &mut Output,
+) -> Result<u8, PrintFault>
+    ensures { Answers (other_of (names.get stand_ins.now called.now) called.now words.entry) output.old output.new result }
+{
+    match stand_ins.status(called) {
+        Some(status) => stand_in(status, called, words, output),
+        None => Message::UnknownCommand.fail(called, output),
+    }
+}
+
+/// A stand-in: prints `+`, its name and the words, and has its own status.
+fn stand_in(
+    status: u8,
+    called: &[u8],
+    words: Fields<'_>,
+    output: &mut Output,
+) -> Result<u8, PrintFault>
+    ensures { Answers (stand_in_of status called.now words.entry) output.old output.new result }
+{
+    output.print(b"+ ")?;
+    output.print(called)?;
+    print_behind_spaces(words, b"\n", output)?;
+    Ok(status)
+}
+
+/// Tells the complaint of a write, if it has one.
+fn tell(
+    written: Result<Option<Complaint<'_>>, Memory>,
+    output: &mut Output,
+) -> Result<u8, PrintFault>
+    ensures { Tells written.entry output.old output.new result }
+{
+    match written {
+        Ok(None) => Ok(0),
+        Ok(Some(complaint)) => complaint.message.fail(complaint.name, output),
+        Err(Memory) => Err(PrintFault::Memory),
+    }
+}
+
+/// True has status 0.
+pub(crate) fn status_if(holds: bool) -> u8
+    ensures { result ≡ status_if holds }
+{
+    if holds { 0 } else { 1 }
+}
+
+/// Prints words, joined by one space, and what ends them.
+fn print_words(words: Fields<'_>, end: &[u8], output: &mut Output) -> Result<(), PrintFault>
+    ensures { Prints (spaced words.entry ++ end.now) output.old output.new result }
+{
+    let mut rest = words;
+    match rest.next() {
+        Some(first) => {
+            output.print(first)?;
+            print_behind_spaces(rest, end, output)
+        }
+        None => output.print(end),
+    }
+}
+
+/// Prints words, each after a space, and what ends them.
+fn print_behind_spaces(words: Fields<'_>, end: &[u8], output: &mut Output) -> Result<(), PrintFault>
+    ensures { Prints (behind_spaces words.entry ++ end.now) output.old output.new result }
+{
+    let mut rest = words;
+    while let Some(word) = rest.next() {
+        output.print(b" ")?;
+        output.print(word)?;
+    }
+    output.print(end)
+}

@@ -1,0 +1,238 @@
+//! What is due: a step, whatever it is, and what is due after it.
+ghost use Rattle.std.specs.Prelude.{◌≡◌, ◌≤◌, ◌+◌, ◌-◌, length};
+ghost use Rattle.hush_commands.specs.Limits.{most_depth};
+ghost use Rattle.hush_run.specs.Advances.{Advances, IsReady};
+ghost use Rattle.hush_run.specs.Rises.{IsEnd};
+ghost use Rattle.hush_run.specs.Steps.{state_of, rules_of};
+ghost use Rattle.hush_run.specs.declared.due.Due.TheVariants as due;
+
+use crate::calls::Calls;
+use crate::ending::{Reason, Stop};
+use crate::frames::{Frame, Frames};
+use crate::node_step::node_step;
+use crate::progress::{Given, Progress};
+use crate::steps::{bind_step, delete_step, start_step};
+use crate::walk::{descend, rise_up};
+use env_session::Session;
+use hush_commands::FieldQueue;
+use hush_syntax::{Node, NodeId};
+
+/// What is due.
+#[derive(Drop)]
+pub(crate) enum Due {
+    /// Nothing here: the frames go on.
+    Over,
+    /// A node.
+    Node(NodeId),
+    /// The binding of the first of these fields to the variable of a `for`.
+    Binding {
+        node: NodeId,
+        fields: FieldQueue,
+    },
+    /// The start of the first of these names.
+    Start {
+        names: FieldQueue,
+    },
+    /// The deletion of the first of these names; whether it is forced, and whether that of an earlier name failed.
+    Delete {
+        force: bool,
+        failed: bool,
+        names: FieldQueue,
+    },
+}
+
+/// Does the next step: what is due then.
+pub(crate) fn advance(
+    given: &Given<'_>,
+    session: &mut Session,
+    progress: &mut Progress,
+    calls: &mut Calls<'_>,
+    frames: &mut Frames,
+    due: Due,
+) -> Result<Due, Stop>
+    requires depth { given.now.limits.depth ≤ most_depth }
+    requires ready { IsReady (rules_of given.now) calls.old frames.old.frames frames.old.depth due }
+    requires steps { progress.old.steps ≤ given.now.limits.steps }
+    ensures { Advances (rules_of given.now) calls.old frames.old.frames due (state_of session.old progress.old)
+        calls.new frames.new.frames frames.new.depth (state_of session.new progress.new) result }
+{
+    match due {
+        Due::Over => {
+            let due = rise_up(calls, frames, &mut progress.status);
+            step_due(given, session, progress, calls, frames, due)
+        }
+        due => step_due(given, session, progress, calls, frames, due),
+    }
+}
+
+/// Does what is due, which is a step, or the end.
+fn step_due(
+    given: &Given<'_>,
+    session: &mut Session,
+    progress: &mut Progress,
+    calls: &mut Calls<'_>,
+    frames: &mut Frames,
+    due: Due,
+) -> Result<Due, Stop>
+    requires depth { given.now.limits.depth ≤ most_depth }
+    requires ready { IsReady (rules_of given.now) calls.old frames.old.frames frames.old.depth due }
+    requires end { IsEnd due frames.old.frames }
+    requires steps { progress.old.steps ≤ given.now.limits.steps }
+    ensures { Advances (rules_of given.now) calls.old frames.old.frames due (state_of session.old progress.old)
+        calls.new frames.new.frames frames.new.depth (state_of session.new progress.new) result }
+{
+    match due {
+        Due::Over => Err(Stop::Ended(Reason::Finished)),
+        Due::Node(node) => node_due(given, session, progress, calls, frames, node),
+        Due::Binding { node, fields } => {
+            binding_due(given, session, progress, calls, frames, node, fields)
+        }
+        Due::Start { names } => start_due(given, session, progress, calls, frames, names),
+        Due::Delete {
+            force,
+            failed,
+            names,
+        } => delete_due(
+            given, session, progress, calls, frames, force, failed, names,
+        ),
+    }
+}
+
+/// The first step in a node.
+fn node_due(
+    given: &Given<'_>,
+    session: &mut Session,
+    progress: &mut Progress,
+    calls: &Calls<'_>,
+    frames: &mut Frames,
+    node: NodeId,
+) -> Result<Due, Stop>
+    requires ready { IsReady (rules_of given.now) calls.now frames.old.frames frames.old.depth (due.Node node) }
+    requires steps { progress.old.steps ≤ given.now.limits.steps }
+    ensures { Advances (rules_of given.now) calls.now frames.old.frames (due.Node node)
+        (state_of session.old progress.old) calls.now frames.new.frames frames.new.depth
+        (state_of session.new progress.new) result }
+{
+    let script = calls.top();
+    let step = descend(script, frames, node);
+    node_step(given, session, progress, script, step)
+}
+
+/// A binding of a `for`, and then its body.
+fn binding_due(
+    given: &Given<'_>,
+    session: &Session,
+    progress: &mut Progress,
+    calls: &Calls<'_>,
+    frames: &mut Frames,
+    node: NodeId,
+    fields: FieldQueue,
+) -> Result<Due, Stop>
+    requires ready { IsReady (rules_of given.now) calls.now frames.old.frames frames.old.depth (due.Binding node fields) }
+    requires steps { progress.old.steps ≤ given.now.limits.steps }
+    ensures { Advances (rules_of given.now) calls.now frames.old.frames (due.Binding node fields)
+        (state_of session.now progress.old) calls.now frames.new.frames frames.new.depth
+        (state_of session.now progress.new) result }
+{
+    let script = calls.top();
+    let Node::For { name, body, .. } = script.node(node) else {
+        unreachable!()
+    };
+    let mut left = fields;
+    let Some(field) = left.fields().next() else {
+        unreachable!()
+    };
+    match bind_step(given, session, progress, script.text(), name, field) {
+        Ok(bound) => {
+            if !bound {
+                return Ok(Due::Over);
+            }
+            left.advance();
+            frames.push(Frame::Bindings { node, fields: left });
+            Ok(Due::Node(body))
+        }
+        Err(stop) => Err(stop),
+    }
+}
+
+/// A start by `run`, and then the script that it starts.
+fn start_due(
+    given: &Given<'_>,
+    session: &Session,
+    progress: &mut Progress,
+    calls: &mut Calls<'_>,
+    frames: &mut Frames,
+    names: FieldQueue,
+) -> Result<Due, Stop>
+    requires depth { given.now.limits.depth ≤ most_depth }
+    requires ready { IsReady (rules_of given.now) calls.old frames.old.frames frames.old.depth (due.Start names) }
+    requires steps { progress.old.steps ≤ given.now.limits.steps }
+    ensures { Advances (rules_of given.now) calls.old frames.old.frames (due.Start names)
+        (state_of session.now progress.old) calls.new frames.new.frames frames.new.depth
+        (state_of session.now progress.new) result }
+{
+    let mut left = names;
+    let Some(name) = left.fields().next() else {
+        unreachable!()
+    };
+    match start_step(given, session, progress, name, levels_left(given, calls)) {
+        Ok(Some(script)) => {
+            left.advance();
+            let root = script.root();
+            calls.push(script);
+            frames.push(Frame::Started { names: left });
+            match root {
+                Some(root) => Ok(Due::Node(root)),
+                None => Ok(Due::Over),
+            }
+        }
+        Ok(None) => Ok(Due::Over),
+        Err(stop) => Err(stop),
+    }
+}
+
+/// How many starts may still be opened inside those that run.
+fn levels_left(given: &Given<'_>, calls: &Calls<'_>) -> u32
+    requires some { 1 ≤ length calls.now }
+    requires fit { length calls.now ≤ given.now.limits.depth + 1 }
+    ensures { result ≡ given.now.limits.depth + 1 - length calls.now }
+{
+    given.limits.depth() + 1 - calls.len() as u32
+}
+
+/// The deletion of a name, and then of those behind it.
+fn delete_due(
+    given: &Given<'_>,
+    session: &mut Session,
+    progress: &mut Progress,
+    calls: &Calls<'_>,
+    frames: &Frames,
+    force: bool,
+    failed: bool,
+    names: FieldQueue,
+) -> Result<Due, Stop>
+    requires ready { IsReady (rules_of given.now) calls.now frames.now.frames frames.now.depth (due.Delete force failed names) }
+    requires steps { progress.old.steps ≤ given.now.limits.steps }
+    ensures { Advances (rules_of given.now) calls.now frames.now.frames (due.Delete force failed names)
+        (state_of session.old progress.old) calls.now frames.now.frames frames.now.depth
+        (state_of session.new progress.new) result }
+{
+    let mut left = names;
+    let Some(name) = left.fields().next() else {
+        unreachable!()
+    };
+    match delete_step(given, session, progress, name, force, failed) {
+        Ok(failed) => {
+            left.advance();
+            if left.is_empty() {
+                return Ok(Due::Over);
+            }
+            Ok(Due::Delete {
+                force,
+                failed,
+                names: left,
+            })
+        }
+        Err(stop) => Err(stop),
+    }
+}
