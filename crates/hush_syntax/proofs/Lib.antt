@@ -2,7 +2,7 @@ pub mod Fronts
 pub mod FromMembers
 pub mod Forms
 pub mod Readers
-pub mod Initials
+pub mod EndLemmas
 pub mod FindParts
 pub mod Finds
 pub mod SoundParts
@@ -23,4 +23,3 @@ pub mod CommandExits
 pub mod Rows
 pub mod Walks
 pub mod TextRows
-pub mod CursorLemmas

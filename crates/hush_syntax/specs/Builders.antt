@@ -1,5 +1,5 @@
 -- What a function of the parser puts into the tables.
-use Rattle.std.specs.Prelude.{◌≡◌, ℕ, ◌-◌, ◌/◌, length, vec_capacity, take, drop, List, [], ◌∷◌, ◌++◌, max, Option, Some, None, Result, Ok, Err, ◌≤◌}
+use Rattle.std.specs.Prelude.{◌≡◌, ℕ, ◌-◌, length, take, drop, List, [], ◌∷◌, ◌++◌, Option, Some, None, Result, Ok, Err, ◌≤◌}
 use Rattle.hush_words.specs.Parts.{Written, word_atoms}
 use Rattle.hush_words.specs.Tokens.{Token}
 use Rattle.hush_words.specs.declared.parts.Word.{Word}
@@ -66,25 +66,6 @@ add_branches w xs = waits_of w.chains w.links (w.branches ++ xs)
 -- no node, no member, and none that waits
 abbrev pub IsEmpty : Builder → Type 0
 IsEmpty b = (b.table.nodes.items ≡ []) × (members_of b.table ≡ none) × (waiting b ≡ waits_of [] [] [])
-
--- no memory
-abbrev pub IsBare : Builder → Type 0
-IsBare b =
-    (vec_capacity b.table.nodes ≡ 0) × (vec_capacity b.table.words ≡ 0) × (vec_capacity b.table.chains ≡ 0) ×
-    (vec_capacity b.table.links ≡ 0) × (vec_capacity b.table.branches ≡ 0) × (vec_capacity b.waiting.chains ≡ 0) ×
-    (vec_capacity b.waiting.links ≡ 0) × (vec_capacity b.waiting.branches ≡ 0)
-
--- the room that was there, and at least what so many tokens of ordinary commands need, before a table grows
-abbrev pub HasRoom : Builder → ℕ → Builder → Type 0
-HasRoom old tokens b =
-    (vec_capacity b.table.nodes ≡ max (vec_capacity old.table.nodes) (tokens / 3)) ×
-    (vec_capacity b.table.words ≡ max (vec_capacity old.table.words) tokens) ×
-    (vec_capacity b.table.chains ≡ max (vec_capacity old.table.chains) (tokens / 5)) ×
-    (vec_capacity b.table.links ≡ max (vec_capacity old.table.links) (tokens / 16)) ×
-    (vec_capacity b.table.branches ≡ max (vec_capacity old.table.branches) (tokens / 32)) ×
-    (vec_capacity b.waiting.chains ≡ max (vec_capacity old.waiting.chains) (tokens / 8)) ×
-    (vec_capacity b.waiting.links ≡ max (vec_capacity old.waiting.links) 0) ×
-    (vec_capacity b.waiting.branches ≡ max (vec_capacity old.waiting.branches) 0)
 
 -- a member waits, and the table stays
 abbrev pub Adds : {X : Type 0} → (Waiting → List X → Waiting) → Builder → Builder → X → Type 0

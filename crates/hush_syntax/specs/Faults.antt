@@ -1,5 +1,5 @@
 -- The faults of a script that its words and the parser's next token give (docs/scripts.md, "Faults").
-use Rattle.std.specs.Prelude.{ℕ, Option, Some, None, if◌then◌else◌}
+use Rattle.std.specs.Prelude.{ℕ, Bool, true, false, Result, Ok, Err, if◌then◌else◌}
 use Rattle.hush_words.specs.declared.faults.Fault.{Fault}
 use Rattle.hush_words.specs.declared.faults.FaultKind as words
 use Rattle.hush_words.specs.declared.faults.FaultKind.TheVariants as word
@@ -23,16 +23,29 @@ abbrev pub word_fault : Fault → SyntaxFault
 word_fault f = record { place = f.place; kind = word_kind f.kind }
 
 -- what is wrong where the next token can't stand, or where there is none and something must still come
-abbrev pub first_fault : Option Token → SyntaxFault → SyntaxFault
-first_fault None end = end
-first_fault (Some t) end = record { place = t.place; kind = fault.Unexpected }
+abbrev pub first_fault : Result Token SyntaxFault → SyntaxFault
+first_fault (Err end) = end
+first_fault (Ok t) = record { place = t.place; kind = fault.Unexpected }
 
 abbrev pub fault_at : Tokens → SyntaxFault
-fault_at tokens = first_fault tokens.next tokens.end.now
+fault_at tokens = first_fault tokens.next
 
 -- what is wrong where a text of so many bytes ends and something must still come
 abbrev pub missing_at : ℕ → SyntaxFault
 missing_at len = record { place = len; kind = fault.Missing }
+
+-- the text ends, and nothing else is wrong
+abbrev pub is_missing : FaultKind → Bool
+is_missing fault.Quote = false
+is_missing fault.Backslash = false
+is_missing fault.Substitution = false
+is_missing fault.Operator = false
+is_missing fault.Unexpected = false
+is_missing fault.Missing = true
+is_missing fault.Nest = false
+is_missing fault.Assignment = false
+is_missing fault.Nul = false
+is_missing fault.Memory = false
 
 -- what is wrong with a word behind an assignment
 abbrev pub assignment_fault : Tokens → SyntaxFault

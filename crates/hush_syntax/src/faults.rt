@@ -1,6 +1,6 @@
 //! What can be wrong with a script, and where.
 ghost use Rattle.std.specs.Prelude.{◌≡◌};
-ghost use Rattle.hush_syntax.specs.Faults.{word_fault};
+ghost use Rattle.hush_syntax.specs.Faults.{word_fault, is_missing};
 ghost use Rattle.hush_syntax.specs.declared.faults.FaultKind.TheVariants.{Memory};
 
 use std::alloc::{AllocError, AllocFailed};
@@ -29,6 +29,15 @@ pub enum FaultKind {
     Nul,
     /// No memory for the tree, or more of the text or of the tree than numbers of 32 bits can count.
     Memory,
+}
+
+impl FaultKind {
+    /// The text ends where something must still come.
+    pub(crate) fn is_missing(self) -> bool
+        ensures { result ≡ is_missing self }
+    {
+        matches!(self, FaultKind::Missing)
+    }
 }
 
 /// What keeps a text from being a script, and where.

@@ -20,8 +20,6 @@ pub(crate) enum Keyword {
 }
 
 impl Keyword {
-    ghost use Rattle.hush_words.specs.Steps.{begins};
-    ghost use Rattle.hush_syntax.specs.Answers.{keyword_from};
     ghost use Rattle.hush_syntax.specs.Keywords.{spelling, keyword_of};
     ghost use Rattle.hush_syntax.specs.Reading.{is_closing};
 
@@ -56,21 +54,14 @@ impl Keyword {
     }
 
     /// The reserved word that a word would be where a command may begin.
+    #[tactic(auto, unfolding(crate::specs::Keywords::keyword_of))]
     pub(crate) fn of(word: Word, text: &Text) -> Option<Keyword>
         ensures { result ≡ keyword_of (word_atoms text.now word) }
     {
-        match word.first_byte(text) {
-            Some(first) => Keyword::of_initial(first, word, text),
-            None => None,
-        }
-    }
-
-    /// The reserved word of this first byte that a word would be where a command may begin.
-    fn of_initial(first: u8, word: Word, text: &Text) -> Option<Keyword>
-        ensures { result ≡ keyword_from first (word_atoms text.now word) }
-    {
-        Keyword::ALL.iter().copied().find(|keyword| keyword.begins_with(first)
-            && word.is_plain(text, keyword.text()))
+        Keyword::ALL
+            .iter()
+            .copied()
+            .find(|keyword| word.is_plain(text, keyword.text()))
     }
 
     /// It ends a list of chains.
@@ -85,16 +76,6 @@ impl Keyword {
             | Keyword::Do
             | Keyword::Done => true,
             Keyword::If | Keyword::For | Keyword::While | Keyword::Until => false,
-        }
-    }
-
-    /// Whether its text begins with this byte.
-    fn begins_with(self, byte: u8) -> bool
-        ensures { result ≡ begins byte (spelling self) }
-    {
-        match self.text().first() {
-            Some(first) => *first == byte,
-            None => false,
         }
     }
 }

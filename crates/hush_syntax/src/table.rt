@@ -1,6 +1,6 @@
 //! The tables that hold a script's nodes.
 
-ghost use Rattle.std.specs.Prelude.{◌≡◌, ◌≤◌, ◌-◌, ◌++◌, [], ◌∷◌, length, take, drop, max, vec_capacity, IfOk, IfErr, OnOk, IsOk};
+ghost use Rattle.std.specs.Prelude.{◌≡◌, ◌≤◌, ◌-◌, ◌++◌, [], ◌∷◌, length, take, drop, IfOk, IfErr, OnOk};
 ghost use Rattle.hush_syntax.specs.declared.faults.FaultKind.TheVariants.{Memory};
 
 use crate::SyntaxFault;
@@ -37,16 +37,15 @@ pub(crate) struct Builder {
 
 impl Builder {
     ghost use Rattle.hush_words.specs.Parts.{word_atoms};
-    ghost use Rattle.hush_syntax.specs.Answers.{left_in};
-    ghost use Rattle.hush_syntax.specs.Builders.{Put, Adds, SettlesChains, SettlesLinks, SettlesBranches, Grows, IsEmpty, IsBare, HasRoom, waiting, add_chains, add_links, add_branches};
+    ghost use Rattle.hush_syntax.specs.Answers.{left_in, SameEnd};
+    ghost use Rattle.hush_syntax.specs.Builders.{Put, Adds, SettlesChains, SettlesLinks, SettlesBranches, Grows, IsEmpty, waiting, add_chains, add_links, add_branches};
     ghost use Rattle.hush_syntax.specs.Stored.{Members, block_of};
     ghost use Rattle.hush_syntax.specs.Reading.{skip, is_word, words_at};
     ghost use Rattle.hush_syntax.specs.Trees.{words_in};
 
-    /// Tables without members and without room. It takes no memory.
+    /// Tables without members. It takes no memory.
     pub(crate) fn new(alloc: Global) -> Builder
-        ensures empty { IsEmpty result }
-        ensures bare { IsBare result }
+        ensures { IsEmpty result }
     {
         Builder {
             table: Table {
@@ -64,24 +63,6 @@ impl Builder {
         }
     }
 
-    /// Tables without members again. They have the room that they had, and at least what so many tokens of ordinary commands
-    /// need, which spares them growths: no more words than tokens, a third as many nodes, a fifth as many chains, and few
-    /// links and branches. Where the room is enough, that takes no memory.
-    pub(crate) fn clear_for(&mut self, tokens: usize) -> Result<(), AllocError>
-        ensures empty { OnOk result (IsEmpty self.new) }
-        ensures room { OnOk result (HasRoom self.old tokens self.new) }
-    {
-        clear_for(&mut self.table.nodes, tokens / 3)?;
-        clear_for(&mut self.table.words, tokens)?;
-        clear_for(&mut self.table.chains, tokens / 5)?;
-        clear_for(&mut self.table.links, tokens / 16)?;
-        clear_for(&mut self.table.branches, tokens / 32)?;
-        clear_for(&mut self.waiting.chains, tokens / 8)?;
-        clear_for(&mut self.waiting.links, 0)?;
-        clear_for(&mut self.waiting.branches, 0)?;
-        Ok(())
-    }
-
     /// Puts a node behind the others.
     pub(crate) fn put(&mut self, node: Stored) -> Result<NodeId, AllocError>
         ensures { IfOk result (λ id. Put self.old self.new node id) }
@@ -95,13 +76,14 @@ impl Builder {
     pub(crate) fn take_words(
         &mut self,
         text: &Text,
-        tokens: &mut Tokens<'_>,
+        tokens: &mut Tokens,
     ) -> Result<Block, SyntaxFault>
         ensures words { IfOk result (λ block. (more : Members) → words_in text.now
             (block_of block (self.new.table.words.items ++ more.words)) ≡ words_at (left_in text.now tokens.old)) }
         ensures grows { OnOk result (Grows self.old.table self.new.table) }
         ensures waits { OnOk result (waiting self.new ≡ waiting self.old) }
         ensures left { OnOk result (left_in text.now tokens.new ≡ skip is_word (left_in text.now tokens.old)) }
+        ensures whole { OnOk result (SameEnd text.now tokens.old tokens.new) }
         ensures refused { IfErr result (λ f. f.kind ≡ Memory) }
     {
         let first = count(&self.table.words);
@@ -115,13 +97,14 @@ impl Builder {
         &mut self,
         name: Word,
         text: &Text,
-        tokens: &mut Tokens<'_>,
+        tokens: &mut Tokens,
     ) -> Result<Block, SyntaxFault>
         ensures words { IfOk result (λ block. (more : Members) → words_in text.now
             (block_of block (self.new.table.words.items ++ more.words)) ≡ word_atoms text.now name ∷ words_at (left_in text.now tokens.old)) }
         ensures grows { OnOk result (Grows self.old.table self.new.table) }
         ensures waits { OnOk result (waiting self.new ≡ waiting self.old) }
         ensures left { OnOk result (left_in text.now tokens.new ≡ skip is_word (left_in text.now tokens.old)) }
+        ensures whole { OnOk result (SameEnd text.now tokens.old tokens.new) }
         ensures refused { IfErr result (λ f. f.kind ≡ Memory) }
     {
         let first = count(&self.table.words);
@@ -216,22 +199,6 @@ impl Builder {
         let block = settle(&mut self.table.branches, &mut self.waiting.branches, mark)?;
         Ok(block)
     }
-}
-
-/// Takes the members out of a table, which has room for so many then.
-fn clear_for<T: Copy>(table: &mut Vec<T>, members: usize) -> Result<(), AllocError>
-    ensures empty { OnOk result (table.new.items ≡ []) }
-    ensures room { OnOk result (vec_capacity table.new ≡ max (vec_capacity table.old) members) }
-
-    // Room that is enough stays, and no memory is asked for.
-    ensures enough { members ≤ vec_capacity table.old → IsOk result }
-{
-    if table.capacity() < members {
-        *table = Vec::with_capacity(*table.allocator(), members)?;
-    } else {
-        table.clear();
-    }
-    Ok(())
 }
 
 /// How many members a table has.

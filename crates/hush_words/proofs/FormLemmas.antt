@@ -1,16 +1,16 @@
 -- The forms of a word, read part by part.
-use Rattle.std.specs.Prelude.{◌≡◌, ℕ, ◌+◌, ◌<◌, ◌==◌, Bool, true, false, List, [], ◌∷◌, ◌++◌, map, length, take, drop, Option, Some, None, is_some}
+use Rattle.std.specs.Prelude.{◌≡◌, ℕ, ◌+◌, ◌<◌, ◌==◌, Bool, true, false, List, [], ◌∷◌, ◌++◌, map, length, take, drop, Option, Some, None}
 use Rattle.std.specs.Option.{option_map}
 use Rattle.std.proofs.Common.{refl, sym, ◌∙◌, ap, subst, arith, length-take, inl, inr, nat_eq}
 use Rattle.std.proofs.lemmas.Bool.{cases_Bool, and_left, both_ways, ne_eqb, and_parts}
 use lib.Pointwise.{pointwise}
 use Rattle.hush_words.specs.Words.{Atom}
 use Rattle.hush_words.specs.Words.Atom.{Plain, Quoted, Mark, Value, Status}
-use Rattle.hush_words.specs.Forms.{is_plain, first_plain, name_of, assignment_of, split_of}
+use Rattle.hush_words.specs.Forms.{is_plain, name_of, assignment_of, split_of}
 use Rattle.hush_words.specs.Parts.{range_bytes, part_atoms}
 use Rattle.hush_words.specs.Ranges.{Fits}
 use Rattle.hush_words.specs.Reading.{piece_atoms_left}
-use Rattle.hush_words.specs.Steps.{begins_otherwise, PlainRest, FirstIs, SplitsAt}
+use Rattle.hush_words.specs.Steps.{begins_otherwise, PlainRest, SplitsAt}
 use Rattle.hush_words.specs.declared.parts.Part.{Part}
 use Rattle.hush_words.proofs.RangeLemmas.{front-drop, front-range}
 use Rattle.hush_words.proofs.Told.{assignment-told, name-told}
@@ -27,21 +27,6 @@ otherwise-plain (t ∷ text) (Quoted b ∷ atoms) more e = refl
 otherwise-plain (t ∷ text) (Mark ∷ atoms) more e = refl
 otherwise-plain (t ∷ text) (Value n q ∷ atoms) more e = refl
 otherwise-plain (t ∷ text) (Status q ∷ atoms) more e = refl
-
--- the byte at the front
-pub otherwise-first : (atoms more : List Atom) → begins_otherwise atoms ≡ true → first_plain (atoms ++ more) ≡ None
-otherwise-first [] more e = absurd (both_ways false refl e)
-otherwise-first (Plain b ∷ atoms) more e = absurd (both_ways false refl e)
-otherwise-first (Quoted b ∷ atoms) more e = refl
-otherwise-first (Mark ∷ atoms) more e = refl
-otherwise-first (Value n q ∷ atoms) more e = refl
-otherwise-first (Status q ∷ atoms) more e = refl
-
-pub plain-first : (atoms more : List Atom) (bytes rest : List ℕ) (b : ℕ) → atoms ≡ map Plain bytes → bytes ≡ b ∷ rest → first_plain (atoms ++ more) ≡ Some b
-plain-first atoms more bytes rest b e f = ap (λ l. first_plain (l ++ more)) (e ∙ ap (map Plain) f)
-
-pub nothing-first : (atoms more : List Atom) (bytes : List ℕ) → atoms ≡ map Plain bytes → bytes ≡ [] → first_plain (atoms ++ more) ≡ first_plain more
-nothing-first atoms more bytes e f = ap (λ l. first_plain (l ++ more)) (e ∙ ap (map Plain) f)
 
 -- a text that begins with plain bytes, and one that doesn't
 pub plain-prefix : (bytes text : List ℕ) (more : List Atom) → pointwise nat_eq bytes (take (length bytes) text) ≡ true →
@@ -92,11 +77,6 @@ pub no-sides : (source : List ℕ) (start end : ℕ) → SplitsAt (take end sour
     assignment_of (piece_atoms_left (range_bytes source start end)) ≡ None
 no-sides source start end none = sym (ap (λ l. assignment_of (piece_atoms_left l)) (front-drop source start end)) ∙ none
 
-pub some-sides : (source : List ℕ) (start end at : ℕ) → SplitsAt (take end source) start (Some at) →
-    true ≡ is_some (assignment_of (piece_atoms_left (range_bytes source start end)))
-some-sides source start end at (ordered, within, n, read, split) =
-    sym (ap (λ l. is_some (assignment_of (piece_atoms_left l))) (sym (front-drop source start end)) ∙ ap (λ o. is_some o) split)
-
 -- through the parts of a word, which are those of this source
 pub fits-in : (left source : List ℕ) (p : Part) → left ≡ source → Fits left p → Fits source p
 fits-in left source p e fit = subst (λ l. Fits l p) e fit
@@ -113,13 +93,3 @@ pub plain-off : (left source : List ℕ) (p : Part) (atoms rest : List Atom) (te
     atoms ≡ part_atoms left p ++ rest → PlainRest (part_atoms source p) text None → is_plain text atoms ≡ whole → false ≡ whole
 plain-off left source p atoms rest text whole e f off kept =
     sym (off rest) ∙ ap (is_plain text) (sym (stands-for left source p atoms rest e f)) ∙ kept
-
-pub first-on : (left source : List ℕ) (p : Part) (atoms rest : List Atom) (whole : Option ℕ) → left ≡ source →
-    atoms ≡ part_atoms left p ++ rest → FirstIs (part_atoms source p) None → first_plain atoms ≡ whole → first_plain rest ≡ whole
-first-on left source p atoms rest whole e f on kept =
-    sym (on rest) ∙ ap first_plain (sym (stands-for left source p atoms rest e f)) ∙ kept
-
-pub first-found : (left source : List ℕ) (p : Part) (atoms rest : List Atom) (first whole : Option ℕ) → left ≡ source →
-    atoms ≡ part_atoms left p ++ rest → FirstIs (part_atoms source p) (Some first) → first_plain atoms ≡ whole → first ≡ whole
-first-found left source p atoms rest first whole e f found kept =
-    sym (found rest) ∙ ap first_plain (sym (stands-for left source p atoms rest e f)) ∙ kept

@@ -14,12 +14,10 @@ pub mod PieceLemmas
 pub mod QuoteLemmas
 pub mod WordLemmas
 pub mod TextLemmas
-pub mod PlaceLemmas
+pub mod TokenLemmas
 pub mod WordOpens
 pub mod NameRuns
 pub mod FormLemmas
-pub mod ShortWords
 pub mod Rows
 pub mod RangeLemmas
 pub mod WalkLemmas
-pub mod PlainRuns

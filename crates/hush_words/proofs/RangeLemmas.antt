@@ -1,11 +1,11 @@
 -- Ranges of a source, and of a front of it.
-use Rattle.std.specs.Prelude.{◌≡◌, ℕ, ◌+◌, ◌-◌, ◌≤◌, ◌==◌, false, List, [], ◌∷◌, map, length, take, drop}
-use Rattle.std.proofs.Common.{refl, sym, ◌∙◌, ap, subst, arith, length-take, inl, inr}
+use Rattle.std.specs.Prelude.{◌≡◌, ℕ, ◌+◌, ◌-◌, ◌≤◌, List, [], ◌∷◌, map, length, take, drop}
+use Rattle.std.proofs.Common.{refl, sym, ◌∙◌, ap, arith, length-take, inl, inr}
 use Rattle.std.proofs.lemmas.Bool.{cases_lt}
 use Rattle.std.proofs.lemmas.List.{drop_all, drop-take, take-take}
 use Rattle.hush_words.specs.Words.Atom.{Plain, Quoted, Value}
 use Rattle.hush_words.specs.Parts.{range_bytes, span_bytes, part_atoms}
-use Rattle.hush_words.specs.Ranges.{IsWithin, IsSplit, Fits}
+use Rattle.hush_words.specs.Ranges.{IsWithin, Fits}
 use Rattle.hush_words.specs.Steps.{StandsAt}
 use Rattle.hush_words.specs.declared.parts.Part.{Part}
 use Rattle.hush_words.specs.declared.parts.Part.TheVariants as part
@@ -14,12 +14,6 @@ use Rattle.hush_words.specs.declared.parts.Span.{Span}
 -- one byte as a part
 pub byte-within : (source : List ℕ) (place b : ℕ) → StandsAt source place b → (place ≤ place + 1) × (place + 1 ≤ length source)
 byte-within source place b here = (omega arith, omega (arith, here.0))
-
-pub byte-split : (source : List ℕ) (place b : ℕ) → StandsAt source place b → (b == 61) ≡ false → IsSplit (take (place + 1 - place) (drop place source))
-byte-split source place b here other =
-    let one : place + 1 - place ≡ 1 = omega arith in
-    let bytes : take (place + 1 - place) (drop place source) ≡ b ∷ [] = ap (λ n. take n (drop place source)) one ∙ ap (take 1) here.1 in
-    subst IsSplit (sym bytes) (inr (rw other refl))
 
 -- what is left of a front of a source
 pub front-drop : (source : List ℕ) (start end : ℕ) → drop start (take end source) ≡ range_bytes source start end
@@ -45,14 +39,14 @@ same-span : (source : List ℕ) (end : ℕ) (s : Span) → IsWithin (take end so
 same-span source end s w = front-range source s.start s.end end (within-front source end s w).0
 
 pub front-atoms : (source : List ℕ) (end : ℕ) (p : Part) → Fits (take end source) p → part_atoms (take end source) p ≡ part_atoms source p
-front-atoms source end (part.Plain s) fit = ap (map Plain) (same-span source end s fit.0)
+front-atoms source end (part.Plain s) fit = ap (map Plain) (same-span source end s fit)
 front-atoms source end (part.Quoted s) fit = ap (map Quoted) (same-span source end s fit)
 front-atoms source end part.Mark fit = refl
 front-atoms source end (part.Value s quoted) fit = ap (λ n. Value n quoted ∷ []) (same-span source end s fit)
 front-atoms source end (part.Status quoted) fit = refl
 
 pub front-fits : (source : List ℕ) (end : ℕ) (p : Part) → Fits (take end source) p → Fits source p
-front-fits source end (part.Plain s) fit = ((within-front source end s fit.0).1, subst IsSplit (same-span source end s fit.0) fit.1)
+front-fits source end (part.Plain s) fit = (within-front source end s fit).1
 front-fits source end (part.Quoted s) fit = (within-front source end s fit).1
 front-fits source end part.Mark fit = tt
 front-fits source end (part.Value s quoted) fit = (within-front source end s fit).1

@@ -4,7 +4,7 @@ use Rattle.hush_words.specs.Words.{Atom, is_blank, ends_word, begins_name, is_in
 use Rattle.hush_words.specs.Words.Atom.{Plain, Quoted, Mark, Value, Status}
 use Rattle.hush_words.specs.Tokens.{Token}
 use Rattle.hush_words.specs.Tokens.Token.{Word, Newline, Semicolon, AndIf, OrIf}
-use Rattle.hush_words.specs.Reading.{dollar_at, inner_escape, inner_at, escape_at, single_at, double_at, piece_at, passed_at, lexeme_at, tokens_of, tokens_before_fault, token_places, tokens_left, places_left}
+use Rattle.hush_words.specs.Reading.{dollar_at, inner_escape, inner_at, escape_at, single_at, double_at, piece_at, passed_at, lexeme_at, tokens_of, tokens_left}
 use Rattle.hush_words.specs.Forms.{is_plain, name_of, assignment_of}
 
 abbrev plain : List ℕ → List Atom
@@ -141,14 +141,10 @@ dollar_row : tokens_of (codes "a$,b") ≡ Some (w (codes "a$,b") ∷ [])
 unfolding tokens_of lexeme_at passed_at piece_at dollar_at begins_name follows_dollar is_bare ends_word is_special is_blank
 dollar_row = refl
 
--- what stands before a fault, and where tokens begin
-before_fault_row : tokens_before_fault (codes "a; 'b") ≡ w (codes "a") ∷ Semicolon ∷ []
-unfolding tokens_before_fault tokens_left lexeme_at passed_at piece_at single_at is_bare ends_word is_special is_blank
+-- what stands before a fault
+before_fault_row : tokens_left (codes "a; 'b") ≡ w (codes "a") ∷ Semicolon ∷ []
+unfolding tokens_left lexeme_at passed_at piece_at single_at is_bare ends_word is_special is_blank
 before_fault_row = refl
-
-places_row : token_places (codes "a b;c&&#d\n") ≡ 0 ∷ 2 ∷ 3 ∷ 4 ∷ 5 ∷ 9 ∷ []
-unfolding token_places places_left lexeme_at passed_at piece_at is_bare ends_word is_special is_blank
-places_row = refl
 
 -- the forms that the grammar asks for: `if`, `'if'` and `\if`, `_a1` and `1a`, `a=b` and `a\=1`
 reserved_row : is_plain (codes "if") (plain (codes "if")) ≡ true

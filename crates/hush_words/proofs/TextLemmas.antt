@@ -10,7 +10,7 @@ use Rattle.hush_words.proofs.Runs.{found-none}
 use Rattle.hush_words.specs.Words.{is_blank, ends_word}
 use Rattle.hush_words.specs.Tokens.{Token, Lexeme, lexeme_tokens, has_no_nul}
 use Rattle.hush_words.specs.Tokens.Lexeme.{And, Or}
-use Rattle.hush_words.specs.Reading.{Found, found, front, all, closed, passed_at, lexeme_at, tokens_if_whole, tokens_of, tokens_before_fault, tokens_left, lexeme_end}
+use Rattle.hush_words.specs.Reading.{Found, found, front, all, closed, passed_at, lexeme_at, tokens_if_whole, tokens_of, tokens_left, lexeme_end}
 use Rattle.hush_words.specs.Steps.{begins, StandsAt, IsRun, lexeme_read}
 use Rattle.hush_words.proofs.Fronts.{front-all}
 use Rattle.hush_words.proofs.Many.{all-some, all-none}
@@ -174,14 +174,6 @@ not-by source (b ∷ bs) clean e h = tokens-not source b bs clean e
 
 pub text-not : (source : List ℕ) → has_no_nul source ≡ true → (lexeme_end source ≡ [] → ⊥) → tokens_of source ≡ None
 text-not source clean h = not-by source (lexeme_end source) clean refl h
-
-pub front-left : (source : List ℕ) → has_no_nul source ≡ true → tokens_before_fault source ≡ tokens_left source
-unfolding tokens_before_fault
-front-left source clean = rw clean refl
-
-pub front-nul : (source : List ℕ) → has_no_nul source ≡ false → tokens_before_fault source ≡ []
-unfolding tokens_before_fault
-front-nul source e = rw e refl
 
 pub nul-read : (source : List ℕ) → has_no_nul source ≡ false → tokens_of source ≡ None
 unfolding tokens_of

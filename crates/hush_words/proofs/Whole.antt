@@ -5,7 +5,7 @@ use Rattle.std.proofs.Common.{refl, sym, ◌∙◌, ap, subst, arith, append-nil
 use Rattle.hush_words.specs.Words.{FitAll}
 use Rattle.hush_words.specs.Tokens.{Token, Lexeme, lexeme_text, FitsLexeme, HasTokens, has_no_nul}
 use Rattle.hush_words.specs.Laws.{FrontIsRead}
-use Rattle.hush_words.specs.Reading.{all, lexeme_at, passed_at, tokens_if_whole, tokens_of, tokens_before_fault, token_places, tokens_left, places_left}
+use Rattle.hush_words.specs.Reading.{all, lexeme_at, passed_at, tokens_if_whole, tokens_of, tokens_left, lexeme_end}
 use Rattle.hush_words.proofs.Fronts.{on_test}
 use Rattle.hush_words.proofs.Many.{many-list, many-fits, many-stops, Fitting}
 use Rattle.hush_words.proofs.Lexemes.{lexeme-heads, lexeme-takes, lexeme-finds, lexeme-shortens}
@@ -45,8 +45,8 @@ both-lists text ts us h k =
     cc
 
 pub front-told : FrontIsRead
-unfolding tokens_before_fault token_places tokens_left places_left
-front-told text clean =
+unfolding tokens_left lexeme_end
+front-told text =
     let q : List Lexeme × List ℕ = all lexeme_at text in
     let fit : Fitting lexeme_text FitsLexeme text q = many-fits lexeme_text FitsLexeme lexeme_at lexeme-finds (length text) text in
     let stops : lexeme_at q.1 ≡ None = many-stops lexeme_at lexeme-shortens (length text) text (omega arith) in (
@@ -55,6 +55,6 @@ front-told text clean =
       fit.0,
       fit.1,
       λ l after e f. let there : lexeme_at q.1 ≡ Some (l, after) = ap lexeme_at e ∙ lexeme-heads l after f in absurd (let none : ◌≡◌ {A = Option (Lexeme × List ℕ)} None (Some (l, after)) = sym stops ∙ there in cc),
-      rw clean refl,
-      rw clean refl,
+      refl,
+      refl,
     )

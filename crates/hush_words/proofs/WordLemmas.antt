@@ -1,31 +1,22 @@
 -- What begins at a place of a word.
-use Rattle.std.specs.Prelude.{◌≡◌, ℕ, ◌+◌, ◌≤◌, ◌==◌, true, false, not, List, [], ◌∷◌, ◌++◌, drop, Some, None, is_some}
+use Rattle.std.specs.Prelude.{◌≡◌, ℕ, ◌+◌, ◌≤◌, ◌==◌, true, false, not, List, [], ◌∷◌, ◌++◌, drop, Some, None}
 use Rattle.std.specs.Option.{option_map}
 use Rattle.std.specs.List.{list_all}
 use Rattle.std.proofs.Common.{refl, sym, ◌∙◌, ap, arith, inl, inr}
 use Rattle.std.proofs.lemmas.Bool.{ne_eqb, not_from_false, or_from, or_cases, eqb-true, both_ways, cases_eq, cases_Bool}
 use Rattle.hush_words.specs.Words.{Atom, Piece, Dollar, dollar_atom, is_bare, is_special, ends_word, next}
 use Rattle.hush_words.specs.Words.Atom.{Quoted}
-use Rattle.hush_words.specs.Words.Piece.{Bare, Escaped, Joined, DollarPiece}
+use Rattle.hush_words.specs.Words.Piece.{Escaped, Joined, DollarPiece}
 use Rattle.hush_words.specs.Reading.{Found, found, as_piece, dollar_at, escape_at, piece_at, piece_atoms_left, piece_end}
-use Rattle.hush_words.specs.Forms.{first_plain}
 use Rattle.hush_words.specs.Parts.{range_bytes}
 use Rattle.hush_words.specs.Steps.{StandsAt, IsRun, dollar_read}
-use Rattle.hush_words.proofs.Pieces.{piece-bare, piece-dollar, piece-backslash, escape-other, escape-newline}
+use Rattle.hush_words.proofs.Pieces.{piece-dollar, piece-backslash, escape-other, escape-newline}
 use Rattle.hush_words.proofs.PieceLemmas.{piece-one, piece-none, range-rest, read-again, run-read}
 use Rattle.hush_words.proofs.Fronts.{front-all, behind-next}
 
 pub bare-by : (b : ℕ) → ends_word b ≡ false → is_special b ≡ false → is_bare b ≡ true
 unfolding is_bare
 bare-by b e f = not_from_false _ (or_from (ends_word b) (is_special b) e f)
-
-pub bare-here : (source : List ℕ) (at b : ℕ) → StandsAt source at b → is_bare b ≡ true → is_some (piece_at (drop at source)) ≡ true
-bare-here source at b here bare = ap (λ l. is_some (piece_at l)) here.1 ∙ ap (λ o. is_some o) (piece-bare b (drop (at + 1) source) bare)
-
-pub bare-first : (source : List ℕ) (at b : ℕ) → StandsAt source at b → is_bare b ≡ true → first_plain (piece_atoms_left (drop at source)) ≡ Some b
-bare-first source at b here bare =
-    ap (λ l. first_plain (piece_atoms_left l)) here.1
-    ∙ ap first_plain (piece-one (b ∷ drop (at + 1) source) (Bare b) (drop (at + 1) source) (piece-bare b (drop (at + 1) source) bare)).0
 
 -- a run of plain bytes
 pub plain-read : (source : List ℕ) (start end : ℕ) → IsRun is_bare source start end →

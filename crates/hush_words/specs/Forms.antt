@@ -29,15 +29,6 @@ is_plain (t ∷ text) (Mark ∷ atoms) = false
 is_plain (t ∷ text) (Value n q ∷ atoms) = false
 is_plain (t ∷ text) (Status q ∷ atoms) = false
 
--- the byte at the front, if it is an unquoted plain one
-abbrev pub first_plain : List Atom → Option ℕ
-first_plain [] = None
-first_plain (Plain b ∷ atoms) = Some b
-first_plain (Quoted b ∷ atoms) = None
-first_plain (Mark ∷ atoms) = None
-first_plain (Value n q ∷ atoms) = None
-first_plain (Status q ∷ atoms) = None
-
 -- what a name can begin with, and from then on what it can go on with
 abbrev pub goes_on : (begun : Bool) → ℕ → Bool
 goes_on true b = is_in_name b

@@ -2,8 +2,8 @@
 use Rattle.std.specs.Prelude.{◌≡◌, ℕ, true, List, ◌++◌, Some, ◌↔◌}
 use Rattle.std.specs.List.{flat_map}
 use Rattle.hush_words.specs.Words.{Atom, FitAll}
-use Rattle.hush_words.specs.Tokens.{Token, Lexeme, lexeme_text, lexeme_tokens, FitsLexeme, HasTokens, has_no_nul}
-use Rattle.hush_words.specs.Reading.{tokens_of, tokens_before_fault, token_places, places_from}
+use Rattle.hush_words.specs.Tokens.{Token, Lexeme, lexeme_text, lexeme_tokens, FitsLexeme, HasTokens}
+use Rattle.hush_words.specs.Reading.{tokens_of, tokens_left, lexeme_end}
 use Rattle.hush_words.specs.Forms.{IsPlain, IsNameWord, IsAssignment, is_plain, name_of, assignment_of}
 
 -- the tokens that are read of a text are exactly those that it has
@@ -14,14 +14,13 @@ TokensAreRead = (text : List ℕ) (tokens : List Token) → (tokens_of text ≡ 
 abbrev pub OneTokenList : Type 0
 OneTokenList = (text : List ℕ) (tokens others : List Token) → HasTokens text tokens → HasTokens text others → tokens ≡ others
 
--- what is read before a fault: lexemes at the front of the text, up to where none can stand, their tokens, and how many
--- bytes stand before each of these
+-- what is read before a fault: the tokens of the lexemes at the front of the text, up to where none can stand
 abbrev pub FrontIsRead : Type 0
 FrontIsRead =
-    (text : List ℕ) → has_no_nul text ≡ true →
+    (text : List ℕ) →
     (ls : List Lexeme) × (rest : List ℕ) × (text ≡ flat_map lexeme_text ls ++ rest) × FitAll lexeme_text FitsLexeme ls rest ×
     ((l : Lexeme) (after : List ℕ) → rest ≡ lexeme_text l ++ after → FitsLexeme l after → ⊥) ×
-    (tokens_before_fault text ≡ flat_map lexeme_tokens ls) × (token_places text ≡ places_from 0 ls)
+    (tokens_left text ≡ flat_map lexeme_tokens ls) × (lexeme_end text ≡ rest)
 
 -- a word's form is told exactly
 abbrev pub PlainIsTold : Type 0

@@ -1,9 +1,7 @@
--- The parts of words lie inside their source, and a `=` among plain bytes is a part of its own.
-use Rattle.std.specs.Prelude.{◌≡◌, ℕ, ◌≤◌, ◌<◌, ◌==◌, ◌⊎◌, true, not, List, [], ◌∷◌, ◌++◌, length, Option, Some, None}
-use Rattle.std.specs.List.{list_all}
-use Rattle.hush_words.specs.Bytes.{equals}
+-- The parts of words lie inside their source.
+use Rattle.std.specs.Prelude.{◌≡◌, ℕ, ◌≤◌, ◌<◌, List, [], ◌++◌, length, Option, Some, None}
 use Rattle.hush_words.specs.Words.{Atom}
-use Rattle.hush_words.specs.Parts.{span_bytes, part_atoms}
+use Rattle.hush_words.specs.Parts.{part_atoms}
 use Rattle.hush_words.specs.declared.parts.Span.{Span}
 use Rattle.hush_words.specs.declared.parts.Part.{Part}
 use Rattle.hush_words.specs.declared.parts.Part.TheVariants as part
@@ -16,12 +14,8 @@ IsShort source = length source ≤ 4294967295
 abbrev pub IsWithin : List ℕ → Span → Type 0
 IsWithin source s = (s.start ≤ s.end) × (s.end ≤ length source)
 
--- one `=`, or bytes without one
-abbrev pub IsSplit : List ℕ → Type 0
-IsSplit bytes = (bytes ≡ equals ∷ []) ⊎ (list_all (λ b. not (b == equals)) bytes ≡ true)
-
 abbrev pub Fits : List ℕ → Part → Type 0
-Fits source (part.Plain s) = IsWithin source s × IsSplit (span_bytes source s)
+Fits source (part.Plain s) = IsWithin source s
 Fits source (part.Quoted s) = IsWithin source s
 Fits source part.Mark = Unit {0}
 Fits source (part.Value s quoted) = IsWithin source s

@@ -1,6 +1,6 @@
 -- The same from the text's side: which lexemes, and so which tokens, a text has. The laws of this crate say that
 -- these are exactly those of `HasTokens`.
-use Rattle.std.specs.Prelude.{ℕ, zero, suc, ◌+◌, ◌==◌, Bool, not, if◌then◌else◌, List, [], ◌∷◌, ◌++◌, map, Option, Some, None, length}
+use Rattle.std.specs.Prelude.{ℕ, zero, suc, ◌==◌, Bool, not, if◌then◌else◌, List, [], ◌∷◌, Option, Some, None, length}
 use Rattle.std.specs.List.{flat_map}
 use Rattle.std.specs.Option.{option_map}
 use Rattle.hush_words.specs.Bytes.{newline, double_quote, hash, dollar, ampersand, single_quote, semicolon, question_mark, backslash, opening_brace, vertical_bar, closing_brace}
@@ -8,7 +8,7 @@ use Rattle.hush_words.specs.Words.{Atom, Dollar, Inner, Piece, piece_atoms, is_b
 use Rattle.hush_words.specs.Words.Dollar.{Name, Braces, LastStatus, Alone}
 use Rattle.hush_words.specs.Words.Inner.{Byte, Backslash, EscapedInner, JoinedInner, DollarInner}
 use Rattle.hush_words.specs.Words.Piece.{Bare, Escaped, Joined, Single, Double, DollarPiece}
-use Rattle.hush_words.specs.Tokens.{Token, Lexeme, opens_word, lexeme_text, lexeme_tokens, has_no_nul}
+use Rattle.hush_words.specs.Tokens.{Token, Lexeme, opens_word, lexeme_tokens, has_no_nul}
 use Rattle.hush_words.specs.Tokens.Lexeme.{WordOf, EndOfLine, SemicolonLexeme, And, Or, Blank, JoinedLine, Comment}
 
 -- a piece at the front of a text, and the text behind it
@@ -149,23 +149,6 @@ tokens_left text = flat_map lexeme_tokens (all lexeme_at text).0
 unfoldable pub lexeme_end : List ℕ → List ℕ
 lexeme_end text = (all lexeme_at text).1
 
--- the tokens of a text up to its end or its first fault; a byte 0 is looked for before all else
-unfoldable pub tokens_before_fault : List ℕ → List Token
-tokens_before_fault text = if has_no_nul text then tokens_left text else []
-
--- how many bytes stand before each token of these lexemes, where so many stand before the lexemes
-abbrev pub places_from : ℕ → List Lexeme → List ℕ
-places_from at [] = []
-places_from at (l ∷ ls) = map (λ t. at) (lexeme_tokens l) ++ places_from (at + length (lexeme_text l)) ls
-
--- the same of the tokens at the front of a text, where so many bytes stand before it
-unfoldable pub places_left : ℕ → List ℕ → List ℕ
-places_left at text = places_from at (all lexeme_at text).0
-
--- how many bytes of a text stand before each of its tokens, up to its end or its first fault
-unfoldable pub token_places : List ℕ → List ℕ
-token_places text = if has_no_nul text then places_left 0 text else []
-
--- the tokens of a text, none where it has none
+-- the tokens of a text, none where it has none; a byte 0 is looked for before all else
 unfoldable pub tokens_of : List ℕ → Option (List Token)
 tokens_of text = if has_no_nul text then tokens_if_whole (all lexeme_at text) else None

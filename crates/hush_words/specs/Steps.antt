@@ -1,23 +1,22 @@
 -- What the readers of this crate promise each other: a reader stands at a place of the source, and says what was
 -- read there and where it went on from.
 use Rattle.std.specs.Prelude.{◌≡◌, ℕ, ◌+◌, ◌-◌, ◌<◌, ◌≤◌, ◌==◌, Bool, true, false, not, ◌&&◌, List, [], ◌∷◌, ◌++◌, map, Option, Some, None, is_some, Result, Ok, Err, length, take, drop}
-use Rattle.std.specs.List.{flat_map, list_all}
+use Rattle.std.specs.List.{flat_map}
 use Rattle.std.specs.Option.{option_map}
-use Rattle.hush_words.specs.Bytes.{newline, double_quote, single_quote, equals, backslash}
+use Rattle.hush_words.specs.Bytes.{newline, double_quote, single_quote, backslash}
 use Rattle.hush_words.specs.Words.{Atom, Dollar, byte_atom, dollar_atom, inner_atoms, ends_word, is_in_name, is_in_braces, is_bare, is_inner, next}
 use Rattle.hush_words.specs.Tokens.{Lexeme, lexeme_tokens}
 use Rattle.hush_words.specs.Tokens as tokens
 use Rattle.hush_words.specs.Reading.{Found, front, behind, all, braces, dollar_at, inner_at, piece_at, lexeme_at, piece_atoms_left, piece_end}
 use Rattle.hush_words.specs.Words.Atom.{Plain, Quoted, Mark, Value, Status}
-use Rattle.hush_words.specs.Forms.{is_plain, first_plain, goes_on, name_from, assignment_from, assignment_of}
-use Rattle.hush_words.specs.Parts.{Written, written, range_bytes, span_bytes, part_atoms}
+use Rattle.hush_words.specs.Forms.{is_plain, goes_on, name_from, assignment_from, assignment_of}
+use Rattle.hush_words.specs.Parts.{Written, written, range_bytes, part_atoms}
 use Rattle.hush_words.specs.Views.{kind_token}
-use Rattle.hush_words.specs.Ranges.{IsWithin, IsSplit, Fits, FitsSome}
+use Rattle.hush_words.specs.Ranges.{Fits, FitsSome}
 use Rattle.hush_words.specs.declared.classes.Class.{Class}
 use Rattle.hush_words.specs.declared.classes.Class.TheVariants as class
 use Rattle.hush_words.specs.declared.faults.Fault.{Fault}
 use Rattle.hush_words.specs.declared.parts.Part.{Part}
-use Rattle.hush_words.specs.declared.parts.Span.{Span}
 use Rattle.hush_words.specs.declared.tokens.TokenKind.{TokenKind}
 use Rattle.hush_words.specs.declared.steps.PartRead.{PartRead}
 use Rattle.hush_words.specs.declared.steps.InnerRead.{InnerRead}
@@ -30,7 +29,6 @@ use Rattle.hush_words.specs.declared.steps.NamePlace.{NamePlace}
 
 abbrev pub passes : Class → ℕ → Bool
 passes class.Plain b = is_bare b
-passes class.Bare b = is_bare b && not (b == equals)
 passes class.Inner b = is_inner b
 passes class.Name b = is_in_name b
 passes class.Braces b = is_in_braces b
@@ -107,16 +105,6 @@ ReadsPiece source at (Err f) = piece_at (drop at source) ≡ None
 abbrev pub FitsInner : List ℕ → Option InnerRead → Type 0
 FitsInner source None = Unit {0}
 FitsInner source (Some r) = FitsSome source r.part
-
--- bytes that stand for themselves, as one part
-abbrev pub IsPlainRun : List ℕ → ℕ → ℕ → Type 0
-IsPlainRun source start end =
-    (start < end) × (end ≤ length source) × (list_all is_bare (take (end - start) (drop start source)) ≡ true) ×
-    IsSplit (take (end - start) (drop start source))
-
--- a range of plain bytes
-abbrev pub IsSplitRange : List ℕ → Span → Type 0
-IsSplitRange source span = IsWithin source span × IsSplit (span_bytes source span)
 
 -- the pieces at a place; none where the word ends, a fault where something else stands
 abbrev pub ReadsPieces : List ℕ → ℕ → Result (Option ℕ) Fault → Type 0
@@ -198,11 +186,6 @@ behind_front front f = option_map (λ a. (front ++ a.0, a.1)) f
 abbrev pub PlainRest : List Atom → List ℕ → Option (List ℕ) → Type 0
 PlainRest atoms text None = (more : List Atom) → is_plain text (atoms ++ more) ≡ false
 PlainRest atoms text (Some rest) = (more : List Atom) → is_plain text (atoms ++ more) ≡ is_plain rest more
-
--- the byte that atoms begin with, whatever stands behind them; none where they are none
-abbrev pub FirstIs : List Atom → Option (Option ℕ) → Type 0
-FirstIs atoms None = (more : List Atom) → first_plain (atoms ++ more) ≡ first_plain more
-FirstIs atoms (Some first) = (more : List Atom) → first_plain (atoms ++ more) ≡ first
 
 abbrev pub behind_name : List ℕ → Option (List ℕ) → Option (List ℕ)
 behind_name front n = option_map (λ m. front ++ m) n

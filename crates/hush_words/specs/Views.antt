@@ -1,9 +1,9 @@
 -- What the tokens of the code stand for, which token comes next, and what the sides of an assignment stand for.
-use Rattle.std.specs.Prelude.{◌≡◌, ◌↔◌, ℕ, ◌<◌, ◌≤◌, List, [], ◌∷◌, Option, Some, None, Result, Ok, Err, length, drop}
+use Rattle.std.specs.Prelude.{◌≡◌, ℕ, ◌<◌, ◌≤◌, List, [], ◌∷◌, Option, Some, None, Result, Ok, Err, length, drop}
 use Rattle.hush_words.specs.Words.{Atom}
 use Rattle.hush_words.specs.Tokens as tokens
 use Rattle.hush_words.specs.Forms.{name_of}
-use Rattle.hush_words.specs.Reading.{tokens_left, lexeme_end, places_left, tokens_of, tokens_before_fault, token_places}
+use Rattle.hush_words.specs.Reading.{tokens_left, lexeme_end}
 use Rattle.hush_words.specs.Parts.{Written, word_atoms}
 use Rattle.hush_words.specs.declared.forms.Assignment.{Assignment}
 use Rattle.hush_words.specs.declared.tokens.TokenKind.{TokenKind}
@@ -25,23 +25,8 @@ NextToken text at (Ok None) = (tokens_left (drop at text.source) ≡ []) × (lex
 NextToken text at (Ok (Some read)) =
     (tokens_left (drop at text.source) ≡ kind_token text read.token.kind ∷ tokens_left (drop read.end text.source)) ×
     (lexeme_end (drop at text.source) ≡ lexeme_end (drop read.end text.source)) ×
-    (places_left at (drop at text.source) ≡ read.token.place ∷ places_left read.end (drop read.end text.source)) ×
     (at < read.end) × (read.end ≤ length text.source)
 NextToken text at (Err fault) = (tokens_left (drop at text.source) ≡ []) × (lexeme_end (drop at text.source) ≡ [] → ⊥)
-
--- the first token of a text, where it ends, and what stands behind it; or none up to the end, or up to a fault
-abbrev pub FirstToken : Written → Result (Option TokenRead) Fault → Type 0
-FirstToken text (Ok None) = (tokens_of text.source ≡ Some []) × (tokens_before_fault text.source ≡ [])
-FirstToken text (Ok (Some read)) =
-    (tokens_before_fault text.source ≡ kind_token text read.token.kind ∷ tokens_left (drop read.end text.source)) ×
-    (token_places text.source ≡ read.token.place ∷ places_left read.end (drop read.end text.source)) × (read.end ≤ length text.source) ×
-    ((tokens_of text.source ≡ None) ↔ (lexeme_end (drop read.end text.source) ≡ [] → ⊥))
-FirstToken text (Err fault) = (tokens_of text.source ≡ None) × (tokens_before_fault text.source ≡ [])
-
--- the tokens that a text has where this is its first fault, or where it has none
-abbrev pub tokens_unless : Option Fault → List tokens.Token → Option (List tokens.Token)
-tokens_unless None ts = Some ts
-tokens_unless (Some fault) ts = None
 
 -- the name and the value that an assignment's words stand for
 abbrev pub assignment_view : Written → Assignment → Option (List ℕ) × List Atom

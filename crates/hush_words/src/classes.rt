@@ -15,8 +15,6 @@ use memchr::memchr;
 pub(crate) enum Class {
     /// Bytes that stand for themselves in a word.
     Plain,
-    /// The same but `=`, which is a part of its own.
-    Bare,
     /// Bytes that stand for themselves between double quotes.
     Inner,
     /// Bytes of a name.
@@ -32,7 +30,6 @@ impl Class {
     {
         match self {
             Class::Plain => is_bare(b),
-            Class::Bare => is_bare(b) && b != b'=',
             Class::Inner => is_inner(b),
             Class::Name => is_in_name(b),
             Class::Braces => is_in_braces(b),

@@ -1,7 +1,7 @@
 //! What a `$` begins (docs/scripts.md, "Words").
 
-ghost use Rattle.std.specs.Prelude.{◌≡◌, ◌+◌, ◌<◌, ◌≤◌, length, IfSome, ℕ, List, false, ◌==◌};
-ghost use Rattle.hush_words.specs.Bytes.{dollar, equals};
+ghost use Rattle.std.specs.Prelude.{◌≡◌, ◌+◌, ◌<◌, ◌≤◌, length, IfSome, ℕ, List};
+ghost use Rattle.hush_words.specs.Bytes.{dollar};
 ghost use Rattle.hush_words.specs.Ranges.{IsShort, Fits};
 ghost use Rattle.hush_words.specs.Steps.{StandsAt, ReadsByte, ReadsBraces, ReadsDollar};
 
@@ -73,7 +73,7 @@ fn braces(source: &[u8], start: usize, quoted: bool) -> Option<PartRead>
 pub(crate) fn byte_part(place: usize, quoted: bool) -> PartRead
     requires { place < u32.MAX }
     ensures reads { ReadsByte place quoted result }
-    ensures fits { (source : List ℕ) (b : ℕ) → StandsAt source place b → (quoted ≡ false → (b == equals) ≡ false) → Fits source result.part }
+    ensures fits { (source : List ℕ) (b : ℕ) → StandsAt source place b → Fits source result.part }
 {
     let end = place + 1;
     let span = Span::new(place, end);

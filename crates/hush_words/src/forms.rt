@@ -2,18 +2,19 @@
 
 ghost use Rattle.std.specs.Prelude.{◌≡◌, ◌<◌, take, drop, is_some, IfSome, Some, true};
 ghost use Rattle.std.specs.Option.{option_map};
-ghost use Rattle.hush_words.specs.Forms.{is_plain, first_plain, goes_on, name_of, assignment_of, split_of};
+ghost use Rattle.hush_words.specs.Forms.{is_plain, goes_on, name_of, assignment_of, split_of};
 ghost use Rattle.hush_words.specs.Parts.{part_atoms, word_atoms};
 ghost use Rattle.hush_words.specs.Reading.{piece_atoms_left, piece_at};
 ghost use Rattle.hush_words.specs.Views.{assignment_view};
-ghost use Rattle.hush_words.specs.Steps.{FirstIs, PlainRest, NameStep, NameFrom, SplitsAt, StandsAt};
+ghost use Rattle.hush_words.specs.Steps.{PlainRest, NameStep, NameFrom, SplitsAt, StandsAt};
 ghost use Rattle.hush_words.specs.Ranges.{Fits, IsShort};
 
 use crate::classes::{
-    Class, begins_name, byte_at, is_bare, is_in_name, is_joined_line, run_end, stands_at,
+    Class, begins_name, byte_at, ends_word, is_in_name, is_joined_line, is_special, run_end,
+    stands_at,
 };
 use crate::steps::NamePlace;
-use crate::words::pieces;
+use crate::words::piece;
 use crate::{Part, Parts, Text, Word};
 
 /// The two sides of an assignment.
@@ -30,21 +31,7 @@ impl Word {
     pub fn is_plain(self, text: &Text, bytes: &[u8]) -> bool
         ensures { result ≡ is_plain bytes.now (word_atoms text.now self) }
     {
-        // A word of fewer bytes can't be it, and its parts needn't be read.
-        if self.len() < bytes.len() {
-            return false;
-        }
         are_plain(text.parts(self), text.source(), bytes)
-    }
-
-    /// The byte that the word begins with, if it is an unquoted plain one.
-    pub fn first_byte(self, text: &Text) -> Option<u8>
-        ensures { result ≡ first_plain (word_atoms text.now self) }
-    {
-        match bare_at(front(text.source(), self.end), self.start as usize) {
-            Some(first) => Some(first),
-            None => first_in(text.parts(self), text.source()),
-        }
     }
 
     /// Whether the word is a name, in unquoted plain bytes alone: a letter or `_`, then letters, digits and `_`.
@@ -52,16 +39,6 @@ impl Word {
         ensures { result ≡ is_some (name_of (word_atoms text.now self)) }
     {
         is_name_at(front(text.source(), self.end), self.start as usize)
-    }
-
-    /// Whether the word has an assignment's form: its unquoted plain bytes at the front begin with a name and `=`.
-    pub fn is_assignment(self, text: &Text) -> bool
-        ensures { result ≡ is_some (assignment_of (word_atoms text.now self)) }
-    {
-        match equals_from(front(text.source(), self.end), self.start as usize) {
-            Some(_) => true,
-            None => false,
-        }
     }
 
     /// The two sides of an assignment; none where the word hasn't that form.
@@ -89,45 +66,6 @@ fn front(source: &[u8], end: u32) -> &[u8]
     ensures { result.now ≡ take end source.now }
 {
     &source[..(end as usize).min(source.len())]
-}
-
-/// The byte at a place of a word, if it stands for itself: mostly it does, and the parts needn't be read.
-fn bare_at(source: &[u8], at: usize) -> Option<u8>
-    ensures { IfSome result (λ first. first_plain (piece_atoms_left (drop at source.now)) ≡ Some first) }
-{
-    match byte_at(source, at) {
-        Some(first) => { if is_bare(first) { Some(first) } else { None } }
-        None => None,
-    }
-}
-
-/// The byte that the parts begin with, if it is an unquoted plain one.
-fn first_in(parts: Parts<'_>, source: &[u8]) -> Option<u8>
-    requires { parts.source ≡ source.now }
-    ensures { result ≡ first_plain parts.entry.atoms }
-{
-    let mut left = parts;
-    while let Some(part) = left.next_part() {
-        match first_of(part, source) {
-            Some(first) => return first,
-            None => {}
-        }
-    }
-    None
-}
-
-/// The byte that a part begins with, if it is an unquoted plain one; none where the part holds nothing.
-fn first_of(part: Part, source: &[u8]) -> Option<Option<u8>>
-    requires { Fits source.now part }
-    ensures { FirstIs (part_atoms source.now part) result }
-{
-    match part.plain(source) {
-        Some(span) => match byte_at(span.of(source), 0) {
-            Some(first) => Some(Some(first)),
-            None => None,
-        },
-        None => Some(None),
-    }
 }
 
 /// Whether the parts are this text, in unquoted plain bytes alone.
@@ -182,10 +120,24 @@ fn is_piece_at(source: &[u8], at: usize) -> bool
     requires { IsShort source.now }
     ensures { result ≡ is_some (piece_at (drop at source.now)) }
 {
-    match pieces(source, at) {
-        Ok(Some(_)) => true,
-        Ok(None) => false,
-        Err(_) => false,
+    match byte_at(source, at) {
+        Some(first) => begins_piece(source, at, first),
+        None => false,
+    }
+}
+
+/// The same where this byte stands at the place.
+fn begins_piece(source: &[u8], at: usize, first: u8) -> bool
+    requires few { IsShort source.now }
+    requires here { StandsAt source.now at first }
+    ensures { result ≡ is_some (piece_at (drop at source.now)) }
+{
+    if ends_word(first) {
+        false
+    } else if is_special(first) {
+        piece(source, at, first).is_ok()
+    } else {
+        true
     }
 }
 

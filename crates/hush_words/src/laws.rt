@@ -13,8 +13,7 @@ pub fn one_token_list()
     ensures { OneTokenList }
 {}
 
-/// The tokens that are read before a fault, and their places, are those of the lexemes at the front of the text, up to
-/// where no lexeme can stand.
+/// The tokens that are read before a fault are those of the lexemes at the front of the text, up to where no lexeme can stand.
 pub fn front_is_read()
     ensures { FrontIsRead }
 {}

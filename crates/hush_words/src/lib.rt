@@ -22,5 +22,5 @@ pub use faults::{Fault, FaultKind};
 pub use forms::Assignment;
 pub use parts::{Part, Span, Word};
 pub use text::Text;
-pub use tokens::{Survey, Token, TokenKind, TokenRead};
+pub use tokens::{Token, TokenKind, TokenRead};
 pub use walk::Parts;

@@ -1,9 +1,9 @@
 //! Words, and the parts that they are made of.
-ghost use Rattle.std.specs.Prelude.{◌≡◌, ◌≤◌, ◌-◌, IfSome};
+ghost use Rattle.std.specs.Prelude.{◌≡◌, ◌≤◌, IfSome};
 ghost use Rattle.std.specs.Option.{option_map};
 ghost use Rattle.hush_words.specs.Parts.{span_of, word_between, part_atoms, span_bytes};
 ghost use Rattle.hush_words.specs.Ranges.{IsWithin, Fits};
-ghost use Rattle.hush_words.specs.Steps.{ArePlain, IsSplitRange};
+ghost use Rattle.hush_words.specs.Steps.{ArePlain};
 
 /// A range of the source: the bytes from `start` up to `end`, `end` not among them.
 #[derive(Clone, Copy, Debug, PartialEq, Eq)]
@@ -17,7 +17,7 @@ pub struct Span {
 /// A part of a word (docs/scripts.md, "Words").
 #[derive(Clone, Copy, Debug, PartialEq, Eq)]
 pub enum Part {
-    /// Bytes that stand for themselves, outside of quotes: one `=`, or bytes without `=`.
+    /// Bytes that stand for themselves, outside of quotes.
     Plain(Span),
     /// Bytes that stand for themselves, in quotes or behind a `\`.
     Quoted(Span),
@@ -74,13 +74,6 @@ impl Word {
             end,
         }
     }
-
-    /// How many bytes its range has: none where that ends before it begins.
-    pub(crate) fn len(self) -> usize
-        ensures { result ≡ self.end - self.start }
-    {
-        self.end.saturating_sub(self.start) as usize
-    }
 }
 
 impl Part {
@@ -88,7 +81,7 @@ impl Part {
     pub(crate) fn plain(self, source: &[u8]) -> Option<Span>
         requires { Fits source.now self }
         ensures plain { ArePlain (part_atoms source.now self) (option_map (span_bytes source.now) result) }
-        ensures range { IfSome result (IsSplitRange source.now) }
+        ensures range { IfSome result (IsWithin source.now) }
     {
         match self {
             Part::Plain(span) => Some(span),

@@ -3,46 +3,28 @@
 ghost use Rattle.std.specs.Prelude.{◌≡◌, ◌≤◌, length, not, is_some, true, ◌==◌, ◌||◌};
 ghost use Rattle.hush_words.specs.Bytes.{ampersand, vertical_bar};
 ghost use Rattle.hush_words.specs.Tokens.{has_no_nul};
-ghost use Rattle.hush_words.specs.Reading.{tokens_of, tokens_before_fault};
 ghost use Rattle.hush_words.specs.Parts.{written};
-ghost use Rattle.hush_words.specs.Views.{NextToken, FirstToken, tokens_unless};
+ghost use Rattle.hush_words.specs.Views.{NextToken};
 ghost use Rattle.hush_words.specs.Ranges.{IsShort};
 ghost use Rattle.hush_words.specs.Steps.{StandsAt, ReadsLexeme};
 
 use crate::classes::{byte_at, is_blank, is_joined_line, place_of, stands_at};
 use crate::steps::LexemeRead;
 use crate::words::word;
-use crate::{Fault, FaultKind, Survey, Text, Token, TokenKind, TokenRead};
+use crate::{Fault, FaultKind, Text, Token, TokenKind, TokenRead};
 use memchr::memchr;
 
 impl Text {
-    /// Looks through the text before its tokens are read: counts the tokens up to its end, or up to the first fault of a
-    /// word or an operator; a byte 0 is looked for before all else. One pass, of as many steps as the text has bytes.
-    pub fn survey(&self) -> Survey
-        ensures tokens { result.tokens ≡ length (tokens_before_fault self.now.source) }
-        ensures fault { tokens_of self.now.source ≡ tokens_unless result.fault (tokens_before_fault self.now.source) }
+    /// The first byte 0, which is a fault of the whole text: it is looked for before any token is read.
+    pub fn nul(&self) -> Option<Fault>
+        ensures { has_no_nul self.now.source ≡ not (is_some result) }
     {
-        match nul_in(self.source()) {
-            Some(fault) => Survey {
-                tokens: 0,
-                fault: Some(fault),
-            },
-            None => counted(self.source()),
-        }
-    }
-
-    /// Reads the first token; none where the text has none.
-    ///
-    /// # Errors
-    ///
-    /// A byte 0, which is looked for before all else, or the fault of a word or an operator where no token stands before
-    /// it.
-    pub fn first_token(&self) -> Result<Option<TokenRead>, Fault>
-        ensures { FirstToken self.now result }
-    {
-        match nul_in(self.source()) {
-            Some(fault) => Err(fault),
-            None => token_from(self.source(), 0),
+        match memchr(0, self.source()) {
+            Some(place) => Some(Fault {
+                kind: FaultKind::Nul,
+                place,
+            }),
+            None => None,
         }
     }
 
@@ -56,50 +38,6 @@ impl Text {
         ensures { NextToken self.now place result }
     {
         token_from(self.source(), place)
-    }
-}
-
-/// The first byte 0 of a text, which is a fault.
-fn nul_in(source: &[u8]) -> Option<Fault>
-    ensures { has_no_nul source.now ≡ not (is_some result) }
-{
-    match memchr(0, source) {
-        Some(place) => Some(Fault {
-            kind: FaultKind::Nul,
-            place,
-        }),
-        None => None,
-    }
-}
-
-/// What a text without 0 has.
-fn counted(source: &[u8]) -> Survey
-    requires few { IsShort source.now }
-    requires clean { has_no_nul source.now ≡ true }
-    ensures tokens { result.tokens ≡ length (tokens_before_fault source.now) }
-    ensures fault { tokens_of source.now ≡ tokens_unless result.fault (tokens_before_fault source.now) }
-{
-    let mut tokens = 0;
-    let mut at = 0;
-    loop {
-        match token_from(source, at) {
-            Ok(Some(read)) => {
-                tokens += 1;
-                at = read.end;
-            }
-            Ok(None) => {
-                return Survey {
-                    tokens,
-                    fault: None,
-                };
-            }
-            Err(fault) => {
-                return Survey {
-                    tokens,
-                    fault: Some(fault),
-                };
-            }
-        }
     }
 }
 

@@ -1,5 +1,5 @@
 //! The tokens of a script.
-use crate::{Fault, Word};
+use crate::Word;
 
 /// What a token is.
 #[derive(Clone, Copy, Debug, PartialEq, Eq)]
@@ -32,13 +32,4 @@ pub struct TokenRead {
     pub token: Token,
     /// How many bytes of the source stand before what follows the token.
     pub end: usize,
-}
-
-/// What a text has, told before its tokens are read.
-#[derive(Clone, Copy, Debug, PartialEq, Eq)]
-pub struct Survey {
-    /// How many tokens stand before the end, or before the fault.
-    pub tokens: usize,
-    /// The first fault of a word or an operator, if there is one.
-    pub fault: Option<Fault>,
 }

@@ -9,11 +9,10 @@ ghost use Rattle.hush_words.specs.Ranges.{IsShort, TakesPart, FitsSome};
 ghost use Rattle.hush_words.specs.declared.parts.Part.TheVariants as part;
 ghost use Rattle.hush_words.specs.Steps.{StandsAt, Closes, Steps, StepsTo, place_in, optional_atoms};
 
-use crate::classes::{byte_at, ends_word, is_special, place_of};
+use crate::classes::{Class, byte_at, ends_word, is_bare, place_of, run_end};
 use crate::dollars::{byte_part, dollar};
 use crate::quotes::{double, inner, single};
 use crate::steps::{Inside, Place, PlaceRead};
-use crate::words::plain_end;
 use crate::{Part, Span};
 use std::marker::Model;
 
@@ -124,16 +123,16 @@ fn step_from(source: &[u8], at: usize, first: u8) -> Option<PlaceRead>
     requires here { StandsAt source.now at first }
     ensures { Steps source.now (place_in Inside.Nothing at) result }
 {
-    if ends_word(first) {
-        None
-    } else if is_special(first) {
-        special(source, at, first)
-    } else {
-        let end = plain_end(source, at, first);
+    if is_bare(first) {
+        let end = run_end(Class::Plain, source, at);
         Some(PlaceRead {
             part: Some(Part::Plain(Span::new(at, end))),
             next: outside(end),
         })
+    } else if ends_word(first) {
+        None
+    } else {
+        special(source, at, first)
     }
 }
 

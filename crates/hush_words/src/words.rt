@@ -4,7 +4,7 @@ ghost use Rattle.std.specs.Prelude.{◌≡◌, ◌+◌, ◌&&◌, not, true, fal
 ghost use Rattle.hush_words.specs.Bytes.{newline, hash, dollar, backslash};
 ghost use Rattle.hush_words.specs.Words.{ends_word, is_special, is_bare, next};
 ghost use Rattle.hush_words.specs.Ranges.{IsShort};
-ghost use Rattle.hush_words.specs.Steps.{StandsAt, ReadsPiece, ReadsPieces, EndsPlain, ReadsLexeme, IsPlainRun, begins};
+ghost use Rattle.hush_words.specs.Steps.{StandsAt, ReadsPiece, ReadsPieces, EndsPlain, ReadsLexeme, begins};
 
 use crate::classes::{Class, byte_at, ends_word, is_special, run_end};
 use crate::dollars::dollar;
@@ -60,48 +60,8 @@ fn special_pieces_from(source: &[u8], at: usize, first: u8) -> Result<Option<usi
     Ok(Some(run_end(Class::Plain, source, end)))
 }
 
-/// Where the pieces at the place end; none where the word ends there.
-pub(crate) fn pieces(source: &[u8], at: usize) -> Result<Option<usize>, Fault>
-    requires few { IsShort source.now }
-    ensures { ReadsPieces source.now at result }
-{
-    match byte_at(source, at) {
-        Some(first) => pieces_from(source, at, first),
-        None => Ok(None),
-    }
-}
-
-/// Where the pieces end that begin with this byte; none where it ends the word.
-fn pieces_from(source: &[u8], at: usize, first: u8) -> Result<Option<usize>, Fault>
-    requires few { IsShort source.now }
-    requires here { StandsAt source.now at first }
-    ensures { ReadsPieces source.now at result }
-{
-    if ends_word(first) {
-        Ok(None)
-    } else if is_special(first) {
-        let end = piece(source, at, first)?;
-        Ok(Some(end))
-    } else {
-        Ok(Some(plain_end(source, at, first)))
-    }
-}
-
-/// Where the plain bytes end that begin with this one: a `=` is a part of its own, and others end before one.
-pub(crate) fn plain_end(source: &[u8], at: usize, first: u8) -> usize
-    requires here { StandsAt source.now at first }
-    requires bare { is_bare first ≡ true }
-    ensures { IsPlainRun source.now at result }
-{
-    if first == b'=' {
-        at + 1
-    } else {
-        run_end(Class::Bare, source, at)
-    }
-}
-
 /// Where the piece ends that begins with this byte, one of `$`, `\` and the quotes.
-fn piece(source: &[u8], at: usize, first: u8) -> Result<usize, Fault>
+pub(crate) fn piece(source: &[u8], at: usize, first: u8) -> Result<usize, Fault>
     requires few { IsShort source.now }
     requires here { StandsAt source.now at first }
     requires special { is_special first ≡ true }

@@ -25,22 +25,23 @@ fn quoted_value(start: u32, end: u32) -> Part {
     Part::Value(Span { start, end }, true)
 }
 
-/// What was read of a text: its tokens up to the end or up to the fault, the fault, and the one of the survey.
+/// What was read of a text: its tokens up to the end or up to the fault, and the fault.
 #[derive(Drop)]
 struct Lexed {
     text: Text,
     tokens: Vec<Token>,
     fault: Option<Fault>,
-    surveyed: Option<Fault>,
 }
 
-/// What is read of a copy of the text: its tokens one by one, as many as were counted before.
+/// What is read of a copy of the text: a byte 0, or else its tokens one by one. There are no more of these than bytes.
 fn read_copy(alloc: Global, source: &[u8]) -> Result<Lexed, AllocError> {
     let text = Text::new(source.to_vec(alloc)?)?;
-    let survey = text.survey();
     let mut tokens = Vec::new(alloc);
-    let mut next = text.first_token();
-    for _ in 0..survey.tokens {
+    let mut next = match text.nul() {
+        Some(nul) => Err(nul),
+        None => text.next_token(0),
+    };
+    for _ in 0..source.len() {
         if let Ok(Some(read)) = next {
             tokens.push(read.token)?;
             next = text.next_token(read.end);
@@ -50,7 +51,6 @@ fn read_copy(alloc: Global, source: &[u8]) -> Result<Lexed, AllocError> {
         text,
         tokens,
         fault: next.err(),
-        surveyed: survey.fault,
     })
 }
 
@@ -87,7 +87,7 @@ fn is_token(lexed: &Lexed, index: usize, place: u32, kind: TokenKind) -> bool {
 
 /// Whether the text was read whole, and had so many tokens.
 fn has_tokens(lexed: &Lexed, count: usize) -> bool {
-    lexed.tokens.len() == count && lexed.fault == None && lexed.surveyed == None
+    lexed.tokens.len() == count && lexed.fault == None
 }
 
 /// Whether the text is one word of these parts.
@@ -104,6 +104,5 @@ fn is_fault(
     place: usize,
 ) -> Result<bool, AllocError> {
     let lexed = read_copy(alloc, source)?;
-    let fault = Some(Fault { kind, place });
-    Ok(lexed.fault == fault && lexed.surveyed == fault)
+    Ok(lexed.fault == Some(Fault { kind, place }))
 }

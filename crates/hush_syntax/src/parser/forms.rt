@@ -1,6 +1,6 @@
 //! The forms that a reserved word opens: `if`, `for`, `while` and `until`.
 
-ghost use Rattle.std.specs.Prelude.{◌≡◌};
+ghost use Rattle.std.specs.Prelude.{◌≡◌, OnOk};
 ghost use Rattle.hush_syntax.specs.Builders.{if_stored};
 
 use crate::SyntaxFault;
@@ -12,7 +12,7 @@ use crate::stored::{Block, Stored};
 use crate::table::Builder;
 
 impl<'s> Parser<'s> {
-    ghost use Rattle.hush_syntax.specs.Answers.{branch, otherwise};
+    ghost use Rattle.hush_syntax.specs.Answers.{branch, otherwise, SameEnd};
     ghost use Rattle.hush_syntax.specs.Grammar.{Chains, Command};
     ghost use Rattle.hush_syntax.specs.Reading.{command, compound, loop_parts};
     ghost use Rattle.hush_syntax.specs.Builders.{Parses, CommandAt, BranchAt, OtherwiseAt, LoopAt};
@@ -22,13 +22,14 @@ impl<'s> Parser<'s> {
     #[cycle(parsing)]
     pub(super) fn compound(
         self,
-        tokens: &mut Tokens<'_>,
+        tokens: &mut Tokens,
         builder: &mut Builder,
         keyword: Keyword,
         fault: SyntaxFault,
         room: u32,
     ) -> Result<NodeId, SyntaxFault>
-        ensures { Parses CommandAt self.entry.text.now (compound (command room) keyword) builder.old builder.new tokens.old tokens.new result }
+        ensures built { Parses CommandAt self.entry.text.now (compound (command room) keyword) builder.old builder.new tokens.old tokens.new result }
+        ensures whole { OnOk result (SameEnd self.entry.text.now tokens.old tokens.new) }
     {
         match keyword {
             Keyword::If => self.branches(tokens, builder, room),
@@ -56,12 +57,13 @@ impl<'s> Parser<'s> {
     #[cycle(parsing)]
     fn loop_parts(
         self,
-        tokens: &mut Tokens<'_>,
+        tokens: &mut Tokens,
         builder: &mut Builder,
         room: u32,
     ) -> Result<(NodeId, NodeId), SyntaxFault>
-        ensures { (form : Chains → Chains → Command) → Parses (LoopAt form) self.entry.text.now
+        ensures built { (form : Chains → Chains → Command) → Parses (LoopAt form) self.entry.text.now
             (loop_parts (command room) form) builder.old builder.new tokens.old tokens.new result }
+        ensures whole { OnOk result (SameEnd self.entry.text.now tokens.old tokens.new) }
     {
         let condition = self.list(tokens, builder, room)?;
         tokens.expect(self.text, Keyword::Do.text())?;
@@ -74,11 +76,12 @@ impl<'s> Parser<'s> {
     #[cycle(parsing)]
     fn binding_loop(
         self,
-        tokens: &mut Tokens<'_>,
+        tokens: &mut Tokens,
         builder: &mut Builder,
         room: u32,
     ) -> Result<NodeId, SyntaxFault>
-        ensures { Parses CommandAt self.entry.text.now (compound (command room) Keyword.For) builder.old builder.new tokens.old tokens.new result }
+        ensures built { Parses CommandAt self.entry.text.now (compound (command room) Keyword.For) builder.old builder.new tokens.old tokens.new result }
+        ensures whole { OnOk result (SameEnd self.entry.text.now tokens.old tokens.new) }
     {
         let name = tokens.name(self.text)?;
         tokens.expect(self.text, b"in")?;
@@ -95,11 +98,12 @@ impl<'s> Parser<'s> {
     #[cycle(parsing)]
     fn branches(
         self,
-        tokens: &mut Tokens<'_>,
+        tokens: &mut Tokens,
         builder: &mut Builder,
         room: u32,
     ) -> Result<NodeId, SyntaxFault>
-        ensures { Parses CommandAt self.entry.text.now (compound (command room) Keyword.If) builder.old builder.new tokens.old tokens.new result }
+        ensures built { Parses CommandAt self.entry.text.now (compound (command room) Keyword.If) builder.old builder.new tokens.old tokens.new result }
+        ensures whole { OnOk result (SameEnd self.entry.text.now tokens.old tokens.new) }
     {
         let mark = builder.waiting_branches();
         let first = self.branch(tokens, builder, room)?;
@@ -119,11 +123,12 @@ impl<'s> Parser<'s> {
     #[cycle(parsing)]
     fn branch(
         self,
-        tokens: &mut Tokens<'_>,
+        tokens: &mut Tokens,
         builder: &mut Builder,
         room: u32,
     ) -> Result<Branch, SyntaxFault>
-        ensures { Parses BranchAt self.entry.text.now (branch (command room)) builder.old builder.new tokens.old tokens.new result }
+        ensures built { Parses BranchAt self.entry.text.now (branch (command room)) builder.old builder.new tokens.old tokens.new result }
+        ensures whole { OnOk result (SameEnd self.entry.text.now tokens.old tokens.new) }
     {
         let condition = self.list(tokens, builder, room)?;
         tokens.expect(self.text, Keyword::Then.text())?;
@@ -135,11 +140,12 @@ impl<'s> Parser<'s> {
     #[cycle(parsing)]
     fn otherwise(
         self,
-        tokens: &mut Tokens<'_>,
+        tokens: &mut Tokens,
         builder: &mut Builder,
         room: u32,
     ) -> Result<Option<NodeId>, SyntaxFault>
-        ensures { Parses OtherwiseAt self.entry.text.now (otherwise (command room)) builder.old builder.new tokens.old tokens.new result }
+        ensures built { Parses OtherwiseAt self.entry.text.now (otherwise (command room)) builder.old builder.new tokens.old tokens.new result }
+        ensures whole { OnOk result (SameEnd self.entry.text.now tokens.old tokens.new) }
     {
         if !tokens.at(self.text, Keyword::Else.text()) {
             tokens.expect(self.text, Keyword::Fi.text())?;

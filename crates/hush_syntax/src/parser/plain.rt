@@ -18,17 +18,18 @@ use hush_words::{Assignment, Word};
 impl<'s> Parser<'s> {
     ghost use Rattle.hush_words.specs.Forms.{assignment_of};
     ghost use Rattle.hush_words.specs.Parts.{word_atoms};
-    ghost use Rattle.hush_syntax.specs.Answers.{assigned_of, assignment_before};
+    ghost use Rattle.hush_syntax.specs.Answers.{assigned_of, assignment_before, SameEnd};
     ghost use Rattle.hush_syntax.specs.Reading.{plain};
     ghost use Rattle.hush_syntax.specs.Builders.{Parses, CommandAt};
 
     /// An assignment, which no word may follow, or a simple command.
     pub(super) fn plain(
         self,
-        tokens: &mut Tokens<'_>,
+        tokens: &mut Tokens,
         builder: &mut Builder,
     ) -> Result<NodeId, SyntaxFault>
-        ensures { Parses CommandAt self.entry.text.now plain builder.old builder.new tokens.old tokens.new result }
+        ensures built { Parses CommandAt self.entry.text.now plain builder.old builder.new tokens.old tokens.new result }
+        ensures whole { OnOk result (SameEnd self.entry.text.now tokens.old tokens.new) }
     {
         let fault = tokens.fault();
         let Some(first) = tokens.first_word() else {
@@ -57,12 +58,13 @@ impl<'s> Parser<'s> {
     /// What stands behind an assignment: no word.
     fn assignment(
         self,
-        tokens: &mut Tokens<'_>,
+        tokens: &mut Tokens,
         builder: &mut Builder,
         assignment: Assignment,
     ) -> Result<NodeId, SyntaxFault>
-        ensures { Parses CommandAt self.entry.text.now (assignment_before (assigned_of self.entry.text.now assignment))
+        ensures built { Parses CommandAt self.entry.text.now (assignment_before (assigned_of self.entry.text.now assignment))
             builder.old builder.new tokens.old tokens.new result }
+        ensures whole { OnOk result (SameEnd self.entry.text.now tokens.old tokens.new) }
     {
         no_word(tokens)?;
         let Assignment { name, value } = assignment;
@@ -73,7 +75,7 @@ impl<'s> Parser<'s> {
 }
 
 /// No word may stand behind an assignment.
-fn no_word(tokens: &Tokens<'_>) -> Result<(), SyntaxFault>
+fn no_word(tokens: &Tokens) -> Result<(), SyntaxFault>
     ensures passed { OnOk result ((text : Written) → begins is_word (left_in text tokens.now) ≡ false) }
     ensures word { IfErr result (λ _. (text : Written) → begins is_word (left_in text tokens.now) ≡ true) }
     ensures refused { IfErr result (λ fault. fault ≡ assignment_fault tokens.now) }

@@ -65,7 +65,7 @@ fn assignments_are_told(rt: HostRuntime) -> Result<(), Fail> {
     ];
     for (source, expected) in texts {
         let (text, word) = only_word(rt.alloc(), source)?.ok_or("no word")?;
-        assert_eq!(rt; word.is_assignment(&text), expected);
+        assert_eq!(rt; word.assignment(&text).is_some(), expected);
     }
     Ok(())
 }

@@ -115,29 +115,9 @@ fn dollars_stand_for_themselves(rt: HostRuntime) -> Result<(), Fail> {
 
 #[test]
 fn other_bytes_are_plain(rt: HostRuntime) -> Result<(), Fail> {
-    assert!(rt; is_one_word(rt.alloc(), b"<>()*[]{}`%,:", &[plain(0, 13)])?);
+    assert!(rt; is_one_word(rt.alloc(), b"<>()*[]{}`%,:=", &[plain(0, 14)])?);
     assert!(rt; is_one_word(rt.alloc(), b"a\rb", &[plain(0, 3)])?);
     assert!(rt; is_one_word(rt.alloc(), b"\xff\x01", &[plain(0, 2)])?);
-    Ok(())
-}
-
-#[test]
-fn equals_signs_are_parts_of_their_own(rt: HostRuntime) -> Result<(), Fail> {
-    assert!(rt; is_one_word(rt.alloc(), b"=", &[plain(0, 1)])?);
-    assert!(rt;
-        is_one_word(
-            rt.alloc(),
-            b"a==b",
-            &[plain(0, 1), plain(1, 2), plain(2, 3), plain(3, 4)]
-        )?
-    );
-    assert!(rt;
-        is_one_word(
-            rt.alloc(),
-            b"a'='\\=",
-            &[plain(0, 1), Part::Mark, quoted(2, 3), quoted(5, 6)]
-        )?
-    );
     Ok(())
 }
 

@@ -10,4 +10,4 @@ pub returns-in_default : goal.returns-in_default
 returns-in_default c = none_of c.args.text.now.source c.args.part c.in_default.not-Plain
 
 pub bytes-requires : goal.bytes-requires
-bytes-requires c = (subst (Fits c.args.text.now.source) c.in-Plain.is c.requires).0
+bytes-requires c = subst (Fits c.args.text.now.source) c.in-Plain.is c.requires

@@ -1,4 +1,4 @@
-use Rattle.std.proofs.Common.{sym, ◌∙◌, ap, refl}
+use Rattle.std.proofs.Common.{sym, ◌∙◌, ap}
 use Rattle.hush_words.specs.Reading.{found, dollar_at}
 use Rattle.hush_words.specs.Words.Dollar.{Alone}
 use Rattle.hush_words.proofs.DollarLemmas.{read-alone, behind-end}
@@ -10,4 +10,4 @@ returns-in-None-clause-reads c =
     (ap dollar_at c.in-None.ensures ∙ behind-end ∙ ap (λ l. found Alone l) (sym c.in-None.ensures))
 
 pub returns-in-None-clause-fits : goal.returns-in-None-clause-fits
-returns-in-None-clause-fits c = c.byte_part.ensures.fits c.args.source.now 36 c.requires.here (λ q. refl)
+returns-in-None-clause-fits c = c.byte_part.ensures.fits c.args.source.now 36 c.requires.here

@@ -1,4 +1,4 @@
-use Rattle.std.proofs.Common.{arith, sym, ◌∙◌, ap, subst, drop, ◌+◌, refl}
+use Rattle.std.proofs.Common.{arith, sym, ◌∙◌, ap, subst, drop, ◌+◌}
 use Rattle.hush_words.specs.Reading.{found, dollar_at}
 use Rattle.hush_words.specs.Steps.{StandsAt}
 use Rattle.hush_words.specs.Words.Dollar.{Alone}
@@ -38,4 +38,4 @@ pub returns-then-begins_name-clause-fits : goal.returns-then-begins_name-clause-
 returns-then-begins_name-clause-fits c = rw c.new.ensures (c.run_end-end.ensures.0, c.run_end-end.ensures.1)
 
 pub returns-else-follows_dollar-clause-fits : goal.returns-else-follows_dollar-clause-fits
-returns-else-follows_dollar-clause-fits c = c.byte_part.ensures.fits c.args.source.now 36 c.requires.dollar (λ q. refl)
+returns-else-follows_dollar-clause-fits c = c.byte_part.ensures.fits c.args.source.now 36 c.requires.dollar

@@ -25,4 +25,4 @@ pub returns-in-None : goal.returns-in-None
 returns-in-None c = λ more. otherwise-plain c.args.text.now (part_atoms c.args.source.now c.args.part) more c.in-None.ensures.plain
 
 pub of-bytes-requires : goal.of-bytes-requires
-of-bytes-requires c = c.in-Some.ensures.range.0
+of-bytes-requires c = c.in-Some.ensures.range

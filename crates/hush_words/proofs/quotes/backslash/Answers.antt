@@ -1,5 +1,4 @@
-use Rattle.std.proofs.Common.{arith, sym, ◌+◌, true, refl}
-use Rattle.std.proofs.lemmas.Bool.{both_ways}
+use Rattle.std.proofs.Common.{arith, sym, ◌+◌}
 use Rattle.hush_words.specs.Words.Inner.{Backslash}
 use Rattle.hush_words.proofs.Inners.{one-inner, at-last}
 use Rattle.hush_words.proofs.quotes.backslash.Goals as goal
@@ -12,4 +11,4 @@ returns-in-None-clause-reads c =
     (omega arith, omega (arith, c.requires.here.0), r.0, r.1)
 
 pub returns-in-None-clause-fits : goal.returns-in-None-clause-fits
-returns-in-None-clause-fits c = c.byte_part.ensures.fits c.args.source.now 92 c.requires.here (λ q. absurd (both_ways true q refl))
+returns-in-None-clause-fits c = c.byte_part.ensures.fits c.args.source.now 92 c.requires.here

@@ -1,5 +1,4 @@
-use Rattle.std.proofs.Common.{arith, sym, ◌∙◌, ◌+◌, true, refl, []}
-use Rattle.std.proofs.lemmas.Bool.{both_ways}
+use Rattle.std.proofs.Common.{arith, sym, ◌∙◌, ◌+◌, refl, []}
 use Rattle.hush_words.specs.Words.Inner.{EscapedInner, JoinedInner, Backslash}
 use Rattle.hush_words.proofs.Inners.{one-inner, at-escaped, at-joined, at-backslash}
 use Rattle.hush_words.proofs.quotes.backslash_before.Goals as goal
@@ -25,7 +24,7 @@ returns-else-next-eq10-clause-reads c =
     (omega arith, omega (arith, c.requires.next.0), r.0, r.1)
 
 pub returns-then-is_escaped-clause-fits : goal.returns-then-is_escaped-clause-fits
-returns-then-is_escaped-clause-fits c = c.byte_part.ensures.fits c.args.source.now c.args.next c.requires.next (λ q. absurd (both_ways true q refl))
+returns-then-is_escaped-clause-fits c = c.byte_part.ensures.fits c.args.source.now c.args.next c.requires.next
 
 pub returns-else-next-eq10-clause-fits : goal.returns-else-next-eq10-clause-fits
-returns-else-next-eq10-clause-fits c = c.byte_part-else-next-eq10.ensures.fits c.args.source.now 92 c.requires.backslash (λ q. absurd (both_ways true q refl))
+returns-else-next-eq10-clause-fits c = c.byte_part-else-next-eq10.ensures.fits c.args.source.now 92 c.requires.backslash

@@ -1,5 +1,4 @@
-use Rattle.std.proofs.Common.{arith, sym, ◌∙◌, ap, subst, ◌++◌, ◌+◌, drop, true, refl}
-use Rattle.std.proofs.lemmas.Bool.{both_ways}
+use Rattle.std.proofs.Common.{arith, sym, ◌∙◌, ap, subst, ◌++◌, ◌+◌, drop}
 use Rattle.hush_words.specs.Ranges.{FitsSome}
 use Rattle.hush_words.specs.Reading.{piece_atoms_left}
 use Rattle.hush_words.specs.Steps.{optional_atoms}
@@ -19,7 +18,7 @@ returns c =
       tt,
       elim c.if-next-eq10.branch [
         | then-next-eq10 w ↦ subst (FitsSome source) (sym w.result-is) tt
-        | else-next-eq10 w ↦ subst (FitsSome source) (sym w.result-is) (w.byte_part.ensures.fits source next c.requires.next (λ q. absurd (both_ways true q refl)))
+        | else-next-eq10 w ↦ subst (FitsSome source) (sym w.result-is) (w.byte_part.ensures.fits source next c.requires.next)
       ],
       elim c.if-next-eq10.branch [
         | then-next-eq10 w ↦ joined-left source at next c.requires.backslash c.requires.next w.if-next-eq10.true

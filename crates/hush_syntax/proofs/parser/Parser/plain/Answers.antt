@@ -5,8 +5,8 @@ use Rattle.hush_syntax.specs.Reading.{behind}
 use Rattle.hush_syntax.proofs.CommandExits.{simple-built}
 use Rattle.hush_syntax.proofs.parser.Parser.plain.Goals as goal
 
-pub returns-in_ok-node-in-None : goal.returns-in_ok-node-in-None
-returns-in_ok-node-in-None c =
+pub returns-in_ok-node-in-None-clause-built : goal.returns-in_ok-node-in-None-clause-built
+returns-in_ok-node-in-None-clause-built c =
     let s = c.args.self.text.now in
     let w = c.in_ok-words-in-None.ensures in
     simple-built s (word_atoms s c.in-Some.first) (behind (left_in s c.args.tokens.now)) (left_in s c.args.tokens.now) (left_in s c.take_words.new.tokens) c.args.builder.now c.take_words.new.self c.put.new.self
