@@ -1,8 +1,8 @@
-"""A board that qemu emulates, which starts U-Boot, and its console.
+"""A board emulated by qemu, which starts U-Boot, and its console.
 
-The board's flash is a file of 64 MiB, at the front of which U-Boot keeps its environment; its memory is a file as well. A console
-that doesn't answer within twenty seconds is a fault, reported with what it printed last. The process of the board ends with the
-block that started it, and with this program, however that ends.
+The board's flash is a file of 64 MiB, which begins with U-Boot's environment; its memory is a file too. A console that doesn't
+answer within twenty seconds is a fault, reported with what it printed last. The board's process ends with the block that started
+it, and with this program, however that ends.
 """
 
 import mmap
@@ -25,6 +25,8 @@ MORE = b"\n> "
 AUTOBOOT = b"autoboot:  2 "
 AUTOMATIC = (b"fdtcontroladdr", b"stderr", b"stdin", b"stdout")
 INTERRUPT = b"\x03"
+# Starts a command that is killed when the process $0 ends, or doesn't start it if that has ended already.
+GUARD = ("setpriv", "--pdeathsig", "KILL", "sh", "-c", '[ "$PPID" = "$0" ] && exec "$@"')
 
 
 class Silent(Exception):
@@ -36,7 +38,7 @@ def sectors(size):
 
 
 class Board:
-    """`flash` is a file whose front holds a stored environment; what lies behind that is added."""
+    """`flash` is a file that begins with a stored environment; it is extended to the size of the flash."""
 
     def __init__(self, flash):
         self.flash = Path(flash)
@@ -48,9 +50,9 @@ class Board:
         console = "-chardev stdio,id=console,signal=off -serial chardev:console"
         memory = f"memory-backend-file,id=memory,size={MEMORY_SIZE},share=on,mem-path={self.memory}"
         drive = f"if=pflash,index=1,format=raw,file={self.flash}"
-        command = ["setpriv", "--pdeathsig", "KILL", EMULATOR, *options.split(), *console.split(), "-m", f"{MEMORY_SIZE >> 20}"]
+        machine = [*options.split(), *console.split(), "-m", f"{MEMORY_SIZE >> 20}", "-object", memory, "-drive", drive]
         self.process = subprocess.Popen(
-            [*command, "-object", memory, "-drive", drive, "-bios", FIRMWARE],
+            [*GUARD, str(os.getpid()), EMULATOR, *machine, "-bios", FIRMWARE],
             stdin=subprocess.PIPE,
             stdout=subprocess.PIPE,
             stderr=subprocess.STDOUT,
@@ -79,7 +81,7 @@ class Board:
         self.memory.unlink()
 
     def wait_for(self, *ends):
-        """What the console prints up to one of these texts, behind which it waits."""
+        """What the console prints up to one of these texts, after which it waits."""
         until = time.monotonic() + PATIENCE
         while not self.printed.endswith(ends):
             if not self.selector.select(max(0, until - time.monotonic())):
@@ -100,9 +102,9 @@ class Board:
         return printed.replace(b"\r\n", b"\n")
 
     def type(self, line):
-        """Types a line at the prompt: what is printed behind its echo, and whether the console waits for more of the script.
+        """Types a line at the prompt: what is printed after its echo, and whether the console waits for more of the script.
 
-        The prompt is seen by the newline before it, so what a script prints has to end with one.
+        The prompt is recognised by the newline before it, so what a script prints has to end with one.
         """
         self.process.stdin.write(line + b"\r")
         printed = self.wait_for(PROMPT, MORE)
@@ -111,7 +113,7 @@ class Board:
         return printed.replace(b"\r\n", b"\n").removeprefix(b"\n"), end == MORE
 
     def command(self, line):
-        """What a line prints that is a whole script."""
+        """What a line prints, which has to be a whole script."""
         printed, waits = self.type(line)
         if waits:
             raise Silent(f"no prompt after {line!r}; the console printed last {printed[-300:]!r}")
@@ -126,7 +128,7 @@ class Board:
         return int(self.command(b"echo $?"))
 
     def variables(self):
-        """All variables. In the list each backslash and each newline of a value stands behind a backslash (lib/hashtable.c)."""
+        """All variables. The list has a backslash before each backslash and newline of a value (lib/hashtable.c)."""
         text = self.command(b"printenv -a")
         text, _, _ = text.rpartition(b"\n\nEnvironment size: ")
         found, entry, bytes_left = {}, b"", iter(text + b"\n")
@@ -148,9 +150,9 @@ class Board:
     def mend_flash(self):
         """Makes `saveenv` work over the flash that Debian 12's qemu emulates.
 
-        That loses what is written through its buffer behind the first 4 KiB of a sector (mended in qemu by its change "hw/pflash:
-        fix block write start"). So U-Boot is told, by its own table in memory, that a sector has 4 KiB; qemu erases the 256 KiB
-        around it, and these are the environment.
+        That flash loses what is written through its buffer after the first 4 KiB of a sector (fixed in qemu by its change
+        "hw/pflash: fix block write start"). So U-Boot's table of sectors, in memory, is changed to sectors of 4 KiB. For each of
+        them qemu erases the 256 KiB around it, which are the environment.
         """
         with open(self.memory, "r+b") as file, mmap.mmap(file.fileno(), 0) as memory:
             place = memory.rfind(sectors(0x20000))

@@ -1,8 +1,8 @@
-"""Boot scripts that are tested elsewhere too: those of scripts/runs/boards and of examples/, on a board and in a dry run.
+"""The boot scripts of scripts/runs/boards and of examples/, on a board and in a dry run.
 
-What only hardware has is no command of the board that qemu emulates, or does something else there. So the board is given scripts
-in which the call of a stand-in is an `echo` of what a dry run prints for it. A block is typed after a boot of its own, over what
-the blocks before it have saved, and an undo goes back to what was saved then.
+The emulated board lacks the commands that need hardware, or they do something else there. So the board gets scripts in which each
+call of a stand-in is an `echo` of what a dry run prints for it. Each block is typed after a boot of its own, over what the blocks
+before it have saved, and an undo goes back to what was saved then. What `saveenv` prints is compared as a dry run prints it.
 """
 
 import re
@@ -45,7 +45,7 @@ class Case:
 
 
 def imported(text):
-    """The variables of a text for import, whose values may hold newlines behind a backslash."""
+    """The variables of a text for import, whose values may hold newlines after a backslash."""
     text = re.sub(rb"(?m)^(#.*)?\n", b"", text)
     entries = re.findall(rb"([^=\n]+)=((?:\\.|[^\\\n])*)\n", text, re.DOTALL)
     return {name: re.sub(rb"\\(.)", rb"\1", value, flags=re.DOTALL) for name, value in entries}
@@ -103,7 +103,7 @@ def on_board(case, copy):
 
 
 def in_dry_run(case, copy):
-    """The same of a dry run."""
+    """The same for a dry run."""
     copy.store(case.variables)
     is_block = [not step.startswith(b".") for step in case.steps]
     text = b"".join(step + (b"\n.print\n.=\n" if block else b"\n") for step, block in zip(case.steps, is_block))
@@ -118,7 +118,7 @@ def in_dry_run(case, copy):
 
 
 def answers_of(case, program, folder):
-    """What the two answer to all blocks, and the lines of their variables that the other hasn't."""
+    """What both answer to all blocks, and the lines of their variables that the other one lacks."""
     copy = Copy(program, folder / f"{case.name.replace('/', '-')}.flash")
     board, dry_run = [], []
     for (one, one_left), (other, other_left) in zip(on_board(case, copy), in_dry_run(case, copy), strict=True):

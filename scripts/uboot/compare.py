@@ -1,11 +1,11 @@
-"""U-Boot itself beside fwenv: scripts at its prompt and in a dry run, and stored environments both ways.
+"""Compares fwenv with U-Boot itself: scripts in a dry run and at its prompt, and stored environments both ways.
 
-    compare.py PROGRAM           compares; the last line is 'N passed, M failed'
-    compare.py PROGRAM --show    prints what both answer to each row and case, too
-    compare.py PROGRAM --only TEXT    compares the rows, cases and environments alone whose name has this text
-    compare.py --classes         compares only the classes of docs/differences.md with those that the rows name
+    compare.py PROGRAM                compares; the last line is 'N passed, M failed'
+    compare.py PROGRAM --show         prints what both answer, too
+    compare.py PROGRAM --only TEXT    only the rows, scripts and environments whose name has this text
+    compare.py --classes              only the classes of docs/differences.md and those that the rows name
 
-U-Boot is that of Debian's package u-boot-qemu, and qemu-system-aarch64 has to be installed.
+U-Boot is that of Debian's package u-boot-qemu; qemu-system-aarch64 has to be installed.
 """
 
 import os
@@ -28,7 +28,7 @@ DOCUMENT = TOP / "docs" / "differences.md"
 
 
 def typed_on_one_board(rows, flash):
-    """The default environment, and what rows answer one behind another, up to one to which the console doesn't answer."""
+    """The default environment, and then the answers of rows, up to one to which the console doesn't answer."""
     with Board(flash) as board:
         yield board.variables()
         for row in rows:
@@ -76,7 +76,7 @@ class Report:
             print(f"FAILED: {name}: {fault}", flush=True)
 
     def take_row(self, row, answers):
-        """Takes what is to be compared, whose answers are asked for here."""
+        """Takes a comparison, whose two answers `answers` gives or has a fault in their place."""
         try:
             board, dry_run = answers()
         except FAULTS as fault:
@@ -96,7 +96,7 @@ def show(row, board, dry_run):
 
 
 def documented_classes():
-    """The classes that have a line in a table of the document."""
+    """The classes that have a line in a table of docs/differences.md."""
     return re.findall(r"(?m)^\| `([a-z0-9-]+)` \|", DOCUMENT.read_text())
 
 
@@ -113,7 +113,7 @@ def compare_classes(report, rows):
 
 
 def work_on_scripts(rows, program, folder):
-    """What is to be compared of scripts: each a row, and what answers for it."""
+    """The comparisons of scripts: rows, each with what gives its two answers."""
     known = {row.case: row for row in rows if row.case}
     for row in rows:
         if row.variables:
@@ -135,7 +135,7 @@ def work_on_images(rows, program, folder):
 
 
 def compare(report, rows, only, program, folder, pool):
-    """All comparisons, side by side, of what has the text `only` in its name."""
+    """Runs the comparisons that have the text `only` in their names, several at once."""
     plain = [row for row in rows if row.script and not row.variables and only in row.name]
     plain_answers = pool.submit(with_default_environment, plain, program, folder)
     work = [*work_on_scripts(rows, program, folder), *work_on_images(rows, program, folder)]

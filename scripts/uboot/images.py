@@ -1,7 +1,7 @@
-"""Stored environments both ways: what `fwenv import` wrote and U-Boot loads, and what U-Boot's `saveenv` wrote and fwenv reads.
+"""Stored environments both ways: U-Boot loads what `fwenv import` wrote, and fwenv reads what U-Boot's `saveenv` wrote.
 
-U-Boot takes the first of each pair `\\X` away when it loads a value, and stores each `\\` twice (lib/hashtable.c); fwenv shows the
-bytes as they are stored. Half of the environments have backslashes: these differ by that rule, in the class `backslashes`, and
+U-Boot drops the first byte of each pair `\\X` when it loads a value, and stores each `\\` twice (lib/hashtable.c); fwenv shows the
+bytes as they are stored. Half of the environments have backslashes: they differ by exactly that rule, the class `backslashes`, and
 the others don't differ.
 """
 
@@ -16,8 +16,8 @@ from rows import Row
 
 COUNT = 20
 SEED = 2023
-MOST_VARIABLES = 400
-# (the prompt for more of a script is `> `, so no value has that behind a newline)
+VARIABLES = (10, 40, 400)
+# Without `>`: a newline and `> ` would look like the prompt for more of a script.
 PLAIN = bytes(set(range(32, 256)) - set(b"\\>\x7f")) + b"\t\n"
 NAMES = bytes(set(range(33, 256)) - set(b'=#\\>"\x7f'))
 TYPED = bytes(set(range(32, 127)) - set(b"'\\"))
@@ -29,15 +29,14 @@ def text_of(numbers, alphabet, most):
     return bytes(numbers.choice(alphabet) for _ in range(numbers.randrange(1, most)))
 
 
-def environment(numbers, with_backslashes):
+def environment(numbers, count, with_backslashes):
     alphabet = PLAIN + b"\\" * 20 * with_backslashes
     found = {b".flags": FLAGS, b"count": b"12", b"mask": b"0x1F", b"quiet": b"y"}
-    for _ in range(numbers.choice((3, 30, MOST_VARIABLES - 30))):
-        found[text_of(numbers, NAMES, 24)] = text_of(numbers, alphabet, numbers.choice((4, 40, 200)))
     found[b"a name"] = b" 'blanks' and \"quotes\" = # $x ${y}; echo "
     found[b"long"] = text_of(numbers, alphabet, 9000)
-    if with_backslashes:
-        found[b"path"] = rb"C:\boot\n\\"
+    found[b"path"] = rb"C:\boot\n\\" if with_backslashes else b"/boot/"
+    while len(found) < count:
+        found[text_of(numbers, NAMES, 24)] = text_of(numbers, alphabet, numbers.choice((4, 40, 200)))
     return found
 
 
@@ -60,8 +59,8 @@ def with_a_bit_turned(image, numbers):
     return bytes(turned)
 
 
-def is_refused(copy):
-    """Whether neither takes the image: faults, one for each that does."""
+def faults_of_refusal(copy):
+    """The image is to be refused by both: a fault for each that takes it."""
     shown = copy.run("printenv")
     if shown.stdout or b"Bad CRC" not in shown.stderr:
         yield f"fwenv takes it: {shown.stdout[:200]!r}, {shown.stderr!r}"
@@ -76,18 +75,18 @@ def first_difference(one, other):
 
 
 def both_ways(number, program, folder):
-    """What is wrong with an environment that goes to the board and comes back."""
+    """Faults of an environment on its way to the board and back."""
     numbers = random.Random(f"{SEED} {number}")
     with_backslashes = number % 2 == 1
-    variables = environment(numbers, with_backslashes)
+    variables = environment(numbers, VARIABLES[number % len(VARIABLES)], with_backslashes)
     copy = Copy(program, folder / f"image-{number}.flash")
     copy.store(variables)
     image = copy.image.read_bytes()
     expected = {name: loaded(value) for name, value in variables.items()}
     if (expected != variables) != with_backslashes:
-        yield "it doesn't show what it is to show of backslashes"
+        yield "it doesn't have the backslashes that it is to have"
     copy.image.write_bytes(with_a_bit_turned(image, numbers))
-    for fault in is_refused(copy):
+    for fault in faults_of_refusal(copy):
         yield f"with a bit turned: {fault}"
     copy.image.write_bytes(image)
     with Board(copy.image) as board:
@@ -114,7 +113,7 @@ def image_of(area, fill=b"\0"):
 
 
 def answers_to_image(image, program, path):
-    """The variables that the board and fwenv find in an image, as lines, or that they take the default environment."""
+    """The variables that the board and fwenv find in an image, as lines, or that they use the default environment."""
     copy = Copy(program, path)
     copy.image.write_bytes(image)
     shown = copy.run("printenv")

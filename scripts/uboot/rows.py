@@ -1,16 +1,16 @@
-"""Scripts that a board and a dry run are given alike, in files that a reader can follow.
+"""Scripts for a board and for a dry run, in files that a reader can follow.
 
 A row is a few lines:
 
     $ SCRIPT       a line of the script, as it is typed at U-Boot's prompt
-    = NAME=VALUE   before the script: a variable of the environment that the board is started with; a row without any begins with
+    = NAME=VALUE   before the script: a variable of the environment that the board boots with; a row without any begins with
                    U-Boot's default environment
-    ! CLASS ..     the classes of docs/differences.md in which the two differ; then what each of them answers:
+    ! CLASS ..     the classes of docs/differences.md in which the two differ; then come their answers:
     < LINE         of the board
     > LINE         of the dry run
 
-An answer is the text that is printed and behind it a line `[STATUS]`, or `[refused]` where the script isn't one: then nothing of
-it is run, and the text of the refusal is left out. `..` stands for any bytes. Without `!` both answer the same.
+An answer is the text that is printed and then a line `[STATUS]`; or it is `[refused]` if the text isn't a script, so that nothing
+of it is run: how that is reported isn't compared. `..` stands for any bytes. Without `!` both answers are the same.
 
 A row about a stored image has in a line `% BYTES` its entries, with escapes as Python has them, and perhaps in a line `~ BYTE` what
 fills the rest; its answers are the variables. A row about a script of cases.py has that script's name in a line `@ NAME`.
@@ -63,7 +63,7 @@ def take_line(row, mark, rest):
 
 
 def read_rows(path):
-    """The rows of a file, one behind another; an empty line or a heading ends each."""
+    """The rows of a file."""
     rows, row = [], None
     for number, line in enumerate(path.read_bytes().split(b"\n"), 1):
         if not line or line.startswith(b"#"):
@@ -77,18 +77,18 @@ def read_rows(path):
 
 
 def answers(lines, answer):
-    """Whether the answer is what these lines of a row say."""
+    """Whether the answer is the one of these lines."""
     pattern = re.escape(b"\n".join(lines)).replace(rb"\.\.", b".*")
     return re.fullmatch(pattern, answer, re.DOTALL) is not None
 
 
 def fault_of(row, board, dry_run):
-    """What is wrong with a row whose answers are these, or nothing."""
-    told = f"board {board!r}, dry run {dry_run!r}"
+    """The fault of a row with these two answers, if it has one."""
+    both = f"board {board!r}, dry run {dry_run!r}"
     if not row.classes:
-        return None if board == dry_run else f"they differ, and no class is named: {told}"
+        return None if board == dry_run else f"they differ, and no class is named: {both}"
     if board == dry_run:
-        return f"they don't differ as {' '.join(row.classes)}: {told}"
+        return f"they don't differ as {' '.join(row.classes)}: {both}"
     if not answers(row.board, board) or not answers(row.dry_run, dry_run):
-        return f"they differ in another way: {told}"
+        return f"they differ in another way: {both}"
     return None
