@@ -1,0 +1,62 @@
+"""The dry runs of `fwenv session`, and the images that `fwenv import` writes."""
+
+import re
+import subprocess
+from pathlib import Path
+
+from board import ENVIRONMENT_SIZE
+
+ANSWER = re.compile(rb"(.*?)\[(Syntax|Memory|[A-Z][a-z]+ \d+ \d+)\]\n", re.DOTALL)
+
+
+def import_text(variables):
+    """A text for import that spells these variables (docs/texts.md)."""
+    text = b""
+    for name, value in variables.items():
+        text += name + b"=" + value.replace(b"\\", b"\\\\").replace(b"\n", b"\\\n") + b"\n"
+    return text
+
+
+class Copy:
+    """A single stored copy in a file, and the program over it."""
+
+    def __init__(self, program, image):
+        self.program = program
+        self.image = Path(image)
+        self.config = self.image.with_suffix(".config")
+        self.config.write_text(f"{self.image} 0 {ENVIRONMENT_SIZE:#x}\n")
+        self.text = self.image.with_suffix(".text")
+        self.stubs = self.image.with_suffix(".stubs")
+
+    def run(self, subcommand, *words, **streams):
+        command = [self.program, subcommand, "-c", self.config, *words]
+        return subprocess.run(command, capture_output=True, timeout=60, **streams)
+
+    def store(self, variables):
+        """Stores an environment by `fwenv import`."""
+        self.image.write_bytes(bytes(ENVIRONMENT_SIZE))
+        self.text.write_bytes(import_text(variables))
+        done = self.run("import", self.text)
+        if done.returncode != 0:
+            raise ValueError(f"fwenv import: status {done.returncode}, {done.stderr!r}")
+
+    def session(self, text, stubs=b"", default=None):
+        """What a session prints."""
+        self.stubs.write_bytes(stubs)
+        words = ["--stubs", self.stubs]
+        if default is not None:
+            self.image.write_bytes(bytes(ENVIRONMENT_SIZE))
+            self.text.write_bytes(import_text(default))
+            words += ["--default", self.text]
+        done = self.run("session", *words, input=text)
+        if done.returncode != 0:
+            raise ValueError(f"fwenv session: status {done.returncode}, {done.stderr!r}")
+        return done.stdout
+
+
+def answer_of(text, ending):
+    """What a block answers, in the form of rows.py."""
+    if ending == b"Syntax":
+        return b"[refused]"
+    name, status, _ = ending.split()
+    return text + (b"[%s]" % status if name == b"Finished" else b"[%s %s]" % (name, status))

@@ -1,0 +1,137 @@
+"""Stored environments both ways: U-Boot loads what `fwenv import` wrote, and fwenv reads what U-Boot's `saveenv` wrote.
+
+U-Boot drops the first byte of each pair `\\X` when it loads a value, and stores each `\\` twice (lib/hashtable.c); fwenv shows the
+bytes as they are stored. Half of the environments have backslashes: they differ by exactly that rule, the class `backslashes`, and
+the others don't differ.
+"""
+
+import random
+import re
+import struct
+import zlib
+
+from board import ENVIRONMENT_SIZE, Board
+from dry_run import Copy
+from rows import Row
+
+COUNT = 20
+SEED = 2023
+VARIABLES = (10, 40, 400)
+# Without `>`: a newline and `> ` would look like the prompt for more of a script.
+PLAIN = bytes(set(range(32, 256)) - set(b"\\>\x7f")) + b"\t\n"
+NAMES = bytes(set(range(33, 256)) - set(b'=#\\>"\x7f'))
+TYPED = bytes(set(range(32, 127)) - set(b"'\\"))
+FLAGS = b"count:dc,mask:xa,quiet:ba"
+DEFAULT = b"default environment"
+
+
+def text_of(numbers, alphabet, most):
+    return bytes(numbers.choice(alphabet) for _ in range(numbers.randrange(1, most)))
+
+
+def environment(numbers, count, with_backslashes):
+    alphabet = PLAIN + b"\\" * 20 * with_backslashes
+    found = {b".flags": FLAGS, b"count": b"12", b"mask": b"0x1F", b"quiet": b"y"}
+    found[b"a name"] = b" 'blanks' and \"quotes\" = # $x ${y}; echo "
+    found[b"long"] = text_of(numbers, alphabet, 9000)
+    found[b"path"] = rb"C:\boot\n\\" if with_backslashes else b"/boot/"
+    while len(found) < count:
+        found[text_of(numbers, NAMES, 24)] = text_of(numbers, alphabet, numbers.choice((4, 40, 200)))
+    return found
+
+
+def loaded(value):
+    return re.sub(rb"\\(.)", rb"\1", value, flags=re.DOTALL)
+
+
+def stored(value):
+    return value.replace(b"\\", b"\\\\")
+
+
+def listing(variables):
+    return b"".join(b"%s=%s\n" % pair for pair in sorted(variables.items()))
+
+
+def with_a_bit_turned(image, numbers):
+    used = image.index(b"\0\0", 4)
+    turned = bytearray(image)
+    turned[numbers.randrange(used)] ^= 1 << numbers.randrange(8)
+    return bytes(turned)
+
+
+def faults_of_refusal(copy):
+    """The image is to be refused by both: a fault for each that takes it."""
+    shown = copy.run("printenv")
+    if shown.stdout or b"Bad CRC" not in shown.stderr:
+        yield f"fwenv takes it: {shown.stdout[:200]!r}, {shown.stderr!r}"
+    with Board(copy.image) as board:
+        if b"bad CRC, using default environment" not in board.greeting:
+            yield f"the board takes it: {board.greeting!r}"
+
+
+def first_difference(one, other):
+    names = [name for name in sorted(one.keys() | other.keys()) if one.get(name) != other.get(name)]
+    return f"{len(names)} differ, first {names[0]!r}: {one.get(names[0])!r}, {other.get(names[0])!r}" if names else "none"
+
+
+def both_ways(number, program, folder):
+    """Faults of an environment on its way to the board and back."""
+    numbers = random.Random(f"{SEED} {number}")
+    with_backslashes = number % 2 == 1
+    variables = environment(numbers, VARIABLES[number % len(VARIABLES)], with_backslashes)
+    copy = Copy(program, folder / f"image-{number}.flash")
+    copy.store(variables)
+    image = copy.image.read_bytes()
+    expected = {name: loaded(value) for name, value in variables.items()}
+    if (expected != variables) != with_backslashes:
+        yield "it doesn't have the backslashes that it is to have"
+    copy.image.write_bytes(with_a_bit_turned(image, numbers))
+    for fault in faults_of_refusal(copy):
+        yield f"with a bit turned: {fault}"
+    copy.image.write_bytes(image)
+    with Board(copy.image) as board:
+        found = board.own_variables()
+        if found != expected:
+            yield f"to the board: {first_difference(found, expected)}"
+        value = text_of(numbers, TYPED, 150) + rb"\\\\" * with_backslashes
+        printed = board.command(b"setenv long '%s'; setenv 'new one' '%s'; saveenv" % (value, value[::-1]))
+        left = board.variables()
+    if not printed.endswith(b"\nOK\n") or left[b"new one"] == left[b"long"]:
+        yield f"nothing was saved: {printed!r}"
+    shown = copy.run("printenv")
+    if (shown.stdout, shown.stderr) != (listing({name: stored(left[name]) for name in left}), b""):
+        yield f"back from the board: {shown.stdout!r}, {shown.stderr!r}, {left!r}"
+
+
+def faults_of_environment(number, program, folder):
+    return "; ".join(both_ways(number, program, folder)).encode()
+
+
+def image_of(area, fill=b"\0"):
+    area = area.ljust(ENVIRONMENT_SIZE - 4, fill)
+    return struct.pack("<I", zlib.crc32(area)) + area
+
+
+def answers_to_image(image, program, path):
+    """The variables that the board and fwenv find in an image, as lines, or that they use the default environment."""
+    copy = Copy(program, path)
+    copy.image.write_bytes(image)
+    shown = copy.run("printenv")
+    dry_run = DEFAULT if b"using default environment" in shown.stderr else shown.stdout.rstrip(b"\n")
+    with Board(copy.image) as board:
+        is_default = b"using default environment" in board.greeting
+        return DEFAULT if is_default else listing(board.own_variables()).rstrip(b"\n"), dry_run
+
+
+def answers_to_row(row, program, folder):
+    area = row.area.decode().encode("latin-1").decode("unicode_escape").encode("latin-1")
+    return answers_to_image(image_of(area, row.fill or b"\0"), program, folder / f"{row.place.replace(' ', '-')}.flash")
+
+
+def answers_to_many(program, folder):
+    """How many of 600 variables the board and fwenv find."""
+    image = image_of(b"".join(b"v%03d=%d\0" % (number, number) for number in range(600)))
+    return tuple(b"[%d]" % len(found.splitlines()) for found in answers_to_image(image, program, folder / "many.flash"))
+
+
+MANY = Row("an image of 600 variables", classes=["many-variables"], board=[b"[5..]"], dry_run=[b"[600]"])

@@ -1,0 +1,94 @@
+"""Scripts for a board and for a dry run, in files that a reader can follow.
+
+A row is a few lines:
+
+    $ SCRIPT       a line of the script, as it is typed at U-Boot's prompt
+    = NAME=VALUE   before the script: a variable of the environment that the board boots with; a row without any begins with
+                   U-Boot's default environment
+    ! CLASS ..     the classes of docs/differences.md in which the two differ; then come their answers:
+    < LINE         of the board
+    > LINE         of the dry run
+
+An answer is the text that is printed and then a line `[STATUS]`; or it is `[refused]` if the text isn't a script, so that nothing
+of it is run: how that is reported isn't compared. `..` stands for any bytes. Without `!` both answers are the same.
+
+A row about a stored image has in a line `% BYTES` its entries, with escapes as Python has them, and perhaps in a line `~ BYTE` what
+fills the rest; its answers are the variables. A row about a script of cases.py has that script's name in a line `@ NAME`.
+
+An empty line ends a row, and so does a line that begins with `#`, which is a heading or a comment.
+"""
+
+import re
+from dataclasses import dataclass, field
+
+
+@dataclass
+class Row:
+    place: str
+    case: str = ""
+    script: list = field(default_factory=list)
+    area: bytes = None
+    fill: bytes = b""
+    variables: dict = field(default_factory=dict)
+    classes: list = field(default_factory=list)
+    board: list = field(default_factory=list)
+    dry_run: list = field(default_factory=list)
+
+    @property
+    def name(self):
+        what = self.case or b" / ".join(self.script).decode(errors="replace")
+        return f"{self.place} `{what}`" if what else self.place
+
+
+def take_line(row, mark, rest):
+    if mark == "$":
+        row.script.append(rest)
+    elif mark == "@":
+        row.case = rest.decode()
+    elif mark == "%":
+        row.area = rest
+    elif mark == "~":
+        row.fill = rest.decode("unicode_escape").encode("latin-1")
+    elif mark == "=":
+        name, _, value = rest.partition(b"=")
+        row.variables[name] = value
+    elif mark == "!":
+        row.classes += rest.decode().split()
+    elif mark == "<":
+        row.board.append(rest)
+    elif mark == ">":
+        row.dry_run.append(rest)
+    else:
+        raise ValueError(f"{row.place} begins with {mark!r}")
+
+
+def read_rows(path):
+    """The rows of a file."""
+    rows, row = [], None
+    for number, line in enumerate(path.read_bytes().split(b"\n"), 1):
+        if not line or line.startswith(b"#"):
+            row = None
+            continue
+        if row is None:
+            row = Row(f"{path.name} line {number}")
+            rows.append(row)
+        take_line(row, line[:1].decode(), line[2:])
+    return rows
+
+
+def answers(lines, answer):
+    """Whether the answer is the one of these lines."""
+    pattern = re.escape(b"\n".join(lines)).replace(rb"\.\.", b".*")
+    return re.fullmatch(pattern, answer, re.DOTALL) is not None
+
+
+def fault_of(row, board, dry_run):
+    """The fault of a row with these two answers, if it has one."""
+    both = f"board {board!r}, dry run {dry_run!r}"
+    if not row.classes:
+        return None if board == dry_run else f"they differ, and no class is named: {both}"
+    if board == dry_run:
+        return f"they don't differ as {' '.join(row.classes)}: {both}"
+    if not answers(row.board, board) or not answers(row.dry_run, dry_run):
+        return f"they differ in another way: {both}"
+    return None
