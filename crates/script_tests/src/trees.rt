@@ -7,6 +7,7 @@ ghost use Rattle.hush_syntax.specs.Scripts.{subtree_at};
 mod again;
 mod boots;
 mod faults;
+mod fronts;
 mod hostile;
 mod spelled;
 

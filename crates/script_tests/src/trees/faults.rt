@@ -4,7 +4,7 @@ use hush_syntax::{FaultKind, Script, SyntaxFault};
 use std::test::Fail;
 
 /// The text, the kind and the place.
-const FAULTS: [(&[u8], FaultKind, usize); 67] = [
+const FAULTS: [(&[u8], FaultKind, usize); 70] = [
     (b"echo \"a", FaultKind::Quote, 5),
     (b"echo 'a", FaultKind::Quote, 5),
     (b"a=1 \"b", FaultKind::Quote, 4),
@@ -24,6 +24,9 @@ const FAULTS: [(&[u8], FaultKind, usize); 67] = [
     (b"&\\\n&", FaultKind::Operator, 0),
     (b"fi", FaultKind::Unexpected, 0),
     (b"if true then echo a; fi", FaultKind::Unexpected, 21),
+    (b"if true then a; fi", FaultKind::Unexpected, 16),
+    (b"if a; then # nothing\nfi", FaultKind::Unexpected, 21),
+    (b"for ; in", FaultKind::Unexpected, 4),
     (b"for 1 in a; do b; done", FaultKind::Unexpected, 4),
     (b"&& a", FaultKind::Unexpected, 0),
     (b"|| a", FaultKind::Unexpected, 0),

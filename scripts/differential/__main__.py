@@ -1,0 +1,108 @@
+"""The parts of the comparison, each over as many processes as there are processors."""
+
+import importlib
+import itertools
+import multiprocessing
+import os
+import re
+import sys
+import tempfile
+from collections import Counter
+
+from differential.running import Runner
+
+PARTS = ("images", "texts", "scripts", "runs", "requests", "inputs", "calls", "largest", "documents", "mistakes")
+SHOWN = 5
+# What an answer tells: the ending of a block, a dot line's answer, a message, or that nothing is said
+TOLD = re.compile(
+    rb"^\[(Finished|Exited|Steps|Depth|Word|Output|Syntax|Marked|Full|Undone|Gone|Unknown)"
+    rb"|^(?:fwenv: .*|## Error: bad image): (\w+)(?: in line \d+)?\n"
+    rb"|(no room|bad name|type check|not defined|Can't \w+|too short|overlap|cannot read)",
+    re.M,
+)
+
+
+def names_of(answer):
+    """The names by which an answer is counted."""
+    text = answer.output + (answer.errors or b"error")
+    return {next(filter(None, found)).decode() for found in TOLD.findall(text)} | {f"status {answer.status}"}
+
+
+class Worker:
+    """One process of several, with a runner of its own."""
+
+    def __init__(self, program, preload, folder, every):
+        self.words = program, preload, folder
+        self.every = every
+        self.runner = None
+
+    def runner_here(self):
+        if self.runner is None:
+            program, preload, folder = self.words
+            self.runner = Runner(program, preload, tempfile.mkdtemp(dir=folder))
+        return self.runner
+
+    def mistakes(self, missed):
+        """The same of the mistakes of a part."""
+        texts, count = missed(self.runner_here())
+        return count - len(texts), len(texts), texts, Counter()
+
+    def compare(self, cases):
+        """How many cases passed and failed, texts for the first failures, and how often each name came."""
+        passed, failed, texts, names = 0, 0, [], Counter()
+        for case in itertools.islice(cases, 0, None, self.every):
+            wanted = case.answer()
+            names.update(names_of(wanted))
+            failure = self.runner_here().failure(case, wanted)
+            if failure is None:
+                passed += case.weight
+            else:
+                failed += 1
+                texts.append(failure)
+        return passed, failed, texts[:SHOWN], names
+
+
+def compare_chunk(at):
+    return worker.mistakes(chunks[at]) if is_of_mistakes else worker.compare(chunks[at]())
+
+
+def rare(part, names, total):
+    """The names that came too seldom for the part to tell on them."""
+    wanted = getattr(part, "OFTEN", {})
+    return [name for name, share in wanted.items() if names[name] < share * total]
+
+
+def folder_for(name, folder):
+    """Where the small files of a part are: in memory, if that can be had."""
+    return "/dev/shm" if name != "largest" and os.access("/dev/shm", os.W_OK) else folder
+
+
+def main():
+    global worker, chunks, is_of_mistakes
+    program, preload, folder, name, *numbers = sys.argv[1:]
+    numbers = list(map(int, numbers))
+    if name not in PARTS:
+        sys.exit(f"no part is called {name}")
+    sys.setrecursionlimit(100_000)
+    part = importlib.import_module(f"differential.{name}")
+    # A chunk makes some of the cases; each process takes one after the other
+    chunks, is_of_mistakes = part.chunks(*numbers[:2]), name == "mistakes"
+    passed, failed, texts, names = 0, 0, [], Counter()
+    with tempfile.TemporaryDirectory(dir=folder_for(name, folder)) as folder:
+        every = numbers[2] if len(numbers) > 2 else 1
+        worker = Worker(os.path.abspath(program), preload, folder, every)
+        with multiprocessing.get_context("fork").Pool() as pool:
+            for found in pool.imap_unordered(compare_chunk, range(len(chunks))):
+                passed, failed, texts = passed + found[0], failed + found[1], texts + found[2]
+                names.update(found[3])
+    for text in itertools.islice(texts, SHOWN):
+        print(f"FAILED: {text}")
+    for rarity in rare(part, names, passed + failed) if every == 1 else ():
+        failed += 1
+        print(f"FAILED: of {passed + failed} cases of {name} only {names[rarity]} are '{rarity}'")
+    print(f"{name}:", ", ".join(f"{count} {each}" for each, count in sorted(names.items())))
+    print(f"{passed} passed, {failed} failed")
+    sys.exit(failed != 0)
+
+
+main()

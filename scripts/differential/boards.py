@@ -1,0 +1,24 @@
+"""Boards: a device with one copy or two, bytes around them, and the configuration that names them."""
+
+CONFIG = b"fw.config"
+DEVICE = b"device"
+BEFORE, BETWEEN, AFTER = b"XXX", b"YY", b"ZZZZ"
+
+
+def board(geometry, copies):
+    """The files of a board with these copies."""
+    places = [len(BEFORE), len(BEFORE) + geometry.size + len(BETWEEN)]
+    lines = [b"%s %d %x\n" % (DEVICE, at, geometry.size) for at in places[: len(copies)]]
+    return {DEVICE: BEFORE + BETWEEN.join(copies) + AFTER, CONFIG: b"".join(lines)}
+
+
+def arguments(tool, *words, order="little"):
+    big_endian = [b"--big-endian"] if order == "big" else []
+    return [tool, b"-c", CONFIG, *big_endian, *words]
+
+
+def text_of(variables):
+    """Variables as a text for import."""
+    return b"".join(
+        name + b"=" + value.replace(b"\\", b"\\\\").replace(b"\n", b"\\\n") + b"\n" for name, value in variables.items()
+    )

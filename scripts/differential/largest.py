@@ -1,0 +1,121 @@
+"""What is as large as it may be: texts of 16 MiB, images, names, values and `.flags` of 1 MiB, all their variables changed and brought
+back, and names in orders that are hard on a sorted store. Each is answered in a few seconds."""
+
+import functools
+
+from differential.boards import arguments, board
+from differential.running import Case
+from model.image import ERASED, LARGEST, Geometry
+
+TEXT = 2**24
+SINGLE, REDUNDANT = Geometry(1, LARGEST), Geometry(2, LARGEST)
+# Beside the longest value or name there are one other byte, the `=` and two 0 bytes.
+LONGEST = b"x" * (SINGLE.room - 4)
+# Variables of 20 bytes, of which an area of the greatest image holds so many before the 0 that ends their list.
+VALUE, COUNT = b"x" * 10, (SINGLE.room - 1) // 20
+# Arguments may have 128 KiB each: so many of them fill an area together with a name of one byte.
+ARGUMENT = 131_000
+SECONDS, ORDERED = 4, 20_480
+
+
+def name_of(number):
+    """Eight letters, one for each hexadecimal digit."""
+    return bytes(b"ABCDEFGHIJKLMNOP"[int(digit, 16)] for digit in f"{number:08x}")
+
+
+def lines(numbers, separator, value, end=b"\n"):
+    return b"".join(name_of(number) + separator + value + end for number in numbers)
+
+
+MANY = lines(range(COUNT), b"=", VALUE, b"\0")
+FLAGS = b".flags=" + b"".join(b"%05x:d," % number for number in range(131_000)) + b"\0"
+
+
+def over(form, area, words, files=(), given=b""):
+    """A call over one good copy with this area, or over copies that were never written."""
+    copies = [ERASED * form.size] * form.copies
+    if area:
+        copies[0] = form.image(3, area)
+    tool, *rest = words
+    return Case(f"the largest: {tool.decode()}", arguments(tool, *rest), board(form, copies) | dict(files), given, seconds=SECONDS)
+
+
+def texts():
+    many, long = b"x" * 246, b"x" * (TEXT - 3)
+    for separator, words in ((b"=", [b"import", b"text"]), (b" ", [b"setenv", b"-s", b"text"])):
+        for text in (lines(range(TEXT // 256), separator, many), b"a" + separator + long + b"\n"):
+            assert len(text) == TEXT
+            yield over(REDUNDANT, b"", words, {b"text": text})
+            yield over(REDUNDANT, b"", words, {b"text": text + b"\n"})
+    line = b"device 3 100000"
+    for text in (b"#" + long[: 1 - len(line)] + b"\n" + line, long[:-5] + b" 0 4000\n"):
+        case = over(SINGLE, MANY, [b"setenv", b"a"])
+        case.files[b"fw.config"] = text
+        yield case
+
+
+def images():
+    for text in (lines(range(COUNT), b"=", VALUE), b"a=" + LONGEST + b"\n", b"a=" + LONGEST + b"x\n"):
+        yield over(SINGLE, b"", [b"printenv", b"--default", b"text"], {b"text": text})
+    big = Geometry(1, LARGEST, "big")
+    for area in (MANY, b"a=" + LONGEST + b"\0", LONGEST + b"=1\0", every_kind()):
+        yield Case("the largest image", [b"--big-endian"], given=big.image(0, area), seconds=SECONDS)
+        yield over(SINGLE, area, [b"session", b"--write"], given=b".save\n.undo\n.print\n.save\n")
+    yield over(SINGLE, b"a=" + b"\\" * len(LONGEST) + b"\0", [b"export"])
+
+
+def every_kind():
+    """Names that come again, without `=`, without a value, and an entry without a name."""
+    return b"".join(
+        b"n%03d=%05d\0p%03d=%05d\0p%03d\0q%03d=1\0q%03d=\0=x\0" % (n, i, n, i, n, n, n) for i in range(24_380) for n in [i % 1000]
+    )
+
+
+def undone(changes):
+    """A block whose changes are saved and undone, and made again."""
+    return changes + b".save\n.mark a\n.print\n.undo\n.print\n" + changes + b".save\n"
+
+
+def changes():
+    write = [b"session", b"--write"]
+    value, name = b"a=" + LONGEST + b"\0", LONGEST + b"=1\0"
+    yield over(SINGLE, value, write, given=undone(b"setenv b 1; env delete a; setenv b 1\n"))
+    yield over(SINGLE, value, [b"import", b"text"], {b"text": b"b=1\na=\nc=" + LONGEST + b"\nd=1\n"})
+    yield over(SINGLE, name, [b"import", b"text"], {b"text": LONGEST + b"=22\n" + LONGEST + b"=2\n"})
+    yield over(SINGLE, FLAGS, [b"import", b"text"], {b"text": b"1ffb7=x\n1ffb8=x\n00000=\n.flags=\n1ffb7=x\n"})
+    yield over(SINGLE, FLAGS, write, given=undone(b"setenv 1ffb7 x; setenv 1ffb7 7; setenv 1ffb8 x; setenv .flags; setenv 1ffb7 x\n"))
+    names = b" ".join(map(name_of, range(COUNT)))
+    yield over(SINGLE, MANY, write, given=undone(b"env delete " + names + b"\n"))
+    yield over(SINGLE, MANY, [b"import", b"text"], {b"text": lines(range(COUNT), b"=", b"1")})
+
+
+def tools():
+    yield over(REDUNDANT, b"", [b"import", b"text"], {b"text": lines(range(COUNT), b"=", VALUE)})
+    for words in ([b"printenv"], [b"export"]):
+        yield over(REDUNDANT, MANY, words)
+    yield over(REDUNDANT, MANY, [b"setenv", b"-s", b"text"], {b"text": lines(range(COUNT), b" ", b"")})
+    words = [b"x" * ARGUMENT] * 8
+    rest = REDUNDANT.room - 4 - len(b" ".join(words)) - 1
+    for last in (rest, rest + 1):
+        yield over(REDUNDANT, b"", [b"setenv", b"a", *words, b"y" * last])
+    yield over(REDUNDANT, b"a=" + LONGEST[:-1] + b"\0", [b"printenv", b"-n", b"a"])
+
+
+def orders():
+    """Orders of names: rising, falling, from both ends, scattered, and the same place again and again."""
+    numbers = range(ORDERED)
+    ends = [number for pair in zip(numbers, reversed(numbers)) for number in pair][:ORDERED]
+    scattered = [number * 7919 % ORDERED for number in numbers]
+    for order in (numbers, reversed(numbers), ends, scattered):
+        yield over(SINGLE, b"", [b"session", b"--write"], given=undone(b"".join(b"setenv %s 1\n" % name_of(each) for each in order)))
+    place = b"".join(b"setenv %s\nsetenv %s 1\n" % (name_of(ORDERED // 2), name_of(ORDERED // 2)) for _ in numbers)
+    yield over(SINGLE, lines(numbers, b"=", b"1", b"\0"), [b"session", b"--write"], given=undone(place))
+
+
+def one(rows, at):
+    return [list(rows())[at]]
+
+
+def chunks():
+    """Each row is a chunk, since it takes long."""
+    return [functools.partial(one, rows, at) for rows in (texts, images, changes, tools, orders) for at in range(len(list(rows())))]

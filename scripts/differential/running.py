@@ -1,0 +1,138 @@
+"""Runs the program over cases and compares all that it leaves with what the model answers."""
+
+import os
+import signal
+from dataclasses import dataclass, field
+
+from model.program import Program
+
+# The seconds of a processor within which a small case is answered, and how often it is tried that takes longer; the seconds
+# after which a run is ended.
+SECONDS, TRIES, WAITED = 0.25, 4, 120
+
+
+@dataclass
+class Case:
+    """A call: its arguments, the files by their names, and standard input, of which `step` bytes come a call; `then` says that
+    it fails after its bytes, or that it ends and goes on (pause). `wanted` is an answer that is given by hand, which the model has to
+    have too."""
+
+    name: str
+    arguments: list
+    files: dict = field(default_factory=dict)
+    given: bytes = b""
+    then: str = ""
+    step: int = 0
+    wanted: object = None
+    seconds: float = SECONDS
+    weight: int = 1
+
+    def answer(self):
+        return Program(self.files, self.given, self.then == "fail").answer(self.arguments)
+
+    def is_cut(self):
+        return bool(self.then or self.step)
+
+    def cut(self, preload):
+        """What scripts/cut_streams.c is told."""
+        if not self.is_cut():
+            return os.environ
+        words = {"LD_PRELOAD": preload, "CUT_FD": "0", "CUT_CALL": "read"}
+        if self.step:
+            words["CUT_STEP"] = str(self.step)
+        if self.then:
+            words |= {"CUT_AFTER": str(len(self.given)), "CUT_THEN": self.then}
+        return {**os.environ, **words}
+
+
+@dataclass
+class Found:
+    """What the program left; `seconds` of a processor were taken."""
+
+    status: int
+    output: bytes
+    errors: bytes
+    files: dict
+    seconds: float
+
+    def is_as(self, answer):
+        errors = self.errors == answer.errors if answer.errors is not None else self.errors.startswith(b"error: ")
+        return errors and (self.status, self.output, self.files) == (answer.status, answer.output, answer.files)
+
+
+class Runner:
+    """Runs the program in a folder of its own, which is the current one. The streams are files outside of it."""
+
+    def __init__(self, program, preload, folder):
+        self.program, self.preload = program, preload
+        self.there = {}
+        os.makedirs(folder + "/files")
+        os.chdir(folder + "/files")
+        self.streams = [os.open(f"{folder}/{name}", os.O_RDWR | os.O_CREAT, 0o600) for name in ("in", "out", "err")]
+
+    def put(self, files):
+        for name in self.there.keys() - files.keys():
+            os.unlink(name)
+        for name, content in files.items():
+            if self.there.get(name) != content:
+                with open(name, "wb") as file:
+                    file.write(content)
+        self.there = dict(files)
+
+    def left(self):
+        """The files as they are now."""
+        found = {}
+        for name in os.listdir(b"."):
+            with open(name, "rb", 0) as file:
+                found[name] = file.read()
+        self.there = found
+        return dict(found)
+
+    def fill_streams(self, given):
+        for stream, text in zip(self.streams, (given, b"", b"")):
+            os.ftruncate(stream, 0)
+            os.pwrite(stream, text, 0)
+            os.lseek(stream, 0, os.SEEK_SET)
+
+    def run(self, case):
+        self.put(case.files)
+        # (behind a cut the input would go on)
+        self.fill_streams(case.given + b"\n.save\n" if case.then else case.given)
+        moves = [(os.POSIX_SPAWN_DUP2, stream, at) for at, stream in enumerate(self.streams)]
+        process = os.posix_spawn(self.program, [b"fwenv", *case.arguments], case.cut(self.preload), file_actions=moves)
+        signal.signal(signal.SIGALRM, lambda *_: os.kill(process, signal.SIGKILL))
+        signal.alarm(WAITED)
+        _, status, usage = os.wait4(process, 0)
+        signal.alarm(0)
+        output, errors = [os.pread(stream, os.fstat(stream).st_size, 0) for stream in self.streams[1:]]
+        seconds = usage.ru_utime + usage.ru_stime
+        return Found(os.waitstatus_to_exitcode(status), output, errors, self.left(), seconds)
+
+    def failure(self, case, wanted):
+        """What is wrong with a case, as a text; None where nothing is."""
+        if case.wanted not in (None, wanted):
+            return told(case, wanted, case.wanted).replace("found", "of the model")
+        for _ in range(TRIES):
+            found = self.run(case)
+            if not found.is_as(wanted):
+                return told(case, found, wanted)
+            if found.seconds <= case.seconds:
+                return None
+        return f"{case.name}: {found.seconds} seconds of a processor\n  {shown(case.arguments)}"
+
+
+def shown(value):
+    return f"{value!r:.900}"
+
+
+def told(case, found, wanted):
+    lines = [case.name, f"arguments {shown(case.arguments)}", f"input {shown(case.given)} {case.then} {case.step or ''}"]
+    for name in sorted(case.files):
+        lines.append(f"file {name!r}: {shown(case.files[name])}")
+    for part in ("status", "output", "errors"):
+        if getattr(found, part) != getattr(wanted, part):
+            lines += [f"found {part} {shown(getattr(found, part))}", f"wanted {part} {shown(getattr(wanted, part))}"]
+    for name in sorted(found.files.keys() | wanted.files.keys()):
+        if found.files.get(name) != wanted.files.get(name):
+            lines += [f"found {name!r}: {shown(found.files.get(name))}", f"wanted {name!r}: {shown(wanted.files.get(name))}"]
+    return "\n  ".join(lines)

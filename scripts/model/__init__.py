@@ -1,0 +1,15 @@
+"""The program in plain Python: what it answers to any call. Written from docs/ and not from the program, each rule once; everything
+is bytes. The tests compare the built program with it (scripts/differential).
+
+    image         stored copies                          docs/images.md
+    texts         configurations and other texts         docs/texts.md
+    variables     variables with types and access        docs/variables.md
+    words         words and tokens of a script           docs/scripts.md
+    grammar       the tree of a script                   docs/scripts.md
+    calculations  test and setexpr                       docs/commands.md
+    script        what a script does                     docs/runs.md
+    session       copies, saves, marks and undo          docs/sessions.md
+    dry_run       blocks and dot lines                   docs/dry-runs.md
+    arguments     the command line                       docs/tools.md
+    program       the tools over files                   docs/tools.md
+"""

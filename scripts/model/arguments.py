@@ -1,0 +1,125 @@
+"""The command line (docs/tools.md, "The command line" and "Subcommands over files"; docs/dry-runs.md, "The subcommand"), as far as the
+rules of clap are used: options before and after the other words, values after a blank, an `=` or a letter."""
+
+import re
+from dataclasses import dataclass, field
+
+FLAGS, VALUES = {"--big-endian"}, {"-c", "--default"}
+# Of each subcommand: its flags, its options with a value, and how many other words it takes
+FORMS = {
+    "printenv": ({"-n"}, set(), (0, None)),
+    "setenv": (set(), {"-s"}, (0, None)),
+    "import": (set(), set(), (1, 1)),
+    "export": (set(), set(), (0, 0)),
+    "session": ({"--write"}, {"--stubs", "--steps", "--depth", "--word", "--output"}, (0, 0)),
+}
+# The limits of a session: the usual one, and the largest
+LIMITS = {
+    "--steps": (100_000, 1_000_000),
+    "--depth": (8, 16),
+    "--word": (4096, 65_536),
+    "--output": (1_048_576, 16_777_216),
+}
+VERSION = b"fwenv 0.1.0\n"
+NO_SUBCOMMAND = b"""error: unrecognized subcommand '%s'
+
+Usage: fwenv [OPTIONS] [COMMAND]
+
+For more information, try '--help'.
+"""
+NO_NUMBER = b"""error: invalid value '%s' for '%s <N>': not a number from 0 to %d
+
+For more information, try '--help'.
+"""
+NOT_UTF8 = b"fwenv: a word of the command line is not UTF-8\n"
+
+
+class Wrong(Exception):
+    """A fault of the command line: its text, or None for some text that begins with `error: `."""
+
+    def __init__(self, text=None):
+        super().__init__(text)
+        self.text = text
+
+
+@dataclass
+class Call:
+    """What is asked for: "show", "version" or a subcommand, with its options and other words."""
+
+    tool: str
+    options: dict = field(default_factory=dict)
+    words: list = field(default_factory=list)
+
+    def order(self):
+        return "big" if "--big-endian" in self.options else "little"
+
+    def limits(self):
+        """The limits on steps, depth, word and output; the first that is none is a fault."""
+        found = []
+        for option, (usual, most) in LIMITS.items():
+            text = self.options.get(option, b"%d" % usual)
+            if not re.fullmatch(rb"[0-9]+", text) or int(text) > most:
+                raise Wrong(NO_NUMBER % (text, option.encode(), most))
+            found.append(int(text))
+        return tuple(found)
+
+
+def option_of(word):
+    """The option that a word names, and the value that stands in the same word."""
+    if word.startswith(b"--"):
+        name, equals, value = word.partition(b"=")
+        return name.decode(), value if equals else None
+    value = word[2:].removeprefix(b"=")
+    return word[:2].decode(), value if word[2:] else None
+
+
+def read_option(call, word, rest, flags, values):
+    """Takes an option, and from the rest its value."""
+    name, value = option_of(word)
+    if name not in flags | values or name in call.options or (name in flags and value is not None):
+        raise Wrong
+    if name in values and value is None:
+        if not rest or rest[0][:1] == b"-":
+            raise Wrong
+        value = rest.pop(0)
+    call.options[name] = value
+
+
+def read_subcommand(tool, options, rest):
+    flags, values, (least, most) = FORMS[tool]
+    call = Call(tool, options)
+    while rest:
+        word = rest.pop(0)
+        if word == b"--":
+            call.words += rest
+            break
+        if word[:1] == b"-" and word != b"-":
+            read_option(call, word, rest, FLAGS | flags, VALUES | values)
+        else:
+            call.words.append(word)
+    if len(call.words) < least or (most is not None and len(call.words) > most):
+        raise Wrong
+    if tool == "setenv" and ("-s" in call.options) == bool(call.words):
+        raise Wrong
+    return call
+
+
+def read_arguments(arguments):
+    """The call that the arguments make."""
+    rest = list(arguments)
+    for word in rest:
+        try:
+            word.decode()
+        except UnicodeDecodeError:
+            raise Wrong(NOT_UTF8)
+    call = Call("show")
+    while rest:
+        word = rest.pop(0)
+        if word.decode() in FORMS:
+            return read_subcommand(word.decode(), call.options, rest)
+        if word in (b"--version", b"-V"):
+            return Call("version")
+        if word[:1] != b"-":
+            raise Wrong(NO_SUBCOMMAND % word)
+        read_option(call, word, rest, FLAGS, set())
+    return call

@@ -1,0 +1,113 @@
+"""The commands of a script that compute: test and setexpr (docs/commands.md)."""
+
+import re
+
+
+def integer_of(word):
+    """What `test` reads at the front of a word."""
+    sign = 1
+    if word[:1] == b"-":
+        sign, word = -1, word[1:]
+    if found := re.match(rb"0[xX]([0-9a-fA-F]+)", word):
+        number = int(found.group(1), 16)
+    elif found := re.match(rb"0[0-7]*", word):
+        number = int(found.group(), 8)
+    elif found := re.match(rb"[1-9][0-9]*", word):
+        number = decimal(found.group())
+    else:
+        number = 0
+    return sign * min(number, 2**63 - 1)
+
+
+def decimal(digits):
+    """A number of digits, of which no more are looked at than the largest number has."""
+    return int(digits) if len(digits) < 40 else 2**64
+
+
+def value_of(word):
+    """What `setexpr` reads at the front of a word."""
+    found = re.match(rb"(?:0[xX](?=[0-9a-fA-F]))?([0-9a-fA-F]+)", word)
+    return int(found.group(1), 16) % 2**64 if found else 0
+
+
+def status_of_digits(word):
+    """Decimal digits that spell 0 to 255."""
+    if not re.fullmatch(rb"[0-9]+", word):
+        return None
+    status = int(word.lstrip(b"0")[:4] or b"0")
+    return status if status <= 255 else None
+
+
+COMPARISONS = {
+    b"=": lambda s, t: s == t,
+    b"!=": lambda s, t: s != t,
+    b"<": lambda s, t: s < t,
+    b">": lambda s, t: s > t,
+    b"-eq": lambda s, t: integer_of(s) == integer_of(t),
+    b"-ne": lambda s, t: integer_of(s) != integer_of(t),
+    b"-lt": lambda s, t: integer_of(s) < integer_of(t),
+    b"-le": lambda s, t: integer_of(s) <= integer_of(t),
+    b"-gt": lambda s, t: integer_of(s) > integer_of(t),
+    b"-ge": lambda s, t: integer_of(s) >= integer_of(t),
+}
+
+
+def term(words):
+    """The value of the term at the front and the words behind it; None where there is none."""
+    negated = False
+    while words[:1] == [b"!"]:
+        negated = not negated
+        words = words[1:]
+    if words[:1] in ([b"-n"], [b"-z"]):
+        if len(words) < 2:
+            return None
+        value = (words[1] == b"") == (words[0] == b"-z")
+        return value != negated, words[2:]
+    if len(words) < 3 or words[1] not in COMPARISONS:
+        return None
+    return COMPARISONS[words[1]](words[0], words[2]) != negated, words[3:]
+
+
+def test(words):
+    """Whether the words are an expression that is true."""
+    first = term(words)
+    if first is None:
+        return False
+    value, words = first
+    while words:
+        operator = words[0]
+        if operator not in (b"-a", b"-o"):
+            return False
+        following = term(words[1:])
+        if following is None:
+            return False
+        other, words = following
+        value = (value and other) if operator == b"-a" else (value or other)
+    return value
+
+
+OPERATORS = {
+    b"&": lambda a, b: a & b,
+    b"|": lambda a, b: a | b,
+    b"^": lambda a, b: a ^ b,
+    b"+": lambda a, b: a + b,
+    b"-": lambda a, b: a - b,
+    b"*": lambda a, b: a * b,
+    b"/": lambda a, b: a // b,
+    b"%": lambda a, b: a % b,
+}
+
+
+def setexpr(words):
+    """What is to be written: (name, text), or "use" or "zero"."""
+    if len(words) not in (2, 4) or words[1] in (b"sub", b"gsub", b"fmt") or words[1][:1] == b"*":
+        return "use"
+    number = value_of(words[1])
+    if len(words) == 4:
+        if words[2] not in OPERATORS or words[3][:1] == b"*":
+            return "use"
+        other = value_of(words[3])
+        if words[2] in (b"/", b"%") and other == 0:
+            return "zero"
+        number = OPERATORS[words[2]](number, other) % 2**64
+    return words[0], b"%x" % number

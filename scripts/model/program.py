@@ -1,0 +1,203 @@
+"""The program over files: what a call prints, with which status it ends, and what it leaves in each file (docs/tools.md)."""
+
+from dataclasses import dataclass
+
+from model import texts
+from model.arguments import VERSION, Wrong, read_arguments
+from model.dry_run import LONGEST, DryRun
+from model.image import LARGEST, Geometry
+from model.session import Session
+from model.texts import TextFault
+from model.variables import NOT_DEFINED, REFUSALS, Environment
+
+WARNING = b"Warning: Bad CRC, using default environment\n"
+CANNOT_READ_INPUT = b"fwenv: cannot read standard input\n"
+CANNOT_READ = b"fwenv: cannot read %s\n"
+TOO_SHORT = b"fwenv: %s is too short\n"
+OVERLAP = b"fwenv: copies overlap\n"
+REFUSED_TEXT = b"fwenv: %s: %s\n"
+TOO_LONG = b"fwenv: input too long\n"
+BAD_IMAGE = b"## Error: bad image: %s\n"
+ONE_NAME = b"## Error: -n takes exactly one name\n"
+REFUSED_ENTRIES = b"## Error: %d entries refused\n"
+NO_EXPORT = b'## Error: can\'t export "%s"\n'
+
+
+@dataclass
+class Answer:
+    """What a call leaves; `errors` is None for some text that begins with `error: `."""
+
+    status: int
+    output: bytes
+    errors: bytes
+    files: dict
+
+
+class Ended(Exception):
+    """A fault that ends the program: its text on standard error."""
+
+
+class Program:
+    """A call over files: a path that isn't there, or is none of a file, has no bytes. `fails` says that standard input fails after
+    its bytes."""
+
+    def __init__(self, files, given=b"", fails=False):
+        self.files = dict(files)
+        self.given = given
+        self.fails = fails
+        self.output = b""
+        self.errors = b""
+
+    def answer(self, arguments):
+        try:
+            call = read_arguments(arguments)
+            status = getattr(self, "call_" + call.tool)(call)
+        except Wrong as wrong:
+            return Answer(1, b"", wrong.text, self.files)
+        except Ended as ended:
+            self.errors += ended.args[0]
+            status = 1
+        return Answer(status, self.output, self.errors, self.files)
+
+    def say(self, text):
+        """A message, with which the status is 1."""
+        self.errors += text
+        return 1
+
+    # Without a subcommand
+
+    def call_version(self, _call):
+        self.output = VERSION
+        return 0
+
+    def call_show(self, call):
+        if self.fails:
+            raise Ended(CANNOT_READ_INPUT)
+        if not 8 <= len(self.given) <= LARGEST:
+            return self.say(BAD_IMAGE % b"BadLength")
+        state, variables = Geometry(1, len(self.given), call.order()).read(self.given)
+        if variables is None:
+            return self.say(BAD_IMAGE % state.encode())
+        self.output = Environment(0, variables).lines()
+        return 0
+
+    # Files
+
+    def text(self, path):
+        found = self.files.get(path)
+        if found is None or len(found) > LONGEST:
+            raise Ended(CANNOT_READ % path)
+        return found
+
+    def parsed(self, path, parse):
+        text = self.text(path)
+        try:
+            return parse(text)
+        except TextFault as fault:
+            raise Ended(REFUSED_TEXT % (path, fault.text))
+
+    def copy(self, place, size):
+        device = self.files.get(place.device)
+        if device is None:
+            raise Ended(CANNOT_READ % place.device)
+        start = place.start(size, len(device))
+        if start is None:
+            raise Ended(TOO_SHORT % place.device)
+        return start, device[start : start + size]
+
+    def defaults(self, call, geometry):
+        """The values of the default environment."""
+        path = call.options.get("--default")
+        environment = Environment(geometry.room)
+        entries = [] if path is None else self.parsed(path, texts.import_entries)
+        for line, name, value in entries:
+            refusal = environment.write(name, value, True)
+            if refusal:
+                raise Ended(REFUSED_TEXT % (path, b"%s in line %d" % (refusal.encode(), line)))
+        return environment.values
+
+    def opened(self, call):
+        """A session over the copies that the configuration names."""
+        configuration = self.parsed(call.options.get("-c", b"/etc/fw_env.config"), texts.configuration)
+        geometry = configuration.geometry(call.order())
+        self.places, size = configuration.places, configuration.size
+        read = [self.copy(place, size) for place in self.places]
+        self.starts = [start for start, _ in read]
+        if len(read) == 2 and self.places[0].device == self.places[1].device and abs(self.starts[0] - self.starts[1]) < size:
+            raise Ended(OVERLAP)
+        copies = [copy for _, copy in read]
+        if geometry.choice(copies)[0] is None:
+            self.errors += WARNING
+        return Session(geometry, copies, self.defaults(call, geometry))
+
+    def write_back(self, session):
+        """The copies go where they came from; what lies around them stays."""
+        for place, start, copy in zip(self.places, self.starts, session.copies):
+            device = self.files[place.device]
+            self.files[place.device] = device[:start] + copy + device[start + len(copy) :]
+
+    # The subcommands
+
+    def call_printenv(self, call):
+        environment = self.opened(call).environment
+        if "-n" in call.options and len(call.words) != 1:
+            return self.say(ONE_NAME)
+        if not call.words:
+            self.output = environment.lines()
+            return 0
+        status = 0
+        for name in call.words:
+            value = environment.values.get(name)
+            if value is None:
+                status = self.say(NOT_DEFINED % name)
+            else:
+                self.output += value + b"\n" if "-n" in call.options else name + b"=" + value + b"\n"
+        return status
+
+    def call_export(self, call):
+        status = 0
+        for name, value in sorted(self.opened(call).environment.values.items()):
+            text = texts.exported(name, value)
+            if text is None:
+                status = self.say(NO_EXPORT % name)
+            else:
+                self.output += text
+        return status
+
+    def call_setenv(self, call):
+        session = self.opened(call)
+        if "-s" in call.options:
+            changes = self.parsed(call.options["-s"], texts.set_script_entries)
+        else:
+            changes = [(1, call.words[0], b" ".join(call.words[1:]))]
+        for _, name, value in changes:
+            refusal = session.environment.write(name, value, False)
+            if refusal:
+                return self.say(REFUSALS[refusal] % name)
+        return self.saved(session)
+
+    def call_import(self, call):
+        session = self.opened(call)
+        entries = self.parsed(call.words[0], texts.import_entries)
+        refused = sum(session.environment.write(name, value, False) is not None for _, name, value in entries)
+        self.saved(session)
+        return self.say(REFUSED_ENTRIES % refused) if refused else 0
+
+    def saved(self, session):
+        session.save()
+        self.write_back(session)
+        return 0
+
+    def call_session(self, call):
+        limits = call.limits()
+        session = self.opened(call)
+        path = call.options.get("--stubs")
+        stand_ins = {} if path is None else self.parsed(path, texts.stand_ins)
+        self.output = DryRun(session, stand_ins, limits).answer(self.given, not self.fails)
+        if len(self.given) > LONGEST:
+            raise Ended(TOO_LONG)
+        if self.fails:
+            raise Ended(CANNOT_READ_INPUT)
+        if "--write" in call.options:
+            self.write_back(session)
+        return 0

@@ -1,0 +1,325 @@
+"""What a script does: a plain recursive evaluator over its tree (docs/runs.md)."""
+
+from dataclasses import dataclass
+
+from model.calculations import setexpr, status_of_digits, test
+from model.grammar import parse
+from model.texts import BUILTINS
+from model.variables import NOT_DEFINED, REFUSALS
+from model.words import Fault
+
+SPLITS = b" \t\n"
+
+
+class Stop(Exception):
+    """The run ends here."""
+
+
+IS_VARIABLE = b'## Error: "%s" is an environment variable\n'
+NO_SCRIPT = b'## Error: syntax error in "%s"\n'
+WRONG_USE = b"## Error: wrong use of '%s'\n"
+UNKNOWN = b"Unknown command '%s' - try 'help'\n"
+BY_ZERO = b"## Error: division by zero\n"
+
+
+@dataclass
+class Outcome:
+    """How a run ended, and what it printed."""
+
+    ending: str
+    status: int
+    steps: int
+    text: bytes
+
+
+class Run:
+    """A run of a script over a session."""
+
+    def __init__(self, session, stand_ins, limits):
+        self.session = session
+        self.environment = session.environment
+        self.stand_ins = stand_ins
+        self.max_steps, self.max_depth, self.max_word, self.max_output = limits
+        self.locals = {}
+        self.status = 0
+        self.steps = 0
+        self.depth = 0
+        self.text = b""
+
+    def begin(self):
+        """A step is due."""
+        if self.steps == self.max_steps:
+            raise Stop("Steps")
+
+    def done(self, status, text=b""):
+        """The step is done, where its text fits; it has changed nothing before."""
+        if len(self.text) + len(text) > self.max_output:
+            raise Stop("Output")
+        self.text += text
+        self.status = status
+        self.steps += 1
+
+    # Expansion
+
+    def value(self, name):
+        values = self.environment.values
+        return values[name] if name in values else self.locals.get(name, b"")
+
+    def items(self, parts):
+        """The items of a word: numbers are bytes, "split" and a byte is a splitting blank, None is a mark."""
+        items = []
+        for part in parts:
+            if part[0] == "mark":
+                items.append(None)
+            elif part[0] in ("plain", "quoted"):
+                items.append(part[1])
+            else:
+                text = self.value(part[1]) if part[0] == "name" else b"%d" % self.status
+                is_quoted = part[-1]
+                items += [byte if is_quoted or byte not in SPLITS else ("split", byte) for byte in text]
+        if sum(item is not None for item in items) > self.max_word:
+            raise Stop("Word")
+        return items
+
+    def expanded(self, words):
+        fields = []
+        for parts in words:
+            piece = []
+            for item in self.items(parts) + [("split", 0)]:
+                if isinstance(item, tuple):
+                    if piece:
+                        fields.append(bytes(each for each in piece if each is not None))
+                    piece = []
+                else:
+                    piece.append(item)
+        return fields
+
+    def expanded_value(self, parts):
+        items = self.items(parts)
+        return bytes(item[1] if isinstance(item, tuple) else item for item in items if item is not None)
+
+    # The tree
+
+    def chains(self, chains):
+        for chain in chains:
+            for operator, command in chain:
+                if operator is None or (operator == "and") == (self.status == 0):
+                    self.command(command)
+
+    def command(self, command):
+        getattr(self, "command_" + command[0])(*command[1:])
+
+    def command_if(self, branches, otherwise):
+        for condition, body in branches:
+            self.chains(condition)
+            if self.status == 0:
+                self.chains(body)
+                return
+        if otherwise is not None:
+            self.chains(otherwise)
+        else:
+            self.status = 0
+
+    def command_while(self, condition, body, wanted=True):
+        last = 0
+        while True:
+            self.chains(condition)
+            if (self.status == 0) != wanted:
+                break
+            self.chains(body)
+            last = self.status
+        self.status = last
+
+    def command_until(self, condition, body):
+        self.command_while(condition, body, False)
+
+    def command_for(self, name, words, body):
+        self.begin()
+        fields = self.expanded(words)
+        self.done(self.status)
+        if not fields:
+            self.status = 0
+        for each in fields:
+            self.begin()
+            if name in self.environment.values:
+                self.done(1, IS_VARIABLE % name)
+                return
+            self.done(self.status)
+            self.locals[name] = each
+            self.chains(body)
+
+    def command_assign(self, name, parts):
+        self.begin()
+        value = self.expanded_value(parts)
+        if name in self.environment.values:
+            self.done(1, IS_VARIABLE % name)
+        else:
+            self.done(0)
+            self.locals[name] = value
+
+    # Simple commands
+
+    def command_simple(self, words):
+        self.begin()
+        fields = self.expanded(words)
+        if not fields:
+            self.done(0)
+            return
+        name, rest = fields[0], fields[1:]
+        if name == b"env":
+            second = rest[0] if rest else None
+            names = {
+                b"set": "setenv", b"print": "printenv", b"save": "saveenv",
+                b"run": "run", b"delete": "delete", b"exists": "exists",
+            }  # fmt: skip
+            if second not in names:
+                self.wrong_use(name)
+            else:
+                getattr(self, names[second])(name, rest[1:])
+        elif name in BUILTINS:
+            getattr(self, name.partition(b".")[0].decode())(name, rest)
+        elif name in self.stand_ins:
+            self.done(self.stand_ins[name], b"+" + b"".join(b" " + each for each in fields) + b"\n")
+        else:
+            self.done(1, UNKNOWN % name)
+
+    def wrong_use(self, name):
+        self.done(1, WRONG_USE % name)
+
+    def true(self, _name, _words):
+        self.done(0)
+
+    def false(self, _name, _words):
+        self.done(1)
+
+    def echo(self, _name, words):
+        if words[:1] == [b"-n"]:
+            self.done(0, b" ".join(words[1:]))
+        else:
+            self.done(0, b" ".join(words) + b"\n")
+
+    def test(self, _name, words):
+        self.done(0 if test(words) else 1)
+
+    def exit(self, name, words):
+        status = self.status if not words else status_of_digits(words[0])
+        if len(words) > 1 or status is None:
+            self.wrong_use(name)
+        else:
+            self.done(status)
+            raise Stop("Exited")
+
+    def written(self, name, value, force):
+        """A write as a step: its refusal's message, or the write."""
+        refusal = self.environment.refusal(name, value, force)
+        if refusal:
+            self.done(1, REFUSALS[refusal] % name)
+        else:
+            self.done(0)
+            self.environment.write(name, value, force)
+
+    def setenv(self, name, words):
+        force = words[:1] == [b"-f"]
+        if force:
+            words = words[1:]
+        if not words:
+            self.wrong_use(name)
+        else:
+            self.written(words[0], b" ".join(words[1:]), force)
+
+    def setexpr(self, name, words):
+        answer = setexpr(words)
+        if answer == "use":
+            self.wrong_use(name)
+        elif answer == "zero":
+            self.done(1, BY_ZERO)
+        else:
+            self.written(*answer, False)
+
+    def printenv(self, _name, words):
+        variables = self.environment.values
+        everything = words[:1] == [b"-a"]
+        if everything:
+            words = words[1:]
+        status, text = 0, b""
+        for each in words or sorted(name for name in variables if everything or name[:1] != b"."):
+            if each in variables:
+                text += each + b"=" + variables[each] + b"\n"
+            else:
+                status = 1
+                text += NOT_DEFINED % each
+        self.done(status, text)
+
+    def saveenv(self, name, words):
+        if words:
+            self.wrong_use(name)
+        else:
+            self.done(0, b"Saved copy %d\n" % (self.session.next_copy() + 1))
+            self.session.save()
+
+    def exists(self, name, words):
+        if len(words) != 1:
+            self.wrong_use(name)
+        else:
+            self.done(0 if words[0] in self.environment.values else 1)
+
+    def delete(self, name, words):
+        force = words[:1] == [b"-f"]
+        if force:
+            words = words[1:]
+        if not words:
+            self.wrong_use(name)
+            return
+        self.done(self.status)
+        failed = False
+        for each in words:
+            self.begin()
+            if each not in self.environment.values:
+                failed = True
+                self.done(1, NOT_DEFINED % each)
+                continue
+            refusal = self.environment.refusal(each, b"", force)
+            if refusal:
+                failed = True
+                self.done(1, REFUSALS[refusal] % each)
+            else:
+                self.done(int(failed))
+                self.environment.write(each, b"", force)
+
+    def run(self, name, words):
+        if not words:
+            self.wrong_use(name)
+            return
+        self.done(self.status)
+        for each in words:
+            self.start(each)
+            if self.status != 0:
+                return
+
+    def start(self, name):
+        self.begin()
+        if name not in self.environment.values:
+            self.done(1, NOT_DEFINED % name)
+            return
+        if self.depth == self.max_depth:
+            raise Stop("Depth")
+        try:
+            tree = parse(self.environment.values[name])
+        except Fault:
+            self.done(1, NO_SCRIPT % name)
+            return
+        self.done(0)
+        self.depth += 1
+        self.chains(tree)
+        self.depth -= 1
+
+
+def run(session, tree, stand_ins, limits):
+    """Runs a tree, and answers its outcome."""
+    made = Run(session, stand_ins, limits)
+    ending = "Finished"
+    try:
+        made.chains(tree)
+    except Stop as stop:
+        ending = stop.args[0]
+    return Outcome(ending, made.status, made.steps, made.text)

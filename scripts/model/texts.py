@@ -1,0 +1,184 @@
+"""Texts around an environment: configurations, texts for import and export, set scripts (docs/texts.md), and stand-in files
+(docs/runs.md, "Stand-ins")."""
+
+import re
+from dataclasses import dataclass
+
+from model.calculations import status_of_digits
+from model.image import LARGEST, Geometry
+
+BLANKS = b" \t"
+BUILTINS = {
+    b"true", b"false", b"echo", b"setenv", b"printenv", b"saveenv", b"run", b"env", b"test", b"exit",
+    b"setexpr", b"setexpr.b", b"setexpr.w", b"setexpr.l", b"setexpr.q",
+}  # fmt: skip
+
+
+class TextFault(Exception):
+    """Why a text is refused, and perhaps in which line."""
+
+    def __init__(self, name, line=None):
+        super().__init__(name, line)
+        self.text = name.encode() if line is None else b"%s in line %d" % (name.encode(), line)
+
+
+def lines_of(text):
+    """The lines with their numbers."""
+    lines = text.split(b"\n")
+    return enumerate(lines if lines[-1] else lines[:-1], 1)
+
+
+# Configurations
+
+
+@dataclass(frozen=True)
+class Place:
+    device: bytes
+    offset: int
+    line: int
+
+    def start(self, size, length):
+        """Where the copy begins in a device of this length; None where it isn't wholly inside."""
+        start = self.offset + (length if self.offset < 0 else 0)
+        return start if 0 <= start and start + size <= length else None
+
+
+@dataclass(frozen=True)
+class Configuration:
+    size: int
+    places: list
+
+    def geometry(self, order):
+        return Geometry(len(self.places), self.size, order)
+
+
+OFFSET = re.compile(rb"([+-]?)(0[xX][0-9a-fA-F]+|0[0-7]*|[1-9][0-9]*)")
+SIZE = re.compile(rb"(?:0[xX])?([0-9a-fA-F]+)")
+
+
+def offset_of(field):
+    """The offset that a field spells, None where it isn't readable; more digits than any offset has are too large."""
+    match = OFFSET.fullmatch(field)
+    if not match:
+        return None
+    digits = match[2]
+    base = 16 if digits[1:2] in (b"x", b"X") else 8 if digits[:1] == b"0" else 10
+    magnitude = int(digits, base) if base != 10 or len(digits) < 40 else 2**63
+    if magnitude >= 2**63:
+        return None
+    return -magnitude if match[1] == b"-" else magnitude
+
+
+def accepted_lines(text):
+    """The first two lines that are accepted: places and sizes."""
+    found = []
+    for number, line in lines_of(text):
+        fields = re.findall(rb"[^ \t\r]+", line)
+        if line[:1] == b"#" or len(fields) < 3:
+            continue
+        offset, size = offset_of(fields[1]), SIZE.fullmatch(fields[2])
+        if offset is not None and size and len(found) < 2:
+            found.append((Place(fields[0], offset, number), int(size[1], 16)))
+    return found
+
+
+def configuration(text):
+    found = accepted_lines(text)
+    for place, size in found:
+        try:
+            place.device.decode()
+        except UnicodeDecodeError:
+            raise TextFault("NotUtf8", place.line)
+        if not 8 <= size <= LARGEST:
+            raise TextFault("Size", place.line)
+    if not found:
+        raise TextFault("NoCopy")
+    places, sizes = [place for place, _ in found], [size for _, size in found]
+    if len(found) == 2:
+        refuse_pair(*places, *sizes)
+    return Configuration(sizes[0], places)
+
+
+def refuse_pair(first, second, size, second_size):
+    if size != second_size:
+        raise TextFault("Unequal")
+    if size == 8:
+        raise TextFault("Size", first.line)
+    is_one_end = (first.offset < 0) == (second.offset < 0)
+    if first.device == second.device and is_one_end and abs(first.offset - second.offset) < size:
+        raise TextFault("Overlap")
+
+
+# Entries: (line, name, value), an empty value for none
+
+SKIPPED = re.compile(rb"(?:[ \t\n]|#[^\n]*)*")
+ENTRY = re.compile(rb"([^=\n]*)(?:=((?:[^\\\n]+|\\.|\\\Z)*))?", re.DOTALL)
+ESCAPED = re.compile(rb"\\(.)", re.DOTALL)
+
+
+def refuse_nul(text):
+    if b"\0" in text:
+        raise TextFault("Nul")
+
+
+def skipped(text, at):
+    """Where the next entry begins: blanks and newlines are passed over, and `#` begins a comment there."""
+    return SKIPPED.match(text, at).end()
+
+
+def import_entries(text):
+    refuse_nul(text)
+    found, line, counted, at = [], 1, 0, skipped(text, 0)
+    while at < len(text):
+        line, counted = line + text.count(b"\n", counted, at), at
+        entry = ENTRY.match(text, at)
+        if not entry[1]:
+            raise TextFault("EmptyName", line)
+        found.append((line, entry[1], ESCAPED.sub(rb"\1", entry[2] or b"")))
+        at = skipped(text, entry.end())
+    return found
+
+
+def set_script_entries(text):
+    refuse_nul(text)
+    found = []
+    for number, line in lines_of(text):
+        line = line.removesuffix(b"\r")
+        if not line.strip(BLANKS) or line[:1] == b"#":
+            continue
+        key, value = re.fullmatch(rb"[ \t]*([^ \t=]*)[ \t=]?[ \t]*(.*)", line, re.DOTALL).groups()
+        if not key:
+            raise TextFault("EmptyName", number)
+        found.append((number, key, value))
+    return found
+
+
+def exported(name, value):
+    """A variable as text; None where an import wouldn't read its name back."""
+    if name[:1] in (b" ", b"\t", b"#") or b"\n" in name:
+        return None
+    return name + b"=" + re.sub(rb"([\\\n])", rb"\\\1", value) + b"\n"
+
+
+# Stand-in files
+
+
+def stand_ins(text):
+    """The statuses by name."""
+    statuses = {}
+    for number, line in lines_of(text):
+        line = line.removesuffix(b"\r")
+        words = re.findall(rb"[^ \t]+", line)
+        if b"\0" in line:
+            raise TextFault("Line", number)
+        if line[:1] == b"#" or not words:
+            continue
+        status = status_of_digits(words[1]) if len(words) > 1 else 0
+        if len(words) > 2 or status is None:
+            raise TextFault("Line", number)
+        if words[0] in BUILTINS:
+            raise TextFault("Builtin", number)
+        if words[0] in statuses:
+            raise TextFault("Twice", number)
+        statuses[words[0]] = status
+    return statuses
