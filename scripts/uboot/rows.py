@@ -2,7 +2,8 @@
 
 A row is a few lines:
 
-    $ SCRIPT       a line of the script, as it is typed at U-Boot's prompt
+    $ SCRIPT       a script, as it is typed at U-Boot's prompt
+    + SCRIPT       a further line of it
     = NAME=VALUE   before the script: a variable of the environment that the board boots with; a row without any begins with
                    U-Boot's default environment
     ! CLASS ..     the classes of docs/differences.md in which the two differ; then come their answers:
@@ -10,12 +11,13 @@ A row is a few lines:
     > LINE         of the dry run
 
 An answer is the text that is printed and then a line `[STATUS]`; or it is `[refused]` if the text isn't a script, so that nothing
-of it is run: how that is reported isn't compared. `..` stands for any bytes. Without `!` both answers are the same.
+of it is run: how that is reported isn't compared. ` / ` is a newline, and `..` stands for any bytes. Without `!` both answers are
+the same.
 
 A row about a stored image has in a line `% BYTES` its entries, with escapes as Python has them, and perhaps in a line `~ BYTE` what
 fills the rest; its answers are the variables. A row about a script of cases.py has that script's name in a line `@ NAME`.
 
-An empty line ends a row, and so does a line that begins with `#`, which is a heading or a comment.
+An empty line ends a row, and so does the next script, and a line that begins with `#`, which is a heading or a comment.
 """
 
 import re
@@ -41,7 +43,7 @@ class Row:
 
 
 def take_line(row, mark, rest):
-    if mark == "$":
+    if mark in "$+":
         row.script.append(rest)
     elif mark == "@":
         row.case = rest.decode()
@@ -69,7 +71,7 @@ def read_rows(path):
         if not line or line.startswith(b"#"):
             row = None
             continue
-        if row is None:
+        if row is None or (row.script and line.startswith(b"$")):
             row = Row(f"{path.name} line {number}")
             rows.append(row)
         take_line(row, line[:1].decode(), line[2:])
@@ -78,7 +80,7 @@ def read_rows(path):
 
 def answers(lines, answer):
     """Whether the answer is the one of these lines."""
-    pattern = re.escape(b"\n".join(lines)).replace(rb"\.\.", b".*")
+    pattern = re.escape(b"\n".join(lines).replace(b" / ", b"\n")).replace(rb"\.\.", b".*")
     return re.fullmatch(pattern, answer, re.DOTALL) is not None
 
 
