@@ -2,6 +2,7 @@
 pub mod Meaning
 pub mod Stacks
 pub mod Runs
+pub mod Laws
 -- What the steps of the code do: no promise speaks of these.
 pub mod Stops
 pub mod Counting

@@ -128,7 +128,7 @@ goes_on true s = s.status == 0
 goes_on false s = not (s.status == 0)
 
 -- turns of a loop as long as the condition's status is 0, or isn't. Each counts a step, so that there are never more
--- than the limit; the status is that of the last body
+-- than the limit, and of one more `turns zero` is never reached; the status is that of the last body
 unfoldable pub turns : ℕ → Bool → (State → Out) → (State → Out) → ℕ → State → Out
 turns zero wanted condition body last s = Ends Steps s
 turns (suc n) wanted condition body last s =

@@ -22,6 +22,7 @@ const SAVED: Copies = Copies {
 };
 
 /// What a session hands out.
+#[derive(Clone, Copy)]
 struct Left {
     ending: SessionEnding,
     read: u64,
@@ -181,6 +182,7 @@ fn a_reader_that_fails_before_and_behind_a_dot_line(rt: HostRuntime) -> Result<(
 }
 
 /// Gives newlines without an end.
+#[derive(Clone, Copy)]
 struct Newlines;
 
 impl Read for Newlines {
