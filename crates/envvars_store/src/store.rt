@@ -1,15 +1,15 @@
 //! The variables in the order of their names.
-ghost use Rattle.std.specs.Prelude.{◌≡◌, ◌↔◌, map, All, IsTrue, IsOk, IsSome, OnOk, OnErr, IfOk, IfErr, IfSome, option_map};
+ghost use Rattle.std.specs.Prelude.{◌≡◌, ◌↔◌, map, All, IsTrue, IsOk, IsSome, OnOk, OnErr, IfOk, IfErr, IfSome, MatchResult, option_map};
 ghost use Rattle.std.specs.FinMap as env;
 ghost use Rattle.std.specs.FinMap.Entries.{put, where_key};
 ghost use Rattle.envimg_core.specs.Environment.{bytes_cmp, is_name, is_value, IsVariable, entry_text};
 ghost use Rattle.envvars_store.specs.Laying.{pair_of, LiesIn};
 ghost use Rattle.envvars_store.specs.Order.{is_other};
-ghost use Rattle.envvars_store.specs.Runs.{flat, listed, IsFilled, HoldsVariable, AreInOrder};
+ghost use Rattle.envvars_store.specs.Runs.{flat, listed, IsFilled, HoldsVariable, AreInOrder, IsPositionOf, BelongsAt};
 
 use crate::iterators::{Iter, Lines};
 use crate::owned_variable::OwnedVariable;
-use crate::runs::{FEW, Run, insert_at, remove_at, replace_at};
+use crate::runs::{FEW, Position, Run, divide, insert_at, is_full, remove_at, replace_at};
 use crate::search::locate;
 use crate::variable::Variable;
 use std::alloc::{AllocError, Global};
@@ -157,11 +157,33 @@ pub(crate) fn set(
         ≡ put bytes_cmp (pair_of area.now variable).0 (pair_of area.now variable).1 (listed area.now runs.old.items)) }
     ensures err { OnErr result (listed area.now runs.new.items ≡ listed area.now runs.old.items) }
 {
-    match locate(area, runs, variable.name(area)) {
+    let found = locate_with_room(area, runs, variable.name(area))?;
+    match found {
         Ok(at) => replace_at(runs, at, variable),
         Err(at) => insert_at(alloc, runs, at, variable)?,
     }
     Ok(())
+}
+
+/// Where the variable with the name stands, or where one would stand, in a run that has room for it: a full one is cut.
+fn locate_with_room(
+    area: &[u8],
+    runs: &mut Vec<Run>,
+    name: &[u8],
+) -> Result<Result<Position, Position>, AllocError>
+    requires { AreInOrder area.now runs.old.items }
+    ensures in_order { AreInOrder area.now runs.new.items }
+    ensures same { listed area.now runs.new.items ≡ listed area.now runs.old.items }
+    ensures found { IfOk result (λ found. MatchResult found
+        (IsPositionOf name.now area.now runs.new.items) (BelongsAt name.now area.now runs.new.items)) }
+{
+    match locate(area, runs, name) {
+        Err(at) if is_full(runs, at) => {
+            divide(runs, at.run)?;
+            Ok(locate(area, runs, name))
+        }
+        found => Ok(found),
+    }
 }
 
 /// Takes the variable of a name away, if there is one.
