@@ -3,7 +3,7 @@ use Rattle.std.specs.Prelude.{◌≡◌, ℕ, List, Option, Some, None, IfSome, 
 use Rattle.std.specs.Coded.{Coded, code_by, coded×, coded_ℕ, coded_list}
 use Rattle.std.specs.FinMap as finite
 use Rattle.envimg_core.specs.Environment.{Environment, is_name, is_value, pair_size}
-use Rattle.envvars_core.specs.declared.variables.writing.Was.{Was}
+use Rattle.envvars_core.specs.declared.variables.writes.Was.{Was}
 
 pub record Contents : Type 0 where
   pub env : Environment

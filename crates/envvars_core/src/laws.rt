@@ -1,4 +1,5 @@
-//! Laws over the definitions alone: each function does nothing, and its contract is the law.
+//! Laws over the definitions alone: each function does nothing, and its contract is the law. Whoever calls `restore` owes
+//! that what comes back fits, and may begin with `nothing_restored`.
 ghost use Rattle.std.specs.Prelude.{◌≡◌, ◌+◌, ℕ, List, Option};
 ghost use Rattle.std.specs.FinMap as env;
 ghost use Rattle.envimg_core.specs.Environment.{Environment, used};

@@ -70,11 +70,11 @@ find_passed q (x ∷ xs) ys b = ap (λ o. cond (is_eq o) (Some x.1) (find bytes_
 pub find_missed : (q : List ℕ) (xs ys : List Pair) → T (is_sorted bytes_cmp (xs ++ ys)) → AllBefore q xs → StartsAfter q ys → find bytes_cmp q (xs ++ ys) ≡ None
 find_missed q xs ys h b s = find_passed q xs ys b ∙ find_below q ys (starts_below q ys (sorted_rest xs ys h) s)
 
--- the variables of other names
-abbrev pub without : List ℕ → List Pair → List Pair
+-- the entries of other names
+abbrev pub without : {X : Type 0} → List ℕ → List (List ℕ × X) → List (List ℕ × X)
 without q es = where_key bytes_cmp (is_other q) es
 
-without_below : (q : List ℕ) (ys : List Pair) → T (below_all bytes_cmp q ys) → without q ys ≡ ys
+pub without_below : {X : Type 0} (q : List ℕ) (ys : List (List ℕ × X)) → T (below_all bytes_cmp q ys) → without q ys ≡ ys
 without_below q [] h = refl
 without_below q (y ∷ ys) h = ap (λ o. cond (not (is_eq o)) (y ∷ without q ys) (without q ys)) (is_less _ (and_left _ _ h)) ∙ ap (λ r. y ∷ r) (without_below q ys (and_right _ _ h))
 

@@ -1,5 +1,6 @@
 -- What a write at a position makes of the variables.
 use Rattle.std.proofs.Common.{◌≡◌, ℕ, zero, suc, ◌<◌, T, List, [], ◌∷◌, ◌++◌, length, drop, get_or, All, vec_len, Some, None, is_some, true, sym, ap, subst, ◌∙◌, refl, arith}
+use Rattle.std.specs.Prelude.{Result, Ok, Err, MatchResult}
 use Rattle.std.specs.FinMap as env
 use Rattle.std.specs.FinMap.Entries.{put, find, is_sorted}
 use Rattle.std.proofs.Math.Seq.{drop-cons}
@@ -132,6 +133,13 @@ found_as q p area more_area runs more s a b c f = subst (λ n. IsPositionOf n mo
 
 pub gap_as : (q p area more_area : List ℕ) (runs more : List Run) (s : Position) → q ≡ p → area ≡ more_area → runs ≡ more → BelongsAt q area runs s → BelongsAt p more_area more s
 gap_as q p area more_area runs more s a b c f = subst (λ n. BelongsAt n more_area more s) a (subst (λ x. BelongsAt q x more s) b (subst (λ rs. BelongsAt q area rs s) c f))
+
+-- what a search answered
+pub found_of : (r : Result Position Position) (s : Position) (q area : List ℕ) (runs : List Run) → MatchResult r (IsPositionOf q area runs) (BelongsAt q area runs) → r ≡ Ok s → IsPositionOf q area runs s
+found_of r s q area runs m e = subst (λ x. MatchResult x (IsPositionOf q area runs) (BelongsAt q area runs)) e m
+
+pub gap_of : (r : Result Position Position) (s : Position) (q area : List ℕ) (runs : List Run) → MatchResult r (IsPositionOf q area runs) (BelongsAt q area runs) → r ≡ Err s → BelongsAt q area runs s
+gap_of r s q area runs m e = subst (λ x. MatchResult x (IsPositionOf q area runs) (BelongsAt q area runs)) e m
 
 -- the variable at a position that was found
 pub position_read : (q area : List ℕ) (runs : List Run) (s : Position) (r : Run) (x : Variable) → IsPositionOf q area runs s → r ≡ get_or runs s.run r → x ≡ get_or r.items s.index x → x ≡ get_or (variables_at runs s.run) s.index x

@@ -1,5 +1,5 @@
 //! Variables in runs of a bounded length, so that a write moves one run at most.
-ghost use Rattle.std.specs.Prelude.{◌≡◌, ◌+◌, ◌<◌, ◌≤◌, suc, [], ◌∷◌, ◌++◌, length, All, IfOk, OnOk, OnErr};
+ghost use Rattle.std.specs.Prelude.{◌≡◌, ◌+◌, ◌<◌, ◌≤◌, suc, [], ◌∷◌, ◌++◌, length, All, IfOk, IsTrue, OnOk, OnErr};
 ghost use Rattle.envvars_store.specs.Runs.{flat, front, rest, later, variables_at, IsFilled};
 
 use crate::variable::Variable;
@@ -64,15 +64,11 @@ pub(crate) fn insert_at(
         return Ok(());
     }
     let length = runs[at.run].len();
-    if length < MOST {
-        return insert_in(runs, at, variable);
-    }
-    if at.index == length && at.run + 1 == runs.len() {
+    if length >= MOST && at.index == length && at.run + 1 == runs.len() {
         let run = run_of_one(alloc, variable)?;
         runs.insert(at.run + 1, run)?;
         return Ok(());
     }
-    let at = divide(runs, at)?;
     insert_in(runs, at, variable)
 }
 
@@ -98,33 +94,33 @@ pub(crate) fn run_of_one(alloc: Global, variable: Variable) -> Result<Run, Alloc
     Ok(run)
 }
 
-/// Cuts a run in two halves, and answers where the position is now.
-fn divide(runs: &mut Vec<Run>, at: Position) -> Result<Position, AllocError>
-    requires run { at.run < length runs.old.items }
-    requires index { at.index ≤ length (variables_at runs.old.items at.run) }
-    requires long { 1 < length (variables_at runs.old.items at.run) }
+/// Whether a variable at a position would make its run too long. After the last one of all a new run begins.
+pub(crate) fn is_full(runs: &[Run], at: Position) -> bool
+    ensures run { IsTrue result → at.run < length runs.now }
+    ensures long { IsTrue result → 1 < length (variables_at runs.now at.run) }
+{
+    if at.run >= runs.len() {
+        return false;
+    }
+    let length = runs[at.run].len();
+    length >= MOST && (at.index < length || at.run + 1 < runs.len())
+}
+
+/// Cuts a run in two halves.
+pub(crate) fn divide(runs: &mut Vec<Run>, index: usize) -> Result<(), AllocError>
+    requires run { index < length runs.old.items }
+    requires long { 1 < length (variables_at runs.old.items index) }
     requires filled { All IsFilled runs.old.items }
-    ensures front { IfOk result (λ s. front runs.new.items s ≡ front runs.old.items at) }
-    ensures rest { IfOk result (λ s. rest runs.new.items s ≡ rest runs.old.items at) }
-    ensures run { IfOk result (λ s. s.run < length runs.new.items) }
-    ensures index { IfOk result (λ s. s.index ≤ length (variables_at runs.new.items s.run)) }
     ensures variables { flat runs.new.items ≡ flat runs.old.items }
     ensures filled { All IsFilled runs.new.items }
 {
     runs.reserve(1)?;
-    let half = runs[at.run].len() / 2;
-    let upper = runs[at.run].split_off(half)?;
-    let Ok(()) = runs.insert(at.run + 1, upper) else {
+    let half = runs[index].len() / 2;
+    let upper = runs[index].split_off(half)?;
+    let Ok(()) = runs.insert(index + 1, upper) else {
         unreachable!()
     };
-    if at.index <= half {
-        Ok(at)
-    } else {
-        Ok(Position {
-            run: at.run + 1,
-            index: at.index - half,
-        })
-    }
+    Ok(())
 }
 
 /// Puts a variable in the place of another.

@@ -1,17 +1,22 @@
 //! The variables in the order of their names.
-ghost use Rattle.std.specs.Prelude.{◌≡◌, ◌↔◌, map, All, IsTrue, IsOk, IsSome, OnOk, OnErr, IfErr, IfSome, option_map};
+ghost use Rattle.std.specs.Prelude.{◌≡◌, ◌↔◌, map, All, IsTrue, IsOk, IsSome, OnOk, OnErr, IfOk, IfErr, IfSome, MatchResult, option_map};
 ghost use Rattle.std.specs.FinMap as env;
+ghost use Rattle.std.specs.FinMap.Entries.{put, where_key};
 ghost use Rattle.envimg_core.specs.Environment.{bytes_cmp, is_name, is_value, IsVariable, entry_text};
-ghost use Rattle.envvars_store.specs.Runs.{listed, AreInOrder};
+ghost use Rattle.envvars_store.specs.Laying.{pair_of, LiesIn};
+ghost use Rattle.envvars_store.specs.Order.{is_other};
+ghost use Rattle.envvars_store.specs.Runs.{flat, listed, IsFilled, HoldsVariable, AreInOrder, IsPositionOf, BelongsAt};
 
-use crate::changing::{forget, set};
-use crate::finding::locate;
-use crate::iterating::{Iter, Lines};
+use crate::iterators::{Iter, Lines};
 use crate::owned_variable::OwnedVariable;
-use crate::runs::{Run, replace_at};
+use crate::runs::{FEW, Position, Run, divide, insert_at, is_full, remove_at, replace_at};
+use crate::search::locate;
 use crate::variable::Variable;
 use std::alloc::{AllocError, Global};
 use std::marker::Model;
+
+/// The most bytes that are copied at once.
+const BLOCK: usize = 2048;
 
 /// The variables of an environment: a finite map from names to values.
 ///
@@ -47,6 +52,16 @@ impl Variables {
             area: Vec::new(alloc),
             runs: Vec::new(alloc),
         }
+    }
+
+    /// The same variables in memory of their own.
+    pub fn try_clone(&self, alloc: Global) -> Result<Variables, AllocError>
+        ensures { IfOk result (λ v. v ≡ self.now) }
+    {
+        Ok(Variables {
+            area: copied(alloc, &self.area)?,
+            runs: copied_runs(alloc, &self.runs)?,
+        })
     }
 
     /// The value of a name, if it has one.
@@ -125,4 +140,99 @@ fn value_among<'a>(area: &'a [u8], runs: &'a [Run], name: &[u8]) -> Option<&'a [
         }
         Err(_) => None,
     }
+}
+
+/// Puts a variable where its name belongs, over the one that has the name.
+pub(crate) fn set(
+    alloc: Global,
+    area: &[u8],
+    runs: &mut Vec<Run>,
+    variable: Variable,
+) -> Result<(), AllocError>
+    requires in_order { AreInOrder area.now runs.old.items }
+    requires lies { LiesIn area.now variable }
+    requires formed { HoldsVariable area.now variable }
+    ensures in_order { AreInOrder area.now runs.new.items }
+    ensures ok { OnOk result (listed area.now runs.new.items
+        ≡ put bytes_cmp (pair_of area.now variable).0 (pair_of area.now variable).1 (listed area.now runs.old.items)) }
+    ensures err { OnErr result (listed area.now runs.new.items ≡ listed area.now runs.old.items) }
+{
+    let found = locate_with_room(area, runs, variable.name(area))?;
+    match found {
+        Ok(at) => replace_at(runs, at, variable),
+        Err(at) => insert_at(alloc, runs, at, variable)?,
+    }
+    Ok(())
+}
+
+/// Where the variable with the name stands, or where one would stand, in a run that has room for it: a full one is cut.
+fn locate_with_room(
+    area: &[u8],
+    runs: &mut Vec<Run>,
+    name: &[u8],
+) -> Result<Result<Position, Position>, AllocError>
+    requires { AreInOrder area.now runs.old.items }
+    ensures in_order { AreInOrder area.now runs.new.items }
+    ensures same { listed area.now runs.new.items ≡ listed area.now runs.old.items }
+    ensures found { IfOk result (λ found. MatchResult found
+        (IsPositionOf name.now area.now runs.new.items) (BelongsAt name.now area.now runs.new.items)) }
+{
+    match locate(area, runs, name) {
+        Err(at) if is_full(runs, at) => {
+            divide(runs, at.run)?;
+            Ok(locate(area, runs, name))
+        }
+        found => Ok(found),
+    }
+}
+
+/// Takes the variable of a name away, if there is one.
+pub(crate) fn forget(area: &[u8], runs: &mut Vec<Run>, name: &[u8])
+    requires { AreInOrder area.now runs.old.items }
+    ensures in_order { AreInOrder area.now runs.new.items }
+    ensures gone { listed area.now runs.new.items
+        ≡ where_key bytes_cmp (is_other name.now) (listed area.now runs.old.items) }
+{
+    match locate(area, runs, name) {
+        Ok(at) => remove_at(runs, at),
+        Err(_) => {}
+    }
+}
+
+/// The bytes in memory of their own.
+pub(crate) fn copied(alloc: Global, bytes: &[u8]) -> Result<Vec<u8>, AllocError>
+    ensures { IfOk result (λ v. v.items ≡ bytes.now) }
+{
+    let mut copy = Vec::with_capacity(alloc, bytes.len())?;
+    let mut at = 0;
+    'walk: while at < bytes.len() {
+        let end = at + (bytes.len() - at).min(BLOCK);
+        copy.extend_from_slice(&bytes[at..end])?;
+        at = end;
+    }
+    Ok(copy)
+}
+
+/// The runs, each variable in memory of its own.
+fn copied_runs(alloc: Global, runs: &[Run]) -> Result<Vec<Run>, AllocError>
+    requires { All IsFilled runs.now }
+    ensures variables { IfOk result (λ v. flat v.items ≡ flat runs.now) }
+    ensures filled { IfOk result (λ v. All IsFilled v.items) }
+{
+    let mut copy = Vec::with_capacity(alloc, runs.len())?;
+    'runs: for run in runs {
+        copy.push(copied_run(alloc, run)?)?;
+    }
+    Ok(copy)
+}
+
+/// One run. A short one gets room to take in its neighbour, as each run has it.
+fn copied_run(alloc: Global, run: &[Variable]) -> Result<Run, AllocError>
+    ensures { IfOk result (λ v. v.items ≡ run.now) }
+{
+    let mut copy = Vec::with_capacity(alloc, run.len().max(FEW))?;
+    'variables: for variable in run {
+        copy.push(variable.try_clone(alloc)?)?;
+    }
+    Ok(copy)
 }
