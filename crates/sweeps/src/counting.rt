@@ -68,7 +68,11 @@ fn undo<W: Write>(out: &mut W, session: &mut Session) -> io::Result<()> {
             return wrong(out, "undo of a counting loop, made again");
         }
     }
-    if shows(session, ALL) { Ok(()) } else { wrong(out, "undo of a counting loop") }
+    if shows(session, ALL) {
+        Ok(())
+    } else {
+        wrong(out, "undo of a counting loop")
+    }
 }
 
 /// A run, undone; where memory stopped it, it is undone and made again.
