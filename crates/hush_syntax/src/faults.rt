@@ -27,7 +27,8 @@ pub enum FaultKind {
     Assignment,
     /// A byte 0.
     Nul,
-    /// No memory for the tree, or more of the text or of the tree than numbers of 32 bits can count.
+    /// No memory for the tree. More of the text or of the tree than numbers of 32 bits can count, which is another thing, has
+    /// this answer too.
     Memory,
 }
 

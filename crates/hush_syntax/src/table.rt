@@ -208,7 +208,8 @@ fn count<T>(members: &Vec<T>) -> usize
     members.len()
 }
 
-/// A count as a number of 32 bits. One that is larger is answered as want of memory.
+/// A count as a number of 32 bits. A larger one, to which no text comes that the program reads, has the answer of a refused
+/// allocation, and isn't one.
 fn number(count: usize) -> Result<u32, AllocError>
     ensures { IfOk result (λ number. number ≡ count) }
 {

@@ -62,7 +62,8 @@ pub(crate) fn is_joined_line(source: &[u8], at: usize) -> bool
     stands_at(source, at, b'\\') && stands_at(source, at + 1, b'\n')
 }
 
-/// Where the run of bytes of the class ends that begins at `start`.
+/// Where the run of bytes of the class ends that begins at `start`. It is compiled for each class by itself.
+#[inline(always)]
 pub(crate) fn run_end(class: Class, source: &[u8], start: usize) -> usize
     requires { start ≤ length source.now }
     ensures { IsRun (passes class) source.now start result }

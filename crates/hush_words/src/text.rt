@@ -1,10 +1,10 @@
 //! A script's bytes, which its words are ranges of.
-ghost use Rattle.std.specs.Prelude.{◌≡◌, ◌≤◌, ◌<◌, [], IfOk, OnErr, length};
+ghost use Rattle.std.specs.Prelude.{◌≡◌, ◌≤◌, ◌<◌, IfOk, OnErr, length};
 ghost use Rattle.hush_words.specs.Parts.{written, span_bytes, word_atoms};
 ghost use Rattle.hush_words.specs.Ranges.{IsWithin};
 
 use crate::{Parts, Span, Word};
-use std::alloc::{AllocError, Global};
+use std::alloc::AllocError;
 use std::marker::Model;
 
 /// A text, of which tokens, words and parts are read. It keeps its bytes alone.
@@ -29,7 +29,8 @@ impl Text {
     ///
     /// # Errors
     ///
-    /// There are more bytes than a number of 32 bits can count: they are refused as memory is.
+    /// There are more bytes than a number of 32 bits can count, as no text has that the program reads. That has the answer of a
+    /// refused allocation, and isn't one.
     pub fn new(source: Vec<u8>) -> Result<Text, AllocError>
         ensures text { IfOk result (λ text. text ≡ written source.items) }
         ensures refused_only { OnErr result (u32.MAX < length source.items) }
@@ -40,28 +41,12 @@ impl Text {
         Ok(Text { source })
     }
 
-    /// A text of no bytes. It takes no memory.
-    pub fn empty(alloc: Global) -> Text
-        ensures { result ≡ written [] }
-    {
-        Text {
-            source: Vec::new(alloc),
-        }
-    }
-
     /// The text, byte for byte.
     pub fn source(&self) -> &[u8]
         ensures bytes { result.now ≡ self.now.source }
         ensures few { length self.now.source ≤ u32.MAX }
     {
         self.source.as_slice()
-    }
-
-    /// The text's bytes, in the memory in which they were handed in.
-    pub fn into_source(self) -> Vec<u8>
-        ensures { result.items ≡ self.source }
-    {
-        self.source
     }
 
     /// The parts of a word of this text, or of any other range of it that is read as one.

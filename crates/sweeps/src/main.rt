@@ -7,6 +7,7 @@
 //! `texts`, `entries`, `wide` or `large`. In each module what is swept stands last, behind the steps that it takes.
 #![tactic(auto)]
 
+mod counting;
 mod defaulting;
 mod deleted;
 mod frames;
@@ -75,5 +76,6 @@ fn sweep_small(rt: &HostRuntime) -> io::Result<()> {
     runs::sweep(rt.alloc(), &mut rt.stdout())?;
     frames::sweep(rt.alloc(), &mut rt.stdout())?;
     whole_runs::sweep(rt.alloc(), &mut rt.stdout())?;
+    counting::sweep(rt.alloc(), &mut rt.stdout())?;
     whole_sessions::sweep(rt.alloc(), &mut rt.stdout())
 }

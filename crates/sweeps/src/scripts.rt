@@ -1,4 +1,4 @@
-//! `Script::parse` and `Script::read_again` on a script with every form.
+//! `Script::parse` on a script with every form.
 
 use crate::lines::{refused, row, wrong};
 use hush_syntax::{FaultKind, Script};
@@ -20,36 +20,7 @@ fn parse_once(alloc: Global) -> Option<Result<Script, FaultKind>> {
     }
 }
 
-/// A script reads another text in its place. Refused for memory, it is that of a text without bytes, and nothing is left of
-/// what was handed in; made again it has the text.
-fn read_again<W: Write>(
-    alloc: Global,
-    out: &mut W,
-    script: &mut Script,
-    text: &[u8],
-) -> io::Result<()> {
-    for _try in 0..2u32 {
-        let Ok(mut source) = Vec::from_slice(alloc, text) else {
-            refused(out, "text that is read again")?;
-            continue;
-        };
-        let read = script.read_again(&mut source);
-        let is_bare = script.source().is_empty() && script.root().is_none();
-        match read {
-            Ok(()) if source.is_empty() && script.source() == text && script.root().is_some() => {
-                return row(out, "script read again", b"parsed");
-            }
-            Err(fault) if fault.kind == FaultKind::Memory && source.is_empty() && is_bare => {
-                refused(out, "Script::read_again")?;
-            }
-            _ => return wrong(out, "Script::read_again"),
-        }
-    }
-    wrong(out, "Script::read_again, made again")
-}
-
-/// The script is parsed and keeps its text; where memory ran out it is parsed anew. Then one script reads a small text, the
-/// large one and the small one again.
+/// The script is parsed and keeps its text; where memory ran out it is parsed anew.
 pub fn sweep<W: Write>(alloc: Global, out: &mut W) -> io::Result<()> {
     let mut parsed = parse_once(alloc);
     if parsed.is_none() {
@@ -58,12 +29,8 @@ pub fn sweep<W: Write>(alloc: Global, out: &mut W) -> io::Result<()> {
     }
     match parsed {
         Some(Ok(script)) if script.source() == EVERY_FORM && script.root().is_some() => {
-            row(out, "script", b"parsed")?;
+            row(out, "script", b"parsed")
         }
-        _ => return wrong(out, "Script::parse"),
+        _ => wrong(out, "Script::parse"),
     }
-    let mut script = Script::empty(alloc);
-    read_again(alloc, out, &mut script, b"a")?;
-    read_again(alloc, out, &mut script, EVERY_FORM)?;
-    read_again(alloc, out, &mut script, b"a")
 }
