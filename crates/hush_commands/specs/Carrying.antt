@@ -1,5 +1,5 @@
 -- What a simple command does (docs/runs.md, "Commands").
-use Rattle.std.specs.Prelude.{◌≡◌, ℕ, ◌<◌, ◌≤◌, Bool, true, false, if◌then◌else◌, List, [], ◌∷◌, ◌++◌, codes, length, Option, Some, None, unwrap_or, is_some, Result, Ok, Err}
+use Rattle.std.specs.Prelude.{◌≡◌, ℕ, ◌<◌, ◌≤◌, Bool, if◌then◌else◌, List, [], ◌++◌, codes, length, Option, Some, None, unwrap_or, is_some, Result, Ok, Err}
 use Rattle.std.specs.FinMap as names
 use Rattle.envvars_core.specs.declared.refusals.Memory.{Memory}
 use Rattle.env_session.specs.Session.{Held, saved, side_of}

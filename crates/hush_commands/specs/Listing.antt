@@ -1,5 +1,5 @@
 -- What `printenv` prints (docs/runs.md, "Commands").
-use Rattle.std.specs.Prelude.{ℕ, ◌||◌, Bool, true, false, not, if◌then◌else◌, List, [], ◌∷◌, ◌++◌, codes, filter, Option, Some, None, is_some, Result, Ok, Err, ◌≡◌}
+use Rattle.std.specs.Prelude.{ℕ, ◌||◌, Bool, not, List, [], ◌∷◌, ◌++◌, codes, filter, Option, Some, None, is_some, Result, Ok, Err, ◌≡◌}
 use Rattle.std.specs.List.{flat_map, list_all}
 use Rattle.std.specs.FinMap.{get, entries}
 use Rattle.envimg_core.specs.Environment.{Environment, Pair}

@@ -32,9 +32,9 @@ pub fn carry_out(
     status: u8,
     output: &mut Output,
 ) -> Result<(u8, Follow), PrintFault>
-    ensures carries { Carries (done_of stand_ins.now fields.now.done status session.old) session.old session.new
-        output.old output.new (status_in result) }
-    ensures follows { IfOk result (λ done. done.1 ≡ follow_of fields.now.done status) }
+    ensures carries { Carries (done_of stand_ins.now fields.now.done status session.old)
+        session.old session.new output.old output.new (status_in result) }
+    ensures follows { IfOk result (λ done. done.1 ≡ follow_of fields.now.done) }
 {
     let command = Command::of(fields.fields());
     let follow = match command.follow(alloc) {
@@ -64,8 +64,8 @@ fn attempt(
     status: u8,
     output: &mut Output,
 ) -> Result<u8, PrintFault>
-    ensures { Attempts (done_by stand_ins.now command.entry status session.old) session.old session.new output.old
-        output.new result }
+    ensures { Attempts (done_by stand_ins.now command.entry status session.old)
+        session.old session.new output.old output.new result }
 {
     match command {
         Command::True => Ok(0),
@@ -123,7 +123,8 @@ fn other(
     words: Fields<'_>,
     output: &mut Output,
 ) -> Result<u8, PrintFault>
-    ensures { Answers (other_of (names.get stand_ins.now called.now) called.now words.entry) output.old output.new result }
+    ensures { Answers (other_of (names.get stand_ins.now called.now) called.now words.entry)
+        output.old output.new result }
 {
     match stand_ins.status(called) {
         Some(status) => stand_in(status, called, words, output),

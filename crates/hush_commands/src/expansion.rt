@@ -75,7 +75,8 @@ impl FieldBuffer {
         words: &[Word],
         limit: u32,
     ) -> Result<(), ExpansionFault>
-        ensures { Expands (expanded (known scope.now) limit (map (word_atoms scope.now.text.now) words.now)) self.new result }
+        ensures { Expands (expanded (known scope.now) limit (map (word_atoms scope.now.text.now) words.now))
+            self.new result }
     {
         self.clear();
         for word in words {
@@ -92,7 +93,9 @@ impl FieldBuffer {
         word: Word,
         limit: u32,
     ) -> Result<(), ExpansionFault>
-        ensures { Expands (option_map (λ v. v ∷ []) (expanded_value (known scope.now) limit (word_atoms scope.now.text.now word))) self.new result }
+        ensures { Expands
+            (option_map (λ v. v ∷ []) (expanded_value (known scope.now) limit (word_atoms scope.now.text.now word)))
+            self.new result }
     {
         self.clear();
         self.begin();
@@ -111,7 +114,8 @@ impl FieldBuffer {
         uncut: bool,
         limit: usize,
     ) -> Result<usize, ExpansionFault>
-        ensures { AddsItems (kept uncut (items_of (known scope.now) (word_atoms scope.now.text.now word))) limit self.old self.new result }
+        ensures { AddsItems (kept uncut (items_of (known scope.now) (word_atoms scope.now.text.now word)))
+            limit self.old self.new result }
     {
         let mut left = limit;
         let mut parts = scope.text.parts(word);
@@ -131,7 +135,8 @@ impl FieldBuffer {
         left: usize,
     ) -> Result<usize, ExpansionFault>
         requires { Fits scope.now.text.now.source part }
-        ensures { AddsItems (kept uncut (items_of (known scope.now) (part_atoms scope.now.text.now.source part))) left self.old self.new result }
+        ensures { AddsItems (kept uncut (items_of (known scope.now) (part_atoms scope.now.text.now.source part)))
+            left self.old self.new result }
     {
         match part {
             Part::Plain(span) => self.add_bytes(scope.text.bytes(span), left),

@@ -43,7 +43,8 @@ impl Limits {
     /// Limits on the steps, the starts inside one another, the bytes of a word and those of the text: `None` where one
     /// is above [`MOST_STEPS`], [`MOST_DEPTH`], [`MOST_WORD`] or [`MOST_OUTPUT`].
     pub fn new(steps: u32, depth: u32, word: u32, output: u32) -> Option<Limits>
-        ensures { SomeIff result (AreInRange (bounds steps depth word output)) (bounds steps depth word output) }
+        ensures { SomeIff result (AreInRange (bounds steps depth word output))
+            (bounds steps depth word output) }
     {
         if steps > MOST_STEPS || depth > MOST_DEPTH || word > MOST_WORD || output > MOST_OUTPUT {
             return None;

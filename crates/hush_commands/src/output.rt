@@ -129,7 +129,8 @@ impl Output {
 
 /// How many bytes three texts have together, where that is at most `room`.
 fn len_within(room: usize, front: &[u8], middle: &[u8], back: &[u8]) -> Option<usize>
-    ensures { SomeIff result (length front.now + (length middle.now + length back.now) ≤ room) (length front.now + (length middle.now + length back.now)) }
+    ensures { SomeIff result (length front.now + (length middle.now + length back.now) ≤ room)
+        (length front.now + (length middle.now + length back.now)) }
 {
     let left = room
         .checked_sub(front.len())?

@@ -97,7 +97,8 @@ pub(crate) fn read_status(text: &[u8]) -> Option<u8>
 
 /// The first word of a line, and what follows it.
 fn first_word(line: &[u8]) -> Option<(&[u8], &[u8])>
-    ensures { MatchOption result (words_of line.now ≡ []) (λ found. words_of line.now ≡ found.0.now ∷ words_of found.1.now) }
+    ensures { MatchOption result (words_of line.now ≡ [])
+        (λ found. words_of line.now ≡ found.0.now ∷ words_of found.1.now) }
 {
     let text = without_blanks(line);
     if text.is_empty() {

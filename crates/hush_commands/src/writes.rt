@@ -68,7 +68,8 @@ pub fn delete(
     failed: bool,
     output: &mut Output,
 ) -> Result<u8, PrintFault>
-    ensures { Carries (deletion_of session.old name.now force failed) session.old session.new output.old output.new result }
+    ensures { Carries (deletion_of session.old name.now force failed)
+        session.old session.new output.old output.new result }
 {
     if session.vars().get(name).is_none() {
         Message::NotDefined.tell(name, output)?;
@@ -96,7 +97,8 @@ pub(crate) fn write_words<'a>(
     words: Fields<'_>,
     force: bool,
 ) -> Result<Option<Complaint<'a>>, Memory>
-    ensures { CarriesOut (write_of session.old name.now (spaced words.entry) force) session.old session.new result }
+    ensures { CarriesOut (write_of session.old name.now (spaced words.entry) force)
+        session.old session.new result }
 {
     match joined(alloc, words) {
         Ok(text) => write(session, name, &text, force),

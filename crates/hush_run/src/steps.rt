@@ -26,7 +26,7 @@ pub(crate) fn simple_step(
         (state_of session.new progress.new) result }
 {
     progress.expand(given, session, text, words)?;
-    let (status, follow) = carry_out(
+    let carried = carry_out(
         given.alloc,
         session,
         given.stand_ins,
@@ -34,9 +34,9 @@ pub(crate) fn simple_step(
         progress.status,
         &mut progress.output,
     )?;
-    progress.status = status;
+    progress.status = carried.0;
     progress.steps += 1;
-    match follow {
+    match carried.1 {
         Follow::End => Err(Stop::Ended(Reason::Exited)),
         follow => Ok(follow),
     }

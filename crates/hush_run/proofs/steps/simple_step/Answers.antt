@@ -18,18 +18,18 @@ returns-in_err-expand c =
     (λ begin le. simple_halts r begin (fields_of r words s) s le)
     (λ begin lt e. simple_large r begin (fields_of r words s) s lt e)))
 
-pub returns-in_err-progress : goal.returns-in_err-progress
-returns-in_err-progress c =
+pub returns-in_err-carried : goal.returns-in_err-carried
+returns-in_err-carried c =
     let r = rules_of c.args.given.now in
     let words = map (word_atoms c.args.text.now) c.args.words.now in
     let s = state_of c.args.session.now c.args.progress.now in
     let t = state_of c.args.session.now c.expand.new.self in
     let back : t ≡ s = c.in_ok-expand.ensures.same c.args.session.now in
     let are = subst (λ (u : State). FieldsAre r (fields_of r words u) u c.expand.new.self.fields (Ok tt)) (sym back) c.in_ok-expand.ensures.fields in
-    let same : c.from_residual-in_err-progress.result ≡ Err (print_stop c.in_err-progress.field-0.0) = search allowed in
+    let same : c.from_residual-in_err-carried.result ≡ Err (print_stop c.in_err-carried.field-0.0) = search allowed in
     let new : State = record { held = c.carry_out.new.session; locals = c.expand.new.self.locals; status = c.expand.new.self.status; printed = c.carry_out.new.output; steps = c.expand.new.self.steps } in
-    rw same (subst (λ (u : State). Did r (λ (q : Rules) begin v. simple q begin (fields_of q words v) v) (λ follow q begin. follows q begin follow) u new (Err (print_stop c.in_err-progress.field-0.0))) back
-    (simple_unprinted r words t c.expand.new.self.fields.done are.0 (made_fields (fields_of r words t) c.expand.new.self.fields are.1) c.carry_out.new.session c.carry_out.new.output c.in_err-progress.field-0.0 c.in_err-progress.ensures))
+    rw same (subst (λ (u : State). Did r (λ (q : Rules) begin v. simple q begin (fields_of q words v) v) (λ follow q begin. follows q begin follow) u new (Err (print_stop c.in_err-carried.field-0.0))) back
+    (simple_unprinted r words t c.expand.new.self.fields.done are.0 (made_fields (fields_of r words t) c.expand.new.self.fields are.1) c.carry_out.new.session c.carry_out.new.output c.in_err-carried.field-0.0 c.in_err-carried.ensures.carries))
 
 pub returns-in-End : goal.returns-in-End
 returns-in-End c =
@@ -39,9 +39,9 @@ returns-in-End c =
     let t = state_of c.args.session.now c.expand.new.self in
     let back : t ≡ s = c.in_ok-expand.ensures.same c.args.session.now in
     let are = subst (λ (u : State). FieldsAre r (fields_of r words u) u c.expand.new.self.fields (Ok tt)) (sym back) c.in_ok-expand.ensures.fields in
-    let new : State = record { held = c.carry_out.new.session; locals = c.expand.new.self.locals; status = c.in_ok-progress.field-0; printed = c.carry_out.new.output; steps = c.expand.new.self.steps + 1 } in
+    let new : State = record { held = c.carry_out.new.session; locals = c.expand.new.self.locals; status = c.in_ok-carried.carried.0; printed = c.carry_out.new.output; steps = c.expand.new.self.steps + 1 } in
     subst (λ (u : State). (begin : Begin) → simple r begin (fields_of r words u) u ≡ Ends Exited new) back
-    (simple_left r words t c.expand.new.self.fields.done are.0 (made_fields (fields_of r words t) c.expand.new.self.fields are.1) c.carry_out.new.session c.carry_out.new.output c.in_ok-progress.field-0 (c.expand.new.self.steps + 1) c.in_ok-progress.ensures (add-one _) (sym c.of.ensures ∙ c.in-End.is))
+    (simple_left r words t c.expand.new.self.fields.done are.0 (made_fields (fields_of r words t) c.expand.new.self.fields are.1) c.carry_out.new.session c.carry_out.new.output c.in_ok-carried.carried.0 (c.expand.new.self.steps + 1) c.in_ok-carried.ensures.carries (add-one _) (sym c.in_ok-carried.ensures.follows ∙ c.in-End.is))
 
 pub returns-in_default : goal.returns-in_default
 returns-in_default c =
@@ -51,6 +51,6 @@ returns-in_default c =
     let t = state_of c.args.session.now c.expand.new.self in
     let back : t ≡ s = c.in_ok-expand.ensures.same c.args.session.now in
     let are = subst (λ (u : State). FieldsAre r (fields_of r words u) u c.expand.new.self.fields (Ok tt)) (sym back) c.in_ok-expand.ensures.fields in
-    let new : State = record { held = c.carry_out.new.session; locals = c.expand.new.self.locals; status = c.in_ok-progress.field-0; printed = c.carry_out.new.output; steps = c.expand.new.self.steps + 1 } in
-    subst (λ (u : State). Did r (λ (q : Rules) begin v. simple q begin (fields_of q words v) v) (λ follow q begin. follows q begin follow) u new (Ok c.of.result)) back
-    (simple_done r words t c.expand.new.self.fields.done are.0 (made_fields (fields_of r words t) c.expand.new.self.fields are.1) c.carry_out.new.session c.carry_out.new.output c.in_ok-progress.field-0 (c.expand.new.self.steps + 1) c.of.result c.in_ok-progress.ensures (add-one _) c.of.ensures c.in_default.not-End)
+    let new : State = record { held = c.carry_out.new.session; locals = c.expand.new.self.locals; status = c.in_ok-carried.carried.0; printed = c.carry_out.new.output; steps = c.expand.new.self.steps + 1 } in
+    subst (λ (u : State). Did r (λ (q : Rules) begin v. simple q begin (fields_of q words v) v) (λ follow q begin. follows q begin follow) u new (Ok c.in_ok-carried.carried.1)) back
+    (simple_done r words t c.expand.new.self.fields.done are.0 (made_fields (fields_of r words t) c.expand.new.self.fields are.1) c.carry_out.new.session c.carry_out.new.output c.in_ok-carried.carried.0 (c.expand.new.self.steps + 1) c.in_ok-carried.carried.1 c.in_ok-carried.ensures.carries (add-one _) c.in_ok-carried.ensures.follows c.in_default.not-End)
