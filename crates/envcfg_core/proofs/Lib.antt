@@ -1,4 +1,3 @@
-pub mod ScriptLemmas
 pub mod SpelledLemmas
 pub mod ImportLemmas
 pub mod NamedLemmas

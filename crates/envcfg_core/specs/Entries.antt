@@ -1,6 +1,5 @@
 -- What the texts for import and the set scripts are read as: entries in the order of the text, or one fault.
 use Rattle.std.specs.Prelude.{◌≡◌, ℕ, List, ◌∷◌, Option, option_map, Result, Ok, Err}
-use Rattle.envcfg_core.specs.declared.entry.PlainEntry.{PlainEntry}
 use Rattle.envcfg_core.specs.declared.entry.TextEntry.{TextEntry}
 use Rattle.envcfg_core.specs.declared.entry.TextFault.{TextFault}
 use Rattle.envcfg_core.specs.declared.entry.TextFault.TheVariants.{EmptyName, Nul, Memory}
@@ -14,10 +13,6 @@ pub record Entry : Type 0 where
 -- the bytes of an entry
 abbrev pub entry_view : TextEntry → Entry
 entry_view e = record { name = e.name.items; value = option_map (λ v. v.items) e.value; line = e.line }
-
--- the bytes of an entry that stands in the text as it is
-abbrev pub plain_view : PlainEntry → Entry
-plain_view e = record { name = e.name.now; value = option_map (λ v. v.now) e.value; line = e.line }
 
 -- what a whole text is read as
 abbrev pub Outcome : Type 0

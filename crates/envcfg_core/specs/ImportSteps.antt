@@ -1,6 +1,5 @@
 -- What the steps of the reader hand on, in the words of the definitions: no part of what the crate promises.
 use Rattle.std.specs.Prelude.{ℕ, ◌+◌, ◌<◌, List, [], ◌++◌, false, length, Ok, Err}
-use Rattle.envcfg_core.specs.declared.spelled.PlainText.{PlainText}
 use Rattle.envcfg_core.specs.declared.spelled.ValueText.{ValueText}
 use Rattle.envcfg_core.specs.declared.spelled.Stop.{Stop}
 use Rattle.envcfg_core.specs.declared.spelled.Stop.TheVariants.{End, Newline, Literal}
@@ -9,9 +8,6 @@ use Rattle.envcfg_core.specs.Import.{Spelled, spelled, with_byte, ended_by_newli
 
 abbrev pub value_view : ValueText → Spelled
 value_view v = record { bytes = v.bytes.items; newlines = v.newlines; rest = v.rest.now }
-
-abbrev pub plain_text_view : PlainText → Spelled
-plain_text_view t = record { bytes = t.bytes.now; newlines = t.newlines; rest = t.rest.now }
 
 abbrev pub stop_view : Stop → Spelled
 stop_view End = record { bytes = []; newlines = 0; rest = [] }

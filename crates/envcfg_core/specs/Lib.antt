@@ -4,7 +4,6 @@ pub mod Config
 pub mod Entries
 pub mod Export
 pub mod Import
-pub mod ImportText
 pub mod Numerals
 pub mod Place
 pub mod SetScript

@@ -4,8 +4,7 @@ ghost use Rattle.envcfg_core.specs.ConfigSteps.{candidate_view};
 ghost use Rattle.text_parts.specs.Bytes.{begins};
 ghost use Rattle.envcfg_core.specs.Config.{accepted_line, fields, is_space};
 
-use crate::numerals::{read_offset, read_size};
-use crate::sizes::copy_size;
+use crate::extents::{copy_size, read_offset, read_size};
 use memchr::memchr3;
 use text_parts::begins_with_byte;
 

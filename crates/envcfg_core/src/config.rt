@@ -6,8 +6,8 @@ ghost use Rattle.envcfg_core.specs.ConfigSteps.{candidate_view};
 ghost use Rattle.envcfg_core.specs.Config.{accepted_lines, checked, config_of, config_view, place_view, redundant_of, shares_byte, single_of, IsConfigFaultOf};
 
 use crate::accept::{Candidate, accept_line};
+use crate::extents::SIZE_MIN;
 use crate::place::Place;
-use crate::sizes::SIZE_MIN;
 use envimg_core::Layout;
 use std::alloc::{AllocError, Global};
 use std::str;

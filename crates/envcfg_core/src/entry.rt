@@ -1,5 +1,5 @@
 //! The entries of texts, and their faults.
-ghost use Rattle.std.specs.Prelude.{◌≡◌, option_map};
+ghost use Rattle.std.specs.Prelude.{◌≡◌, option_copied, option_map};
 ghost use Rattle.envcfg_core.specs.declared.entry.TextFault.TheVariants.{Memory};
 ghost use Rattle.envcfg_core.specs.Bytes.{some_unless_empty};
 
@@ -17,15 +17,16 @@ pub struct TextEntry {
     pub line: usize,
 }
 
-/// An entry that is lent: by a set script, or by a text for import where its value holds no escape, as it stands there.
-#[derive(Clone, Copy, Debug)]
-pub struct PlainEntry<'a> {
-    /// The name's bytes: one or more.
-    pub name: &'a [u8],
-    /// The value's bytes, one or more, or none where the entry deletes.
-    pub value: Option<&'a [u8]>,
-    /// The line in which the entry begins; lines count from 1.
-    pub line: usize,
+impl TextEntry {
+    /// The value's bytes, or none where the entry deletes.
+    pub fn value_bytes(&self) -> Option<&[u8]>
+        ensures { option_copied result ≡ option_map (λ v. v.items) self.now.value }
+    {
+        match &self.value {
+            Some(value) => Some(value),
+            None => None,
+        }
+    }
 }
 
 /// Why a text for import or a set script is refused (docs/texts.md).
@@ -56,13 +57,6 @@ impl<T: Drop> From<AllocFailed<T>> for TextFault {
     fn from(_error: AllocFailed<T>) -> TextFault {
         TextFault::Memory
     }
-}
-
-/// The value as it stands in a text, or none where it is empty.
-pub(crate) fn plain_unless_empty(value: &[u8]) -> Option<&[u8]>
-    ensures { option_map (λ v. v.now) result ≡ some_unless_empty value.now }
-{
-    if value.is_empty() { None } else { Some(value) }
 }
 
 /// The value, or none where it is empty.

@@ -1,10 +1,10 @@
 //! The set script.
-ghost use Rattle.std.specs.Prelude.{◌≡◌, map, option_map, Option, IfOk, IfErr, Ok, Err};
+ghost use Rattle.std.specs.Prelude.{◌≡◌, map, option_map, IfOk, IfErr, Ok};
 ghost use Rattle.std.specs.List.{before_first, after_first};
-ghost use Rattle.envcfg_core.specs.Entries.{Entry, entry_view, plain_view, IsFaultOf};
+ghost use Rattle.envcfg_core.specs.Entries.{entry_view, IsFaultOf};
 ghost use Rattle.envcfg_core.specs.SetScript.{set_script_of, line_outcome, is_skipped_line, ends_key};
 
-use crate::entry::{PlainEntry, TextEntry, TextFault, plain_unless_empty};
+use crate::entry::{TextEntry, TextFault, some_unless_empty};
 use memchr::memchr3;
 use std::alloc::Global;
 use text_parts::{
@@ -36,26 +36,6 @@ fn read_line(alloc: Global, number: usize, line: &[u8]) -> Result<Option<TextEnt
     ensures read { IfOk result (λ found. line_outcome number line.now ≡ Ok (option_map entry_view found)) }
     ensures refused { IfErr result (IsFaultOf (line_outcome number line.now)) }
 {
-    let Some(entry) = plain_line(number, line)? else {
-        return Ok(None);
-    };
-    let name = Vec::from_slice(alloc, entry.name)?;
-    let value = match entry.value {
-        Some(value) => Some(Vec::from_slice(alloc, value)?),
-        None => None,
-    };
-    Ok(Some(TextEntry {
-        name,
-        value,
-        line: number,
-    }))
-}
-
-/// A line's entry as it stands there, or that the line is skipped.
-pub(crate) fn plain_line(number: usize, line: &[u8]) -> Result<Option<PlainEntry<'_>>, TextFault>
-    ensures read { IfOk result (λ found. line_outcome number line.now ≡ Ok (option_map plain_view found)) }
-    ensures refused { IfErr result (λ fault. line_outcome number line.now ≡ Err fault) }
-{
     if is_skipped_line(line) {
         return Ok(None);
     }
@@ -63,9 +43,12 @@ pub(crate) fn plain_line(number: usize, line: &[u8]) -> Result<Option<PlainEntry
     if key.is_empty() {
         return Err(TextFault::EmptyName(number));
     }
-    Ok(Some(PlainEntry {
-        name: key,
-        value: plain_unless_empty(without_blanks(value)),
+    let name = Vec::from_slice(alloc, key)?;
+    let value = Vec::from_slice(alloc, without_blanks(value))?;
+    let value = some_unless_empty(value);
+    Ok(Some(TextEntry {
+        name,
+        value,
         line: number,
     }))
 }

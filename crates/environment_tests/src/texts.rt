@@ -1,7 +1,7 @@
 //! Worked examples, with values taken from docs/texts.md and U-Boot's own documents.
 use envcfg_core::{
-    Config, ConfigFault, ExportFault, ImportText, Place, PlainEntry, ScriptText, TextEntry,
-    TextFault, export_entry, parse_config, parse_import, parse_set_script,
+    Config, ConfigFault, ExportFault, Place, TextEntry, TextFault, export_entry, parse_config,
+    parse_import, parse_set_script,
 };
 use envimg_core::Layout;
 use std::alloc::{AllocError, Global};
@@ -27,16 +27,6 @@ fn shown(alloc: Global, outcome: Result<Vec<TextEntry>, TextFault>) -> Result<Ve
         text.push(b';')?;
     }
     Ok(text)
-}
-
-/// What a plain entry holds: its name, its value and its line.
-type Parts<'a> = (&'a [u8], Option<&'a [u8]>, usize);
-
-fn parts(entry: Option<PlainEntry<'_>>) -> Option<Parts<'_>> {
-    match entry {
-        Some(entry) => Some((entry.name, entry.value, entry.line)),
-        None => None,
-    }
 }
 
 /// A configuration as `layout size device@offset ..`, or the fault's line.
@@ -266,44 +256,5 @@ fn copies_begin_inside_their_device(rt: HostRuntime) -> Result<(), Fail> {
             "at {offset} of {length}"
         );
     }
-    Ok(())
-}
-
-#[test]
-fn an_entry_without_escapes_is_lent_by_an_import(rt: HostRuntime) -> Result<(), Fail> {
-    let mut text = ImportText::new(b"a=1\nb=x\\\ny\n# z\n  c\nd=")?;
-    assert_eq!(rt;
-        parts(text.next_plain()),
-        Some((b"a".as_slice(), Some(b"1".as_slice()), 1))
-    );
-    // The value of the second begins in line 2 and ends in line 3: `x`, a newline, `y`.
-    assert_eq!(rt; parts(text.next_plain()), None);
-    match text.read_next(rt.alloc())? {
-        Some(entry) => assert_eq!(rt; entry.line, 2),
-        None => assert!(rt; false),
-    }
-    assert_eq!(rt; parts(text.next_plain()), Some((b"c".as_slice(), None, 5)));
-    assert_eq!(rt; parts(text.next_plain()), Some((b"d".as_slice(), None, 6)));
-    assert_eq!(rt; parts(text.next_plain()), None);
-    assert!(rt; text.read_next(rt.alloc())?.is_none());
-    Ok(())
-}
-
-#[test]
-fn each_entry_is_lent_by_a_set_script(rt: HostRuntime) -> Result<(), Fail> {
-    let mut script = ScriptText::new(b"a 1\r\n\n# z\n b =  x \\ y \nc")?;
-    assert_eq!(rt;
-        parts(script.next_plain()),
-        Some((b"a".as_slice(), Some(b"1".as_slice()), 1))
-    );
-    assert_eq!(rt;
-        parts(script.next_plain()),
-        Some((b"b".as_slice(), Some(b"=  x \\ y ".as_slice()), 4))
-    );
-    assert_eq!(rt;
-        parts(script.next_plain()),
-        Some((b"c".as_slice(), None, 5))
-    );
-    assert_eq!(rt; parts(script.next_plain()), None);
     Ok(())
 }

@@ -101,66 +101,59 @@ answered room es line NoDelete never e = e
 answered room es line NoOverwrite never e = e
 answered room es line Full never e = e
 
--- what writing an entry answers: nothing, or its line with what refuses it
-abbrev pub Wrote : Type 0
-Wrote = Result (Unit {0}) (ℕ × Refusal)
-
-same_error : (f g : ℕ × Refusal) → ◌≡◌ {A = Wrote} (Err f) (Err g) → f ≡ g
-same_error f g e = cc
+same_error : (r s : Refusal) → ◌≡◌ {A = Result (Unit {0}) Refusal} (Err r) (Err s) → r ≡ s
+same_error r s e = cc
 
 -- what writing an entry answered: the clauses of write_entry, at the room of the variables
-pub stopped_at : (room of : ℕ) (all rest : List Entry) (e : Entry) (m : Environment) (f : ℕ × Refusal) → of ≡ room → IsWritten room all (e ∷ rest) m →
-    IfSome (entry_refusal of m e) (λ s. ◌≡◌ {A = Wrote} (Err f) (Err (e.line, s))) → IfNone (entry_refusal of m e) (IsOkUnless {T = Unit {0}} (Err f) (e.line, Memory)) → RefusesDefaults room all f.0 f.1
-stopped_at room of all rest e m f is w some none =
+pub stopped_at : (room of : ℕ) (all rest : List Entry) (e : Entry) (m : Environment) (r : Refusal) → of ≡ room → IsWritten room all (e ∷ rest) m →
+    IfSome (entry_refusal of m e) (λ s. ◌≡◌ {A = Result (Unit {0}) Refusal} (Err r) (Err s)) → IfNone (entry_refusal of m e) (IsOkUnless {T = Unit {0}} (Err r) Memory) → RefusesDefaults room all e.line r
+stopped_at room of all rest e m r is w some none =
     by_refusal (entry_refusal room m e) refl
-    (subst (λ (k : ℕ). IfSome (entry_refusal k m e) (λ s. ◌≡◌ {A = Wrote} (Err f) (Err (e.line, s)))) is some)
-    (subst (λ (k : ℕ). IfNone (entry_refusal k m e) (IsOkUnless {T = Unit {0}} (Err f) (e.line, Memory))) is none)
+    (subst (λ (k : ℕ). IfSome (entry_refusal k m e) (λ s. ◌≡◌ {A = Result (Unit {0}) Refusal} (Err r) (Err s))) is some)
+    (subst (λ (k : ℕ). IfNone (entry_refusal k m e) (IsOkUnless {T = Unit {0}} (Err r) Memory)) is none)
   where
-    by_refusal : (o : Option Refusal) → entry_refusal room m e ≡ o → IfSome o (λ s. ◌≡◌ {A = Wrote} (Err f) (Err (e.line, s))) → IfNone o (IsOkUnless {T = Unit {0}} (Err f) (e.line, Memory)) → RefusesDefaults room all f.0 f.1
-    by_refusal None k p q = subst (λ g. RefusesDefaults room all g.0 g.1) (sym q) (ran_out room all rest e m w k)
+    by_refusal : (o : Option Refusal) → entry_refusal room m e ≡ o → IfSome o (λ s. ◌≡◌ {A = Result (Unit {0}) Refusal} (Err r) (Err s)) → IfNone o (IsOkUnless {T = Unit {0}} (Err r) Memory) → RefusesDefaults room all e.line r
+    by_refusal None k p q = subst (RefusesDefaults room all e.line) (sym q) (ran_out room all rest e m w k)
     by_refusal (Some s) k p q =
-        subst (λ g. RefusesDefaults room all g.0 g.1) (sym (same_error f (e.line, s) p))
-        (answered room all e.line s (λ out. never_memory room m e (k ∙ ap (λ x. Some x) out)) (refused_at room all rest e m s w k))
+        let same : s ≡ r = sym (same_error r s p) in
+        answered room all e.line r (λ out. never_memory room m e (k ∙ ap (λ x. Some x) (same ∙ out))) (refused_at room all rest e m s w k ∙ ap (λ x. Err (e.line, x)) same)
 
 -- an accepted entry has no refusal
-accepted_none : (line : ℕ) (o : Option Refusal) → IfSome o (λ s. ◌≡◌ {A = Wrote} (Ok tt) (Err (line, s))) → o ≡ None
-accepted_none line None h = refl
-accepted_none line (Some s) h = cc
+accepted_none : (o : Option Refusal) → IfSome o (λ s. ◌≡◌ {A = Result (Unit {0}) Refusal} (Ok tt) (Err s)) → o ≡ None
+accepted_none None h = refl
+accepted_none (Some s) h = cc
 
 pub went_on : (room of : ℕ) (all rest : List Entry) (e : Entry) (m n : Environment) → of ≡ room → IsWritten room all (e ∷ rest) m →
-    IfSome (entry_refusal of m e) (λ s. ◌≡◌ {A = Wrote} (Ok tt) (Err (e.line, s))) → n ≡ after m e.name e.value → IsWritten room all rest n
+    IfSome (entry_refusal of m e) (λ s. ◌≡◌ {A = Result (Unit {0}) Refusal} (Ok tt) (Err s)) → n ≡ after m e.name e.value → IsWritten room all rest n
 went_on room of all rest e m n is w some new =
-    let none = accepted_none e.line (entry_refusal room m e) (subst (λ (k : ℕ). IfSome (entry_refusal k m e) (λ s. ◌≡◌ {A = Wrote} (Ok tt) (Err (e.line, s)))) is some) in
+    let none = accepted_none (entry_refusal room m e) (subst (λ (k : ℕ). IfSome (entry_refusal k m e) (λ s. ◌≡◌ {A = Result (Unit {0}) Refusal} (Ok tt) (Err s))) is some) in
     subst (IsWritten room all rest) (sym new) (one_more room all rest e m w none)
 
--- ---- what a forced write of the entry answers, as an answer for the entry with its line
+-- ---- what a write of the entry answers, as an answer for the entry
 
-pub not_refused : {W : Type 0} (m d : Environment) (room : ℕ) (e : Entry) (w : W) →
-    IfSome (refusal m d room e.name e.value true) (λ r. ◌≡◌ {A = Result W Refusal} (Ok w) (Err r)) → IfSome (entry_refusal room m e) (λ r. ◌≡◌ {A = Wrote} (Ok tt) (Err (e.line, r)))
-not_refused {W} m d room e w h =
-    let P : Option Refusal → Type 0 = λ o. IfSome o (λ r. ◌≡◌ {A = Wrote} (Ok tt) (Err (e.line, r))) in
-    subst P (forced m d room e) (moved (refusal m d room e.name e.value true) h)
+as_entry : (m d : Environment) (room : ℕ) (n : List ℕ) (v : Option (List ℕ)) (e : Entry) → n ≡ e.name → v ≡ e.value → refusal m d room n v true ≡ entry_refusal room m e
+as_entry m d room n v e p q = ap (λ x. refusal m d room x v true) p ∙ ap (λ x. refusal m d room e.name x true) q ∙ forced m d room e
+
+pub not_refused : {W : Type 0} (m d : Environment) (room : ℕ) (n : List ℕ) (v : Option (List ℕ)) (e : Entry) (w : W) → n ≡ e.name → v ≡ e.value →
+    IfSome (refusal m d room n v true) (λ r. ◌≡◌ {A = Result W Refusal} (Ok w) (Err r)) → IfSome (entry_refusal room m e) (λ r. ◌≡◌ {A = Result (Unit {0}) Refusal} (Ok tt) (Err r))
+not_refused {W} m d room n v e w p q h =
+    let P : Option Refusal → Type 0 = λ o. IfSome o (λ r. ◌≡◌ {A = Result (Unit {0}) Refusal} (Ok tt) (Err r)) in
+    subst P (as_entry m d room n v e p q) (moved (refusal m d room n v true) h)
   where
-    moved : (o : Option Refusal) → IfSome o (λ r. ◌≡◌ {A = Result W Refusal} (Ok w) (Err r)) → IfSome o (λ r. ◌≡◌ {A = Wrote} (Ok tt) (Err (e.line, r)))
+    moved : (o : Option Refusal) → IfSome o (λ r. ◌≡◌ {A = Result W Refusal} (Ok w) (Err r)) → IfSome o (λ r. ◌≡◌ {A = Result (Unit {0}) Refusal} (Ok tt) (Err r))
     moved None k = tt
     moved (Some r) k = cc
 
-pub same_refused : (W : Type 0) (m d : Environment) (room : ℕ) (e : Entry) (s : Refusal) →
-    IfSome (refusal m d room e.name e.value true) (λ r. ◌≡◌ {A = Result W Refusal} (Err s) (Err r)) → IfSome (entry_refusal room m e) (λ r. ◌≡◌ {A = Wrote} (Err (e.line, s)) (Err (e.line, r)))
-same_refused W m d room e s h =
-    let P : Option Refusal → Type 0 = λ o. IfSome o (λ r. ◌≡◌ {A = Wrote} (Err (e.line, s)) (Err (e.line, r))) in
-    subst P (forced m d room e) (moved (refusal m d room e.name e.value true) h)
+pub same_refused : (W : Type 0) (m d : Environment) (room : ℕ) (n : List ℕ) (v : Option (List ℕ)) (e : Entry) (s : Refusal) → n ≡ e.name → v ≡ e.value →
+    IfSome (refusal m d room n v true) (λ r. ◌≡◌ {A = Result W Refusal} (Err s) (Err r)) → IfSome (entry_refusal room m e) (λ r. ◌≡◌ {A = Result (Unit {0}) Refusal} (Err s) (Err r))
+same_refused W m d room n v e s p q h =
+    let P : Option Refusal → Type 0 = λ o. IfSome o (λ r. ◌≡◌ {A = Result (Unit {0}) Refusal} (Err s) (Err r)) in
+    subst P (as_entry m d room n v e p q) (moved (refusal m d room n v true) h)
   where
-    moved : (o : Option Refusal) → IfSome o (λ r. ◌≡◌ {A = Result W Refusal} (Err s) (Err r)) → IfSome o (λ r. ◌≡◌ {A = Wrote} (Err (e.line, s)) (Err (e.line, r)))
+    moved : (o : Option Refusal) → IfSome o (λ r. ◌≡◌ {A = Result W Refusal} (Err s) (Err r)) → IfSome o (λ r. ◌≡◌ {A = Result (Unit {0}) Refusal} (Err s) (Err r))
     moved None k = tt
-    moved (Some r) k = let same : s ≡ r = cc in ap (λ x. Err (e.line, x)) same
+    moved (Some r) k = let same : s ≡ r = cc in ap (λ x. Err x) same
 
-pub same_accepted : (m d : Environment) (room : ℕ) (e : Entry) (s : Refusal) →
-    IfNone (refusal m d room e.name e.value true) (s ≡ Memory) → IfNone (entry_refusal room m e) (◌≡◌ {A = ℕ × Refusal} (e.line, s) (e.line, Memory))
-same_accepted m d room e s h =
-    let P : Option Refusal → Type 0 = λ o. IfNone o (◌≡◌ {A = ℕ × Refusal} (e.line, s) (e.line, Memory)) in
-    subst P (forced m d room e) (moved (refusal m d room e.name e.value true) h)
-  where
-    moved : (o : Option Refusal) → IfNone o (s ≡ Memory) → IfNone o (◌≡◌ {A = ℕ × Refusal} (e.line, s) (e.line, Memory))
-    moved None k = ap (λ x. (e.line, x)) k
-    moved (Some r) k = tt
+pub same_accepted : (m d : Environment) (room : ℕ) (n : List ℕ) (v : Option (List ℕ)) (e : Entry) (A : Type 0) → n ≡ e.name → v ≡ e.value →
+    IfNone (refusal m d room n v true) A → IfNone (entry_refusal room m e) A
+same_accepted m d room n v e A p q h = let P : Option Refusal → Type 0 = λ o. IfNone o A in subst P (as_entry m d room n v e p q) h

@@ -1,4 +1,3 @@
-mod AtOnceLemmas
 mod CountLemmas
 mod DefaultsLemmas
 mod ListingLemmas

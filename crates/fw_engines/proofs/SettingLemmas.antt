@@ -1,58 +1,75 @@
 -- How the tools that change a session end.
-use Rattle.std.proofs.Common.{◌≡◌, ℕ, zero, suc, ◌+◌, ◌<◌, ◌≤◌, List, [], ◌∷◌, ◌++◌, Option, Some, None, false, length, take, drop, map, get_or, arith, refl, sym, ap, ◌∙◌, subst, cond}
-use Rattle.std.specs.Prelude.{MatchOption, is_some}
-use Rattle.std.proofs.Math.Seq.{take-append_seam}
-use Rattle.std.proofs.lemmas.List.{append_assoc, append-nil, take_all}
-use Rattle.std.proofs.lemmas.List.Sums.{fold_push}
+use Rattle.std.proofs.Common.{◌≡◌, ℕ, zero, suc, ◌+◌, ◌<◌, ◌≤◌, List, [], ◌∷◌, Option, Some, None, false, length, take, drop, map, get_or, arith, refl, sym, ap, ◌∙◌, subst, cond, inr}
+use Rattle.std.specs.Prelude.{IsSomeAnd, MatchOption, is_some, slice_get}
+use Rattle.std.proofs.lemmas.List.{append-nil}
 use Rattle.std.proofs.KnownBytes.{Appends-nil, Keeps-refl}
 use Rattle.std.specs.Io.KnownBytes.{Appends}
-use Rattle.env_session.specs.Session.{Held, written, saved}
-use Rattle.env_session.specs.Requests.{refusal_in, write_done, imported, tally}
+use Rattle.env_session.specs.Session.{Held, last_saved, side_of, written, saved}
+use Rattle.env_session.specs.Requests.{IsChange, refusal_in, write_done, imported, tally}
 use Rattle.envimg_core.specs.Pieces.{Entry}
 use Rattle.envvars_core.specs.declared.refusals.Refusal.{Refusal}
-use Rattle.fw_engines.specs.Messages.{refusal_text}
 use Rattle.fw_engines.specs.Streams.{AppendsPart}
 use Rattle.fw_engines.specs.Tool.{PrintsText}
-use Rattle.fw_engines.specs.Setting.{Effect, Ends, Changes, silent, refused_by, unless_refused, set_effect, script_effect}
+use Rattle.fw_engines.specs.Setting.{Changing, Effect, Ends, Changes, LacksMemory, LacksMemoryToSet, NeedsMemory, silent, refused_by, unless_refused, set_effect, script_effect, spaced}
 use Rattle.fw_engines.specs.declared.ending.ToolEnd.{ToolEnd}
 use Rattle.fw_engines.specs.declared.ending.StreamFault.{StreamFault}
-use Rattle.fw_engines.specs.declared.ending.StreamFault.TheVariants.{Write, Memory}
+use Rattle.fw_engines.specs.declared.ending.StreamFault.TheVariants.{Read, Write, Memory}
 
-pub none_written : (h : Held) (es : List Entry) → h ≡ (imported h (take 0 es)).0
-unfolding imported
-none_written h es = refl
+-- ---- where memory ran out
 
-pub one_written : (h : Held) (e : Entry) → refusal_in h e.0 e.1 false ≡ None → written h e.0 e.1 ≡ (imported h (take 1 (e ∷ []))).0
-unfolding imported
-one_written h e none = ap (λ o. cond (is_some o) h (written h e.0 e.1)) (sym none)
+pub at_write : (old now new : Held) (n : ℕ) (es : List Entry) (k : ℕ) (e : Entry) (rest : List Entry) → ◌≡◌ {A = Held × ℕ} (now, n) (imported old (take k es)) →
+    drop k es ≡ e ∷ rest → IsChange now e → new ≡ now → LacksMemory old es n new
+at_write old now new n es k e rest so_far cut change is =
+    (k, ap (λ (h : Held). (h, n)) is ∙ so_far, subst (λ h. NeedsMemory h (drop k es)) (sym is) (subst (NeedsMemory now) (sym cut) change))
 
--- memory ran out
-pub ran_out : (end : ToolEnd) (a : Option (List ℕ)) (old new : Held) (effect : Effect) (es : List Entry) (k : ℕ) → (end.status ≡ 1) × (end.fault ≡ Some Memory) → new ≡ (imported old (take k es)).0 →
-    Changes (record { session = old; errors = a }) (record { session = new; errors = a }) effect es end
-ran_out end a old new effect es k is so_far =
-    subst (λ f. Ends f (record { session = old; errors = a }) (record { session = new; errors = a }) effect es end.status) (sym is.1) (Keeps-refl a, is.0, (k, so_far))
+pub at_save : (old now new : Held) (n : ℕ) (es : List Entry) (k : ℕ) → ◌≡◌ {A = Held × ℕ} (now, n) (imported old (take k es)) →
+    drop k es ≡ [] → last_saved (side_of now) now.marks ≡ false → new ≡ now → LacksMemory old es n new
+at_save old now new n es k so_far none unsaved is =
+    (k, ap (λ (h : Held). (h, n)) is ∙ so_far, subst (λ h. NeedsMemory h (drop k es)) (sym is) (subst (NeedsMemory now) (sym none) unsaved))
 
--- a text was printed
-pub text_ends : (end : ToolEnd) (a b : Option (List ℕ)) (old new : Held) (effect : Effect) (es : List Entry) → new ≡ effect.session → PrintsText a b effect.text effect.status end →
-    Changes (record { session = old; errors = a }) (record { session = new; errors = b }) effect es end
-text_ends end a b old new effect es is p = by_fault end.fault p
+some_left : (es : List Entry) (k : ℕ) (P : Entry → Type 0) → IsSomeAnd (slice_get es k) P → (e : Entry) × (rest : List Entry) × (drop k es ≡ e ∷ rest) × P e
+some_left [] k P p = absurd p
+some_left (e ∷ es) zero P p = (e, es, refl, p)
+some_left (e ∷ es) (suc k) P p = some_left es k P p
+
+pub in_import : (old new : Held) (n : ℕ) (es : List Entry) (k : ℕ) → ◌≡◌ {A = Held × ℕ} (new, n) (imported old (take k es)) →
+    IsSomeAnd (slice_get es k) (IsChange (imported old (take k es)).0) → LacksMemory old es n new
+in_import old new n es k so_far change =
+    let left = some_left es k (IsChange (imported old (take k es)).0) change in
+    at_write old new new n es k left.0 left.1 so_far left.2 (subst (λ h. IsChange h left.0) (sym (ap (λ p. p.0) so_far)) left.3) refl
+
+pub ran_out : (end : ToolEnd) (a : Option (List ℕ)) (old new : Held) (effect : Effect) (lacks : Held → Type 0) → (end.status ≡ 1) × (end.fault ≡ Some Memory) → lacks new →
+    Changes (record { session = old; errors = a }) (record { session = new; errors = a }) effect lacks end
+ran_out end a old new effect lacks is out =
+    subst (λ f. Ends f (record { session = old; errors = a }) (record { session = new; errors = a }) effect lacks end.status) (sym is.1) (Keeps-refl a, is.0, out)
+
+-- ---- a text was printed
+
+pub text_ends : (end : ToolEnd) (a b : Option (List ℕ)) (old new : Held) (effect : Effect) (lacks : Held → Type 0) → new ≡ effect.session → PrintsText a b effect.text effect.status end →
+    Changes (record { session = old; errors = a }) (record { session = new; errors = b }) effect lacks end
+text_ends end a b old new effect lacks is p = by_fault end.fault p
   where
     by_fault : (f : Option StreamFault) → MatchOption f (Appends a b effect.text × (end.status ≡ effect.status)) (λ fault. (fault ≡ Write) × AppendsPart a b effect.text × (end.status ≡ 1)) →
-        Ends f (record { session = old; errors = a }) (record { session = new; errors = b }) effect es end.status
+        Ends f (record { session = old; errors = a }) (record { session = new; errors = b }) effect lacks end.status
     by_fault None h = (h.0, h.1, is)
-    by_fault (Some f) h = subst (λ x. Ends (Some x) (record { session = old; errors = a }) (record { session = new; errors = b }) effect es end.status) (sym h.0) (h.1, h.2, is)
+    by_fault (Some f) h = subst (λ x. Ends (Some x) (record { session = old; errors = a }) (record { session = new; errors = b }) effect lacks end.status) (sym h.0) (h.1, h.2, is)
 
 -- a save without a text
-pub silent_ends : (end : ToolEnd) (a : Option (List ℕ)) (old mid new : Held) (effect : Effect) (es : List Entry) (k : ℕ) → mid ≡ (imported old (take k es)).0 → effect ≡ silent (saved mid) →
-    MatchOption end.fault ((new ≡ saved mid) × (end.status ≡ 0)) (λ fault. (fault ≡ Memory) × (new ≡ mid) × (end.status ≡ 1)) →
-    Changes (record { session = old; errors = a }) (record { session = new; errors = a }) effect es end
-silent_ends end a old mid new effect es k so_far is p =
-    subst (λ d. Ends end.fault (record { session = old; errors = a }) (record { session = new; errors = a }) d es end.status) (sym is) (by_fault end.fault p)
+pub silent_ends : (end : ToolEnd) (a : Option (List ℕ)) (old mid new : Held) (effect : Effect) (es : List Entry) (k : ℕ) → ◌≡◌ {A = Held × ℕ} (mid, 0) (imported old (take k es)) →
+    drop k es ≡ [] → effect ≡ silent (saved mid) →
+    MatchOption end.fault ((new ≡ saved mid) × (end.status ≡ 0)) (λ fault. (fault ≡ Memory) × (new ≡ mid) × (last_saved (side_of mid) mid.marks ≡ false) × (end.status ≡ 1)) →
+    Changes (record { session = old; errors = a }) (record { session = new; errors = a }) effect (LacksMemory old es 0) end
+silent_ends end a old mid new effect es k so_far none is p =
+    subst (λ d. Ends end.fault (record { session = old; errors = a }) (record { session = new; errors = a }) d (LacksMemory old es 0) end.status) (sym is) (by_fault end.fault p)
   where
-    by_fault : (f : Option StreamFault) → MatchOption f ((new ≡ saved mid) × (end.status ≡ 0)) (λ fault. (fault ≡ Memory) × (new ≡ mid) × (end.status ≡ 1)) →
-        Ends f (record { session = old; errors = a }) (record { session = new; errors = a }) (silent (saved mid)) es end.status
+    by_fault : (f : Option StreamFault) → MatchOption f ((new ≡ saved mid) × (end.status ≡ 0)) (λ fault. (fault ≡ Memory) × (new ≡ mid) × (last_saved (side_of mid) mid.marks ≡ false) × (end.status ≡ 1)) →
+        Ends f (record { session = old; errors = a }) (record { session = new; errors = a }) (silent (saved mid)) (LacksMemory old es 0) end.status
     by_fault None h = (Appends-nil a, h.1, h.0)
-    by_fault (Some f) h = subst (λ x. Ends (Some x) (record { session = old; errors = a }) (record { session = new; errors = a }) (silent (saved mid)) es end.status) (sym h.0) (Keeps-refl a, h.2, (k, h.1 ∙ so_far))
+    by_fault (Some f) h =
+        subst (λ x. Ends (Some x) (record { session = old; errors = a }) (record { session = new; errors = a }) (silent (saved mid)) (LacksMemory old es 0) end.status) (sym h.0)
+        (Keeps-refl a, h.3, at_save old mid new 0 es k so_far none h.2 h.1)
+
+-- ---- one write
 
 pub set_refused : (h : Held) (name value : List ℕ) (r : Refusal) → Some r ≡ refusal_in h name (Some value) false → set_effect h name value ≡ refused_by r name h
 set_refused h name value r is = ap (λ o. unless_refused o name h (silent (saved (written h name (Some value))))) (sym is)
@@ -65,6 +82,29 @@ done_accepted h name new is = ap (λ o. cond (is_some o) h (written h name new))
 
 pub done_refused : (h : Held) (name : List ℕ) (new : Option (List ℕ)) (r : Refusal) → Some r ≡ refusal_in h name new false → write_done h name new false ≡ h
 done_refused h name new r is = ap (λ o. cond (is_some o) h (written h name new)) (sym is)
+
+pub change_of_entry : (h : Held) (n m : List ℕ) (v w : Option (List ℕ)) → n ≡ m → v ≡ w → IsChange h (n, v) → IsChange h (m, w)
+change_of_entry h n m v w p q change = subst (IsChange h) (λ i. (p i, q i)) change
+
+-- one word is the value that words joined are
+pub one_spaced : {X : Type 0} (g : X → List ℕ) (ws : List X) (d : X) → length ws ≡ 1 → g (get_or ws 0 d) ≡ spaced (map g ws)
+one_spaced g [] d h = absurd (omega (arith, h))
+one_spaced g (w ∷ []) d h = sym (append-nil (g w))
+one_spaced g (w ∷ v ∷ ws) d h = absurd (omega (arith, h))
+
+-- setenv ends as the write of its value does
+pub set_ends : (end : ToolEnd) (old new : Changing) (name value : List ℕ) (words : List (List ℕ)) → value ≡ spaced words →
+    Changes old new (set_effect old.session name value) (LacksMemory old.session ((name, Some value) ∷ []) 0) end →
+    Changes old new (set_effect old.session name (spaced words)) (LacksMemoryToSet old.session name words) end
+set_ends end old new name value words is ends =
+    by_fault end.fault (subst (λ v. Ends end.fault old new (set_effect old.session name v) (LacksMemory old.session ((name, Some v) ∷ []) 0) end.status) is ends)
+  where
+    by_fault : (f : Option StreamFault) → Ends f old new (set_effect old.session name (spaced words)) (LacksMemory old.session ((name, Some (spaced words)) ∷ []) 0) end.status →
+        Ends f old new (set_effect old.session name (spaced words)) (LacksMemoryToSet old.session name words) end.status
+    by_fault None h = h
+    by_fault (Some Write) h = h
+    by_fault (Some Read) h = h
+    by_fault (Some Memory) h = (h.0, h.1, inr h.2)
 
 -- ---- a set script
 
@@ -91,66 +131,6 @@ drop_none g [] (suc i) h = refl
 drop_none g (x ∷ xs) zero h = absurd (omega arith)
 drop_none g (x ∷ xs) (suc i) h = drop_none g xs i (omega arith)
 
--- ---- an import read entry by entry
-
-pub tally_none : (now new : Held) (n : ℕ) (e : Entry) → None ≡ refusal_in now e.0 e.1 false → new ≡ write_done now e.0 e.1 false → ◌≡◌ {A = Held × ℕ} (new, n) (tally (now, n) e)
-tally_none now new n e none is =
-    let z : n ≡ n + 0 = omega arith in
-    ap (λ (k : ℕ). (new, k)) z ∙ λ i. (is i, n + cond (is_some (none i)) 1 0)
-
-pub tally_some : (now new : Held) (n : ℕ) (e : Entry) (r : Refusal) → Some r ≡ refusal_in now e.0 e.1 false → new ≡ write_done now e.0 e.1 false → ◌≡◌ {A = Held × ℕ} (new, n + 1) (tally (now, n) e)
-tally_some now new n e r some is = λ i. (is i, n + cond (is_some (some i)) 1 0)
-
--- the entries in front, and those that are left
-abbrev pub IsSoFar : List Entry → List Entry → Held → Held × ℕ → Type 0
-IsSoFar all rest h p = (front : List Entry) × (all ≡ front ++ rest) × (p ≡ imported h front)
-
-pub so_far_none : (all : List Entry) (h : Held) → IsSoFar all all h (h, 0)
+pub one_written : (h now : Held) (e : Entry) → None ≡ refusal_in h e.0 e.1 false → now ≡ write_done h e.0 e.1 false → ◌≡◌ {A = Held × ℕ} (now, 0) (imported h (e ∷ []))
 unfolding imported
-so_far_none all h = ([], refl, refl)
-
-pub so_far_more : (all rest : List Entry) (e : Entry) (h : Held) (p q : Held × ℕ) → IsSoFar all (e ∷ rest) h p → q ≡ tally p e → IsSoFar all rest h q
-unfolding imported
-so_far_more all rest e h p q s step =
-    (s.0 ++ e ∷ [], s.1 ∙ sym (append_assoc s.0 (e ∷ []) rest), step ∙ ap (λ r. tally r e) s.2 ∙ sym (fold_push tally (h, 0) s.0 e))
-
-pub so_far_all : (all : List Entry) (h : Held) (p : Held × ℕ) → IsSoFar all [] h p → p ≡ imported h all
-so_far_all all h p s = s.2 ∙ ap (imported h) (sym (append-nil s.0) ∙ sym s.1)
-
-pub so_far_some : (all rest : List Entry) (h : Held) (p : Held × ℕ) → IsSoFar all rest h p → (k : ℕ) × (p.0 ≡ (imported h (take k all)).0)
-so_far_some all rest h p s =
-    (length s.0, ap (λ r. r.0) s.2 ∙ ap (λ es. (imported h es).0) (sym (ap (take (length s.0)) s.1 ∙ take-append_seam s.0 rest)))
-
--- what was read, where it is known which
-pub when_some : {X : Type 0} (found : Option X) (x : X) (P : Type 0) (Q : X → Type 0) → MatchOption found P Q → found ≡ Some x → Q x
-when_some found x P Q m is = subst (λ o. MatchOption o P Q) is m
-
-pub when_none : {X : Type 0} (found : Option X) (P : Type 0) (Q : X → Type 0) → MatchOption found P Q → ((x : X) → found ≡ Some x → ⊥) → P
-when_none None P Q m never = m
-when_none (Some x) P Q m never = absurd (never x refl)
-
--- one line of a script more
-pub script_step : (all left rest : List Entry) (e : Entry) (old now new : Held) → None ≡ refusal_in now e.0 e.1 false → new ≡ write_done now e.0 e.1 false →
-    rest ≡ e ∷ left → IsSoFar all rest old (now, 0) → script_effect now rest ≡ script_effect old all →
-    IsSoFar all left old (new, 0) × (script_effect new left ≡ script_effect old all)
-script_step all left rest e old now new none is cut front same = (
-  so_far_more all left e old (now, 0) (new, 0) (subst (λ r. IsSoFar all r old (now, 0)) cut front) (tally_none now new 0 e none is),
-  sym (script_more now new e left none is) ∙ ap (script_effect now) (sym cut) ∙ same,
-)
-
--- one entry of an import more
-pub import_step : (all left rest : List Entry) (e : Entry) (old now new : Held) (n m : ℕ) (r : Option Refusal) → r ≡ refusal_in now e.0 e.1 false → new ≡ write_done now e.0 e.1 false →
-    m ≡ n + cond (is_some r) 1 0 → rest ≡ e ∷ left → IsSoFar all rest old (now, n) → IsSoFar all left old (new, m)
-import_step all left rest e old now new n m r refused is count cut front =
-    so_far_more all left e old (now, n) (new, m) (subst (λ x. IsSoFar all x old (now, n)) cut front)
-    (let c : m ≡ n + cond (is_some (refusal_in now e.0 e.1 false)) 1 0 = count ∙ ap (λ o. n + cond (is_some o) 1 0) refused in λ i. (is i, c i))
-
-pub all_taken : (h : Held) (es : List Entry) → (imported h (take (length es) es)).0 ≡ (imported h es).0
-all_taken h es = ap (λ xs. (imported h xs).0) (take_all (length es) es (omega arith))
-
--- a script ended at a name that was refused
-pub script_stopped : (end : ToolEnd) (a b : Option (List ℕ)) (old new : Held) (effect : Effect) (es : List Entry) (name : List ℕ) (r : Refusal) → effect ≡ refused_by r name new →
-    PrintsText a b (refusal_text r name) 1 end → Changes (record { session = old; errors = a }) (record { session = new; errors = b }) effect es end
-script_stopped end a b old new effect es name r is p =
-    subst (λ d. Changes (record { session = old; errors = a }) (record { session = new; errors = b }) d es end) (sym is)
-    (text_ends end a b old new (refused_by r name new) es refl p)
+one_written h now e none is = tally_more h now e none is

@@ -1,11 +1,10 @@
 -- What setenv, a set script and an import do to a session (docs/tools.md, "The tools over a session").
-use Rattle.std.specs.Prelude.{◌≡◌, ℕ, zero, suc, List, [], ◌∷◌, ◌++◌, Option, Some, None, take, false, codes}
+use Rattle.std.specs.Prelude.{◌≡◌, ◌⊎◌, ◌<◌, ℕ, zero, suc, List, [], ◌∷◌, ◌++◌, Option, Some, None, length, take, drop, false, codes}
 use Rattle.std.specs.Fmt.{decimal}
 use Rattle.std.specs.Io.KnownBytes.{Appends, Keeps}
-use Rattle.env_session.specs.Session.{Held, written, saved}
-use Rattle.env_session.specs.Requests.{refusal_in, write_done, imported}
+use Rattle.env_session.specs.Session.{Held, last_saved, side_of, written, saved}
+use Rattle.env_session.specs.Requests.{IsChange, refusal_in, imported}
 use Rattle.envimg_core.specs.Pieces.{Entry}
-use Rattle.envcfg_core.specs.Entries as Entries
 use Rattle.envvars_core.specs.declared.refusals.Refusal.{Refusal}
 use Rattle.fw_engines.specs.Messages.{refusal_text}
 use Rattle.fw_engines.specs.Streams.{AppendsPart}
@@ -37,17 +36,6 @@ abbrev pub unless_refused : Option Refusal → List ℕ → Held → Effect → 
 unless_refused None name h rest = rest
 unless_refused (Some r) name h rest = refused_by r name h
 
--- an entry of a text as a write
-abbrev pub pair_in : Entries.Entry → Entry
-pair_in e = (e.name, e.value)
-
--- the first of the entries was taken as an unforced write, with what refused it, and the others are left
-pub record IsTaken (old new : List Entries.Entry) (before after : Held) (refusal : Option Refusal) : Type 0 where
-  pub entry : Entries.Entry
-  pub first : old ≡ entry ∷ new
-  pub refused : refusal ≡ refusal_in before entry.name entry.value false
-  pub done : after ≡ write_done before entry.name entry.value false
-
 -- words each behind a space, and words joined by one
 abbrev pub behind_spaces : List (List ℕ) → List ℕ
 behind_spaces [] = []
@@ -66,11 +54,6 @@ abbrev pub script_effect : Held → List Entry → Effect
 script_effect h [] = silent (saved h)
 script_effect h (e ∷ es) = unless_refused (refusal_in h e.0 e.1 false) e.0 h (script_effect (written h e.0 e.1) es)
 
--- where a script ended: behind its last line, or at a name that was refused, with what refuses it
-abbrev pub stopped_by : Option (List ℕ × Refusal) → Held → Effect
-stopped_by None h = silent (saved h)
-stopped_by (Some (name, r)) h = refused_by r name h
-
 -- how many entries were refused
 abbrev pub count_text : ℕ → List ℕ
 count_text zero = []
@@ -84,13 +67,31 @@ count_status (suc n) = 1
 abbrev pub import_effect : Held → List Entry → Effect
 import_effect h es = record { text = count_text (imported h es).1; status = count_status (imported h es).1; session = saved (imported h es).0 }
 
--- how a tool that changes a session ends. Where memory ran out nothing was printed, no copy has changed, and some first of its writes stand
-abbrev pub Ends : Option StreamFault → Changing → Changing → Effect → List Entry → ℕ → Type 0
-Ends None old new effect writes status = Appends old.errors new.errors effect.text × (status ≡ effect.status) × (new.session ≡ effect.session)
-Ends (Some Write) old new effect writes status = AppendsPart old.errors new.errors effect.text × (status ≡ 1) × (new.session ≡ effect.session)
-Ends (Some Read) old new effect writes status = ⊥
-Ends (Some Memory) old new effect writes status =
-    Keeps old.errors new.errors × (status ≡ 1) × ((k : ℕ) × (new.session ≡ (imported old.session (take k writes)).0))
+-- where memory may run out: at a write that no check refuses and that changes a value, or behind the last one at a save of a
+-- copy that wasn't saved since the last mark
+abbrev pub NeedsMemory : Held → List Entry → Type 0
+NeedsMemory h [] = last_saved (side_of h) h.marks ≡ false
+NeedsMemory h (e ∷ es) = IsChange h e
 
-abbrev pub Changes : Changing → Changing → Effect → List Entry → ToolEnd → Type 0
-Changes old new effect writes end = Ends end.fault old new effect writes end.status
+-- memory ran out there behind the first of these writes, of which so many were refused; the session is what they leave
+abbrev pub LacksMemory : Held → List Entry → ℕ → Held → Type 0
+LacksMemory old writes refused new = (k : ℕ) × ((new, refused) ≡ imported old (take k writes)) × NeedsMemory new (drop k writes)
+
+-- or, where there are several, while words were joined
+abbrev pub LacksMemoryToSet : Held → List ℕ → List (List ℕ) → Held → Type 0
+LacksMemoryToSet old name words new = ((1 < length words) × (new ≡ old)) ⊎ LacksMemory old ((name, Some (spaced words)) ∷ []) 0 new
+
+-- an import goes on behind what is refused
+abbrev pub LacksMemoryToImport : Held → List Entry → Held → Type 0
+LacksMemoryToImport old writes new = (refused : ℕ) × LacksMemory old writes refused new
+
+-- how a tool that changes a session ends. Where memory ran out nothing was printed, no copy has changed, and some first of its
+-- writes stand, as `lacks` says it
+abbrev pub Ends : Option StreamFault → Changing → Changing → Effect → (Held → Type 0) → ℕ → Type 0
+Ends None old new effect lacks status = Appends old.errors new.errors effect.text × (status ≡ effect.status) × (new.session ≡ effect.session)
+Ends (Some Write) old new effect lacks status = AppendsPart old.errors new.errors effect.text × (status ≡ 1) × (new.session ≡ effect.session)
+Ends (Some Read) old new effect lacks status = ⊥
+Ends (Some Memory) old new effect lacks status = Keeps old.errors new.errors × (status ≡ 1) × lacks new.session
+
+abbrev pub Changes : Changing → Changing → Effect → (Held → Type 0) → ToolEnd → Type 0
+Changes old new effect lacks end = Ends end.fault old new effect lacks end.status

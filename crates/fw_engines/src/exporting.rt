@@ -35,7 +35,7 @@ pub fn export<W: Write, E: Write>(
 }
 
 /// Prints a text on each writer; the status is 1 where there are messages.
-pub(crate) fn print_both<W: Write, E: Write>(
+fn print_both<W: Write, E: Write>(
     text: &[u8],
     messages: &[u8],
     output: &mut W,

@@ -1,17 +1,16 @@
 //! The variables of a session, printed.
-ghost use Rattle.std.specs.Prelude.{◌≡◌, ◌||◌, map};
-ghost use Rattle.fw_engines.specs.Printing.{PrintsName, named, printed};
+ghost use Rattle.std.specs.Prelude.{◌≡◌, ◌||◌, MatchBool, map};
+ghost use Rattle.std.specs.Io.KnownBytes.{Appends};
+ghost use Rattle.fw_engines.specs.Printing.{PrintsName, line_or_value, named, printed, status_of};
 ghost use Rattle.fw_engines.specs.Shown.{listing};
-ghost use Rattle.fw_engines.specs.Tool.{Printed, Prints, PrintsText};
+ghost use Rattle.fw_engines.specs.Streams.{AppendsPart};
+ghost use Rattle.fw_engines.specs.Tool.{Prints, PrintsText};
 
-use crate::ending::{StreamFault, ToolEnd};
-use crate::exporting::print_both;
+use crate::ending::{StreamFault, ToolEnd, print_text};
 use crate::messages::{ERROR_QUOTE, NOT_DEFINED, ONE_NAME};
-use crate::saying::{print_text, status_of, write_line};
-use crate::streams::{write_three, write_two};
+use crate::streams::{write_text, write_three, write_two};
 use env_session::Session;
 use envvars_core::Vars;
-use std::alloc::Global;
 use std::io::Write;
 
 /// Prints a line `name=value` for each of these names, in their order, or without names for all variables, in ascending
@@ -42,27 +41,6 @@ pub fn printenv<W: Write, E: Write>(
         return print_all(vars, output);
     }
     print_named(vars, names, false, output, errors)
-}
-
-/// Prints what [`printenv`] prints, each text at once: both are made first.
-pub fn print_at_once<W: Write, E: Write>(
-    alloc: Global,
-    session: &Session,
-    names: &[&[u8]],
-    value_only: bool,
-    output: &mut W,
-    errors: &mut E,
-) -> ToolEnd
-    ensures { Printed result.fault (record { output = W.contents output.old; errors = E.contents errors.old })
-        (record { output = W.contents output.new; errors = E.contents errors.new })
-        (printed session.now.now.env (map (λ n. n.now) names.now) value_only) result.status }
-{
-    let mut text = Vec::new(alloc);
-    let mut messages = Vec::new(alloc);
-    match printenv(session, names, value_only, &mut text, &mut messages).fault {
-        Some(_) => ToolEnd::stopped(StreamFault::Memory),
-        None => print_both(&text, &messages, output, errors),
-    }
 }
 
 /// Prints a line for each variable.
@@ -134,4 +112,26 @@ fn either(one: bool, other: bool) -> bool
     ensures { result ≡ (one || other) }
 {
     one || other
+}
+
+/// Writes the line of a variable, or of its value alone.
+fn write_line<W: Write>(writer: &mut W, value_only: bool, name: &[u8], value: &[u8]) -> bool
+    ensures { MatchBool result
+        (Appends (W.contents writer.old) (W.contents writer.new) (line_or_value value_only name.now value.now))
+        (AppendsPart (W.contents writer.old) (W.contents writer.new) (line_or_value value_only name.now value.now)) }
+{
+    if value_only {
+        return write_two(writer, value, b"\n");
+    }
+    if !write_three(writer, name, b"=", value) {
+        return false;
+    }
+    write_text(writer, b"\n")
+}
+
+/// The exit status of a tool of which something failed, or nothing.
+fn status_of(failed: bool) -> u8
+    ensures { result ≡ status_of failed }
+{
+    if failed { 1 } else { 0 }
 }

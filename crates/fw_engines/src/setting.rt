@@ -1,18 +1,21 @@
 //! The variables of a session, set and saved.
-ghost use Rattle.std.specs.Prelude.{◌≡◌, ◌<◌, ◌≤◌, ◌^◌, ℕ, if◌then◌else◌, [], ◌∷◌, length, map, take, option_copied, option_map, false, IfOk, OnErr, Some, MatchOption};
-ghost use Rattle.env_session.specs.Requests.{entry_in, imported, refusal_in, write_done};
-ghost use Rattle.env_session.specs.Session.{bytes_of, saved};
+ghost use Rattle.std.specs.Prelude.{◌≡◌, ◌<◌, [], ◌∷◌, length, map, option_copied, false, IfOk, OnErr, Some, MatchBool, MatchOption};
+ghost use Rattle.std.specs.Fmt.{decimal};
+ghost use Rattle.std.specs.Io.KnownBytes.{Appends};
+ghost use Rattle.env_session.specs.Requests.{IsChange, entry_in, refusal_in, write_done};
+ghost use Rattle.env_session.specs.Session.{last_saved, saved, side_of};
 ghost use Rattle.fw_engines.specs.Messages.{refusal_front, refusal_text};
-ghost use Rattle.fw_engines.specs.Setting.{Changes, IsTaken, import_effect, spaced, pair_in, stopped_by, script_effect, set_effect};
+ghost use Rattle.fw_engines.specs.Setting.{Changes, LacksMemory, LacksMemoryToImport, LacksMemoryToSet, count_status, count_text, import_effect, spaced, script_effect, set_effect};
+ghost use Rattle.fw_engines.specs.Streams.{AppendsPart};
 ghost use Rattle.fw_engines.specs.Tool.{PrintsText};
 
-use crate::counting::print_count;
 use crate::ending::{StreamFault, ToolEnd};
-use crate::messages::{BAD_FORM, BAD_TYPE, FULL, NO_CREATE, NO_DELETE, NO_OVERWRITE, QUOTE};
-use crate::streams::write_three;
-use crate::text_entries::value_of;
+use crate::messages::{
+    BAD_FORM, BAD_TYPE, ENTRIES_REFUSED, ERROR, FULL, NO_CREATE, NO_DELETE, NO_OVERWRITE, QUOTE,
+};
+use crate::streams::{write_decimal, write_text, write_three};
 use env_session::{ImportEnding, Session};
-use envcfg_core::{ImportText, PlainEntry, ScriptText, TextEntry};
+use envcfg_core::TextEntry;
 use envvars_core::{Memory, Refusal};
 use std::alloc::Global;
 use std::io::Write;
@@ -21,7 +24,8 @@ use std::io::Write;
 /// write is unforced. An accepted one is saved also where it changed nothing; a refused one prints its text on `errors`,
 /// status 1, and nothing is saved.
 ///
-/// At the fault `Memory` nothing is printed, no copy has changed, and the write may stand.
+/// At the fault `Memory` nothing is printed, no copy has changed, and the write may stand. It comes where several words are
+/// joined, or where no check refuses the write.
 pub fn setenv<E: Write>(
     alloc: Global,
     session: &mut Session,
@@ -32,8 +36,11 @@ pub fn setenv<E: Write>(
     ensures { Changes (record { session = session.old; errors = E.contents errors.old })
         (record { session = session.new; errors = E.contents errors.new })
         (set_effect session.old name.now (spaced (map (λ w. w.now) words.now)))
-        ((name.now, Some (spaced (map (λ w. w.now) words.now))) ∷ []) result }
+        (LacksMemoryToSet session.old name.now (map (λ w. w.now) words.now)) result }
 {
+    if words.len() == 1 {
+        return set_value(session, name, words[0], errors);
+    }
     match join(alloc, words) {
         Err(_) => ToolEnd::stopped(StreamFault::Memory),
         Ok(value) => set_value(session, name, &value, errors),
@@ -44,11 +51,12 @@ pub fn setenv<E: Write>(
 /// line. The first refusal ends it: its text is printed on `errors`, status 1, nothing is saved, and the lines before it
 /// stand in the session's variables.
 ///
-/// At the fault `Memory` nothing is printed, no copy has changed, and some first lines stand.
+/// At the fault `Memory` nothing is printed, no copy has changed, and some first lines stand, none of which is refused; nor is
+/// the next, if there is one.
 pub fn set_script<E: Write>(session: &mut Session, entries: &[TextEntry], errors: &mut E) -> ToolEnd
     ensures { Changes (record { session = session.old; errors = E.contents errors.old })
         (record { session = session.new; errors = E.contents errors.new })
-        (script_effect session.old (map entry_in entries.now)) (map entry_in entries.now) result }
+        (script_effect session.old (map entry_in entries.now)) (LacksMemory session.old (map entry_in entries.now) 0) result }
 {
     for entry in entries {
         match write_entry(session, entry) {
@@ -63,11 +71,12 @@ pub fn set_script<E: Write>(session: &mut Session, entries: &[TextEntry], errors
 /// Takes each entry in its order as an unforced write, saves, and says on `errors` how many were refused, if any were;
 /// the status is then 1.
 ///
-/// At the fault `Memory` nothing is printed, no copy has changed, and some first entries stand.
+/// At the fault `Memory` nothing is printed, no copy has changed, and some first entries stand; the next, if there is one, is
+/// not refused.
 pub fn import<E: Write>(session: &mut Session, entries: &[TextEntry], errors: &mut E) -> ToolEnd
     ensures { Changes (record { session = session.old; errors = E.contents errors.old })
         (record { session = session.new; errors = E.contents errors.new })
-        (import_effect session.old (map entry_in entries.now)) (map entry_in entries.now) result }
+        (import_effect session.old (map entry_in entries.now)) (LacksMemoryToImport session.old (map entry_in entries.now)) result }
 {
     let report = session.import(entries);
     match report.ending {
@@ -79,142 +88,11 @@ pub fn import<E: Write>(session: &mut Session, entries: &[TextEntry], errors: &m
     }
 }
 
-/// As `set_script`, of a script whose lines are read one by one, so that it takes no memory for all of them.
-pub fn script_text<E: Write>(
-    session: &mut Session,
-    script: ScriptText<'_>,
-    errors: &mut E,
-) -> ToolEnd
-    ensures { Changes (record { session = session.old; errors = E.contents errors.old })
-        (record { session = session.new; errors = E.contents errors.new })
-        (script_effect session.old (map pair_in script.entry)) (map pair_in script.entry) result }
-{
-    let Ok(stopped) = write_entries(session, script) else {
-        return ToolEnd::stopped(StreamFault::Memory);
-    };
-    match stopped {
-        None => save(session),
-        Some((entry, refusal)) => print_refusal(errors, refusal, entry.name),
-    }
-}
-
-/// As `import`, of a text whose entries are read one by one, so that it takes no memory for all of them.
-pub fn import_text<E: Write>(
-    alloc: Global,
-    session: &mut Session,
-    text: ImportText<'_>,
-    errors: &mut E,
-) -> ToolEnd
-    requires few { length text < 2 ^ 64 }
-    ensures { Changes (record { session = session.old; errors = E.contents errors.old })
-        (record { session = session.new; errors = E.contents errors.new })
-        (import_effect session.old (map pair_in text.entry)) (map pair_in text.entry) result }
-{
-    match import_entries(alloc, session, text) {
-        Err(Memory) => ToolEnd::stopped(StreamFault::Memory),
-        Ok(refused) => match session.save() {
-            Err(_) => ToolEnd::stopped(StreamFault::Memory),
-            Ok(_side) => print_count(errors, refused),
-        },
-    }
-}
-
-/// Takes each entry of a script as an unforced write, up to the first that is refused, and answers that one with what
-/// refuses it.
-fn write_entries<'a>(
-    session: &mut Session,
-    script: ScriptText<'a>,
-) -> Result<Option<(PlainEntry<'a>, Refusal)>, Memory>
-    ensures written { IfOk result (λ stopped. script_effect session.old (map pair_in script.entry)
-        ≡ stopped_by (option_map (λ s. (s.0.name.now, s.1)) stopped) session.new) }
-    ensures some { (k : ℕ) × (session.new ≡ (imported session.old (take k (map pair_in script.entry))).0) }
-{
-    let mut rest = script;
-    'entries: loop {
-        let Some(entry) = rest.next_plain() else {
-            return Ok(None);
-        };
-        match write(session, entry.name, entry.value) {
-            Err(Memory) => return Err(Memory),
-            Ok(Some(refusal)) => return Ok(Some((entry, refusal))),
-            Ok(None) => continue 'entries,
-        }
-    }
-}
-
-/// Takes each entry of a text as an unforced write, and answers how many were refused.
-fn import_entries(
-    alloc: Global,
-    session: &mut Session,
-    text: ImportText<'_>,
-) -> Result<usize, Memory>
-    requires few { length text < 2 ^ 64 }
-    ensures all { IfOk result (λ refused. (session.new, refused) ≡ imported session.old (map pair_in text.entry)) }
-    ensures some { OnErr result ((k : ℕ) × (session.new ≡ (imported session.old (take k (map pair_in text.entry))).0)) }
-{
-    let mut rest = text;
-    let mut refused = 0;
-    'entries: loop {
-        match take_next(alloc, session, &mut rest) {
-            Err(Memory) => return Err(Memory),
-            Ok(None) => return Ok(refused),
-            Ok(Some(refusal)) => refused += counted(refusal.is_some()),
-        }
-    }
-}
-
-/// Takes the next entry of a text as an unforced write, if one is left, and answers what refuses it, if anything does.
-fn take_next(
-    alloc: Global,
-    session: &mut Session,
-    text: &mut ImportText<'_>,
-) -> Result<Option<Option<Refusal>>, Memory>
-    ensures taken { IfOk result (λ taken. MatchOption taken ((text.old ≡ []) × (session.new ≡ session.old))
-        (IsTaken text.old text.new session.old session.new)) }
-    ensures unchanged { OnErr result (session.new ≡ session.old) }
-{
-    match text.next_plain() {
-        None => take_read(alloc, session, text),
-        Some(entry) => match write(session, entry.name, entry.value) {
-            Ok(refusal) => Ok(Some(refusal)),
-            Err(Memory) => Err(Memory),
-        },
-    }
-}
-
-/// The same, where the entry has to be read: its value may hold an escape.
-fn take_read(
-    alloc: Global,
-    session: &mut Session,
-    text: &mut ImportText<'_>,
-) -> Result<Option<Option<Refusal>>, Memory>
-    ensures taken { IfOk result (λ taken. MatchOption taken ((text.old ≡ []) × (session.new ≡ session.old))
-        (IsTaken text.old text.new session.old session.new)) }
-    ensures unchanged { OnErr result (session.new ≡ session.old) }
-{
-    match text.read_next(alloc) {
-        Err(_) => Err(Memory),
-        Ok(None) => Ok(None),
-        Ok(Some(entry)) => match write_entry(session, &entry) {
-            Ok(refusal) => Ok(Some(refusal)),
-            Err(Memory) => Err(Memory),
-        },
-    }
-}
-
-/// One where it is so, else none.
-fn counted(so: bool) -> usize
-    ensures count { result ≡ (if so then 1 else 0) }
-    ensures few { result ≤ 1 }
-{
-    usize::from(so)
-}
-
 /// Writes a value and saves.
 fn set_value<E: Write>(session: &mut Session, name: &[u8], value: &[u8], errors: &mut E) -> ToolEnd
     ensures { Changes (record { session = session.old; errors = E.contents errors.old })
         (record { session = session.new; errors = E.contents errors.new }) (set_effect session.old name.now value.now)
-        ((name.now, Some value.now) ∷ []) result }
+        (LacksMemory session.old ((name.now, Some value.now) ∷ []) 0) result }
 {
     match write(session, name, Some(value)) {
         Err(_) => ToolEnd::stopped(StreamFault::Memory),
@@ -228,6 +106,7 @@ fn write(session: &mut Session, name: &[u8], new: Option<&[u8]>) -> Result<Optio
     ensures refusal { IfOk result (λ r. r ≡ refusal_in session.old name.now (option_copied new.entry) false) }
     ensures done { IfOk result (λ _. session.new ≡ write_done session.old name.now (option_copied new.entry) false) }
     ensures unchanged { OnErr result (session.new ≡ session.old) }
+    ensures growing { OnErr result (IsChange session.old (name.now, option_copied new.entry)) }
 {
     match session.write(name, new, false) {
         Ok(()) => Ok(None),
@@ -241,9 +120,10 @@ fn write_entry(session: &mut Session, entry: &TextEntry) -> Result<Option<Refusa
     ensures refusal { IfOk result (λ r. r ≡ refusal_in session.old (entry_in entry.now).0 (entry_in entry.now).1 false) }
     ensures done { IfOk result (λ _. session.new ≡ write_done session.old (entry_in entry.now).0 (entry_in entry.now).1 false) }
     ensures unchanged { OnErr result (session.new ≡ session.old) }
+    ensures growing { OnErr result (IsChange session.old (entry_in entry.now)) }
 {
     // A match where the answer would do: it has the prover look at both endings apart.
-    match write(session, &entry.name, value_of(entry)) {
+    match write(session, &entry.name, entry.value_bytes()) {
         Ok(refusal) => Ok(refusal),
         Err(Memory) => Err(Memory),
     }
@@ -252,7 +132,8 @@ fn write_entry(session: &mut Session, entry: &TextEntry) -> Result<Option<Refusa
 /// Saves, and prints nothing.
 fn save(session: &mut Session) -> ToolEnd
     ensures { MatchOption result.fault ((session.new ≡ saved session.old) × (result.status ≡ 0))
-        (λ fault. (fault ≡ StreamFault.Memory) × (session.new ≡ session.old) × (result.status ≡ 1)) }
+        (λ fault. (fault ≡ StreamFault.Memory) × (session.new ≡ session.old)
+        × (last_saved (side_of session.old) session.old.marks ≡ false) × (result.status ≡ 1)) }
 {
     match session.save() {
         Err(_) => ToolEnd::stopped(StreamFault::Memory),
@@ -262,7 +143,8 @@ fn save(session: &mut Session) -> ToolEnd
 
 /// The words joined by one space.
 fn join(alloc: Global, words: &[&[u8]]) -> Result<Vec<u8>, Memory>
-    ensures { IfOk result (λ text. text.items ≡ spaced (map (λ w. w.now) words.now)) }
+    ensures some { OnErr result (0 < length words.now) }
+    ensures joined { IfOk result (λ text. text.items ≡ spaced (map (λ w. w.now) words.now)) }
 {
     let mut text = Vec::new(alloc);
     let Some((first, others)) = words.split_first() else {
@@ -300,4 +182,33 @@ fn front_of(refusal: Refusal) -> &'static [u8]
         Refusal::Full => FULL,
         Refusal::Memory => b"",
     }
+}
+
+/// Says how many entries were refused, if any were; the status is then 1.
+fn print_count<E: Write>(errors: &mut E, refused: usize) -> ToolEnd
+    ensures { PrintsText (E.contents errors.old) (E.contents errors.new) (count_text refused) (count_status refused) result }
+{
+    if refused == 0 {
+        return ToolEnd::done(0);
+    }
+    if write_count(errors, refused) {
+        ToolEnd::done(1)
+    } else {
+        ToolEnd::stopped(StreamFault::Write)
+    }
+}
+
+/// Writes how many entries were refused.
+fn write_count<E: Write>(errors: &mut E, refused: usize) -> bool
+    requires { 0 < refused }
+    ensures { MatchBool result (Appends (E.contents errors.old) (E.contents errors.new) (count_text refused))
+        (AppendsPart (E.contents errors.old) (E.contents errors.new) (count_text refused)) }
+{
+    if !write_text(errors, ERROR) {
+        return false;
+    }
+    if !write_decimal(errors, refused) {
+        return false;
+    }
+    write_text(errors, ENTRIES_REFUSED)
 }

@@ -4,9 +4,8 @@ ghost use Rattle.envimg_core.specs.Pieces.{entries_of, is_terminated, vars_of};
 ghost use Rattle.fw_engines.specs.Shown.{Shows, listing, shown, state_shown};
 ghost use Rattle.fw_engines.specs.Tool.{Printed, Lists};
 
-use crate::ending::{StreamFault, ToolEnd};
+use crate::ending::{StreamFault, ToolEnd, print_text};
 use crate::messages::{BAD_CHECKSUM, BAD_LENGTH, UNTERMINATED};
-use crate::saying::print_text;
 use crate::streams::read_up_to;
 use envimg_core::{CopyState, Geometry, Layout, Order, check_copy};
 use envvars_core::{Memory, Vars};

@@ -1,6 +1,6 @@
 -- What a subcommand does, put together, and its status.
-use Rattle.std.proofs.Common.{◌≤◌, ℕ, zero, suc, Bool, true, false, List, [], ◌∷◌, Option, Some, None, inl, inr, refl, arith}
-use Rattle.std.specs.Prelude.{◌==◌, if◌then◌else◌, length}
+use Rattle.std.proofs.Common.{◌≡◌, ◌≤◌, ℕ, zero, suc, Bool, true, false, List, [], ◌∷◌, ◌++◌, Option, Some, None, inl, inr, refl, sym, ap, ◌∙◌, subst, arith}
+use Rattle.std.specs.Prelude.{◌==◌, MatchOption, if◌then◌else◌, length}
 use Rattle.env_session.specs.Requests.{refusal_in}
 use Rattle.env_session.specs.Session.{Held, written}
 use Rattle.envimg_core.specs.Environment.{Environment}
@@ -15,14 +15,14 @@ use Rattle.fw_engines.specs.Setting.{Changing, Effect, Ends, count_status, scrip
 use Rattle.fw_tools.specs.Talking.{ClosesDryRun, Reports, is_kept, text_for}
 use Rattle.fw_session.specs.declared.session_end.SessionEnding.{SessionEnding}
 use Rattle.fw_engines.specs.Streams.{AppendsFront, Streams, Writers}
-use Rattle.fw_engines.specs.Tool.{Printed, Texts}
+use Rattle.fw_engines.specs.Tool.{Printed, Prints, Texts, Writes, WritesPart}
 use Rattle.fw_engines.specs.declared.ending.StreamFault.{StreamFault}
 use Rattle.fw_engines.specs.declared.ending.StreamFault.TheVariants.{Read, Write, Memory}
 use Rattle.fw_engines.specs.declared.ending.ToolEnd.{ToolEnd}
 
 -- a session was opened, with a warning or none, and worked on
 pub opened_session : (call : Call) (old : Streams) (session : Held) (warned : Option (List ℕ)) (new : Streams) (status : ℕ) →
-    IsOpening call.order session → AppendsFront old.errors warned (warning session.now.current) →
+    IsOpening call.order call.default session → AppendsFront old.errors warned (warning session.now.current) →
     DoesJob call.job session (record { input = old.input; output = old.output; errors = warned }) new status → Uses call old new status
 opened_session call old session warned new status opening front does = inr (session, warned, opening, front, does)
 
@@ -39,11 +39,11 @@ printed_small (Some Read) old new texts status small p = omega (arith, p.1)
 printed_small (Some Write) old new texts status small p = omega (arith, p.1)
 printed_small (Some Memory) old new texts status small p = omega (arith, p.1)
 
-ends_small : (fault : Option StreamFault) (old new : Changing) (effect : Effect) (writes : List Entry) (status : ℕ) → effect.status ≤ 1 → Ends fault old new effect writes status → status ≤ 1
-ends_small None old new effect writes status small p = omega (arith, p.1, small)
-ends_small (Some Read) old new effect writes status small p = absurd p
-ends_small (Some Write) old new effect writes status small p = omega (arith, p.1)
-ends_small (Some Memory) old new effect writes status small p = omega (arith, p.1)
+ends_small : (fault : Option StreamFault) (old new : Changing) (effect : Effect) (lacks : Held → Type 0) (status : ℕ) → effect.status ≤ 1 → Ends fault old new effect lacks status → status ≤ 1
+ends_small None old new effect lacks status small p = omega (arith, p.1, small)
+ends_small (Some Read) old new effect lacks status small p = absurd p
+ends_small (Some Write) old new effect lacks status small p = omega (arith, p.1)
+ends_small (Some Memory) old new effect lacks status small p = omega (arith, p.1)
 
 status_small : (failed : Bool) → status_of failed ≤ 1
 status_small true = omega arith
@@ -106,3 +106,22 @@ job_small (Tries run) session old new status (inr (stand_ins, stand, tries)) = l
 pub uses_small : (call : Call) (old new : Streams) (status : ℕ) → Uses call old new status → status ≤ 1
 uses_small call old new status (inl stopped) = omega (arith, stopped.1.1)
 uses_small call old new status (inr (session, warned, opening, front, does)) = job_small call.job session _ new status does
+
+-- ---- texts that are made first and then written
+
+written_then : (fault : Option StreamFault) (status : ℕ) (old new : Writers) (texts : Texts) →
+    MatchOption fault (Writes old new texts × (status ≡ texts.status)) (λ f. (f ≡ Write) × WritesPart old new texts × (status ≡ 1)) → Printed fault old new texts status
+written_then None status old new texts p = p
+written_then (Some f) status old new texts p = subst (λ x. Printed (Some x) old new texts status) (sym p.0) (p.1, p.2)
+
+pub made_first : (end made : ToolEnd) (old new : Writers) (texts : Texts) (x y text messages text' messages' : List ℕ) →
+    made.fault ≡ None → Prints (record { output = Some x; errors = Some y }) (record { output = Some text; errors = Some messages }) texts made →
+    x ≡ [] → y ≡ [] → text' ≡ text → messages' ≡ messages →
+    Prints old new (record { output = text'; errors = messages'; status = made.status }) end → Printed end.fault old new texts end.status
+made_first end made old new texts x y text messages text' messages' is p ex ey et em q =
+    let w = subst (λ m. MatchOption m (Writes (record { output = Some x; errors = Some y }) (record { output = Some text; errors = Some messages }) texts × (made.status ≡ texts.status))
+    (λ f. (f ≡ Write) × WritesPart (record { output = Some x; errors = Some y }) (record { output = Some text; errors = Some messages }) texts × (made.status ≡ 1))) is p in
+    let o : text' ≡ texts.output = et ∙ w.0.0 ∙ ap (λ z. z ++ texts.output) ex in
+    let e : messages' ≡ texts.errors = em ∙ w.0.1 ∙ ap (λ z. z ++ texts.errors) ey in
+    let same : ◌≡◌ {A = Texts} (record { output = text'; errors = messages'; status = made.status }) texts = λ i. record { output = o i; errors = e i; status = w.1 i } in
+    written_then end.fault end.status old new texts (subst (λ t. Prints old new t end) same q)

@@ -1,17 +1,17 @@
 -- What a subcommand does over a session, and what it prints (docs/tools.md, "Subcommands over files").
-use Rattle.std.specs.Prelude.{◌≡◌, ◌⊎◌, ℕ, List, [], ◌∷◌, Option, Some, Result, Ok, Err}
+use Rattle.std.specs.Prelude.{◌≡◌, ◌⊎◌, ℕ, List, Option, Result, Ok, Err}
 use Rattle.env_session.specs.Session.{Held, opened}
-use Rattle.envimg_core.specs.Geometry.{Shape}
+use Rattle.envimg_core.specs.Geometry.{Shape, room_of}
 use Rattle.envimg_core.specs.Pieces.{Entry}
 use Rattle.envimg_core.specs.declared.geometry.Order.{Order}
 use Rattle.envvars_core.specs.Variables.{Contents}
 use Rattle.clap.specs.Words.{Text}
 use Rattle.fw_tools.specs.Calls.{Call, Job, Tool, Tries, Task}
-use Rattle.fw_tools.specs.Opening.{warning}
+use Rattle.fw_tools.specs.Opening.{AreDefaultsOf, warning}
 use Rattle.fw_tools.specs.Saying.{Says, SaysSome, Stops}
 use Rattle.fw_engines.specs.Exporting.{export_texts}
 use Rattle.fw_engines.specs.Printing.{printed}
-use Rattle.fw_engines.specs.Setting.{Changes, Changing, Effect, import_effect, spaced, script_effect, set_effect}
+use Rattle.fw_engines.specs.Setting.{Changes, Changing, Effect, LacksMemory, LacksMemoryToImport, LacksMemoryToSet, import_effect, spaced, script_effect, set_effect}
 use Rattle.fw_tools.specs.Talking.{TriesOver}
 use Rattle.fw_engines.specs.Streams.{AppendsFront, Streams, Writers, writers_of}
 use Rattle.fw_engines.specs.Tool.{Printed, Texts}
@@ -30,26 +30,26 @@ PrintsAll old new texts end = (new.session ≡ old.session) × Printed end.fault
 abbrev pub changing : Scene → Changing
 changing s = record { session = s.session; errors = s.writers.errors }
 
-abbrev pub ChangesAll : Scene → Scene → Effect → List Entry → ToolEnd → Type 0
-ChangesAll old new effect writes end = (new.writers.output ≡ old.writers.output) × Changes (changing old) (changing new) effect writes end
+abbrev pub ChangesAll : Scene → Scene → Effect → (Held → Type 0) → ToolEnd → Type 0
+ChangesAll old new effect lacks end = (new.writers.output ≡ old.writers.output) × Changes (changing old) (changing new) effect lacks end
 
 -- a task done; a file that it reads has some entries
 abbrev pub Acts : Task → Scene → Scene → ToolEnd → Type 0
 Acts (Task.Print names value_only) old new end = PrintsAll old new (printed old.session.now.env names value_only) end
-Acts (Task.Set name words) old new end = ChangesAll old new (set_effect old.session name (spaced words)) ((name, Some (spaced words)) ∷ []) end
-Acts (Task.SetScript path) old new end = (entries : List Entry) × ChangesAll old new (script_effect old.session entries) entries end
-Acts (Task.Import path) old new end = (entries : List Entry) × ChangesAll old new (import_effect old.session entries) entries end
+Acts (Task.Set name words) old new end = ChangesAll old new (set_effect old.session name (spaced words)) (LacksMemoryToSet old.session name words) end
+Acts (Task.SetScript path) old new end = (entries : List Entry) × ChangesAll old new (script_effect old.session entries) (LacksMemory old.session entries 0) end
+Acts (Task.Import path) old new end = (entries : List Entry) × ChangesAll old new (import_effect old.session entries) (LacksMemoryToImport old.session entries) end
 Acts Task.Export old new end = PrintsAll old new (export_texts old.session.now.env) end
 
 -- what stopped a tool is said, if anything did; or some text, which may be empty, of a file that can't be written
 abbrev pub Closes : ToolEnd → Option (List ℕ) → Option (List ℕ) → ℕ → Type 0
 Closes end old new status = (SaysSome old new × (status ≡ 1)) ⊎ (Says end.fault old new × (status ≡ end.status))
 
--- a session just opened over some copies in this byte order, with some defaults
-abbrev pub IsOpening : Order → Held → Type 0
-IsOpening order session =
+-- a session just opened over some copies in this byte order, with the defaults of some text where its path is given, else none
+abbrev pub IsOpening : Order → Option Text → Held → Type 0
+IsOpening order default session =
     (shape : Shape) × (first : List ℕ) × (second : Option (List ℕ)) × (defaults : Contents)
-    × (shape.order ≡ order) × (session ≡ opened shape first second defaults)
+    × (shape.order ≡ order) × AreDefaultsOf (room_of shape) default defaults × (session ≡ opened shape first second defaults)
 
 -- a task is done over a session, and the copies are written back; or its file can't be used
 abbrev pub UsesTool : Task → Held → Writers → Writers → ℕ → Type 0
@@ -66,7 +66,7 @@ DoesJob (Tries run) session old new status = TriesOver run session old new statu
 -- a session is opened, with a warning where no copy is good, and worked on
 abbrev pub UsesSession : Call → Streams → Streams → ℕ → Type 0
 UsesSession call old new status =
-    (session : Held) × (warned : Option (List ℕ)) × IsOpening call.order session × AppendsFront old.errors warned (warning session.now.current)
+    (session : Held) × (warned : Option (List ℕ)) × IsOpening call.order call.default session × AppendsFront old.errors warned (warning session.now.current)
     × DoesJob call.job session (record { input = old.input; output = old.output; errors = warned }) new status
 
 -- or before that a file can't be used, or memory runs out

@@ -1,8 +1,9 @@
 -- Copies in devices (docs/tools.md, "Subcommands over files").
-use Rattle.std.specs.Prelude.{ℕ, ◌+◌, Bool, ◌&&◌, nat_lt, List, [], ◌∷◌, Option, Some, None, Vec, if◌then◌else◌, option_map}
+use Rattle.std.specs.Prelude.{ℕ, ◌+◌, Bool, false, ◌&&◌, nat_lt, string_bytes, List, [], ◌∷◌, Option, Some, None, Vec, if◌then◌else◌, option_map}
 use Rattle.std.specs.Str.{bytes_eq}
 use Rattle.std.specs.declared.alloc.Global.{Global}
 use Rattle.env_session.specs.declared.session.Stored.{Stored}
+use Rattle.envcfg_core.specs.declared.config.Config.{Config}
 use Rattle.envcfg_core.specs.declared.place.Place.{Place}
 use Rattle.fw_tools.specs.declared.closing.Change.{Change}
 use Rattle.fw_tools.specs.declared.copies.ReadCopy.{ReadCopy}
@@ -11,6 +12,14 @@ use Rattle.fw_tools.specs.declared.opening.Source.{Source}
 -- two copies of one device share a byte: each begins before the end of the other
 abbrev pub share_a_byte : ℕ → ℕ → ℕ → Bool
 share_a_byte first second size = nat_lt first (second + size) && nat_lt second (first + size)
+
+-- two places and where their copies begin, of one size: they share a byte, and equal texts name their devices
+abbrev pub overlap_at : Place → ℕ → ℕ → Option Place → Option ReadCopy → Bool
+overlap_at first start size (Some place) (Some second) = bytes_eq (string_bytes first.device) (string_bytes place.device) && share_a_byte start second.start size
+overlap_at first start size place second = false
+
+abbrev pub overlap : Config → ReadCopy → Option ReadCopy → Bool
+overlap config first second = overlap_at config.first first.start config.size config.second second
 
 -- a copy is written where its bytes are others than before
 abbrev pub to_write : List ℕ → List ℕ → Option (List ℕ)

@@ -2,6 +2,7 @@
 pub mod Acting
 pub mod Calls
 pub mod DryRuns
+pub mod Files
 pub mod Opening
 pub mod Running
 pub mod Saying

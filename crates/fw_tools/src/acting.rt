@@ -1,23 +1,23 @@
 //! The subcommands over the files that the words name.
-ghost use Rattle.std.specs.Prelude.{◌≡◌, ◌≤◌, ◌∷◌, [], List, IfOk, MatchOption, Some, map, unwrap_or};
+ghost use Rattle.std.specs.Prelude.{◌≡◌, ◌≤◌, List, IfOk, MatchOption, map, unwrap_or};
 ghost use Rattle.envimg_core.specs.Pieces.{Entry};
 ghost use Rattle.fw_tools.specs.Acting.{Acts, Closes, DoesJob, Uses, UsesTool};
 ghost use Rattle.fw_tools.specs.Calls.{call_view, job_view, task_view, texts};
 ghost use Rattle.fw_tools.specs.Saying.{SaysOnly, SaysSome};
 ghost use Rattle.fw_engines.specs.Printing.{printed};
-ghost use Rattle.fw_engines.specs.Setting.{Changes, import_effect, spaced, script_effect, set_effect};
-ghost use Rattle.fw_engines.specs.Tool.{Printed};
+ghost use Rattle.fw_engines.specs.Setting.{Changes, LacksMemory, LacksMemoryToImport, LacksMemoryToSet, import_effect, spaced, script_effect, set_effect};
+ghost use Rattle.fw_engines.specs.Tool.{Printed, Prints};
 
 use crate::calls::{Call, Job, Task};
 use crate::closing::write_back;
 use crate::files::{import_from, read_file, script_from, value_or_say};
 use crate::messages::OUT_OF_MEMORY;
 use crate::opening::{Source, open, read_source};
-use crate::running::report;
+use crate::running::{report, stopped};
 use crate::talking::talk;
 use env_session::Session;
-use fw_engines::streams::say;
-use fw_engines::{ToolEnd, export, import_text, print_at_once, script_text, setenv};
+use fw_engines::streams::{say, write_text};
+use fw_engines::{StreamFault, ToolEnd, export, import, printenv, set_script, setenv};
 use std::alloc::{AllocError, Global};
 use std::io::{Read, Write};
 use std::rt::Files;
@@ -138,7 +138,37 @@ fn print<W: Write, E: Write>(
         (printed session.now.now.env (texts names.entry) value_only) end.status) }
 {
     let names = bytes_or_say(alloc, names, errors)?;
-    Some(print_at_once(alloc, session, &names, value_only, output, errors))
+    let mut text = Vec::new(alloc);
+    let mut messages = Vec::new(alloc);
+    let end = printenv(session, &names, value_only, &mut text, &mut messages);
+    match end.fault {
+        Some(_) => Some(stopped(StreamFault::Memory)),
+        None => Some(write_both(&text, &messages, end.status, output, errors)),
+    }
+}
+
+/// Writes a text on each writer at once, and ends with this status.
+fn write_both<W: Write, E: Write>(
+    text: &[u8],
+    messages: &[u8],
+    status: u8,
+    output: &mut W,
+    errors: &mut E,
+) -> ToolEnd
+    ensures { Prints (record { output = W.contents output.old; errors = E.contents errors.old })
+        (record { output = W.contents output.new; errors = E.contents errors.new })
+        (record { output = text.now; errors = messages.now; status = status }) result }
+{
+    if !write_text(output, text) {
+        return stopped(StreamFault::Write);
+    }
+    if !write_text(errors, messages) {
+        return stopped(StreamFault::Write);
+    }
+    ToolEnd {
+        status,
+        fault: None,
+    }
 }
 
 /// `setenv NAME [WORDS]`
@@ -153,7 +183,7 @@ fn set<E: Write>(
         (λ end. Changes (record { session = session.old; errors = E.contents errors.old })
         (record { session = session.new; errors = E.contents errors.new })
         (set_effect session.old name.now (spaced (texts words.entry)))
-        ((name.now, Some (spaced (texts words.entry))) ∷ []) end) }
+        (LacksMemoryToSet session.old name.now (texts words.entry)) end) }
 {
     let words = bytes_or_say(alloc, words, errors)?;
     Some(setenv(alloc, session, name.as_bytes(), &words, errors))
@@ -169,11 +199,11 @@ fn set_from_file<X: Files + AllocGlobal, E: Write>(
     ensures { MatchOption result (SaysSome (E.contents errors.old) (E.contents errors.new))
         (λ end. (entries : List Entry) × Changes (record { session = session.old; errors = E.contents errors.old })
         (record { session = session.new; errors = E.contents errors.new }) (script_effect session.old entries)
-        entries end) }
+        (LacksMemory session.old entries 0) end) }
 {
     let text = value_or_say(rt.alloc(), errors, path, read_file(rt, path))?;
-    let script = value_or_say(rt.alloc(), errors, path, script_from(&text))?;
-    Some(script_text(session, script, errors))
+    let entries = value_or_say(rt.alloc(), errors, path, script_from(rt.alloc(), &text))?;
+    Some(set_script(session, &entries, errors))
 }
 
 /// `import FILE`
@@ -186,11 +216,11 @@ fn import_file<X: Files + AllocGlobal, E: Write>(
     ensures { MatchOption result (SaysSome (E.contents errors.old) (E.contents errors.new))
         (λ end. (entries : List Entry) × Changes (record { session = session.old; errors = E.contents errors.old })
         (record { session = session.new; errors = E.contents errors.new }) (import_effect session.old entries)
-        entries end) }
+        (LacksMemoryToImport session.old entries) end) }
 {
     let text = value_or_say(rt.alloc(), errors, path, read_file(rt, path))?;
-    let entries = value_or_say(rt.alloc(), errors, path, import_from(&text))?;
-    Some(import_text(rt.alloc(), session, entries, errors))
+    let entries = value_or_say(rt.alloc(), errors, path, import_from(rt.alloc(), &text))?;
+    Some(import(session, &entries, errors))
 }
 
 /// Writes the copies back that the subcommand changed, and says what stopped it, if anything did.

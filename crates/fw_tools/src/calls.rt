@@ -5,14 +5,16 @@ ghost use Rattle.fw_tools.specs.Words.{either_order};
 ghost use Rattle.fw_tools.specs.Calls.{call_of, call_view, called, job_of, job_view, seen, tried, set_task, task_of, task_view, texts};
 ghost use Rattle.fw_tools.specs.DryRuns.{dry_run_of};
 ghost use Rattle.fw_tools.specs.Values.{first_or, is_given};
-ghost use Rattle.fw_tools.specs.WordFaults.{word_seen};
+ghost use Rattle.fw_engines.specs.Streams.{AppendsFront};
+ghost use Rattle.fw_tools.specs.WordFaults.{fault_text, word_seen};
 
 use crate::command_line::{CONFIG, chosen_order, is_given};
 use crate::dry_runs::{DryRun, read_dry_run};
 use crate::messages::{NAME_AND_SCRIPT, NO_NAME};
-use crate::word_faults::WordFault;
 use clap::ArgMatches;
 use envimg_core::Order;
+use fw_engines::streams::write_three;
+use std::io::Write;
 
 /// A subcommand: its files, its byte order, and what it does over their session.
 #[derive(Clone, Copy, Debug)]
@@ -179,5 +181,33 @@ fn either_order(one: Order, other: Order) -> Order
     match one {
         Order::Big => Order::Big,
         Order::Little => other,
+    }
+}
+
+/// A text about wrong words, with the word that is at fault in its middle.
+#[derive(Clone, Copy, Debug)]
+pub(crate) struct WordFault<'w> {
+    pub(crate) front: &'w [u8],
+    pub(crate) word: &'w str,
+    pub(crate) back: &'w [u8],
+}
+
+impl<'w> WordFault<'w> {
+    /// A text alone.
+    pub(crate) fn of(text: &'static [u8]) -> WordFault<'w>
+        ensures { fault_text result ≡ text.now }
+    {
+        WordFault {
+            front: text,
+            word: "",
+            back: b"",
+        }
+    }
+
+    /// Says it on `errors`, as far as they take it.
+    pub(crate) fn say<E: Write>(&self, errors: &mut E)
+        ensures { AppendsFront (E.contents errors.old) (E.contents errors.new) (fault_text self.now) }
+    {
+        let _ = write_three(errors, self.front, self.word.as_bytes(), self.back);
     }
 }

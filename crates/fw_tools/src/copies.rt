@@ -1,6 +1,7 @@
 //! Copies in their devices: found, read and written in place.
 ghost use Rattle.std.specs.Prelude.{◌≡◌, ◌+◌, IfOk, length, nat_le, option_copied};
 ghost use Rattle.fw_tools.specs.Copies.{share_a_byte, to_write};
+ghost use Rattle.fw_tools.specs.Files.{copy_fault};
 
 use crate::files::FileFault;
 use envcfg_core::Place;
@@ -117,7 +118,9 @@ fn kind_of<X: Files>(rt: &X, path: &str) -> Option<FileType> {
 }
 
 /// The fault of a read that gave less than the copy.
-fn short_or_unreadable(kind: ErrorKind) -> FileFault {
+fn short_or_unreadable(kind: ErrorKind) -> FileFault
+    ensures { result ≡ copy_fault kind }
+{
     match kind {
         ErrorKind::UnexpectedEof => FileFault::TooShort,
         _ => FileFault::CannotRead,

@@ -1,17 +1,16 @@
 //! What the words of `session` ask for.
-ghost use Rattle.std.specs.Prelude.{◌≡◌, ◌≤◌, option_map, option_copied, codes, IfOk};
+ghost use Rattle.std.specs.Prelude.{◌≡◌, ◌≤◌, option_map, option_copied, codes, IfOk, IfSome};
 ghost use Rattle.clap.specs.Words.{found_of, rows_of};
-ghost use Rattle.fw_tools.specs.DryRuns.{dry_run_of, dry_run_view, limits_of, number_of};
+ghost use Rattle.fw_tools.specs.DryRuns.{dry_run_of, dry_run_view, limits_of, number_in, number_of};
 ghost use Rattle.fw_tools.specs.WordFaults.{word_seen};
 
-use crate::calls::{first, first_or};
+use crate::calls::{WordFault, first, first_or};
 use crate::command_line::is_given;
 use crate::messages::{BAD_DEPTH, BAD_OUTPUT, BAD_STEPS, BAD_WORD, INVALID_VALUE};
-use crate::numbers::read_number;
 use crate::session_words::{DEPTH, OUTPUT, STEPS, WORD};
-use crate::word_faults::WordFault;
 use clap::ArgMatches;
 use hush_run::{Limits, MOST_DEPTH, MOST_OUTPUT, MOST_STEPS, MOST_WORD};
+use text_parts::{Base, numeral};
 
 /// A dry run: `session [--write] [--stubs FILE] [--steps N] [--depth N] [--word N] [--output N]`.
 #[derive(Clone, Copy, Debug)]
@@ -72,4 +71,17 @@ fn number<'w>(
             back: bad,
         }),
     }
+}
+
+/// Reads a number of decimal digits, one or more, that is at most `most`; leading zeros are fine.
+fn read_number(text: &[u8], most: u32) -> Option<u32>
+    ensures read { result ≡ number_in most text.now }
+    ensures most { IfSome result (λ n. n ≤ most) }
+{
+    let most = u64::from(most);
+    let number = numeral(Base::Decimal, text, most + 1)?;
+    if number > most {
+        return None;
+    }
+    Some(number as u32)
 }

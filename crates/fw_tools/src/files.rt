@@ -1,17 +1,18 @@
 //! Files that are read whole, and why a file can not be used.
-ghost use Rattle.std.specs.Prelude.{◌≡◌, ◌≤◌, Ok, Some, IfOk, MatchOption, length, option_map};
+ghost use Rattle.std.specs.Prelude.{◌≡◌, ◌≤◌, Ok, Some, IfOk, MatchOption, length, map, option_map};
 ghost use Rattle.std.specs.Result.{result_ok};
 ghost use Rattle.fw_tools.specs.Saying.{SaysSome};
+ghost use Rattle.envcfg_core.specs.Entries.{entry_view};
 ghost use Rattle.envcfg_core.specs.Import.{import_of};
 ghost use Rattle.envcfg_core.specs.SetScript.{set_script_of};
-ghost use Rattle.fw_tools.specs.Opening.{file_limit};
+ghost use Rattle.fw_tools.specs.Files.{file_limit, name_of, text_fault};
 ghost use Rattle.fw_tools.specs.Talking.{AreStubsOf};
 ghost use Rattle.hush_commands.specs.Stubs.{stand_ins_of};
 
 use crate::messages::{
     CANNOT_READ_FILE, CANNOT_WRITE_FILE, COLON, FWENV, IN_LINE, NEWLINE, OUT_OF_MEMORY, TOO_SHORT,
 };
-use envcfg_core::{ConfigFault, ImportText, ScriptText, TextFault};
+use envcfg_core::{ConfigFault, TextEntry, TextFault, parse_import, parse_set_script};
 use envvars_core::Refusal;
 use fw_engines::StreamFault;
 use fw_engines::streams::{read_up_to, say, write_decimal, write_text, write_three, write_two};
@@ -65,22 +66,21 @@ pub(crate) fn read_file<X: Files + AllocGlobal>(rt: &X, path: &str) -> Result<Ve
     }
 }
 
-/// A text for import, whose entries are read as they are written.
-pub(crate) fn import_from(text: &[u8]) -> Result<ImportText<'_>, FileFault>
-    ensures read { IfOk result (λ entries. import_of text.entry.now ≡ Ok entries) }
-    ensures few { IfOk result (λ entries. length entries ≤ length text.entry.now) }
+/// The entries of a text for import.
+pub(crate) fn import_from(alloc: Global, text: &[u8]) -> Result<Vec<TextEntry>, FileFault>
+    ensures { IfOk result (λ entries. import_of text.now ≡ Ok (map entry_view entries.items)) }
 {
-    match ImportText::new(text) {
+    match parse_import(alloc, text) {
         Ok(entries) => Ok(entries),
         Err(fault) => Err(text_fault(fault)),
     }
 }
 
-/// A set script, whose entries are read as they are written.
-pub(crate) fn script_from(text: &[u8]) -> Result<ScriptText<'_>, FileFault>
-    ensures { IfOk result (λ entries. set_script_of text.entry.now ≡ Ok entries) }
+/// The entries of a set script.
+pub(crate) fn script_from(alloc: Global, text: &[u8]) -> Result<Vec<TextEntry>, FileFault>
+    ensures { IfOk result (λ entries. set_script_of text.now ≡ Ok (map entry_view entries.items)) }
 {
-    match ScriptText::new(text) {
+    match parse_set_script(alloc, text) {
         Ok(entries) => Ok(entries),
         Err(fault) => Err(text_fault(fault)),
     }
@@ -163,7 +163,9 @@ fn stand_ins_from(alloc: Global, text: &[u8]) -> Result<Stubs, FileFault>
 }
 
 /// The fault of a file whose text is refused.
-fn text_fault(fault: TextFault) -> FileFault {
+fn text_fault(fault: TextFault) -> FileFault
+    ensures { result ≡ text_fault fault }
+{
     match fault {
         TextFault::Memory => FileFault::Memory,
         refused => FileFault::Text(refused),
@@ -204,7 +206,9 @@ fn say_line<E: Write>(errors: &mut E, path: &str, name: &[u8], line: usize)
 }
 
 /// The name of a refusal.
-fn name_of(refusal: Refusal) -> &'static [u8] {
+fn name_of(refusal: Refusal) -> &'static [u8]
+    ensures { result.now ≡ name_of refusal }
+{
     match refusal {
         Refusal::BadForm => b"BadForm",
         Refusal::BadType => b"BadType",

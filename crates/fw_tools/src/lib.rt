@@ -1,8 +1,8 @@
 //! The program: its words, the files that they name, and the tools and dry runs over them. docs/tools.md and
 //! docs/dry-runs.md state the rules.
 //!
-//! To read in this order: running; command_line, session_words, calls, dry_runs, numbers, word_faults; acting, opening,
-//! copies, files, closing; talking; messages.
+//! To read in this order: running; command_line, session_words, calls, dry_runs; acting, opening, copies, files,
+//! closing; talking; messages.
 #![tactic(auto)]
 
 mod acting;
@@ -13,12 +13,10 @@ mod copies;
 mod dry_runs;
 mod files;
 mod messages;
-mod numbers;
 mod opening;
 mod running;
 mod session_words;
 mod talking;
-mod word_faults;
 
 pub use fw_engines::{
     StreamFault, ToolEnd, defaults, export, import, printenv, set_script, setenv, show,

@@ -1,14 +1,11 @@
 //! A session over the copies that a configuration names.
-ghost use Rattle.std.specs.Prelude.{◌≡◌, ◌≤◌, List, Ok, IfOk, MatchOption};
+ghost use Rattle.std.specs.Prelude.{◌≡◌, ◌≤◌, Ok, Some, false, IfOk, MatchOption, option_map};
 ghost use Rattle.fw_tools.specs.Acting.{IsOpening};
+ghost use Rattle.fw_tools.specs.Copies.{overlap};
 ghost use Rattle.fw_tools.specs.Saying.{SaysSome};
-ghost use Rattle.std.specs.FinMap as env;
 ghost use Rattle.env_session.specs.Session.{bytes_of, opened, opening_choice};
 ghost use Rattle.envcfg_core.specs.Config.{config_of, config_view};
-ghost use Rattle.envcfg_core.specs.Entries.{Entry};
-ghost use Rattle.envcfg_core.specs.Import.{import_of};
-ghost use Rattle.fw_engines.specs.Defaults.{written};
-ghost use Rattle.fw_tools.specs.Opening.{second_bytes, warning};
+ghost use Rattle.fw_tools.specs.Opening.{AreDefaultsIn, AreDefaultsOf, second_bytes, warning};
 ghost use Rattle.fw_engines.specs.Streams.{AppendsFront};
 
 use crate::copies::{ReadCopy, read_copy, share_a_byte};
@@ -18,7 +15,7 @@ use env_session::{Session, Stored};
 use envcfg_core::{Config, ConfigFault, Place, parse_config};
 use envimg_core::{Choice, CopyState, Geometry, Order, check_copy, choose};
 use envvars_core::{Refusal, Vars};
-use fw_engines::default_text;
+use fw_engines::defaults;
 use fw_engines::streams::say;
 use std::alloc::{AllocError, Global};
 use std::io::Write;
@@ -41,7 +38,8 @@ pub(crate) fn read_source<X: Files + AllocGlobal, E: Write>(
     errors: &mut E,
 ) -> Option<Source>
     ensures { MatchOption result (SaysSome (E.contents errors.old) (E.contents errors.new))
-        (λ source. (source.geometry.order ≡ order) × (E.contents errors.new ≡ E.contents errors.old)) }
+        (λ source. (source.geometry.order ≡ order) × (overlap source.config source.first source.second ≡ false)
+        × (E.contents errors.new ≡ E.contents errors.old)) }
 {
     let config = value_or_say(rt.alloc(), errors, path, read_config(rt, path))?;
     // there is one: a configuration has no size that its layout refuses
@@ -72,7 +70,7 @@ pub(crate) fn open<X: Files + AllocGlobal, E: Write>(
     errors: &mut E,
 ) -> Option<Session>
     ensures { MatchOption result (SaysSome (E.contents errors.old) (E.contents errors.new))
-        (λ session. IsOpening source.now.geometry.order session × AppendsFront (E.contents errors.old)
+        (λ session. IsOpening source.now.geometry.order (option_map (λ p. p.now) default.entry) session × AppendsFront (E.contents errors.old)
         (E.contents errors.new) (warning session.now.current)) }
 {
     match session_over(rt, source, default) {
@@ -119,7 +117,9 @@ fn read_or_say<X: Files + AllocGlobal, E: Write>(
 }
 
 /// Whether both copies share a byte of one device.
-fn overlap(config: &Config, first: &ReadCopy, second: &Option<ReadCopy>) -> bool {
+fn overlap(config: &Config, first: &ReadCopy, second: &Option<ReadCopy>) -> bool
+    ensures { result ≡ overlap config.now first.now second.now }
+{
     match (&config.second, second) {
         (Some(place), Some(second)) => {
             config.first.device.as_str() == place.device.as_str()
@@ -135,14 +135,25 @@ fn session_over<X: Files + AllocGlobal>(
     source: &Source,
     default: Option<&str>,
 ) -> Result<Session, FileFault>
-    ensures { IfOk result (IsOpening source.now.geometry.order) }
+    ensures { IfOk result (IsOpening source.now.geometry.order (option_map (λ p. p.now) default.entry)) }
 {
-    let room = source.geometry.room();
-    let given = match default {
-        None => Vars::empty(rt.alloc(), room),
-        Some(path) => read_default(rt, room, path)?,
-    };
+    let given = given_defaults(rt, source.geometry.room(), default)?;
     start(rt.alloc(), source, given)
+}
+
+/// The default environment of a text, or an empty one.
+fn given_defaults<X: Files + AllocGlobal>(
+    rt: &X,
+    room: u32,
+    default: Option<&str>,
+) -> Result<Vars, FileFault>
+    requires { 1 ≤ room }
+    ensures { IfOk result (AreDefaultsOf room (option_map (λ p. p.now) default.entry)) }
+{
+    match default {
+        None => Ok(Vars::empty(rt.alloc(), room)),
+        Some(path) => read_default(rt, room, path),
+    }
 }
 
 /// Starts the session over copies of the bytes that were read.
@@ -200,6 +211,7 @@ fn warn<E: Write>(current: Choice, errors: &mut E)
 /// Reads the default environment.
 fn read_default<X: Files + AllocGlobal>(rt: &X, room: u32, path: &str) -> Result<Vars, FileFault>
     requires { 1 ≤ room }
+    ensures { IfOk result (AreDefaultsOf room (Some path.now)) }
 {
     let text = read_file(rt, path)?;
     default_from(rt.alloc(), room, &text)
@@ -208,14 +220,10 @@ fn read_default<X: Files + AllocGlobal>(rt: &X, room: u32, path: &str) -> Result
 /// The default environment of a text for import.
 fn default_from(alloc: Global, room: u32, text: &[u8]) -> Result<Vars, FileFault>
     requires { 1 ≤ room }
-    ensures { IfOk result (λ vars. (entries : List Entry) × (import_of text.now ≡ Ok entries)
-        × (written room env.empty entries ≡ Ok vars.env) × (vars.room ≡ room)) }
+    ensures { IfOk result (AreDefaultsIn text.now room) }
 {
-    let entries = match import_from(text) {
-        Ok(entries) => entries,
-        Err(fault) => return Err(fault),
-    };
-    match default_text(alloc, room, entries) {
+    let entries = import_from(alloc, text)?;
+    match defaults(alloc, room, &entries) {
         Ok(vars) => Ok(vars),
         Err((_line, Refusal::Memory)) => Err(FileFault::Memory),
         Err((line, refusal)) => Err(FileFault::Default(line, refusal)),

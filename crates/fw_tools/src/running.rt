@@ -1,5 +1,5 @@
 //! The program over its words and streams.
-ghost use Rattle.std.specs.Prelude.{◌≡◌, ◌⊎◌, ◌≤◌, map};
+ghost use Rattle.std.specs.Prelude.{◌≡◌, ◌⊎◌, ◌≤◌, Some, map};
 ghost use Rattle.clap.specs.Words.{kind_of, subcommand_rows_of};
 ghost use Rattle.fw_tools.specs.Running.{RepliesTo, Does, LacksMemory, Runs, ShowsAndSays, message_without_words};
 ghost use Rattle.fw_tools.specs.Saying.{Says};
@@ -24,14 +24,14 @@ use std::rt::Files;
 /// Runs the program and answers its exit status, 0 or 1. `words` begin with the program's own name.
 ///
 /// Without a subcommand the variables of the image on `input` are printed ([`show`]), and with `--big-endian` those of an
-/// image of a big-endian board. A subcommand works on the copies that a configuration names ([`print_at_once`], [`setenv`],
-/// [`script_text`], [`import_text`], [`export`], [`session`]), and writes back those that it changed. Help goes to `output`,
+/// image of a big-endian board. A subcommand works on the copies that a configuration names ([`printenv`], [`setenv`],
+/// [`set_script`], [`import`], [`export`], [`session`]), and writes back those that it changed. Help goes to `output`,
 /// status 0; a fault of the command line to `errors`, status 1. docs/tools.md has each text.
 ///
-/// [`print_at_once`]: fw_engines::print_at_once
+/// [`printenv`]: fw_engines::printenv
 /// [`setenv`]: fw_engines::setenv
-/// [`script_text`]: fw_engines::script_text
-/// [`import_text`]: fw_engines::import_text
+/// [`set_script`]: fw_engines::set_script
+/// [`import`]: fw_engines::import
 /// [`export`]: fw_engines::export
 /// [`session`]: fw_session::session
 pub fn program<X: Files + AllocGlobal, S: AsStr, R: Read, W: Write, E: Write>(
@@ -86,6 +86,16 @@ pub(crate) fn report<E: Write>(end: ToolEnd, errors: &mut E) -> u8
         say(errors, text);
     }
     end.status
+}
+
+/// The end of a tool by a fault.
+pub(crate) fn stopped(fault: StreamFault) -> ToolEnd
+    ensures { (result.status ≡ 1) × (result.fault ≡ Some fault) }
+{
+    ToolEnd {
+        status: 1,
+        fault: Some(fault),
+    }
 }
 
 /// Does what words with nothing wrong ask for.
@@ -148,17 +158,17 @@ fn print_error<W: Write, E: Write>(
         (record { output = W.contents output.new; errors = E.contents errors.new }) result }
 {
     let Ok(text) = error.to_string(alloc) else {
-        return report(ToolEnd::stopped(StreamFault::Memory), errors);
+        return report(stopped(StreamFault::Memory), errors);
     };
     if error.kind() == ErrorKind::OutOfMemory {
-        return report(ToolEnd::stopped(StreamFault::Memory), errors);
+        return report(stopped(StreamFault::Memory), errors);
     }
     if error.use_stderr() {
         say(errors, text.as_bytes());
         return 1;
     }
     if !write_text(output, text.as_bytes()) {
-        return report(ToolEnd::stopped(StreamFault::Write), errors);
+        return report(stopped(StreamFault::Write), errors);
     }
     0
 }

@@ -1,9 +1,9 @@
-//! `defaults` and `default_text` of a text with `.flags`.
+//! `defaults` of a text with `.flags`.
 
 use crate::lines::{refused, row, wrong};
-use envcfg_core::{ImportText, TextEntry, TextFault, parse_import};
+use envcfg_core::{TextEntry, TextFault, parse_import};
 use envvars_core::{Refusal, Vars};
-use fw_engines::{default_text, defaults};
+use fw_engines::defaults;
 use std::alloc::Global;
 use std::io::{self, Write};
 
@@ -35,28 +35,7 @@ pub fn sweep<W: Write>(alloc: Global, out: &mut W) -> io::Result<()> {
         return wrong(out, "parse_import for defaults");
     };
     let made = defaults_twice(alloc, out, &entries)?;
-    made_row(out, "defaults", made)?;
-    let made = text_twice(alloc, out)?;
-    made_row(out, "default_text", made)
-}
-
-/// The default environment of the text, made anew where memory ran out at a line of it or while an entry was read.
-fn text_twice<W: Write>(alloc: Global, out: &mut W) -> io::Result<Result<Vars, (usize, Refusal)>> {
-    match text_once(alloc) {
-        Err((line, Refusal::Memory)) if line < 4 => {
-            refused(out, "default_text")?;
-            Ok(text_once(alloc))
-        }
-        made => Ok(made),
-    }
-}
-
-/// The default environment of the text.
-fn text_once(alloc: Global) -> Result<Vars, (usize, Refusal)> {
-    match ImportText::new(TEXT) {
-        Ok(text) => default_text(alloc, 60, text),
-        Err(_) => Err((0, Refusal::BadForm)),
-    }
+    made_row(out, "defaults", made)
 }
 
 /// Whether a default environment has what the text says.

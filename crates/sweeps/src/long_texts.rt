@@ -5,11 +5,10 @@ use crate::lines::{refused, row, wrong};
 use crate::long_sessions;
 use bench_parts::name;
 use envcfg_core::{
-    Config, ConfigFault, ImportText, TextEntry, TextFault, parse_config, parse_import,
-    parse_set_script,
+    Config, ConfigFault, TextEntry, TextFault, parse_config, parse_import, parse_set_script,
 };
 use envvars_core::{Refusal, Vars};
-use fw_engines::{default_text, defaults};
+use fw_engines::defaults;
 use hush_run::{StubFault, Stubs};
 use hush_syntax::{FaultKind, Script};
 use std::alloc::{AllocError, Global};
@@ -35,7 +34,7 @@ pub fn sweep<W: Write>(alloc: Global, out: &mut W) -> io::Result<()> {
     let Some(entries) = sweep_entries(alloc, out, Form::Import, &text)? else {
         return Ok(());
     };
-    sweep_defaults(alloc, out, &entries, &text)?;
+    sweep_defaults(alloc, out, &entries)?;
     long_sessions::sweep(alloc, out, &entries)
 }
 
@@ -235,33 +234,14 @@ pub fn are_first(vars: &Vars, count: u32) -> bool {
     number == count && vars.used() == count.wrapping_mul(10).wrapping_add(1)
 }
 
-/// The default environment of a text whose entries are read one by one.
-fn read_defaults(alloc: Global, text: &[u8]) -> Result<Vars, (usize, Refusal)> {
-    match ImportText::new(text) {
-        Ok(entries) => default_text(alloc, ROOM, entries),
-        Err(_) => Err((0, Refusal::BadForm)),
-    }
-}
-
-/// The default environment, of the entries and of the text, made anew where memory ran out.
-fn sweep_defaults<W: Write>(
-    alloc: Global,
-    out: &mut W,
-    entries: &[TextEntry],
-    text: &[u8],
-) -> io::Result<()> {
+/// The default environment of the entries, made anew where memory ran out.
+fn sweep_defaults<W: Write>(alloc: Global, out: &mut W, entries: &[TextEntry]) -> io::Result<()> {
     let mut made = defaults(alloc, ROOM, entries);
     if matches!(&made, Err((_, Refusal::Memory))) {
         refused(out, "500 defaults")?;
         made = defaults(alloc, ROOM, entries);
     }
-    vars_row(out, "500 defaults", made)?;
-    let mut read = read_defaults(alloc, text);
-    if matches!(&read, Err((_, Refusal::Memory))) {
-        refused(out, "500 defaults of a text")?;
-        read = read_defaults(alloc, text);
-    }
-    vars_row(out, "500 defaults of a text", read)
+    vars_row(out, "500 defaults", made)
 }
 
 fn vars_row<W: Write>(

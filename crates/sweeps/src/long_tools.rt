@@ -1,63 +1,34 @@
-//! The tools that take a text, over 500 entries and a session over an image that holds nothing.
+//! The tools that take entries, over 500 entries and a session over an image that holds nothing.
 
 use crate::lines::{refused, row, wrong};
 use crate::long_sessions::start;
 use crate::long_texts::{COUNT, are_first, lines_twice};
 use crate::pages::Page;
 use env_session::{Session, Side};
-use envcfg_core::{ImportText, ScriptText, TextEntry, TextFault, parse_import};
-use fw_engines::{StreamFault, ToolEnd, import, import_text, script_text, set_script};
+use envcfg_core::{TextEntry, TextFault, parse_import};
+use fw_engines::{StreamFault, ToolEnd, import, set_script};
 use std::alloc::Global;
 use std::io::{self, Write};
 
-/// The same entries in each form in which a tool takes them.
-#[derive(Clone, Copy)]
-struct Given<'a> {
-    /// Entries that were read before.
-    entries: &'a [TextEntry],
-    /// A set script of them.
-    script: &'a [u8],
-    /// A text of them for import.
-    text: &'a [u8],
-}
-
-/// A tool that takes entries or a text.
+/// A tool that takes entries.
 #[derive(Clone, Copy)]
 enum Tool {
     Script,
-    ReadScript,
     Import,
-    ReadImport,
 }
 
 impl Tool {
     fn name(self) -> &'static str {
         match self {
             Tool::Script => "entries by set_script",
-            Tool::ReadScript => "entries by script_text",
             Tool::Import => "entries by import",
-            Tool::ReadImport => "entries by import_text",
         }
     }
 
-    fn call(
-        self,
-        alloc: Global,
-        session: &mut Session,
-        given: &Given<'_>,
-        page: &mut Page,
-    ) -> ToolEnd {
+    fn call(self, session: &mut Session, entries: &[TextEntry], page: &mut Page) -> ToolEnd {
         match self {
-            Tool::Script => set_script(session, given.entries, page),
-            Tool::ReadScript => match ScriptText::new(given.script) {
-                Ok(script) => script_text(session, script, page),
-                Err(_) => ToolEnd::done(1),
-            },
-            Tool::Import => import(session, given.entries, page),
-            Tool::ReadImport => match ImportText::new(given.text) {
-                Ok(text) => import_text(alloc, session, text, page),
-                Err(_) => ToolEnd::done(1),
-            },
+            Tool::Script => set_script(session, entries, page),
+            Tool::Import => import(session, entries, page),
         }
     }
 }
@@ -82,21 +53,20 @@ fn has_some_first(session: &Session) -> bool {
 /// A call over a session. Refused for memory, it has printed nothing, the copy is as it was and some first entries stand; made
 /// again it has written all of them and saved.
 fn sweep_over<W: Write>(
-    alloc: Global,
     out: &mut W,
     tool: Tool,
-    given: &Given<'_>,
+    entries: &[TextEntry],
     session: &mut Session,
 ) -> io::Result<()> {
     let mut page = Page::new();
-    let mut end = tool.call(alloc, session, given, &mut page);
+    let mut end = tool.call(session, entries, &mut page);
     if end.fault == Some(StreamFault::Memory) {
         let is_silent = end.status == 1 && page.text().is_empty();
         if !is_silent || !is_blank(session) || !has_some_first(session) {
             return wrong(out, tool.name());
         }
         refused(out, tool.name())?;
-        end = tool.call(alloc, session, given, &mut page);
+        end = tool.call(session, entries, &mut page);
     }
     let is_done = end.fault.is_none() && end.status == 0 && page.text().is_empty();
     if !is_done || is_blank(session) || !are_first(session.vars(), COUNT) {
@@ -120,40 +90,28 @@ fn entries_of<W: Write>(
 }
 
 /// Each tool over a session of its own.
-fn sweep_tools<W: Write>(alloc: Global, out: &mut W, given: &Given<'_>) -> io::Result<()> {
-    for tool in [
-        Tool::Script,
-        Tool::ReadScript,
-        Tool::Import,
-        Tool::ReadImport,
-    ] {
+fn sweep_tools<W: Write>(alloc: Global, out: &mut W, entries: &[TextEntry]) -> io::Result<()> {
+    for tool in [Tool::Script, Tool::Import] {
         let mut started = start(alloc);
         if started.is_none() {
             refused(out, "start for entries by a tool")?;
             started = start(alloc);
         }
         match started {
-            Some(mut session) => sweep_over(alloc, out, tool, given, &mut session)?,
+            Some(mut session) => sweep_over(out, tool, entries, &mut session)?,
             None => return wrong(out, "start for entries by a tool, made again"),
         }
     }
     Ok(())
 }
 
-/// The entries in each form, and each tool over them.
+/// The entries, and each tool over them.
 pub fn sweep<W: Write>(alloc: Global, out: &mut W) -> io::Result<()> {
-    let text = lines_twice(alloc, out, b'=')?;
-    let script = lines_twice(alloc, out, b' ')?;
-    let (Some(text), Some(script)) = (text, script) else {
+    let Some(text) = lines_twice(alloc, out, b'=')? else {
         return wrong(out, "lines for tools, made again");
     };
     let Some(entries) = entries_of(alloc, out, &text)? else {
         return wrong(out, "entries for tools, made again");
     };
-    let given = Given {
-        entries: &entries,
-        script: &script,
-        text: &text,
-    };
-    sweep_tools(alloc, out, &given)
+    sweep_tools(alloc, out, &entries)
 }

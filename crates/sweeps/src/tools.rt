@@ -1,16 +1,12 @@
-//! The tools over a session that was just started: `setenv`, `set_script` and `script_text`, `import` and `import_text`,
-//! `export` and `print_at_once`.
+//! The tools over a session that was just started: `setenv`, `set_script`, `import` and `export`.
 
 use crate::lines::{refused, row, wrong};
 use crate::pages::Page;
 use crate::sessions::{ALL, is_bad, shows, start};
 use crate::states::state_of;
 use env_session::Session;
-use envcfg_core::{ImportText, ScriptText, TextEntry, TextFault, parse_import};
-use fw_engines::{
-    StreamFault, ToolEnd, export, import, import_text, print_at_once, script_text, set_script,
-    setenv,
-};
+use envcfg_core::{TextEntry, TextFault, parse_import};
+use fw_engines::{StreamFault, ToolEnd, export, import, set_script, setenv};
 use std::alloc::Global;
 use std::io::{self, Write};
 
@@ -23,11 +19,8 @@ const TEXT: &[u8] = b".flags=a:d\na=x\nb=1\n";
 enum Tool {
     Set,
     Script,
-    ReadScript,
     Import,
-    ReadImport,
     Export,
-    Print,
 }
 
 /// A tool, what it prints on both streams, and the variables that it leaves.
@@ -59,16 +52,6 @@ const SCRIPT: Wanted = Wanted {
     is_saved: false,
 };
 
-/// The same, read line by line.
-const READ_SCRIPT: Wanted = Wanted {
-    tool: Tool::ReadScript,
-    name: "script_text",
-    output: b"",
-    errors: b"## Error: type check failure for \"a\"\n",
-    after: b".flags=a:d;p=1;q=2;r=3;",
-    is_saved: false,
-};
-
 const IMPORT: Wanted = Wanted {
     tool: Tool::Import,
     name: "import",
@@ -78,28 +61,9 @@ const IMPORT: Wanted = Wanted {
     is_saved: true,
 };
 
-/// The same, read entry by entry.
-const READ_IMPORT: Wanted = Wanted {
-    tool: Tool::ReadImport,
-    name: "import_text",
-    output: b"",
-    errors: b"## Error: 1 entries refused\n",
-    after: b".flags=a:d;b=1;p=1;q=2;r=3;",
-    is_saved: true,
-};
-
 const EXPORT: Wanted = Wanted {
     tool: Tool::Export,
     name: "export",
-    output: b"p=1\nq=2\nr=3\n",
-    errors: b"",
-    after: ALL,
-    is_saved: false,
-};
-
-const PRINT: Wanted = Wanted {
-    tool: Tool::Print,
-    name: "print_at_once",
     output: b"p=1\nq=2\nr=3\n",
     errors: b"",
     after: ALL,
@@ -143,41 +107,15 @@ fn call(
             &mut pages.errors,
         ),
         Tool::Script => set_script(session, entries, &mut pages.errors),
-        Tool::ReadScript => take_script(session, TEXT, &mut pages.errors),
         Tool::Import => import(session, entries, &mut pages.errors),
-        Tool::ReadImport => take_import(alloc, session, TEXT, &mut pages.errors),
         Tool::Export => export(alloc, session, &mut pages.output, &mut pages.errors),
-        Tool::Print => print_at_once(
-            alloc,
-            session,
-            &[],
-            false,
-            &mut pages.output,
-            &mut pages.errors,
-        ),
-    }
-}
-
-/// A set script whose lines are read one by one.
-fn take_script(session: &mut Session, text: &[u8], errors: &mut Page) -> ToolEnd {
-    match ScriptText::new(text) {
-        Ok(script) => script_text(session, script, errors),
-        Err(_) => ToolEnd::done(1),
-    }
-}
-
-/// An import whose entries are read one by one.
-fn take_import(alloc: Global, session: &mut Session, text: &[u8], errors: &mut Page) -> ToolEnd {
-    match ImportText::new(text) {
-        Ok(entries) => import_text(alloc, session, entries, errors),
-        Err(_) => ToolEnd::done(1),
     }
 }
 
 /// Whether the variables are those before the call, or what some first writes of it leave.
 fn is_begun(tool: Tool, session: &Session, after: &[u8]) -> bool {
     let between = match tool {
-        Tool::Import | Tool::ReadImport => shows(session, b".flags=a:d;p=1;q=2;r=3;"),
+        Tool::Import => shows(session, b".flags=a:d;p=1;q=2;r=3;"),
         _ => false,
     };
     between || shows(session, ALL) || shows(session, after)
@@ -238,7 +176,7 @@ pub fn sweep<W: Write>(alloc: Global, out: &mut W) -> io::Result<()> {
     let Ok(entries) = entries else {
         return wrong(out, "parse_import for the tools");
     };
-    for wanted in [SET, SCRIPT, READ_SCRIPT, IMPORT, READ_IMPORT, EXPORT, PRINT] {
+    for wanted in [SET, SCRIPT, IMPORT, EXPORT] {
         sweep_one(alloc, out, wanted, &entries)?;
     }
     Ok(())

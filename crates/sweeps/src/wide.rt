@@ -8,7 +8,7 @@ use bench_parts::name;
 use env_session::{Session, Side};
 use envimg_core::Order;
 use envvars_core::Vars;
-use fw_engines::{StreamFault, ToolEnd, export, print_at_once, show};
+use fw_engines::{StreamFault, ToolEnd, export, show};
 use std::alloc::Global;
 use std::io::{self, Write};
 
@@ -60,13 +60,11 @@ impl Write for Listing {
 #[derive(Clone, Copy)]
 enum Printer {
     Show,
-    PrintAtOnce,
     Export,
 }
 
-const PRINTERS: [(Printer, &str); 3] = [
+const PRINTERS: [(Printer, &str); 2] = [
     (Printer::Show, "wide show"),
-    (Printer::PrintAtOnce, "wide print_at_once"),
     (Printer::Export, "wide export"),
 ];
 
@@ -83,7 +81,6 @@ fn call(
             let mut input = session.copy(Side::First).unwrap_or(b"");
             show(alloc, Order::Little, &mut input, output, errors)
         }
-        Printer::PrintAtOnce => print_at_once(alloc, session, &[], false, output, errors),
         Printer::Export => export(alloc, session, output, errors),
     }
 }

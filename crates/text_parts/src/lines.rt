@@ -35,18 +35,6 @@ pub fn numbered_lines(text: &[u8]) -> Lines<'_>
     }
 }
 
-impl<'a> Lines<'a> {
-    /// The same lines once more.
-    pub fn again(&self) -> Lines<'a>
-        ensures { result ≡ self.now }
-    {
-        Lines {
-            rest: self.rest,
-            number: self.number,
-        }
-    }
-}
-
 impl<'a> Iterator for Lines<'a> {
     type Item = (usize, &'a [u8]);
 

@@ -1,8 +1,8 @@
 //! Default environments, or the entry that is refused.
 
-use envcfg_core::{ImportText, parse_import};
+use envcfg_core::parse_import;
 use envvars_core::{Refusal, Vars};
-use fw_engines::{default_text, defaults};
+use fw_engines::defaults;
 use std::test::Fail;
 
 #[test]
@@ -25,9 +25,6 @@ fn default_environments(rt: HostRuntime) -> Result<(), Fail> {
     for (text, room, expected) in texts {
         let entries = parse_import(rt.alloc(), text)?;
         let got = counted(defaults(rt.alloc(), room, &entries));
-        assert!(rt; got == expected);
-        let unread = ImportText::new(text)?;
-        let got = counted(default_text(rt.alloc(), room, unread));
         assert!(rt; got == expected);
     }
     Ok(())

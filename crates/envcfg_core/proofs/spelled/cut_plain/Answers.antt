@@ -3,7 +3,7 @@ use Rattle.envcfg_core.proofs.SpelledLemmas.{spelled_without_marks, spelled_at_m
 use Rattle.envcfg_core.proofs.spelled.cut_plain.Goals as goal
 
 pub returns-in_default-clause-value : goal.returns-in_default-clause-value
-returns-in_default-clause-value c = spelled_without_marks c.args.text.now c.first_of_two.result c.first_of_two.ensures c.in_default.not-Some
+returns-in_default-clause-value c = spelled_without_marks c.args.text.now c.memchr2.result c.memchr2.ensures c.in_default.not-Some
 
 pub returns-clause-value : goal.returns-clause-value
 returns-clause-value c =

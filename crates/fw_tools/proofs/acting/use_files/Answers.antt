@@ -8,6 +8,6 @@ use Rattle.fw_tools.proofs.acting.use_files.Goals as goal
 
 pub returns : goal.returns
 returns g c =
-    let front = subst (λ e. AppendsFront e (g.E.Write.contents c.open.new.errors) (warning c.in_ok-session.session.now.current)) c.in_ok-source.ensures.1 c.in_ok-session.ensures.1 in
-    let opening = subst (λ o. IsOpening o c.in_ok-session.session) c.in_ok-source.ensures.0 c.in_ok-session.ensures.0 in
+    let front = subst (λ e. AppendsFront e (g.E.Write.contents c.open.new.errors) (warning c.in_ok-session.session.now.current)) c.in_ok-source.ensures.2 c.in_ok-session.ensures.1 in
+    let opening = subst (λ o. IsOpening o (call_view c.args.call.now).default c.in_ok-session.session) c.in_ok-source.ensures.0 c.in_ok-session.ensures.0 in
     opened_session (call_view c.args.call.now) _ c.in_ok-session.session _ _ _ opening front c.work.ensures

@@ -1,9 +1,0 @@
-use Rattle.text_parts.specs.Bytes.{is_newline}
-use Rattle.text_parts.proofs.CutLemmas.{after_first-found, after_first-none}
-use Rattle.envcfg_core.proofs.cuts.after_line.Goals as goal
-
-pub returns-in-Some-clause-rest : goal.returns-in-Some-clause-rest
-returns-in-Some-clause-rest c = after_first-found is_newline c.args.text.now c.in-Some.at c.in-Some.ensures
-
-pub returns-in-None-clause-rest : goal.returns-in-None-clause-rest
-returns-in-None-clause-rest c = after_first-none is_newline c.args.text.now c.in-None.ensures

@@ -1,7 +1,0 @@
-use Rattle.std.proofs.Common.{◌∙◌}
-use Rattle.envcfg_core.specs.Import.{ends_name}
-use Rattle.text_parts.proofs.CutLemmas.{position_or_len-answer}
-use Rattle.envcfg_core.proofs.cuts.name_len.Goals as goal
-
-pub returns-clause-value : goal.returns-clause-value
-returns-clause-value c = c.unwrap_or.ensures ∙ position_or_len-answer ends_name c.args.text.now c.first_of_two.result c.first_of_two.ensures
