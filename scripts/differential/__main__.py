@@ -11,7 +11,7 @@ from collections import Counter
 
 from differential.running import Runner
 
-PARTS = ("images", "texts", "scripts", "runs", "requests", "inputs", "calls", "largest", "documents", "mistakes")
+PARTS = ("images", "texts", "scripts", "runs", "requests", "inputs", "calls", "largest", "documents", "mistakes", "session_rows", "tool_rows")
 SHOWN = 5
 # What an answer tells: the ending of a block, a dot line's answer, a message, or that nothing is said
 TOLD = re.compile(

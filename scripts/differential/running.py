@@ -56,8 +56,11 @@ class Found:
     seconds: float
 
     def is_as(self, answer):
-        errors = self.errors == answer.errors if answer.errors is not None else self.errors.startswith(b"error: ")
-        return errors and (self.status, self.output, self.files) == (answer.status, answer.output, answer.files)
+        if answer.errors is None:
+            is_said = self.errors is None or self.errors.startswith(b"error: ")
+        else:
+            is_said = self.errors == answer.errors
+        return is_said and (self.status, self.output, self.files) == (answer.status, answer.output, answer.files)
 
 
 class Runner:
@@ -110,8 +113,10 @@ class Runner:
 
     def failure(self, case, wanted):
         """What is wrong with a case, as a text; None where nothing is."""
-        if case.wanted not in (None, wanted):
-            return told(case, wanted, case.wanted).replace("found", "of the model")
+        if case.wanted is not None:
+            if not Found(**vars(case.wanted), seconds=0).is_as(wanted):
+                return told(case, wanted, case.wanted).replace("found", "of the model")
+            wanted = case.wanted
         for _ in range(TRIES):
             found = self.run(case)
             if not found.is_as(wanted):
