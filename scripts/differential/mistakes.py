@@ -1,5 +1,5 @@
-"""The test of the tests: mistakes in what the program left, each of which the comparison has to find out in some case of the part that
-it is for."""
+"""The test of the tests: mistakes in what the program left, each of which the comparison has to find out in some case
+of the part that it is for."""
 
 import functools
 import importlib

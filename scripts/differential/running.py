@@ -13,9 +13,9 @@ SECONDS, TRIES, WAITED = 0.25, 4, 120
 
 @dataclass
 class Case:
-    """A call: its arguments, the files by their names, and standard input, of which `step` bytes come a call; `then` says that
-    it fails after its bytes, or that it ends and goes on (pause). `wanted` is an answer that is given by hand, which the model has to
-    have too."""
+    """A call: its arguments, the files by their names, and standard input, of which `step` bytes come a call; `then`
+    says that it fails after its bytes, or that it ends and goes on (pause). `wanted` is an answer that is given by
+    hand, which the model has to have too."""
 
     name: str
     arguments: list
@@ -99,7 +99,7 @@ class Runner:
 
     def run(self, case):
         self.put(case.files)
-        # (behind a cut the input would go on)
+        # (after a cut the input would go on)
         self.fill_streams(case.given + b"\n.save\n" if case.then else case.given)
         moves = [(os.POSIX_SPAWN_DUP2, stream, at) for at, stream in enumerate(self.streams)]
         process = os.posix_spawn(self.program, [b"fwenv", *case.arguments], case.cut(self.preload), file_actions=moves)

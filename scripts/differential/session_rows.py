@@ -1,5 +1,5 @@
-"""Sessions by hand: blocks and dot lines, names of marks, limits, stand-ins, wrong numbers, and what is written back. A row is a name, the
-input, what is printed, and the options."""
+"""Sessions by hand: blocks and dot lines, names of marks, limits, stand-ins, wrong numbers, and what is written back.
+A row is a name, the input, what is printed, and the options."""
 
 from differential.boards import arguments, board
 from differential.running import Case
@@ -147,7 +147,8 @@ def stood_in():
 
 
 def wrong_numbers():
-    """A fault of the command line comes before any file is looked for; of two the first in the order of docs/dry-runs.md is told."""
+    """A fault of the command line comes before any file is looked for; of two the first in the order of
+    docs/dry-runs.md is told."""
     for option, (_, most) in LIMITS.items():
         for text in [*NO_NUMBERS, b"%d" % (most + 1)]:
             wanted = Answer(1, b"", NO_NUMBER % (text, option.encode(), most), {})

@@ -1,4 +1,5 @@
-"""The program over files: what a call prints, with which status it ends, and what it leaves in each file (docs/tools.md)."""
+"""The program over files: what a call prints, with which status it ends, and what it leaves in each file
+(docs/tools.md)."""
 
 from dataclasses import dataclass
 
@@ -38,8 +39,8 @@ class Ended(Exception):
 
 
 class Program:
-    """A call over files: a path that isn't there, or is none of a file, has no bytes. `fails` says that standard input fails after
-    its bytes."""
+    """A call over files: a path that isn't there, or is none of a file, has no bytes. `fails` says that standard
+    input fails after its bytes."""
 
     def __init__(self, files, given=b"", fails=False):
         self.files = dict(files)
