@@ -12,6 +12,7 @@ program reads.
     requests      lists of writes, saves, marks and undos
     inputs        inputs of a session: cut, failing, paused, byte by byte, and changed at random
     calls         arguments at random over files at random
+    cuts          each stream, file and device cut at each byte
     largest       texts, images, names and values as large as they may be
     documents     the rows of docs/ that show what is printed
     tool_rows     the tools by hand

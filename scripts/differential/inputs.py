@@ -6,7 +6,7 @@ import functools
 
 from differential.boards import arguments, board, text_of
 from differential.damage import at_random, mutant, numbers_of
-from differential.running import Case
+from differential.running import Case, Cut
 from model.image import ERASED, Geometry
 
 FORM = Geometry(2, 96)
@@ -35,12 +35,12 @@ def cut(text):
         prefix = text[:length]
         yield Case(f"the first {length} bytes", WORDS, FILES, prefix)
         for then in ("fail", "pause"):
-            yield Case(f"{then} after {length} bytes", WORDS, FILES, prefix, then)
             # (of one byte at most none comes in two ways)
-            if length > 1:
-                yield Case(f"{then} after {length} bytes, byte by byte", WORDS, FILES, prefix, then, 1)
+            for step in (0, 1) if length > 1 else (0,):
+                cut = Cut(0, "read", length, then, step)
+                yield Case(f"{then} after {length} bytes, {step or 'all'} a call", WORDS, FILES, prefix, cut)
     for step in (1, 3):
-        yield Case(f"{step} bytes a call", WORDS, FILES, text, "", step)
+        yield Case(f"{step} bytes a call", WORDS, FILES, text, Cut(0, "read", step=step))
 
 
 def changed_input(seed, number):

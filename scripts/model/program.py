@@ -14,6 +14,8 @@ from model.variables import NOT_DEFINED, REFUSALS, Environment
 WARNING = b"Warning: Bad CRC, using default environment\n"
 CANNOT_READ_INPUT = b"fwenv: cannot read standard input\n"
 CANNOT_READ = b"fwenv: cannot read %s\n"
+CANNOT_WRITE_OUTPUT = b"fwenv: cannot write standard output\n"
+CANNOT_WRITE = b"fwenv: cannot write %s\n"
 TOO_SHORT = b"fwenv: %s is too short\n"
 OVERLAP = b"fwenv: copies overlap\n"
 REFUSED_TEXT = b"fwenv: %s: %s\n"
