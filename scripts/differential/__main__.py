@@ -9,9 +9,10 @@ import sys
 import tempfile
 from collections import Counter
 
+from differential import running
 from differential.running import Runner
 
-PARTS = ("images", "texts", "scripts", "runs", "requests", "inputs", "calls", "largest", "documents", "mistakes")
+PARTS = ("images", "texts", "scripts", "runs", "requests", "inputs", "calls", "largest", "documents", "mistakes", "session_rows", "tool_rows", "cuts")
 SHOWN = 5
 # What an answer tells: the ending of a block, a dot line's answer, a message, or that nothing is said
 TOLD = re.compile(
@@ -84,6 +85,7 @@ def main():
     if name not in PARTS:
         sys.exit(f"no part is called {name}")
     sys.setrecursionlimit(100_000)
+    running.PROGRAM = os.path.abspath(program)
     part = importlib.import_module(f"differential.{name}")
     # A chunk makes some of the cases; each process takes one after the other
     chunks, is_of_mistakes = part.chunks(*numbers[:2]), name == "mistakes"

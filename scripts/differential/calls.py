@@ -1,5 +1,5 @@
-"""Arguments at random over files at random: each subcommand with its options in any place and form, words that are wrong, files that
-aren't there, and devices that are too short, overlap or are counted from their end."""
+"""Arguments at random over files at random: each subcommand with its options in any place and form, words that are
+wrong, files that aren't there, and devices that are too short, overlap or are counted from their end."""
 
 import functools
 

@@ -1,5 +1,5 @@
-"""How inputs are damaged: cut at each place, with each bit turned, and changed at random. Each input at random has numbers of its own,
-so that it can be made again alone."""
+"""How inputs are damaged: cut at each place, with each bit turned, and changed at random. Each input at random has
+numbers of its own, so that it can be made again alone."""
 
 import functools
 import random
@@ -19,25 +19,25 @@ def turned(text):
             yield text[:at] + bytes([byte ^ 1 << bit]) + text[at + 1 :]
 
 
-def fronts(text):
+def prefixes(text):
     return [text[:length] for length in range(len(text) + 1)]
 
 
 def changed(text, tokens, numbers):
-    """The text with one change: a byte is another, or has a bit turned; a piece is taken out, doubled or put after the next one; the
-    rest is cut off; or a token is put in."""
+    """The text with one change: a byte is another, or has a bit turned; a piece is taken out, doubled or put after
+    the next one; the rest is cut off; or a token is put in."""
     at, first, second = numbers.randrange(len(text) + 1), numbers.randint(1, PIECE), numbers.randint(1, PIECE)
-    front, rest = text[:at], text[at:]
+    prefix, rest = text[:at], text[at:]
     piece, back = rest[:first], rest[first:]
     bit = bytes([(rest[0] if rest else 0) ^ 1 << numbers.randrange(8)])
     return [
-        front + bytes([numbers.randrange(256)]) + rest[1:],
-        front + bit + rest[1:],
-        front + back,
-        front + piece + piece + back,
-        front + back[:second] + piece + back[second:],
-        front,
-        front + numbers.choice(tokens) + rest,
+        prefix + bytes([numbers.randrange(256)]) + rest[1:],
+        prefix + bit + rest[1:],
+        prefix + back,
+        prefix + piece + piece + back,
+        prefix + back[:second] + piece + back[second:],
+        prefix,
+        prefix + numbers.choice(tokens) + rest,
     ][numbers.randrange(7)]
 
 

@@ -1,4 +1,5 @@
-"""The rows of docs/ that show what is printed: read from the tables there, so that no document shows what the program doesn't print."""
+"""The rows of docs/ that show what is printed: read from the tables there, so that no document shows what the program
+doesn't print."""
 
 import pathlib
 import re

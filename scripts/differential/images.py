@@ -64,8 +64,8 @@ def turned_pair(shape, area, flags):
 
 
 def changed_image(seed, number):
-    """A copy that is changed at random. Most are brought back to their length, and most of these get the checksum of what then is
-    in them; some stand alone on standard input."""
+    """A copy that is changed at random. Most are brought back to their length, and most of these get the checksum of
+    what then is in them; some stand alone on standard input."""
     numbers = numbers_of("images", seed, number)
     shape, area = numbers.choice(SHAPES), numbers.choice(AREAS)
     form = geometry(shape, area)

@@ -1,11 +1,12 @@
-"""Inputs of a session: each front of some, each front behind which standard input fails, or ends and goes on, at once and byte by byte,
-and some that are changed at random. What is printed, the status and every byte of the device are compared."""
+"""Inputs of a session: each prefix of some, each prefix after which standard input fails, or ends and goes on, at
+once and byte by byte, and some that are changed at random. What is printed, the status and every byte of the device
+are compared."""
 
 import functools
 
 from differential.boards import arguments, board, text_of
 from differential.damage import at_random, mutant, numbers_of
-from differential.running import Case
+from differential.running import Case, Cut
 from model.image import ERASED, Geometry
 
 FORM = Geometry(2, 96)
@@ -31,15 +32,15 @@ OFTEN = {name: 0.01 for name in ("Finished", "Syntax", "Marked", "Undone", "Gone
 
 def cut(text):
     for length in range(len(text) + 1):
-        front = text[:length]
-        yield Case(f"the first {length} bytes", WORDS, FILES, front)
+        prefix = text[:length]
+        yield Case(f"the first {length} bytes", WORDS, FILES, prefix)
         for then in ("fail", "pause"):
-            yield Case(f"{then} after {length} bytes", WORDS, FILES, front, then)
             # (of one byte at most none comes in two ways)
-            if length > 1:
-                yield Case(f"{then} after {length} bytes, byte by byte", WORDS, FILES, front, then, 1)
+            for step in (0, 1) if length > 1 else (0,):
+                cut = Cut(0, "read", length, then, step)
+                yield Case(f"{then} after {length} bytes, {step or 'all'} a call", WORDS, FILES, prefix, cut)
     for step in (1, 3):
-        yield Case(f"{step} bytes a call", WORDS, FILES, text, "", step)
+        yield Case(f"{step} bytes a call", WORDS, FILES, text, Cut(0, "read", step=step))
 
 
 def changed_input(seed, number):

@@ -1,5 +1,5 @@
-"""What is as large as it may be: texts of 16 MiB, images, names, values and `.flags` of 1 MiB, all their variables changed and brought
-back, and names in orders that are hard on a sorted store. Each is answered in a few seconds."""
+"""What is as large as it may be: texts of 16 MiB, images, names, values and `.flags` of 1 MiB, all their variables
+changed and brought back, and names in orders that are hard on a sorted store. Each is answered in a few seconds."""
 
 import functools
 

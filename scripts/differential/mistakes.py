@@ -1,5 +1,5 @@
-"""The test of the tests: mistakes in what the program left, each of which the comparison has to find out in some case of the part that
-it is for."""
+"""The test of the tests: mistakes in what the program left, each of which the comparison has to find out in some case
+of the part that it is for."""
 
 import functools
 import importlib
@@ -14,7 +14,7 @@ PARTS = {
     "scripts": (60, 1, 3),
     "runs": (300, 1, 8),
     "requests": (200, 1, 1),
-    "inputs": (100, 1, 10),
+    "inputs": (100, 1, 11),
     "calls": (400, 1, 1),
 }
 

@@ -105,15 +105,15 @@ class Writer:
         return words
 
     def setenv(self):
-        front = self.any([[b"setenv"]] * 6 + [[b"setenv", b"-f"], [b"env", b"set"], [b"env", b"set", b"-f"]])
+        before = self.any([[b"setenv"]] * 6 + [[b"setenv", b"-f"], [b"env", b"set"], [b"env", b"set", b"-f"]])
         kind = self.random.randrange(100)
         if kind < 3:
-            return front
+            return before
         if kind < 18:
-            return front + [b".flags", self.any(FLAGS).replace(b" ", b"\\ ")]
+            return before + [b".flags", self.any(FLAGS).replace(b" ", b"\\ ")]
         if kind < 36:
-            return front + [self.any(SCRIPTS), b"'" + self.script_of(2).replace(b"'", b"") + b"'"]
-        return front + [self.name()] + self.some_words(3)
+            return before + [self.any(SCRIPTS), b"'" + self.script_of(2).replace(b"'", b"") + b"'"]
+        return before + [self.name()] + self.some_words(3)
 
     def simple(self):
         kind = self.random.randrange(100)
@@ -127,13 +127,13 @@ class Writer:
         if kind < 53:
             return self.setexpr()
         if kind < 66:
-            front = self.any([[b"run"]] * 5 + [[b"env", b"run"]])
-            return front + self.some(SCRIPTS, 2) + [any_name] * self.chance(15)
+            before = self.any([[b"run"]] * 5 + [[b"env", b"run"]])
+            return before + self.some(SCRIPTS, 2) + [any_name] * self.chance(15)
         if kind < 71:
             return [b"env", b"delete"] + [b"-f"] * self.chance(30) + self.some(NAMES, 3)
         if kind < 75:
-            front = self.any([[b"printenv"], [b"env", b"print"]])
-            return front + [b"-a"] * self.chance(30) + self.some(NAMES, 2)
+            before = self.any([[b"printenv"], [b"env", b"print"]])
+            return before + [b"-a"] * self.chance(30) + self.some(NAMES, 2)
         if kind < 78:
             return self.any([[b"saveenv"], [b"env", b"save"]]) + [b"x"] * self.chance(8)
         if kind < 80:

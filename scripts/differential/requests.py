@@ -1,6 +1,6 @@
-"""Lists of requests of a session at random: writes that are forced or not, types and accesses, saves, marks and undos, over copies that
-are good or not, in both layouts and both byte orders. After each request the variables are printed, and the copies are seen at the
-end of the list."""
+"""Lists of requests of a session at random: writes that are forced or not, types and accesses, saves, marks and
+undos, over copies that are good or not, in both layouts and both byte orders. After each request the variables are
+printed, and the copies are seen at the end of the list."""
 
 import functools
 

@@ -7,13 +7,13 @@ Lines before the first section say what the file is about. A section begins with
     variables   likewise, written before the first script
     stand-ins   the stand-in file
     limits      on steps, depth, word and output (100000 8 4096 65536)
-    script      a script; it has no newline behind its last line
+    script      a script; it has no newline after its last line
     comes to    its ending, status and steps, or the fault; steps that nobody counted by hand are the model's
     prints      its text; where the last line ends in \\ that \\ and the newline aren't part of it
     leaves      what it changes: name=value, or the name alone where it is taken away
     saves       the section stands where the copy holds the variables as they are left
 
-`comes to` stands behind each script, and `prints`, `leaves` and `saves` behind that where they hold something. The next
+`comes to` is after each script, and `prints`, `leaves` and `saves` after that, if they hold something. The next
 script begins with the variables that this one leaves, and copies that nobody saved.
 """
 
@@ -26,7 +26,8 @@ ENDINGS = ("Finished", "Exited", "Steps", "Depth", "Word", "Output")
 
 @dataclass
 class Row:
-    """A script, the line that its block ends with (or the fault), the variables that it leaves, its text, and whether it saves."""
+    """A script, the line that its block ends with (or the fault), the variables that it leaves, its text, and whether
+    it saves."""
 
     name: str
     setup: Setup
@@ -91,7 +92,7 @@ AFTER = ("comes to", "prints", "leaves", "saves")
 
 
 def with_section(setup, name, lines):
-    """A setup with what a section in front of a script says."""
+    """A setup with what a section before a script says."""
     if name == "copies":
         copies, size = map(int, lines[0].split())
         return replace(setup, copies=copies, size=size)

@@ -11,38 +11,58 @@ from model.program import Program
 SECONDS, TRIES, WAITED = 0.25, 4, 120
 
 
+PROGRAM = ""
+
+
+@dataclass
+class Cut:
+    """How a stream is cut (scripts/cut_streams.c): a descriptor or the path that is opened, perhaps not for the first time; the call
+    is read, write or sync; it moves `step` bytes a call, or all, and after so many bytes it fails, ends, or pauses."""
+
+    stream: object
+    call: str
+    after: object = None
+    then: str = "fail"
+    step: int = 0
+    opening: int = 1
+
+    def words(self):
+        if isinstance(self.stream, int):
+            found = {"CUT_FD": str(self.stream)}
+        else:
+            found = {"CUT_PATH": os.fsdecode(self.stream), "CUT_OPEN": str(self.opening)}
+        found |= {"CUT_CALL": self.call, "CUT_STEP": str(self.step or ""), "CUT_THEN": self.then}
+        return found | {"CUT_AFTER": "" if self.after is None else str(self.after)}
+
+
 @dataclass
 class Case:
-    """A call: its arguments, the files by their names, and standard input, of which `step` bytes come a call; `then` says that
-    it fails after its bytes, or that it ends and goes on (pause). `wanted` is an answer that is given by hand, which the model has to
-    have too."""
+    """A call: its arguments, the files by their names, standard input, and perhaps a stream that is cut, of which `moved` are the
+    wanted calls and bytes. `wanted` is an answer that is given by hand, which the model has to have too where it is asked for the
+    same, and `accepts` stands for it where there are several."""
 
     name: str
     arguments: list
     files: dict = field(default_factory=dict)
     given: bytes = b""
-    then: str = ""
-    step: int = 0
+    cut: Cut = None
+    moved: tuple = None
     wanted: object = None
+    accepts: object = None
+    is_modelled: bool = True
     seconds: float = SECONDS
     weight: int = 1
 
+    def fails(self):
+        """Whether standard input fails after its bytes."""
+        return self.cut is not None and self.cut.stream == 0 and self.cut.then == "fail" and self.cut.after is not None
+
     def answer(self):
-        return Program(self.files, self.given, self.then == "fail").answer(self.arguments)
+        return Program(self.files, self.given, self.fails()).answer(self.arguments)
 
-    def is_cut(self):
-        return bool(self.then or self.step)
-
-    def cut(self, preload):
-        """What scripts/cut_streams.c is told."""
-        if not self.is_cut():
-            return os.environ
-        words = {"LD_PRELOAD": preload, "CUT_FD": "0", "CUT_CALL": "read"}
-        if self.step:
-            words["CUT_STEP"] = str(self.step)
-        if self.then:
-            words |= {"CUT_AFTER": str(len(self.given)), "CUT_THEN": self.then}
-        return {**os.environ, **words}
+    def tells_on_model(self):
+        """Whether the model has to have the answer that is given by hand: it knows of no stream that is cut."""
+        return self.wanted is not None and self.is_modelled and self.cut is None
 
 
 @dataclass
@@ -56,8 +76,11 @@ class Found:
     seconds: float
 
     def is_as(self, answer):
-        errors = self.errors == answer.errors if answer.errors is not None else self.errors.startswith(b"error: ")
-        return errors and (self.status, self.output, self.files) == (answer.status, answer.output, answer.files)
+        if answer.errors is None:
+            is_said = self.errors is None or self.errors.startswith(b"error: ")
+        else:
+            is_said = self.errors == answer.errors
+        return is_said and (self.status, self.output, self.files) == (answer.status, answer.output, answer.files)
 
 
 class Runner:
@@ -68,6 +91,7 @@ class Runner:
         self.there = {}
         os.makedirs(folder + "/files")
         os.chdir(folder + "/files")
+        self.moved = folder + "/moved"
         self.streams = [os.open(f"{folder}/{name}", os.O_RDWR | os.O_CREAT, 0o600) for name in ("in", "out", "err")]
 
     def put(self, files):
@@ -96,10 +120,11 @@ class Runner:
 
     def run(self, case):
         self.put(case.files)
-        # (behind a cut the input would go on)
-        self.fill_streams(case.given + b"\n.save\n" if case.then else case.given)
+        # (after a cut the input would go on)
+        is_input = case.cut is not None and case.cut.stream == 0 and case.cut.after == len(case.given)
+        self.fill_streams(case.given + b"\n.save\n" * is_input)
         moves = [(os.POSIX_SPAWN_DUP2, stream, at) for at, stream in enumerate(self.streams)]
-        process = os.posix_spawn(self.program, [b"fwenv", *case.arguments], case.cut(self.preload), file_actions=moves)
+        process = os.posix_spawn(self.program, [b"fwenv", *case.arguments], self.environment(case), file_actions=moves)
         signal.signal(signal.SIGALRM, lambda *_: os.kill(process, signal.SIGKILL))
         signal.alarm(WAITED)
         _, status, usage = os.wait4(process, 0)
@@ -108,13 +133,27 @@ class Runner:
         seconds = usage.ru_utime + usage.ru_stime
         return Found(os.waitstatus_to_exitcode(status), output, errors, self.left(), seconds)
 
+    def environment(self, case):
+        """The words of the environment, which cut a stream."""
+        if case.cut is None:
+            return os.environ
+        return {**os.environ, **case.cut.words(), "LD_PRELOAD": self.preload, "CUT_COUNT": self.moved}
+
+    def is_moved(self, case):
+        """Whether the cut stream moved what it had to, in as many calls."""
+        if case.moved is None:
+            return True
+        with open(self.moved) as file:
+            return tuple(map(int, file.read().split())) == case.moved
+
     def failure(self, case, wanted):
         """What is wrong with a case, as a text; None where nothing is."""
-        if case.wanted not in (None, wanted):
+        if case.tells_on_model() and not Found(**vars(case.wanted), seconds=0).is_as(wanted):
             return told(case, wanted, case.wanted).replace("found", "of the model")
+        wanted = case.wanted or wanted
         for _ in range(TRIES):
             found = self.run(case)
-            if not found.is_as(wanted):
+            if not (case.accepts(found) if case.accepts else found.is_as(wanted)) or not self.is_moved(case):
                 return told(case, found, wanted)
             if found.seconds <= case.seconds:
                 return None
@@ -126,7 +165,7 @@ def shown(value):
 
 
 def told(case, found, wanted):
-    lines = [case.name, f"arguments {shown(case.arguments)}", f"input {shown(case.given)} {case.then} {case.step or ''}"]
+    lines = [case.name, f"arguments {shown(case.arguments)}", f"input {shown(case.given)}, {case.cut}, {case.moved}"]
     for name in sorted(case.files):
         lines.append(f"file {name!r}: {shown(case.files[name])}")
     for part in ("status", "output", "errors"):

@@ -1,5 +1,5 @@
-"""Scripts at random, and those of scripts/runs: worked rows and boot scripts of boards, beside what is written there by hand, and
-with each limit on steps from 0 up to their own count beside the model."""
+"""Scripts at random, and those of scripts/runs: worked rows and boot scripts of boards compared with what is written
+there by hand, and with each limit on steps from 0 up to their own count compared with the model."""
 
 import functools
 import pathlib
@@ -34,8 +34,8 @@ def random_run(seed, number):
 
 
 def wanted(row):
-    """The answer that is written by hand: of a text that isn't a script without the fault's kind and place, which the program doesn't
-    print and the model has to have."""
+    """The answer that is written by hand: of a text that isn't a script without the fault's kind and place, which the
+    program doesn't print and the model has to have."""
     made, files = row.setup, row.setup.files()
     errors = b"" if made.variables else WARNING
     if b" in line " in row.wanted:

@@ -1,10 +1,10 @@
-"""Scripts that are cut at each place and changed at random: several in a session, each behind an undo of all. The last one of a session
-is saved, so that its copy is seen."""
+"""Scripts that are cut at each place and changed at random: several in a session, each after an undo of all. The last
+one of a session is saved, so that its copy is seen."""
 
 import functools
 
 from differential.boards import arguments, board, text_of
-from differential.damage import at_random, fronts, mutant, numbers_of
+from differential.damage import at_random, prefixes, mutant, numbers_of
 from differential.running import Case
 from differential.texts import DEFAULTS, FORM, NEVER_WRITTEN
 
@@ -45,10 +45,10 @@ def changed_scripts(seed, number):
 
 
 def cut(text):
-    """Each front alone, with what it saves itself, and all of them together."""
-    for front in fronts(text):
-        yield Case("a cut script", WORDS, FILES, front)
-    yield together(fronts(text))
+    """Each prefix alone, with what it saves itself, and all of them together."""
+    for prefix in prefixes(text):
+        yield Case("a cut script", WORDS, FILES, prefix)
+    yield together(prefixes(text))
 
 
 def chunks(count, seed):

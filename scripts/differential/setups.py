@@ -38,8 +38,8 @@ class Setup:
         return found
 
     def stored(self):
-        """The copies. The variables are in the last one, whose flag is 0, so that a save goes to the first one with flag 1, as it does
-        where no copy is good; without any, no copy is good."""
+        """The copies. The variables are in the last one, whose flag is 0, so that a save goes to the first one with
+        flag 1, as it does where no copy is good; without any, no copy is good."""
         copies = [ERASED * self.size] * self.copies
         if self.variables:
             copies[-1] = self.geometry.image(0, self.environment().entries())

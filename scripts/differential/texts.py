@@ -1,9 +1,10 @@
-"""Configurations, texts for import, default texts, set scripts and stand-in files, cut at each place and changed at random."""
+"""Configurations, texts for import, default texts, set scripts and stand-in files, cut at each place and changed at
+random."""
 
 import functools
 
 from differential.boards import CONFIG, arguments, board, text_of
-from differential.damage import at_random, fronts, mutant, numbers_of
+from differential.damage import at_random, prefixes, mutant, numbers_of
 from differential.running import Case
 from model.image import ERASED, Geometry
 from model.session import erased
@@ -84,7 +85,8 @@ def configured(text, _numbers):
 
 
 def over_board(name, words, text, numbers):
-    """A call over copies that were never written and a default environment, or over that environment as it was saved."""
+    """A call over copies that were never written and a default environment, or over that environment as it was saved.
+    """
     copies = WRITTEN if numbers and numbers.randrange(2) else NEVER_WRITTEN
     files = board(FORM, copies) | {b"default": text_of(DEFAULTS), b"text": text}
     return Case(name, words, files)
@@ -118,7 +120,7 @@ KINDS = [
 
 
 def cut(make, text):
-    return [make(front, None) for front in fronts(text)]
+    return [make(prefix, None) for prefix in prefixes(text)]
 
 
 def changed_text(make, samples, tokens, seed, number):

@@ -1,5 +1,5 @@
-"""The program in plain Python: what it answers to any call. Written from docs/ and not from the program, each rule once; everything
-is bytes. The tests compare the built program with it (scripts/differential).
+"""The program in plain Python: what it answers to any call. Written from docs/ and not from the program, each rule
+once; everything is bytes. The tests compare the built program with it (scripts/differential).
 
     image         stored copies                          docs/images.md
     texts         configurations and other texts         docs/texts.md

@@ -1,5 +1,6 @@
-"""The command line (docs/tools.md, "The command line" and "Subcommands over files"; docs/dry-runs.md, "The subcommand"), as far as the
-rules of clap are used: options before and after the other words, values after a blank, an `=` or a letter."""
+"""The command line (docs/tools.md, "The command line" and "Subcommands over files"; docs/dry-runs.md, "The
+subcommand"), as far as the rules of clap are used: options before and after the other words, values after a blank, an
+`=` or a letter."""
 
 import re
 from dataclasses import dataclass, field

@@ -53,7 +53,7 @@ COMPARISONS = {
 
 
 def term(words):
-    """The value of the term at the front and the words behind it; None where there is none."""
+    """The value of the term at the front and the words after it; None where there is none."""
     negated = False
     while words[:1] == [b"!"]:
         negated = not negated

@@ -59,7 +59,7 @@ class Parser:
         return chains
 
     def inner(self):
-        """A list, up to the reserved word behind it."""
+        """A list, up to the reserved word after it."""
         chains = []
         self.separators()
         while True:

@@ -1,4 +1,5 @@
-"""The program over files: what a call prints, with which status it ends, and what it leaves in each file (docs/tools.md)."""
+"""The program over files: what a call prints, with which status it ends, and what it leaves in each file
+(docs/tools.md)."""
 
 from dataclasses import dataclass
 
@@ -13,6 +14,8 @@ from model.variables import NOT_DEFINED, REFUSALS, Environment
 WARNING = b"Warning: Bad CRC, using default environment\n"
 CANNOT_READ_INPUT = b"fwenv: cannot read standard input\n"
 CANNOT_READ = b"fwenv: cannot read %s\n"
+CANNOT_WRITE_OUTPUT = b"fwenv: cannot write standard output\n"
+CANNOT_WRITE = b"fwenv: cannot write %s\n"
 TOO_SHORT = b"fwenv: %s is too short\n"
 OVERLAP = b"fwenv: copies overlap\n"
 REFUSED_TEXT = b"fwenv: %s: %s\n"
@@ -38,8 +41,8 @@ class Ended(Exception):
 
 
 class Program:
-    """A call over files: a path that isn't there, or is none of a file, has no bytes. `fails` says that standard input fails after
-    its bytes."""
+    """A call over files: a path that isn't there, or is none of a file, has no bytes. `fails` says that standard
+    input fails after its bytes."""
 
     def __init__(self, files, given=b"", fails=False):
         self.files = dict(files)

@@ -1,5 +1,5 @@
-"""Texts around an environment: configurations, texts for import and export, set scripts (docs/texts.md), and stand-in files
-(docs/runs.md, "Stand-ins")."""
+"""Texts around an environment: configurations, texts for import and export, set scripts (docs/texts.md), and stand-in
+files (docs/runs.md, "Stand-ins")."""
 
 import re
 from dataclasses import dataclass

@@ -31,8 +31,8 @@ class Token:
             return bytes(part[1] for part in self.parts)
         return None
 
-    def front(self):
-        """The unquoted plain bytes at the word's front."""
+    def prefix(self):
+        """The unquoted plain bytes at the word's beginning."""
         text = bytearray()
         for part in self.parts:
             if part[0] != "plain":
@@ -42,9 +42,9 @@ class Token:
 
     def assigned_name(self):
         """The name that the word assigns to; None where it is no assignment."""
-        front = self.front()
-        name = NAME.match(front)
-        if name and front[name.end() : name.end() + 1] == b"=":
+        prefix = self.prefix()
+        name = NAME.match(prefix)
+        if name and prefix[name.end() : name.end() + 1] == b"=":
             return name.group()
         return None
 
@@ -126,7 +126,7 @@ class Lexer:
         self.at += 1
         while self.at < len(self.text):
             byte = self.text[self.at : self.at + 1]
-            behind = self.text[self.at + 1 : self.at + 2]
+            after = self.text[self.at + 1 : self.at + 2]
             if byte == b'"':
                 self.at += 1
                 return parts + [("mark",)]
@@ -134,8 +134,8 @@ class Lexer:
                 parts.append(self.dollar(True))
             elif self.joins():
                 self.at += 2
-            elif byte == b"\\" and behind and behind in b'$"\\':
-                parts.append(("quoted", behind[0]))
+            elif byte == b"\\" and after and after in b'$"\\':
+                parts.append(("quoted", after[0]))
                 self.at += 2
             else:
                 parts.append(("quoted", byte[0]))
@@ -145,21 +145,21 @@ class Lexer:
     def dollar(self, is_quoted):
         """What a `$` begins."""
         at = self.at
-        behind = self.text[at + 1 : at + 2]
+        after = self.text[at + 1 : at + 2]
         name = NAME.match(self.text, at + 1)
         if name:
             self.at = name.end()
             return ("name", name.group(), is_quoted)
-        if behind == b"{":
+        if after == b"{":
             braced = BRACED.match(self.text, at + 1)
             if not braced:
                 raise Fault("Substitution", at)
             self.at = braced.end()
             return ("name", braced.group(1), is_quoted)
-        if behind == b"?":
+        if after == b"?":
             self.at += 2
             return ("status", is_quoted)
-        if behind and behind in b"0123456789#@*$!-(":
+        if after and after in b"0123456789#@*$!-(":
             raise Fault("Substitution", at)
         self.at += 1
         return ("quoted" if is_quoted else "plain", ord("$"))

@@ -1,0 +1,220 @@
+"""Streams and files that are cut at each byte, at once and byte by byte: each stream that a tool writes, each file and copy that it
+reads, and the copies that it writes. Every byte of every file is compared, and how often the cut stream was called."""
+
+import functools
+import subprocess
+from dataclasses import replace
+
+from differential import running
+from differential.boards import CONFIG, DEVICE, arguments, board
+from differential.damage import prefixes
+from differential.running import Case, Cut
+from model.image import ERASED, Geometry
+from model.program import CANNOT_READ, CANNOT_READ_INPUT, CANNOT_WRITE, CANNOT_WRITE_OUTPUT, TOO_SHORT, WARNING, Answer
+
+FORM = Geometry(2, 40)
+STORED = [FORM.image(7, b"#q=1\0a=one 2\0m=x\ny\0"), FORM.image(6, b"old=1\0")]
+FILES = board(FORM, STORED)
+NEVER_WRITTEN = board(FORM, [ERASED * FORM.size] * 2)
+ONE = Geometry(1, 9).image(0, b"a=b\0")
+TOO_MUCH = b"x" * 40
+SESSION = b".mark p\nsetenv a 3\n.save\necho x\n.what"
+WRONG_OPTION = b"""error: unexpected argument '--frobnicate' found
+
+Usage: fwenv [OPTIONS] [COMMAND]
+
+For more information, try '--help'.
+"""
+STAND_INS = b"mmc 1\nusb\n#\nmmcinfo 12\nfastboot_devices 3\n"
+ASKED = b"mmc\nusb\nmmcinfo\nfastboot_device\nfastboot_devices\nsetenv b $?\n.save\n"
+
+
+def call(words, files=(), given=b"", over=FILES):
+    tool, *rest = words
+    return Case(tool.decode(), arguments(tool, *rest), over | dict(files), given)
+
+
+# What prints one text on standard output alone
+PRINTING = [
+    Case("an image", [], given=ONE),
+    Case("the version", [b"--version"]),
+    call([b"printenv"]),
+    call([b"printenv", b"m", b"a"]),
+    call([b"printenv", b"-n", b"a"]),
+    call([b"export"], over=board(FORM, [FORM.image(7, b"a=b\0"), ERASED * FORM.size])),
+]
+# What prints on both streams
+ON_BOTH = [call([b"printenv", b"q", b"a"]), call([b"export"])]
+# What says one text on standard error
+SAYING = [
+    Case("no image", []),
+    Case("a number past its limit", [b"session", b"--depth", b"17"]),
+    Case("a wrong option", [b"--frobnicate"], wanted=Answer(1, b"", WRONG_OPTION, {})),
+    Case("a word that is not UTF-8", [b"\xff"]),
+    Case("a file that is not there", [b"export", b"-c", b"absent"], FILES),
+    call([b"printenv", b"-n"]),
+    call([b"setenv", b"a=b", b"c"]),
+    call([b"setenv", b"a", TOO_MUCH]),
+    call([b"setenv", b"-s", b"text"], {b"text": b"a 1\nb " + TOO_MUCH + b"\na 2\n"}),
+    call([b"import", b"text"], {b"text": b"a=1\nb=" + TOO_MUCH + b"\n"}),
+    call([b"import", b"text"], {b"text": b"=1\n"}),
+    call([b"session", b"--write", b"--stubs", b"absent"], given=b".save\n"),
+    call([b"printenv", b"--default", b"text"], {b"text": b"p=1\n"}, over=NEVER_WRITTEN),
+]
+# What reads a file on whose bytes its answer depends
+READING = [
+    (CONFIG, call([b"setenv", b"a", b"1"])),
+    (b"text", call([b"import", b"text"], {b"text": b"a=1\nm=2\\\n3\n#q=\nb=4\n"})),
+    (b"text", call([b"setenv", b"-s", b"text"], {b"text": b"a 1\nm\n# n\nb 4 \n"})),
+    (b"text", call([b"setenv", b"--default", b"text", b"c", b"3"], {b"text": b"a=1\nb=2\n"}, over=NEVER_WRITTEN)),
+    (b"text", call([b"session", b"--write", b"--stubs", b"text"], {b"text": STAND_INS}, ASKED)),
+]
+
+
+def places(length, *endings):
+    """Where a stream is cut, how many bytes come a call, and how it ends; of one byte at most none comes in two ways."""
+    return [(after, step, then) for after in range(length) for then in endings for step in ((0, 1) if after > 1 else (0,))]
+
+
+def least_calls(after, step):
+    """The calls that move so many bytes, and one more."""
+    return (after if step else after > 0) + 1
+
+
+def cut_case(case, stream, call, place, wanted, opening=1, counted=True):
+    after, step, then = place
+    moved = (least_calls(after, step), after) if counted else None
+    name = f"{case.name}: {stream} {then} after {after} bytes, {step or 'all'} a call"
+    return replace(case, name=name, cut=Cut(stream, call, after, then, step, opening), moved=moved, wanted=wanted)
+
+
+def taken_whole(case, stream, length, wanted, calls=1):
+    """The stream takes all, byte by byte and at once."""
+    yield replace(case, cut=Cut(stream, "write", step=1), moved=(length, length), wanted=wanted)
+    yield replace(case, cut=Cut(stream, "write"), moved=(calls, length) if calls else None, wanted=wanted)
+
+
+def output_cut(case, answer, counted=True):
+    """A prefix goes out, in as few calls as there can be, and standard error says so; nothing is written."""
+    for place in places(len(answer.output), "fail", "none"):
+        wanted = Answer(1, answer.output[: place[0]], CANNOT_WRITE_OUTPUT, case.files)
+        yield cut_case(case, 1, "write", place, wanted, counted=counted)
+    yield from taken_whole(case, 1, len(answer.output), answer, counted)
+
+
+def errors_cut(case):
+    """A prefix goes out; the status, standard output and the files are what they are with the whole text."""
+    answer = case.wanted or case.answer()
+    for place in places(len(answer.errors), "fail", "none"):
+        wanted = replace(answer, errors=answer.errors[: place[0]])
+        yield cut_case(case, 2, "write", place, wanted, counted=False)
+    yield replace(case, cut=Cut(2, "write", step=1), moved=(len(answer.errors),) * 2, wanted=answer)
+
+
+def both_cut(case):
+    """The stream that is cut has a prefix of its text, the other one a prefix of its own, and after it the fault."""
+    answer = case.answer()
+    for stream, text in ((1, answer.output), (2, answer.errors)):
+        for place in places(len(text), "fail", "none"):
+            made = cut_case(case, stream, "write", place, None, counted=False)
+            made.accepts = functools.partial(is_cut_of, answer, stream, place[0])
+            yield made
+    yield replace(case, cut=Cut(2, "write", step=1), wanted=answer)
+
+
+def is_cut_of(answer, stream, after, found):
+    if stream == 2:
+        is_said = found.errors == answer.errors[:after] and answer.output.startswith(found.output)
+    else:
+        is_said = found.output == answer.output[:after] and found.errors.endswith(CANNOT_WRITE_OUTPUT)
+        is_said = is_said and answer.errors.startswith(found.errors.removesuffix(CANNOT_WRITE_OUTPUT))
+    return is_said and found.status == 1 and found.files == answer.files
+
+
+def helps():
+    """The text of the help is in no document to the byte: it is the one that comes whole."""
+    text = subprocess.run([running.PROGRAM, "--help"], capture_output=True, check=True).stdout
+    case = Case("the help", [b"--help"])
+    case.is_modelled = False
+    yield from output_cut(case, Answer(0, text, b"", {}))
+
+
+def sessions():
+    """What was answered is a prefix, and the device is written at the end alone."""
+    case = call([b"session", b"--write"], given=SESSION)
+    yield from output_cut(case, case.answer(), counted=False)
+
+
+def printed():
+    for case in PRINTING:
+        yield from output_cut(case, case.answer())
+
+
+def read_failing(name, case):
+    """The fault is said, the file isn't read again, and nothing is written."""
+    warning = WARNING * (name != CONFIG and case.files[DEVICE] == NEVER_WRITTEN[DEVICE])
+    for place in places(len(case.files[name]) + 1, "fail"):
+        yield cut_case(case, name, "read", place, Answer(1, b"", warning + CANNOT_READ % name, case.files))
+
+
+def read_ending(name, case):
+    """The file ends for good or, after a pause, has more to come: it is as if it had those bytes and no more."""
+    whole = case.files[name]
+    shorter = [replace(case, files=case.files | {name: prefix}).answer() for prefix in prefixes(whole)]
+    outcomes = {(answer.status, answer.output, answer.errors, answer.files[DEVICE]) for answer in shorter}
+    assert len(outcomes) > 2, f"{case.name} tells on nothing"
+    for place in places(len(whole) + 1, "none", "pause"):
+        answer = shorter[place[0]]
+        wanted = replace(answer, files=answer.files | {name: whole})
+        yield cut_case(case, name, "read", place, wanted)
+
+
+def image_read():
+    """The image on standard input; after a pause it would go on."""
+    case = PRINTING[0]
+    for place in places(len(ONE) + 1, "fail", "none", "pause"):
+        answer = replace(case, given=ONE[: place[0]]).answer()
+        wanted = Answer(1, b"", CANNOT_READ_INPUT, {}) if place[2] == "fail" else answer
+        yield cut_case(case, 0, "read", place, wanted)
+
+
+def copies_read():
+    case = call([b"setenv", b"a", b"1"])
+    for opening in (1, 2):
+        for place in places(FORM.size, "fail", "none", "pause"):
+            text = CANNOT_READ if place[2] == "fail" else TOO_SHORT
+            wanted = Answer(1, b"", text % DEVICE, case.files)
+            yield cut_case(case, DEVICE, "read", place, wanted, opening, counted=False)
+    case = call([b"printenv", b"a"])
+    yield replace(case, cut=Cut(DEVICE, "read", step=1), moved=(FORM.size, FORM.size), wanted=case.answer())
+
+
+def saves():
+    """What was taken is the prefix of the copy, nothing else has changed, and it is said; of two copies the first one is whole."""
+    case = call([b"setenv", b"a", b"3"])
+    answer = case.answer()
+    new = answer.files[DEVICE][-4 - FORM.size : -4]
+    for place in places(FORM.size, "fail", "none"):
+        left = board(FORM, [STORED[0], new[: place[0]] + STORED[1][place[0] :]])
+        yield cut_case(case, DEVICE, "write", place, Answer(1, b"", CANNOT_WRITE % DEVICE, left))
+    yield from taken_whole(case, DEVICE, FORM.size, answer)
+    not_flushed = replace(answer, status=1, errors=CANNOT_WRITE % DEVICE)
+    yield replace(case, cut=Cut(DEVICE, "sync"), moved=(1, 0), wanted=not_flushed)
+
+
+def saves_of_both():
+    case = call([b"session", b"--write"], given=b".save\n.save\n")
+    second, first = [FORM.image(flag, b"#q=1\0a=one 2\0m=x\ny\0") for flag in (8, 9)]
+    for after in range(FORM.size):
+        cut_first = [first[:after] + STORED[0][after:], STORED[1]]
+        cut_second = [first, second[:after] + STORED[1][after:]]
+        for opening, copies in ((1, cut_first), (2, cut_second)):
+            wanted = Answer(1, case.answer().output, CANNOT_WRITE % DEVICE, board(FORM, copies))
+            yield cut_case(case, DEVICE, "write", (after, 0, "fail"), wanted, opening)
+
+
+def chunks():
+    each = [functools.partial(errors_cut, case) for case in SAYING] + [functools.partial(both_cut, case) for case in ON_BOTH]
+    for name, case in READING:
+        each += [functools.partial(read_failing, name, case), functools.partial(read_ending, name, case)]
+    return each + [helps, sessions, printed, image_read, copies_read, saves, saves_of_both]

@@ -1,0 +1,170 @@
+"""Sessions by hand: blocks and dot lines, names of marks, limits, stand-ins, wrong numbers, and what is written back.
+A row is a name, the input, what is printed, and the options."""
+
+from differential.boards import arguments, board
+from differential.running import Case
+from model.arguments import LIMITS, NO_NUMBER
+from model.image import ERASED, Geometry
+from model.program import WARNING, Answer
+
+SMALL, PAIR = Geometry(1, 16), Geometry(2, 10)
+NAME = b"abcdefghijklmnopqrstuvwxyz012345"
+
+BLOCKS = [
+    (
+        "blocks and dot lines",
+        b'setenv a 1; echo $a\n.save\nsetenv a 2\n.undo\n.print\n.x\necho "\n',
+        b"1\n[Finished 0 2]\nSaved copy 1\n[Finished 0 1]\n[Undone]\n[Unknown]\n[Syntax]\n",
+    ),
+    (
+        "marks",
+        b"setenv a 1\n.mark p\nsetenv a 2\n.save\n.mark q\nsetenv b 3\n.undo p\n.print\n.undo q\n.undo\n.print\n.mark\n",
+        b"[Finished 0 1]\n[Marked]\n[Finished 0 1]\nSaved copy 1\n[Marked]\n[Finished 0 1]\n[Undone]\na=1\n[Gone]\n[Undone]\n[Unknown]\n",
+    ),
+    ("exit", b"exit 2\n.print\necho a\n", b"[Exited 2 1]\na\n[Finished 0 1]\n"),
+    ("no input", b"", b""),
+    ("a newline", b"\n", b"[Finished 0 0]\n"),
+    ("a newline between dot lines", b".x\n\n.x\n", b"[Unknown]\n[Finished 0 0]\n[Unknown]\n"),
+    ("a last line without a newline", b".x\necho a", b"[Unknown]\na\n[Finished 0 1]\n"),
+    ("a last dot line without a newline", b"echo a\n.save", b"a\n[Finished 0 1]\nSaved copy 1\n"),
+    ("a dot line inside quotes", b'echo "a\n.x\n"\n', b"[Syntax]\n[Unknown]\n[Syntax]\n"),
+    (
+        "blanks and carriage returns behind dot lines",
+        b".save \t\r\n.undo\r\n.print \r \r\n.mark a\t\r\n.undo a \n",
+        b"Saved copy 1\n[Undone]\n[Marked]\n[Undone]\n",
+    ),
+    ("blanks before a dot", b" .save\n", b"Unknown command '.save' - try 'help'\n[Finished 1 1]\n"),
+    ("a 0 byte", b"echo a\0\n.x\0\n.save\n", b"[Syntax]\n[Unknown]\nSaved copy 1\n"),
+    (
+        "local variables and status of a block",
+        b'x=1; false\n.x\necho "$x$?"\n',
+        b"[Finished 1 2]\n[Unknown]\n0\n[Finished 0 1]\n",
+    ),
+    ("several lines", b"echo a\necho b; false\n.print\n", b"a\nb\n[Finished 1 3]\n"),
+    (
+        "a run that is too large for the board",
+        b"setenv abc 1234567\n.print\n",
+        b'## Error: no room for "abc"\n[Finished 1 1]\n',
+    ),
+]
+NAMES = [
+    ("a name of 32 bytes", b".mark %s\n.undo %s\n" % (NAME, NAME), b"[Marked]\n[Undone]\n"),
+    ("a name of 33 bytes", b".mark %s6\n.undo %s6\n.undo %s\n" % (NAME, NAME, NAME), b"[Unknown]\n[Unknown]\n[Gone]\n"),
+    (
+        "dot lines of no form",
+        b".\n..\n.Save\n.saves\n.save x\n.print a\n.marks\n.markx\n.mark a b\n.undox\n.undo a b\n.mark \t\n",
+        b"[Unknown]\n" * 12,
+    ),
+    ("blanks before a name", b".mark \t a\n.undo\ta\n", b"[Marked]\n[Undone]\n"),
+    (
+        "a name given twice",
+        b".mark a\nsetenv v 1\n.mark a\nsetenv v 2\n.undo a\n.print\n.undo\n.undo a\n",
+        b"[Marked]\n[Finished 0 1]\n[Marked]\n[Finished 0 1]\n[Undone]\nv=1\n[Undone]\n[Gone]\n",
+    ),
+    (
+        "later marks are gone",
+        b".mark a\n.mark b\n.undo a\n.undo b\n.undo a\n",
+        b"[Marked]\n[Marked]\n[Undone]\n[Gone]\n[Undone]\n",
+    ),
+    (
+        "65 marks",
+        b"".join(b".mark m%d\n" % number for number in range(1, 65)) + b".mark more\n.undo more\n.undo m64\n.undo m63\n.mark more\n",
+        b"[Marked]\n" * 64 + b"[Full]\n[Gone]\n[Undone]\n[Undone]\n[Marked]\n",
+    ),
+]
+BOUNDED = [
+    ("no step", b"echo a\n", b"[Steps 0 0]\n", b"--steps", b"0"),
+    ("two steps", b"echo a; false; echo b\n", b"a\n[Steps 1 2]\n", b"--steps", b"2"),
+    ("no depth", b"setenv r 'echo a'; run r\n", b"[Depth 0 2]\n", b"--depth", b"0"),
+    ("the usual depth", b"setenv r 'run r'; run r\n", b"[Depth 0 18]\n"),
+    ("short words", b"echo abcd; echo abcde\n", b"abcd\n[Word 0 1]\n", b"--word", b"4"),
+    ("a short text", b"echo ab; echo c\n", b"ab\n[Output 0 1]\n", b"--output", b"3"),
+    (
+        "the limits of each block",
+        b"echo a\n.x\necho b\n",
+        b"a\n[Finished 0 1]\n[Unknown]\nb\n[Finished 0 1]\n", b"--steps", b"1", b"--output", b"2",
+    ),
+    ("the usual steps", b"while true; do true; done\n", b"[Steps 0 100000]\n"),
+    (
+        "all that may be asked for",
+        b"echo a\n",
+        b"a\n[Finished 0 1]\n", b"--steps", b"1000000", b"--depth", b"16", b"--word", b"65536", b"--output", b"16777216",
+    ),
+    ("leading zeros", b"echo a; echo b\n", b"a\n[Steps 0 1]\n", b"--steps", b"00000000000000000000000001"),
+]
+NO_NUMBERS = [b"", b"x", b"-1", b"+1", b"1.5", b" 1", b"1 ", b"0x10", b"1_000", b"4294967296", b"18446744073709551616", b"9" * 23]
+USAGE = b"\nUsage: fwenv session [OPTIONS]\n\nFor more information, try '--help'.\n"
+WRONG_WORDS = [
+    ([b"--steps", b"1", b"--steps", b"1"], b"the argument '--steps <N>' cannot be used multiple times"),
+    ([b"file"], b"unexpected argument 'file' found"),
+]
+# The stand-in file, the input, the status, what is printed, and the message (after the warning)
+STAND_INS = [
+    (
+        b"# both\nmmc\r\n usb 1 \n",
+        b"mmc dev 0 && usb start || foo\n",
+        b"+ mmc dev 0\n+ usb start\nUnknown command 'foo' - try 'help'\n[Finished 1 3]\n",
+        b"",
+    ),
+    (b"x 256\n", b"echo a\n", b"", b"fwenv: stand-ins: Line in line 1\n"),
+    (b"mmc\n\necho 0\n", b"echo a\n", b"", b"fwenv: stand-ins: Builtin in line 3\n"),
+    (b"x\nx\n", b"echo a\n", b"", b"fwenv: stand-ins: Twice in line 2\n"),
+    (b"\0" * (2**24 + 1), b"echo a\n", b"", b"fwenv: cannot read stand-ins\n"),
+    (None, b"echo a\n", b"", b"fwenv: cannot read stand-ins\n"),
+]
+# Two copies, of which the first is current: the input, what is printed, the second copy and perhaps the first one, and the options
+FIRST, SECOND = PAIR.image(7, b"a=b\0"), PAIR.image(7, b"\0")
+WRITES = [
+    (b".save\n", b"Saved copy 2\n", SECOND, FIRST),
+    (b".save\n", b"Saved copy 2\n", PAIR.image(8, b"a=b\0"), FIRST, b"--write"),
+    (b"setenv a\nsaveenv", b"Saved copy 2\n[Finished 0 2]\n", PAIR.image(8, b"\0"), FIRST, b"--write"),
+    (b".save\n.save\n", b"Saved copy 2\nSaved copy 1\n", PAIR.image(8, b"a=b\0"), PAIR.image(9, b"a=b\0"), b"--write"),
+    (b"setenv a c\n", b"[Finished 0 1]\n", SECOND, FIRST, b"--write"),
+    (b".save\n.undo\n", b"Saved copy 2\n[Undone]\n", SECOND, FIRST, b"--write"),
+]
+
+
+def over_small_board(name, given, output, *words, files=(), errors=b""):
+    """A session over a single image of 16 bytes that was never written, which is left so."""
+    files = board(SMALL, [ERASED * SMALL.size]) | dict(files)
+    wanted = Answer(int(errors != b""), output, WARNING + errors, files)
+    return Case(name, arguments(b"session", *words), files, given, wanted=wanted, seconds=1)
+
+
+def answered():
+    for row in BLOCKS + NAMES + BOUNDED:
+        yield over_small_board(*row)
+    text = {b"default": b"p=1\n"}
+    yield over_small_board("a default text", b".print\n", b"p=1\n", b"--default", b"default", files=text)
+
+
+def stood_in():
+    for text, given, output, errors in STAND_INS:
+        files = {} if text is None else {b"stand-ins": text}
+        yield over_small_board("stand-ins", given, output, b"--stubs", b"stand-ins", files=files, errors=errors)
+    words = [b"--stubs", b"stand-ins", b"--default", b"absent"]
+    yield over_small_board("the default text first", b"", b"", *words, errors=b"fwenv: cannot read absent\n")
+
+
+def wrong_numbers():
+    """A fault of the command line comes before any file is looked for; of two the first in the order of
+    docs/dry-runs.md is told."""
+    for option, (_, most) in LIMITS.items():
+        for text in [*NO_NUMBERS, b"%d" % (most + 1)]:
+            wanted = Answer(1, b"", NO_NUMBER % (text, option.encode(), most), {})
+            yield Case("a wrong number", arguments(b"session", b"%s=%s" % (option.encode(), text)), wanted=wanted)
+    words = [b"session", b"--output", b"16777217", b"--depth", b"17"]
+    yield Case("two wrong numbers", words, wanted=Answer(1, b"", NO_NUMBER % (b"17", b"--depth", 16), {}))
+    for words, text in WRONG_WORDS:
+        yield Case("wrong words", [b"session", *words], wanted=Answer(1, b"", b"error: %s\n%s" % (text, USAGE), {}))
+
+
+def written():
+    for given, output, second, first, *words in WRITES:
+        files = board(PAIR, [FIRST, SECOND])
+        wanted = Answer(0, output, b"", board(PAIR, [first, second]))
+        yield Case("what is written", arguments(b"session", *words), files, given, wanted=wanted)
+
+
+def chunks():
+    return [answered, stood_in, wrong_numbers, written]

@@ -1,0 +1,114 @@
+"""The tools by hand: each row is a call over a board, what it prints, and the copies that it leaves."""
+
+from differential.boards import CONFIG, arguments, board
+from differential.running import Case
+from model.arguments import NO_SUBCOMMAND, VERSION
+from model.image import ERASED, Geometry, entries
+from model.program import WARNING, Answer
+
+# Two copies of 10 bytes; the first is current
+PAIR = Geometry(2, 10)
+FIRST, SECOND = PAIR.image(7, b"a=b\0"), PAIR.image(7, b"\0")
+SAVED, EMPTIED = PAIR.image(8, b"a=b\0"), PAIR.image(8, b"\0")
+BLANK = ERASED * 10
+NO_ROOM_A = b'## Error: no room for "a"\n'
+# Arguments, status, output, errors; the second copy afterwards (SECOND), and a text in the file `text`
+OVER_GOOD_COPIES = [
+    ([b"printenv"], 0, b"a=b\n", b""),
+    ([b"printenv", b"a", b"a"], 0, b"a=b\na=b\n", b""),
+    ([b"printenv", b"-n", b"a"], 0, b"b\n", b""),
+    ([b"printenv", b"q", b"a"], 1, b"a=b\n", b'## Error: "q" not defined\n'),
+    ([b"printenv", b"-n"], 1, b"", b"## Error: -n takes exactly one name\n"),
+    ([b"printenv", b"--default", b"text"], 0, b"a=b\n", b"", SECOND, b"p=1\n"),
+    ([b"export"], 0, b"a=b\n", b""),
+    ([b"setenv", b"a", b"b"], 0, b"", b"", SAVED),
+    ([b"setenv", b"a"], 0, b"", b"", EMPTIED),
+    ([b"setenv", b"a", b""], 0, b"", b"", EMPTIED),
+    ([b"setenv", b"q"], 0, b"", b"", SAVED),
+    ([b"setenv", b"a", b"bc"], 1, b"", NO_ROOM_A),
+    ([b"setenv", b"a=b", b"c"], 1, b"", b'## Error: bad name or value for "a=b"\n'),
+    ([b"setenv", b"-s", b"text"], 0, b"", b"", SAVED, b"# nothing\n"),
+    ([b"setenv", b"-s", b"text"], 0, b"", b"", EMPTIED, b"a c\na\n"),
+    ([b"setenv", b"-s", b"text"], 1, b"", b'## Error: no room for "b"\n', SECOND, b"a c\nb c\na d\n"),
+    ([b"setenv", b"-s", b"text"], 1, b"", b"fwenv: text: EmptyName in line 2\n", SECOND, b"a c\n=b\n"),
+    ([b"setenv", b"-s", b"absent"], 1, b"", b"fwenv: cannot read absent\n"),
+    ([b"import", b"text"], 0, b"", b"", SAVED, b"# nothing\na=b\n"),
+    ([b"import", b"text"], 1, b"", b"## Error: 2 entries refused\n", EMPTIED, b"a=bc\nq=1\na=\n"),
+    ([b"import", b"text"], 1, b"", b"fwenv: text: EmptyName in line 3\n", SECOND, b"a=b\n\n=c\n"),
+    ([b"import", b"text"], 1, b"", b"fwenv: text: Nul\n", SECOND, b"a=b\0\n"),
+]
+# The same where no copy is good; the warning comes first, and it is the first copy that is written
+OVER_BLANK_COPIES = [
+    ([b"printenv"], 0, b"", b""),
+    ([b"printenv", b"--default", b"text"], 0, b"p=1\n", b"", BLANK, b"p=1\n"),
+    ([b"printenv", b"--default", b"text"], 1, b"", b"fwenv: text: Full in line 2\n", BLANK, b"p=1\nq=22\n"),
+    ([b"printenv", b"--default", b"text"], 1, b"", b"fwenv: text: Full in line 1\n", BLANK, b".flags=a\n"),
+    ([b"printenv", b"--default", b"absent"], 1, b"", b"fwenv: cannot read absent\n"),
+    ([b"import", b"--default", b"text", b"absent"], 1, b"", b"fwenv: cannot read absent\n", BLANK, b"p=1\n"),
+    ([b"setenv", b"a", b"b"], 0, b"", b"", PAIR.image(1, b"a=b\0")),
+]
+# A single image of 64 bytes whose variables have types and accesses: arguments, status, output, errors, and what is changed
+SINGLE = Geometry(1, 64)
+TYPED = {b".flags": b"n:d,r:sr", b"a": b"1", b"m": b"x\\\ny"}
+OVER_TYPES = [
+    ([b"setenv", b"n", b"x"], 1, b"", b'## Error: type check failure for "n"\n', {}),
+    ([b"setenv", b"r", b"x"], 1, b"", b'## Error: Can\'t create "r"\n', {}),
+    ([b"setenv", b"a", b"--", b"-x", b"2"], 0, b"", b"", {b"a": b"-x 2"}),
+    ([b"setenv", b"--", b"#q", b"1"], 0, b"", b"", {b"#q": b"1"}),
+    ([b"export"], 0, b".flags=n:d,r:sr\na=1\nm=x\\\\\\\ny\n", b"", {}),
+]
+WRONG_WORDS = [
+    ([b"frob"], NO_SUBCOMMAND % b"frob"),
+    ([b""], NO_SUBCOMMAND % b""),
+    ([b"setenv", b"-c", CONFIG], None),
+    ([b"setenv", b"-c", CONFIG, b"-s", b"text", b"a"], None),
+]
+
+
+def over_pair(copies, side, warning, words, status, output, errors, left=None, text=None):
+    """A row over two copies, of which the one on this side is `left` afterwards."""
+    files = {} if text is None else {b"text": text}
+    after = list(copies)
+    after[side] = left or copies[side]
+    wanted = Answer(status, output, warning + errors, board(PAIR, after) | files)
+    tool, *rest = words
+    return Case("a tool", arguments(tool, *rest), board(PAIR, copies) | files, wanted=wanted)
+
+
+def over_pairs():
+    for row in OVER_GOOD_COPIES:
+        yield over_pair([FIRST, SECOND], 1, b"", *row)
+    for row in OVER_BLANK_COPIES:
+        yield over_pair([BLANK, BLANK], 0, WARNING, *row)
+
+
+def over_types():
+    for (tool, *rest), status, output, errors, changes in OVER_TYPES:
+        after = SINGLE.image(0, entries(TYPED | changes))
+        wanted = Answer(status, output, errors, board(SINGLE, [after]))
+        yield Case("types", arguments(tool, *rest), board(SINGLE, [SINGLE.image(0, entries(TYPED))]), wanted=wanted)
+    image = SINGLE.image(0, entries({b"#q": b"1", b"m": b"x\ny"}))
+    wanted = Answer(1, b"m=x\\\ny\n", b'## Error: can\'t export "#q"\n', board(SINGLE, [image]))
+    yield Case("a name that can't be exported", arguments(b"export"), board(SINGLE, [image]), wanted=wanted)
+    yield Case("an image", [], given=image, wanted=Answer(0, b"#q=1\nm=x\ny\n", b"", {}))
+
+
+def in_big_endian():
+    """The word may stand before the subcommand and after it."""
+    form = Geometry(1, 9, "big")
+    image = b"\x2b\x62\x96\xd2a=b\0\0"
+    words = [b"--big-endian", b"setenv", b"-c", CONFIG, b"a", b"b"]
+    yield Case("big-endian", words, board(form, [ERASED * 9]), wanted=Answer(0, b"", WARNING, board(form, [image])))
+    words = arguments(b"printenv", b"--big-endian")
+    yield Case("big-endian", words, board(form, [image]), wanted=Answer(0, b"a=b\n", b"", board(form, [image])))
+
+
+def words():
+    for given, errors in WRONG_WORDS:
+        files = board(PAIR, [FIRST, SECOND]) | {b"text": b"a c\n"}
+        yield Case("wrong words", given, files, wanted=Answer(1, b"", errors, files))
+    yield Case("the version", [b"--version"], wanted=Answer(0, VERSION, b"", {}))
+
+
+def chunks():
+    return [over_pairs, over_types, in_big_endian, words]
