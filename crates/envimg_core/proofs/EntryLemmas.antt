@@ -1,5 +1,5 @@
 -- A data area cut at its first 0, and what its front is worth.
-use Rattle.std.proofs.Common.{◌≡◌, ℕ, zero, suc, ◌+◌, ◌-◌, ◌<◌, ◌≤◌, Bool, true, false, not, cond, List, [], ◌∷◌, map, filter, length, get_or, take, drop, Option, Some, None, refl, sym, ap, ◌∙◌, subst, arith, length-drop}
+use Rattle.std.proofs.Common.{◌≡◌, ℕ, zero, suc, ◌+◌, ◌-◌, ◌<◌, Bool, true, false, not, cond, List, [], ◌∷◌, map, filter, length, get_or, take, drop, Option, Some, None, refl, sym, ap, ◌∙◌, subst, arith, length-drop}
 use Rattle.std.specs.Prelude.{◌&&◌, ◌||◌, nat_eq}
 use Rattle.std.specs.List.{slice_split, position_or_len, before_first, after_first, onto_first, list_any, take_while}
 use Rattle.std.proofs.lemmas.List.Sums.{position_or_len_is, take_while-cons}
@@ -90,112 +90,52 @@ cut_at xs k v h e =
     let rest : v ≡ value_of (after_first is_equals xs) = e ∙ ap value_of (take_rest xs (k + 1) ∙ ap (λ (n : ℕ). drop (n + 1) xs) (sym place)) in
     λ i. (name i, rest i)
 
--- ---- a list that is ended begins with a 0, or has two side by side
+-- ---- whether the list is ended, piece by piece
 
-abbrev pub zero_first : List ℕ → Bool
-zero_first [] = false
-zero_first (x ∷ xs) = is_zero x
+pub not_ended : (xs : List ℕ) → IsFirstByte is_zero xs None → false ≡ is_terminated xs
+not_ended xs h = sym (ap (list_any is_empty) (ended_none xs h))
 
-abbrev pub two_zeros : List ℕ → Bool
-two_zeros [] = false
-two_zeros (x ∷ xs) = (is_zero x && zero_first xs) || two_zeros xs
+pub ended_here : (xs : List ℕ) → IsFirstByte is_zero xs (Some 0) → true ≡ is_terminated xs
+ended_here xs h = sym (ap (list_any is_empty) (ended_first xs 0 (found is_zero xs 0 h) (omega (arith, h.0.high))))
 
-pub behind_first : List (List ℕ) → List (List ℕ)
-behind_first [] = []
-behind_first (q ∷ qs) = qs
+pub ended_further : (xs : List ℕ) (k : ℕ) → 0 < k → IsFirstByte is_zero xs (Some k) → is_terminated xs ≡ is_terminated (take (length xs - (k + 1)) (drop (k + 1) xs))
+ended_further xs k p h =
+    let high : k < length xs = omega (arith, h.0.high) in
+    ap (list_any is_empty) (ended_first xs k (found is_zero xs k h) high)
+    ∙ ap (λ b. b || is_terminated (drop (k + 1) xs)) (front_empty k xs p high)
+    ∙ ap is_terminated (sym (take_rest xs (k + 1)))
 
-pub ended_later : List ℕ → Bool
-ended_later xs = list_any is_empty (but_last (behind_first (slice_split is_zero xs)))
+-- ---- an area that ends in two zeros: of its pieces one after the first is empty
 
-longer_first : (x : ℕ) (q : List ℕ) (qs : List (List ℕ)) → list_any is_empty (but_last ((x ∷ q) ∷ qs)) ≡ list_any is_empty (but_last qs)
-longer_first x q [] = refl
-longer_first x q (r ∷ rs) = refl
+later_empty : List (List ℕ) → Bool
+later_empty [] = false
+later_empty (q ∷ qs) = list_any is_empty (but_last qs)
 
-empty_first : (q : List ℕ) (qs : List (List ℕ)) → list_any is_empty (but_last ([] ∷ q ∷ qs)) ≡ true
-empty_first q qs = refl
+any_later : (q : List ℕ) (qs : List (List ℕ)) → list_any is_empty (but_last qs) ≡ true → list_any is_empty (but_last (q ∷ qs)) ≡ true
+any_later q [] h = absurd (false≢true h)
+any_later q (r ∷ rs) h = ap (λ b. is_empty q || b) h ∙ or-true (is_empty q)
 
-pub terminated_by : (xs : List ℕ) → (is_terminated xs ≡ (zero_first xs || two_zeros xs)) × (ended_later xs ≡ two_zeros xs)
-unfolding ended_later behind_first
-terminated_by [] = (refl, refl)
-terminated_by (x ∷ xs) =
-    let below = terminated_by xs in
-    let parts = split_cons xs in
-    elim (is_zero x) as (λ b. is_zero x ≡ b → (is_terminated (x ∷ xs) ≡ (b || ((b && zero_first xs) || two_zeros xs))) × (ended_later (x ∷ xs) ≡ ((b && zero_first xs) || two_zeros xs))) [
-      | true ↦ λ e. (
-        ap (λ ps. list_any is_empty (but_last ps)) (slice_split-cons_yes is_zero x xs e ∙ ap (λ ps. [] ∷ ps) parts.2),
-        ap (λ ps. list_any is_empty (but_last (behind_first ps))) (slice_split-cons_yes is_zero x xs e) ∙ below.0,
-      )
-      | false ↦ λ e. (
-        ap (λ ps. list_any is_empty (but_last ps)) (slice_split-cons_no is_zero x xs e ∙ ap (onto_first x) parts.2)
-            ∙ longer_first x parts.0 parts.1
-            ∙ ap (λ ps. list_any is_empty (but_last (behind_first ps))) (sym parts.2)
-            ∙ below.1,
-        ap (λ ps. list_any is_empty (but_last (behind_first ps))) (slice_split-cons_no is_zero x xs e ∙ ap (onto_first x) parts.2)
-            ∙ ap (λ ps. list_any is_empty (but_last (behind_first ps))) (sym parts.2)
-            ∙ below.1,
-      )
-    ] refl
-
--- one byte more
-two_zeros_more : (xs : List ℕ) (j : ℕ) → suc j < length xs → two_zeros (take (suc (suc j)) xs) ≡ (two_zeros (take (suc j) xs) || (is_zero (get_or xs j 0) && is_zero (get_or xs (suc j) 0)))
-two_zeros_more [] j h = absurd (omega arith)
-two_zeros_more (x ∷ []) j h = absurd (omega arith)
-two_zeros_more (x ∷ y ∷ zs) zero h = swap (is_zero x) (is_zero y)
-  where
-    swap : (a b : Bool) → ((a && b) || ((b && false) || false)) ≡ (((a && false) || false) || (a && b))
-    swap true true = refl
-    swap true false = refl
-    swap false true = refl
-    swap false false = refl
-two_zeros_more (x ∷ y ∷ zs) (suc j) h =
-    ap (λ b. (is_zero x && is_zero y) || b) (two_zeros_more (y ∷ zs) j (omega arith))
-    ∙ onward (is_zero x && is_zero y) (two_zeros (take (suc j) (y ∷ zs))) (is_zero (get_or (y ∷ zs) j 0) && is_zero (get_or (y ∷ zs) (suc j) 0))
-  where
-    onward : (a b c : Bool) → (a || (b || c)) ≡ ((a || b) || c)
-    onward true b c = refl
-    onward false b c = refl
-
-pub two_zeros-next : (xs : List ℕ) (i : ℕ) → 0 < i → i < length xs → two_zeros (take (i + 1) xs) ≡ (two_zeros (take i xs) || (is_zero (get_or xs (i - 1) 0) && is_zero (get_or xs i 0)))
-two_zeros-next xs zero p h = absurd (omega arith)
-two_zeros-next xs (suc j) p h =
-    ap (λ (n : ℕ). two_zeros (take n xs)) (let e : suc j + 1 ≡ suc (suc j) = omega arith in e)
-    ∙ two_zeros_more xs j h
-    ∙ ap (λ (n : ℕ). two_zeros (take (suc j) xs) || (is_zero (get_or xs n 0) && is_zero (get_or xs (suc j) 0))) (let e : j ≡ suc j - 1 = omega arith in e)
-
-pub ended_step : (xs : List ℕ) (i : ℕ) (b : Bool) → 0 < i → i < length xs → b ≡ (zero_first xs || two_zeros (take i xs)) →
-    (b || (is_zero (get_or xs (i - 1) 0) && is_zero (get_or xs i 0))) ≡ (zero_first xs || two_zeros (take (i + 1) xs))
-ended_step xs i b p h e =
-    ap (λ t. t || (is_zero (get_or xs (i - 1) 0) && is_zero (get_or xs i 0))) e
-    ∙ regroup (zero_first xs) (two_zeros (take i xs)) (is_zero (get_or xs (i - 1) 0) && is_zero (get_or xs i 0))
-    ∙ ap (λ t. zero_first xs || t) (sym (two_zeros-next xs i p h))
-  where
-    regroup : (a b c : Bool) → ((a || b) || c) ≡ (a || (b || c))
-    regroup true b c = refl
-    regroup false b c = refl
-
-pub ended_init : (xs : List ℕ) → 0 < length xs → is_zero (get_or xs 0 0) ≡ (zero_first xs || two_zeros (take 1 xs))
-ended_init [] h = absurd (omega arith)
-ended_init (x ∷ xs) h = one (is_zero x)
-  where
-    one : (a : Bool) → a ≡ (a || ((a && false) || false))
-    one true = refl
-    one false = refl
-
-pub ended_whole : (xs : List ℕ) (i : ℕ) (b : Bool) → length xs ≤ i → b ≡ (zero_first xs || two_zeros (take i xs)) → b ≡ is_terminated xs
-ended_whole xs i b h e = e ∙ ap (λ ys. zero_first xs || two_zeros ys) (take_all i xs h) ∙ sym ((terminated_by xs).0)
-
--- the last two bytes are zeros
-two_zeros_last : (xs : List ℕ) → pointwise nat_eq (0 ∷ 0 ∷ []) (drop (length xs - 2) xs) ≡ true → two_zeros xs ≡ true
-two_zeros_last [] h = absurd (false≢true h)
-two_zeros_last (x ∷ []) h = absurd (false≢true (right_true (nat_eq 0 x) false h))
-two_zeros_last (x ∷ y ∷ []) h =
+last_two : (xs : List ℕ) → pointwise nat_eq (0 ∷ 0 ∷ []) (drop (length xs - 2) xs) ≡ true → later_empty (slice_split is_zero xs) ≡ true
+unfolding later_empty
+last_two [] h = absurd (false≢true h)
+last_two (x ∷ []) h = absurd (false≢true (right_true (nat_eq 0 x) false h))
+last_two (x ∷ y ∷ []) h =
     let a : 0 ≡ x = eqb-true 0 x (left_true (nat_eq 0 x) (nat_eq 0 y && true) h) in
     let b : 0 ≡ y = eqb-true 0 y (left_true (nat_eq 0 y) true (right_true (nat_eq 0 x) (nat_eq 0 y && true) h)) in
-    subst (λ (z : ℕ). two_zeros (z ∷ y ∷ []) ≡ true) a (subst (λ (z : ℕ). two_zeros (0 ∷ z ∷ []) ≡ true) b refl)
-two_zeros_last (x ∷ y ∷ z ∷ zs) h =
+    subst (λ (z : ℕ). later_empty (slice_split is_zero (z ∷ y ∷ [])) ≡ true) a (subst (λ (z : ℕ). later_empty (slice_split is_zero (0 ∷ z ∷ [])) ≡ true) b refl)
+last_two (x ∷ y ∷ z ∷ zs) h =
+    let ys : List ℕ = y ∷ z ∷ zs in
     let e : length (x ∷ y ∷ z ∷ zs) - 2 ≡ suc (length (y ∷ z ∷ zs) - 2) = omega arith in
-    let below : two_zeros (y ∷ z ∷ zs) ≡ true = two_zeros_last (y ∷ z ∷ zs) (subst (λ (n : ℕ). pointwise nat_eq (0 ∷ 0 ∷ []) (drop n (x ∷ y ∷ z ∷ zs)) ≡ true) e h) in
-    ap (λ t. (is_zero x && is_zero y) || t) below ∙ or-true (is_zero x && is_zero y)
+    let parts = split_cons ys in
+    let later : list_any is_empty (but_last parts.1) ≡ true =
+    sym (ap later_empty parts.2) ∙ last_two (y ∷ z ∷ zs) (subst (λ (n : ℕ). pointwise nat_eq (0 ∷ 0 ∷ []) (drop n (x ∷ y ∷ z ∷ zs)) ≡ true) e h) in
+    elim (is_zero x) as (λ b. is_zero x ≡ b → later_empty (slice_split is_zero (x ∷ ys)) ≡ true) [
+      | true ↦ λ f. ap later_empty (slice_split-cons_yes is_zero x ys f ∙ ap (λ ps. [] ∷ ps) parts.2) ∙ any_later parts.0 parts.1 later
+      | false ↦ λ f. ap later_empty (slice_split-cons_no is_zero x ys f ∙ ap (onto_first x) parts.2) ∙ later
+    ] refl
 
 pub ended_at_end : (xs : List ℕ) → pointwise nat_eq (0 ∷ 0 ∷ []) (drop (length xs - 2) xs) ≡ true → true ≡ is_terminated xs
-ended_at_end xs h = sym ((terminated_by xs).0 ∙ ap (λ t. zero_first xs || t) (two_zeros_last xs h) ∙ or-true (zero_first xs))
+unfolding later_empty
+ended_at_end xs h =
+    let parts = split_cons xs in
+    sym (ap (λ ps. list_any is_empty (but_last ps)) parts.2 ∙ any_later parts.0 parts.1 (sym (ap later_empty parts.2) ∙ last_two xs h))

@@ -1,8 +1,9 @@
 //! A data area: the bytes that divide it, whether its list of entries is ended, and its entries.
-ghost use Rattle.std.specs.Prelude.{◌≡◌, ◌≤◌, ◌+◌, ◌<◌, length};
+ghost use Rattle.std.specs.Prelude.{◌≡◌};
 ghost use Rattle.envimg_core.specs.Pieces.{entries_of, is_terminated};
 
 use crate::pieces::Entries;
+use memchr::memchr;
 
 /// The byte that ends an entry and the list of entries, and that fills the rest of a data area.
 pub const END: u8 = 0;
@@ -18,19 +19,21 @@ pub fn entries(area: &[u8]) -> Entries<'_>
     Entries::new(area)
 }
 
-/// Whether the list of entries is ended inside the area: the area begins with a 0, or has two next to each other.
+/// Whether the list of entries is ended inside the area: one of its pieces is empty.
 ///
-/// Those that most areas have, at the end, are looked for first.
+/// Most areas end in zeros, so the last two bytes are looked at first.
 pub(crate) fn is_ended(area: &[u8]) -> bool
-    requires { 1 ≤ length area.now }
     ensures { result ≡ is_terminated area.now }
 {
     if area.ends_with(&[END, END]) {
         return true;
     }
-    let mut ended = area[0] == END;
-    for i in 1..area.len() {
-        ended |= (area[i - 1] == END) & (area[i] == END);
+    let mut rest = area;
+    'pieces: loop {
+        match memchr(END, rest) {
+            None => return false,
+            Some(0) => return true,
+            Some(end) => rest = &rest[end + 1..],
+        }
     }
-    ended
 }

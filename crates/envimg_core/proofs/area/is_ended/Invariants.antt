@@ -1,7 +1,12 @@
-use Rattle.std.proofs.Common.{◌≡◌, take}
-use Rattle.std.specs.Prelude.{◌||◌}
-use Rattle.envimg_core.proofs.EntryLemmas.{zero_first, two_zeros}
+use Rattle.std.proofs.Common.{◌≡◌, ◌≤◌, length}
+use Rattle.envimg_core.specs.Pieces.{is_terminated}
 use Rattle.envimg_core.proofs.area.is_ended.Given as goal
 
-abbrev pub invariant-loop-i : goal.invariant-loop-i
-invariant-loop-i l = l.ended ≡ (zero_first l.area || two_zeros (take l.i l.area))
+abbrev pub invariant-pieces : goal.invariant-pieces
+invariant-pieces l = record {
+  same : is_terminated l.area ≡ is_terminated l.rest;
+  short : length l.rest ≤ length l.area;
+}
+
+abbrev pub decreases-pieces : goal.decreases-pieces
+decreases-pieces l = length l.rest
