@@ -42,6 +42,7 @@ pub(crate) enum Due {
 }
 
 /// Does the next step: what is due then.
+#[inline(always)]
 pub(crate) fn advance(
     given: &Given<'_>,
     session: &mut Session,
@@ -66,6 +67,7 @@ pub(crate) fn advance(
 }
 
 /// Does what is due, which is a step, or the end.
+#[inline(always)]
 fn step_due(
     given: &Given<'_>,
     session: &mut Session,
@@ -99,6 +101,7 @@ fn step_due(
 }
 
 /// The first step in a node.
+#[inline(always)]
 fn node_due(
     given: &Given<'_>,
     session: &mut Session,

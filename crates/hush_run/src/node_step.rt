@@ -18,6 +18,7 @@ use hush_commands::{FieldQueue, Follow};
 use hush_syntax::{Node, NodeId, Script};
 
 /// Does the step that a node is: what is due behind it.
+#[inline(always)]
 pub(crate) fn node_step(
     given: &Given<'_>,
     session: &mut Session,
@@ -59,6 +60,7 @@ pub(crate) fn node_step(
 }
 
 /// What is due behind a simple command.
+#[inline(always)]
 fn due_behind(follow: Follow) -> Due
     ensures due { (at : At) → IsDue at result × (due_room at result ≤ 1) }
     ensures same { (rules : Rules) (begin : Begin) (at : At) (s : State) → follows rules begin follow s ≡ due_does rules begin at result s }

@@ -51,6 +51,7 @@ impl Progress {
     }
 
     /// Where one more step may be counted, expands words to the fields of that step.
+    #[inline(always)]
     pub(crate) fn expand(
         &mut self,
         given: &Given<'_>,
@@ -128,6 +129,7 @@ impl Progress {
     }
 
     /// Whether one more step may be counted.
+    #[inline(always)]
     pub(crate) fn may_step(&self, given: &Given<'_>) -> Result<(), Stop>
         ensures may { MayStep (rules_of given.now) self.now.steps result }
         ensures counts { IfOk result (λ u. self.now.steps < most_steps) }

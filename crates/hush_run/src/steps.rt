@@ -13,6 +13,7 @@ use hush_commands::{FieldQueue, Follow, Message, carry_out, delete};
 use hush_syntax::{FaultKind, Script, Text, Word};
 
 /// A simple command of these words: what comes behind it.
+#[inline(always)]
 pub(crate) fn simple_step(
     given: &Given<'_>,
     session: &mut Session,

@@ -12,6 +12,7 @@ use crate::turns::{Turn, member, turn_of};
 use hush_syntax::{Node, NodeId, Script};
 
 /// Goes down from a node to the first step in it, and leaves a frame for each part that isn't done with that.
+#[inline(always)]
 pub(crate) fn descend(script: &Script, frames: &mut Frames, id: NodeId) -> NodeId
     requires known { IsSome (subtree_at script.now id) }
     requires room { length frames.old.frames + room (subtree_at script.now id) ≤ frame_limit frames.old.depth }
@@ -28,6 +29,7 @@ pub(crate) fn descend(script: &Script, frames: &mut Frames, id: NodeId) -> NodeI
 }
 
 /// The first part of a node, and the frame that is left behind for the others; none where the node is a step.
+#[inline(always)]
 fn first_part(script: &Script, id: NodeId) -> Option<(Frame, NodeId)>
     requires { IsSome (subtree_at script.now id) }
     ensures { FirstPart (subtree_at script.now) id result }
@@ -49,6 +51,7 @@ fn first_part(script: &Script, id: NodeId) -> Option<(Frame, NodeId)>
 }
 
 /// Takes frames until one has something due. Where none has, nothing is due.
+#[inline(always)]
 pub(crate) fn rise_up(calls: &mut Calls<'_>, frames: &mut Frames, status: &mut u8) -> Due
     requires stack { IsStack calls.old frames.old.frames }
     requires some { 1 ≤ length calls.old }
