@@ -1,7 +1,7 @@
 -- The bytes of a name among the other classes.
 use Rattle.std.specs.Prelude.{◌≡◌, ℕ, ◌==◌, true, false}
 use Rattle.std.proofs.Common.{refl}
-use Rattle.hush_words.specs.Words.{is_blank, ends_word, begins_name, is_in_name, is_in_braces, is_bare, is_special, is_inner}
+use Rattle.hush_words.specs.Words.{is_blank, ends_word, begins_name, is_in_name, is_in_braces, is_bare, is_special}
 use Rattle.hush_words.proofs.Finders.{differs}
 
 pub name-ends : (b : ℕ) → is_in_name b ≡ true → ends_word b ≡ false
@@ -30,14 +30,6 @@ name-bare b e =
     let ends : ends_word b ≡ false = name-ends b e in
     let special : is_special b ≡ false = name-special b e in
     rw (ends, special) refl
-
-pub name-inner : (b : ℕ) → is_in_name b ≡ true → is_inner b ≡ true
-unfolding is_inner is_in_name begins_name
-name-inner b e =
-    let double : (b == 34) ≡ false = differs is_in_name b 34 e refl in
-    let dollar : (b == 36) ≡ false = differs is_in_name b 36 e refl in
-    let backslash : (b == 92) ≡ false = differs is_in_name b 92 e refl in
-    rw (double, dollar, backslash) refl
 
 pub name-braces : (b : ℕ) → is_in_name b ≡ true → is_in_braces b ≡ true
 unfolding is_in_braces is_blank is_in_name begins_name

@@ -62,8 +62,7 @@ pub(crate) fn is_joined_line(source: &[u8], at: usize) -> bool
     stands_at(source, at, b'\\') && stands_at(source, at + 1, b'\n')
 }
 
-/// Where the run of bytes of the class ends that begins at `start`. It is compiled for each class by itself.
-#[inline(always)]
+/// Where the run of bytes of the class ends that begins at `start`.
 pub(crate) fn run_end(class: Class, source: &[u8], start: usize) -> usize
     requires { start ≤ length source.now }
     ensures { IsRun (passes class) source.now start result }
@@ -118,12 +117,16 @@ pub(crate) fn is_in_name(b: u8) -> bool
     begins_name(b) || b.is_ascii_digit()
 }
 
-/// What may stand between `${` and `}`.
+/// What may stand between `${` and `}`: mostly a byte of a name.
 #[tactic(auto, unfolding(crate::specs::Words::is_in_braces))]
 fn is_in_braces(b: u8) -> bool
     ensures { result ≡ is_in_braces b }
 {
-    !(is_blank(b) || is_among(b"\n}{$:='\"\\", b))
+    if is_in_name(b) {
+        true
+    } else {
+        !(is_blank(b) || is_among(b"\n}{$:='\"\\", b))
+    }
 }
 
 /// A byte before which a `$` doesn't stand for itself.
