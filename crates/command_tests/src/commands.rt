@@ -50,19 +50,49 @@ fn tests_have_a_status(rt: HostRuntime) -> Result<(), Fail> {
 fn variables_are_set(rt: HostRuntime) -> Result<(), Fail> {
     let table: [(&[u8], &[u8], &[u8], Option<&[u8]>); 14] = [
         (b"setenv", b"## Error: wrong use of 'setenv'\n", b"n", None),
-        (b"setenv -f", b"## Error: wrong use of 'setenv'\n", b"n", None),
+        (
+            b"setenv -f",
+            b"## Error: wrong use of 'setenv'\n",
+            b"n",
+            None,
+        ),
         (b"setenv n 1", b"", b"n", Some(b"1")),
         (b"setenv n 1 2", b"", b"n", Some(b"1 2")),
         (b"setenv n -f 3", b"", b"n", Some(b"-f 3")),
         (b"setenv n", b"", b"n", None),
-        (b"setenv a=b x", b"## Error: bad name or value for \"a=b\"\n", b"a=b", None),
+        (
+            b"setenv a=b x",
+            b"## Error: bad name or value for \"a=b\"\n",
+            b"a=b",
+            None,
+        ),
         (b"setenv .flags k:so,d:d", b"", b".flags", Some(b"k:so,d:d")),
         (b"setenv k 1", b"", b"k", Some(b"1")),
-        (b"setenv k 2", b"## Error: Can't overwrite \"k\"\n", b"k", Some(b"1")),
+        (
+            b"setenv k 2",
+            b"## Error: Can't overwrite \"k\"\n",
+            b"k",
+            Some(b"1"),
+        ),
         (b"setenv -f k 3", b"", b"k", Some(b"3")),
-        (b"setenv k -f", b"## Error: Can't overwrite \"k\"\n", b"k", Some(b"3")),
-        (b"setenv k", b"## Error: Can't delete \"k\"\n", b"k", Some(b"3")),
-        (b"setenv -f d x", b"## Error: type check failure for \"d\"\n", b"d", None),
+        (
+            b"setenv k -f",
+            b"## Error: Can't overwrite \"k\"\n",
+            b"k",
+            Some(b"3"),
+        ),
+        (
+            b"setenv k",
+            b"## Error: Can't delete \"k\"\n",
+            b"k",
+            Some(b"3"),
+        ),
+        (
+            b"setenv -f d x",
+            b"## Error: type check failure for \"d\"\n",
+            b"d",
+            None,
+        ),
     ];
     let mut session = session(rt.alloc(), 64)?;
     for (text, message, name, value) in table {
@@ -77,7 +107,11 @@ fn variables_are_set(rt: HostRuntime) -> Result<(), Fail> {
 fn values_are_calculated(rt: HostRuntime) -> Result<(), Fail> {
     let table: [(&[u8], &[u8], Option<&[u8]>); 5] = [
         (b"setexpr v ff + 1", b"", Some(b"100")),
-        (b"setexpr v 1 / 0", b"## Error: division by zero\n", Some(b"100")),
+        (
+            b"setexpr v 1 / 0",
+            b"## Error: division by zero\n",
+            Some(b"100"),
+        ),
         (b"setexpr v 5 - 6", b"", Some(b"ffffffffffffffff")),
         (
             b"setexpr.l v 3 ^",

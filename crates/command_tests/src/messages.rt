@@ -29,21 +29,13 @@ fn names_and_words_that_are_not_there(rt: HostRuntime) -> Result<(), Fail> {
         &rt,
         rt.alloc(),
         &[
-            (
-                Message::NotDefined,
-                b"n",
-                b"## Error: \"n\" not defined\n",
-            ),
+            (Message::NotDefined, b"n", b"## Error: \"n\" not defined\n"),
             (
                 Message::UnknownCommand,
                 b"mmc",
                 b"Unknown command 'mmc' - try 'help'\n",
             ),
-            (
-                Message::WrongUse,
-                b"env",
-                b"## Error: wrong use of 'env'\n",
-            ),
+            (Message::WrongUse, b"env", b"## Error: wrong use of 'env'\n"),
         ],
     )
 }
@@ -79,7 +71,11 @@ fn writes_that_are_refused(rt: HostRuntime) -> Result<(), Fail> {
                 b"n",
                 b"## Error: Can't overwrite \"n\"\n",
             ),
-            (Message::Refused(Refusal::Full), b"", b"## Error: no room for \"\"\n"),
+            (
+                Message::Refused(Refusal::Full),
+                b"",
+                b"## Error: no room for \"\"\n",
+            ),
         ],
     )
 }
