@@ -3,6 +3,7 @@ pub mod ImportLemmas
 pub mod NamedLemmas
 pub mod LineLawLemmas
 pub mod SpellingLemmas
+pub mod ReadingLemmas
 pub mod ExportLemmas
 pub mod EscapeLemmas
 pub mod SkippedLineLemmas

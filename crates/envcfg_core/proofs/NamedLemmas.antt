@@ -23,7 +23,7 @@ pub position-whole : (p : ℕ → Bool) (xs : List ℕ) → list_any p xs ≡ fa
 position-whole p xs h = ap (position_or_len p) (sym (append-nil xs)) ∙ position-front p xs [] h refl
 
 -- neither of two tests passes where their join doesn't
-neither : (p q : ℕ → Bool) (xs : List ℕ) → list_any (λ b. p b || q b) xs ≡ false → (list_any p xs ≡ false) × (list_any q xs ≡ false)
+pub neither : (p q : ℕ → Bool) (xs : List ℕ) → list_any (λ b. p b || q b) xs ≡ false → (list_any p xs ≡ false) × (list_any q xs ≡ false)
 neither p q [] h = (refl, refl)
 neither p q (x ∷ xs) h =
     let here = or_parts (p x || q x) _ h in

@@ -56,7 +56,7 @@ first-front : (e : Entry) (o : Outcome) → with_first e o ≡ with_front (e ∷
 first-front e (Ok entries) = refl
 first-front e (Err fault) = refl
 
-part-read : (part : Part) (line : ℕ) (rest : List ℕ) → IsPart part → entries_from line (part_text part ++ rest) ≡ with_front (part_entries line part) (entries_from (line_after line part) rest)
+pub part-read : (part : Part) (line : ℕ) (rest : List ℕ) → IsPart part → entries_from line (part_text part ++ rest) ≡ with_front (part_entries line part) (entries_from (line_after line part) rest)
 part-read (Blank b) line rest h = entries_from-blank line b (b ∷ rest) rest refl h ∙ with_front-nil _
 part-read EmptyLine line rest h = entries_from-newline line newline (newline ∷ rest) rest refl refl ∙ with_front-nil _
 part-read (Comment text) line rest h =
@@ -91,7 +91,7 @@ ending-read (AtBackslash name value) line h =
     named-read line name (equals ∷ (value_text value ++ backslash ∷ [])) (onto xs n (spelled false (backslash ∷ []))) h.0.name_is h.0.readable refl (sym (spelled-bytes value (backslash ∷ []) h.1))
     ∙ one_left (assigned line name (xs ++ backslash ∷ [])) (line + (n + 0))
 
-parts-read : (parts : List Part) (line : ℕ) (ending : Ending) → AllByRecursion IsPart parts → IsEnding ending →
+pub parts-read : (parts : List Part) (line : ℕ) (ending : Ending) → AllByRecursion IsPart parts → IsEnding ending →
     entries_from line (spelled_text parts ending) ≡ Ok (spelled_entries line parts ending)
 parts-read [] line ending all e = ending-read ending line e
 parts-read (part ∷ parts) line ending all e =

@@ -1,6 +1,5 @@
 -- The text for import, as its reader goes over it entry by entry: for any text, one with a fault too, it says what is read.
--- What a writer may count on is the law `spelled_texts_are_read`: a text that spells entries, in any of the ways that
--- Spelling.antt allows, is read as them.
+-- Spelling.antt says the same without a reader, and the law `texts_are_read_as_they_spell` that both agree.
 use Rattle.std.specs.Prelude.{ℕ, zero, suc, ◌+◌, Bool, true, false, ◌||◌, ◌==◌, List, [], ◌∷◌, length, drop, Ok, Err, if◌then◌else◌}
 use Rattle.std.specs.List.{list_any, position_or_len, before_first, after_first}
 use Rattle.envcfg_core.specs.declared.entry.TextFault.TheVariants.{EmptyName, Nul}

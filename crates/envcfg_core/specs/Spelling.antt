@@ -1,11 +1,12 @@
--- How a text for import may spell entries: what may stand around them, each byte of a value with or without `\`, and how the text ends.
-use Rattle.std.specs.Prelude.{◌≡◌, ℕ, ◌+◌, Bool, true, false, ◌||◌, not, List, [], ◌∷◌, ◌++◌, map, None, if◌then◌else◌}
-use Rattle.std.specs.List.{list_all, list_any, flat_map, count_by}
+-- What a text for import spells, without a reader: the parts that it is made of, each byte of a value with or without `\`, and how it ends.
+use Rattle.std.specs.Prelude.{◌≡◌, ◌⊎◌, ℕ, ◌+◌, Bool, true, false, ◌||◌, not, List, [], ◌∷◌, ◌++◌, map, None, Ok, Err, if◌then◌else◌}
+use Rattle.std.specs.List.{list_all, list_any, flat_map, count_by, AllByRecursion}
 use Rattle.envimg_core.specs.Bytes.{equals}
-use Rattle.envimg_core.specs.Environment.{is_name}
+use Rattle.envimg_core.specs.Environment.{is_name, is_zero}
 use Rattle.text_parts.specs.Bytes.{hash, newline, is_blank, is_newline}
 use Rattle.envcfg_core.specs.Bytes.{backslash, is_marked, some_unless_empty}
-use Rattle.envcfg_core.specs.Entries.{Entry}
+use Rattle.envcfg_core.specs.Entries.{Entry, Outcome}
+use Rattle.envcfg_core.specs.declared.entry.TextFault.TheVariants.{EmptyName, Nul}
 use Rattle.envcfg_core.specs.Export.{is_unreadable}
 
 -- a byte of a value, and whether `\` stands before it
@@ -112,3 +113,29 @@ spelled_text parts ending = flat_map part_text parts ++ ending_text ending
 abbrev pub spelled_entries : ℕ → List Part → Ending → List Entry
 spelled_entries line [] ending = ending_entries line ending
 spelled_entries line (part ∷ parts) ending = part_entries line part ++ spelled_entries (line_after line part) parts ending
+
+-- the line after all these parts, the first of which begins in this line
+abbrev pub line_after_all : ℕ → List Part → ℕ
+line_after_all line [] = line
+line_after_all line (part ∷ parts) = line_after_all (line_after line part) parts
+
+-- a text with a byte 0 spells nothing
+abbrev pub HoldsZero : List ℕ → Outcome → Type 0
+HoldsZero text outcome = (list_any is_zero text ≡ true) × (outcome ≡ Err Nul)
+
+-- a text made of parts and an ending spells their entries
+abbrev pub SpellsEntries : List ℕ → Outcome → Type 0
+SpellsEntries text outcome =
+    (parts : List Part) × (ending : Ending) × AllByRecursion IsPart parts × IsEnding ending
+    × (text ≡ spelled_text parts ending) × (outcome ≡ Ok (spelled_entries 1 parts ending))
+
+-- after some parts `=` is where an entry begins: its name is empty, and what follows isn't looked at
+abbrev pub LacksName : List ℕ → Outcome → Type 0
+LacksName text outcome =
+    (parts : List Part) × (rest : List ℕ) × AllByRecursion IsPart parts
+    × (text ≡ flat_map part_text parts ++ equals ∷ rest) × (outcome ≡ Err (EmptyName (line_after_all 1 parts)))
+
+-- what a text spells: entries, each with the line in which it begins, or its one fault
+abbrev pub Spells : List ℕ → Outcome → Type 0
+Spells text outcome =
+    HoldsZero text outcome ⊎ ((list_any is_zero text ≡ false) × (SpellsEntries text outcome ⊎ LacksName text outcome))

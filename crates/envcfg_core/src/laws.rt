@@ -3,16 +3,23 @@ ghost use Rattle.std.specs.Prelude.{◌≡◌, ℕ, ◌+◌, true, false, List, 
 ghost use Rattle.std.specs.List.{list_all, list_any, AllByRecursion};
 ghost use Rattle.envimg_core.specs.Environment.{Pair, is_name, is_zero};
 ghost use Rattle.text_parts.specs.Bytes.{hash, is_blank, is_newline, newline};
-ghost use Rattle.envcfg_core.specs.Entries.{with_first};
+ghost use Rattle.envcfg_core.specs.Entries.{Outcome, with_first};
 ghost use Rattle.envcfg_core.specs.Export.{IsExportable, entries_of_pairs, exported, exported_all, is_unreadable, line_behind, pair_entry};
 ghost use Rattle.envcfg_core.specs.Import.{entries_from, import_of};
-ghost use Rattle.envcfg_core.specs.Spelling.{Part, IsPart, Ending, IsEnding, spelled_text, spelled_entries};
+ghost use Rattle.envcfg_core.specs.Spelling.{Part, IsPart, Ending, IsEnding, Spells, spelled_text, spelled_entries};
 
 /// A text that spells entries is read as them, however it spells them: with `\` before bytes that don't need it too, with
 /// blanks, empty lines and comments between them, and with a last line that no newline ends.
 pub fn spelled_texts_are_read()
     ensures { (parts : List Part) (ending : Ending) → AllByRecursion IsPart parts → IsEnding ending
         → list_any is_zero (spelled_text parts ending) ≡ false → import_of (spelled_text parts ending) ≡ Ok (spelled_entries 1 parts ending) }
+{}
+
+/// A text for import is read as what it spells, and as nothing else: its entries, each with the line in which it begins, or
+/// its one fault, a byte 0 anywhere or the line of its first empty name. Every text spells something.
+pub fn texts_are_read_as_they_spell()
+    ensures read { (text : List ℕ) (outcome : Outcome) → Spells text outcome → import_of text ≡ outcome }
+    ensures spelled { (text : List ℕ) → Spells text (import_of text) }
 {}
 
 /// A text made of exported variables, any number of them one after the other, is read as those variables
