@@ -6,7 +6,7 @@ use Rattle.env_session.specs.Session.{Held, last_saved, side_of, written, saved}
 use Rattle.env_session.specs.Requests.{IsChange, refusal_in, imported}
 use Rattle.envimg_core.specs.Pieces.{Entry}
 use Rattle.envvars_core.specs.declared.refusals.Refusal.{Refusal}
-use Rattle.fw_engines.specs.Messages.{refusal_text}
+use Rattle.envvars_core.specs.Refusals.{refusal_text}
 use Rattle.fw_engines.specs.Streams.{AppendsPart}
 use Rattle.fw_engines.specs.declared.ending.ToolEnd.{ToolEnd}
 use Rattle.fw_engines.specs.declared.ending.StreamFault.{StreamFault}

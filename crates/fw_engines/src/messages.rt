@@ -17,23 +17,10 @@ pub(crate) const NOT_DEFINED: &[u8] = b"\" not defined\n";
 /// Standard error where `-n` has no name, or several.
 pub(crate) const ONE_NAME: &[u8] = b"## Error: -n takes exactly one name\n";
 
-/// Before the name in each refusal's text.
-pub(crate) const BAD_FORM: &[u8] = b"## Error: bad name or value for \"";
-
-pub(crate) const BAD_TYPE: &[u8] = b"## Error: type check failure for \"";
-
-pub(crate) const NO_CREATE: &[u8] = b"## Error: Can't create \"";
-
-pub(crate) const NO_DELETE: &[u8] = b"## Error: Can't delete \"";
-
-pub(crate) const NO_OVERWRITE: &[u8] = b"## Error: Can't overwrite \"";
-
-pub(crate) const FULL: &[u8] = b"## Error: no room for \"";
-
 /// Before a name that can not be exported.
 pub(crate) const CANNOT_EXPORT: &[u8] = b"## Error: can't export \"";
 
-/// Behind the name in these texts.
+/// After that name.
 pub(crate) const QUOTE: &[u8] = b"\"\n";
 
 /// Before and behind the number of entries that an import refused.

@@ -4,15 +4,13 @@ ghost use Rattle.std.specs.Fmt.{decimal};
 ghost use Rattle.std.specs.Io.KnownBytes.{Appends};
 ghost use Rattle.env_session.specs.Requests.{IsChange, entry_in, refusal_in, write_done};
 ghost use Rattle.env_session.specs.Session.{last_saved, saved, side_of};
-ghost use Rattle.fw_engines.specs.Messages.{refusal_front, refusal_text};
+ghost use Rattle.envvars_core.specs.Refusals.{refusal_text};
 ghost use Rattle.fw_engines.specs.Setting.{Changes, LacksMemory, LacksMemoryToImport, LacksMemoryToSet, count_status, count_text, import_effect, spaced, script_effect, set_effect};
 ghost use Rattle.fw_engines.specs.Streams.{AppendsPart};
 ghost use Rattle.fw_engines.specs.Tool.{PrintsText};
 
 use crate::ending::{StreamFault, ToolEnd};
-use crate::messages::{
-    BAD_FORM, BAD_TYPE, ENTRIES_REFUSED, ERROR, FULL, NO_CREATE, NO_DELETE, NO_OVERWRITE, QUOTE,
-};
+use crate::messages::{ENTRIES_REFUSED, ERROR};
 use crate::streams::{write_decimal, write_text, write_three};
 use env_session::{ImportEnding, Session};
 use envcfg_core::TextEntry;
@@ -162,25 +160,10 @@ fn join(alloc: Global, words: &[&[u8]]) -> Result<Vec<u8>, Memory>
 fn print_refusal<E: Write>(errors: &mut E, refusal: Refusal, name: &[u8]) -> ToolEnd
     ensures { PrintsText (E.contents errors.old) (E.contents errors.new) (refusal_text refusal name.now) 1 result }
 {
-    if write_three(errors, front_of(refusal), name, QUOTE) {
+    if write_three(errors, refusal.before_name(), name, refusal.after_name()) {
         ToolEnd::done(1)
     } else {
         ToolEnd::stopped(StreamFault::Write)
-    }
-}
-
-/// What stands before the name in a refusal's text.
-fn front_of(refusal: Refusal) -> &'static [u8]
-    ensures { result.now ≡ refusal_front refusal }
-{
-    match refusal {
-        Refusal::BadForm => BAD_FORM,
-        Refusal::BadType => BAD_TYPE,
-        Refusal::NoCreate => NO_CREATE,
-        Refusal::NoDelete => NO_DELETE,
-        Refusal::NoOverwrite => NO_OVERWRITE,
-        Refusal::Full => FULL,
-        Refusal::Memory => b"",
     }
 }
 

@@ -1,38 +1,14 @@
 -- What tools and scripts both print is defined in fw_engines and in hush_commands, neither of which stands on the other: it is
 -- the same in both.
-use Rattle.std.proofs.Common.{◌≡◌, ℕ, List, [], ◌∷◌, ◌++◌, Some, refl, sym, ap, ◌∙◌, append_assoc}
-use Rattle.std.specs.Prelude.{option_map}
+use Rattle.std.proofs.Common.{◌≡◌, ℕ, List, [], ◌∷◌, ◌++◌, refl, sym, ap, ◌∙◌, append_assoc}
 use Rattle.std.specs.List.{flat_map}
 use Rattle.std.specs.FinMap.{entries}
 use Rattle.envimg_core.specs.Environment.{Environment, Pair}
-use Rattle.envvars_core.specs.declared.refusals.Refusal.TheVariants.{BadForm, BadType, NoCreate, NoDelete, NoOverwrite, Full}
 use Rattle.hush_commands.specs.Output as scripts
 use Rattle.hush_commands.specs.Listing as scripts_listing
-use Rattle.hush_commands.specs.Messages.{text_of}
-use Rattle.hush_commands.specs.Writing.{message_of}
 use Rattle.fw_session.specs.Replies.{listing}
-use Rattle.fw_engines.specs.Messages.{refusal_text}
 use Rattle.fw_engines.specs.Setting as tools
 use Rattle.fw_engines.specs.Shown as tools_listing
-
--- the six refusals of a write
-pub bad_form : (name : List ℕ) → option_map (λ m. text_of m name) (message_of BadForm) ≡ Some (refusal_text BadForm name)
-bad_form name = refl
-
-pub bad_type : (name : List ℕ) → option_map (λ m. text_of m name) (message_of BadType) ≡ Some (refusal_text BadType name)
-bad_type name = refl
-
-pub no_create : (name : List ℕ) → option_map (λ m. text_of m name) (message_of NoCreate) ≡ Some (refusal_text NoCreate name)
-no_create name = refl
-
-pub no_delete : (name : List ℕ) → option_map (λ m. text_of m name) (message_of NoDelete) ≡ Some (refusal_text NoDelete name)
-no_delete name = refl
-
-pub no_overwrite : (name : List ℕ) → option_map (λ m. text_of m name) (message_of NoOverwrite) ≡ Some (refusal_text NoOverwrite name)
-no_overwrite name = refl
-
-pub full : (name : List ℕ) → option_map (λ m. text_of m name) (message_of Full) ≡ Some (refusal_text Full name)
-full name = refl
 
 -- the line of a variable
 pub same_line : (p : Pair) → scripts_listing.line_of p ≡ tools_listing.line_of p

@@ -1,6 +1,7 @@
 //! The program over words, and over streams that fail.
 
 mod disk;
+mod file_faults;
 mod files;
 mod running;
 

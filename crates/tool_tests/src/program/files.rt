@@ -7,16 +7,16 @@ use std::cell::RefCell;
 use std::test::Fail;
 
 /// A configuration of two copies of 32 bytes.
-const CONFIG: &[u8] = b"first 0x0 0x20\nsecond 0x0 0x20\n";
+pub(super) const CONFIG: &[u8] = b"first 0x0 0x20\nsecond 0x0 0x20\n";
 
 /// The head and the variable of a copy with flag 1 and `a=1`; zeros follow.
-const ONE: [u8; 8] = [0xCD, 0xBB, 0x29, 0x9A, 1, b'a', b'=', b'1'];
+pub(super) const ONE: [u8; 8] = [0xCD, 0xBB, 0x29, 0x9A, 1, b'a', b'=', b'1'];
 
 /// The same with flag 2 and `a=2`.
-const TWO: [u8; 8] = [0x9E, 0x0D, 0xC4, 0xAF, 2, b'a', b'=', b'2'];
+pub(super) const TWO: [u8; 8] = [0x9E, 0x0D, 0xC4, 0xAF, 2, b'a', b'=', b'2'];
 
 /// A copy of 32 bytes that begins so.
-fn copy_of(front: [u8; 8]) -> [u8; 32] {
+pub(super) fn copy_of(front: [u8; 8]) -> [u8; 32] {
     let mut bytes = [0u8; 32];
     for (at, byte) in front.into_iter().enumerate() {
         bytes[at] = byte;
@@ -38,12 +38,16 @@ fn disk(rt: &HostRuntime, fails: usize) -> Result<RefCell<Contents>, AllocError>
 }
 
 /// What a run of `fwenv` with these words gives: the status, and what it wrote on both streams.
-fn run(rt: &HostRuntime, contents: &RefCell<Contents>, words: &[&str]) -> (u8, Vec<u8>, Vec<u8>) {
+pub(super) fn run(
+    rt: &HostRuntime,
+    contents: &RefCell<Contents>,
+    words: &[&str],
+) -> (u8, Vec<u8>, Vec<u8>) {
     run_on(rt, contents, words, b"")
 }
 
 /// The same where this stands on standard input.
-fn run_on(
+pub(super) fn run_on(
     rt: &HostRuntime,
     contents: &RefCell<Contents>,
     words: &[&str],

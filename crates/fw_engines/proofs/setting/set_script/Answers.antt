@@ -2,7 +2,7 @@ use Rattle.std.proofs.Common.{◌≡◌, ◌+◌, map, drop, sym, ap, subst, ◌
 use Rattle.std.specs.Prelude.{false}
 use Rattle.env_session.specs.Requests.{entry_in, refusal_in}
 use Rattle.env_session.proofs.LawLemmas.{imported_none, imported_more}
-use Rattle.fw_engines.specs.Messages.{refusal_text}
+use Rattle.envvars_core.specs.Refusals.{refusal_text}
 use Rattle.fw_engines.specs.Tool.{PrintsText}
 use Rattle.fw_engines.specs.Setting.{Changes, LacksMemory, script_effect, refused_by}
 use Rattle.fw_engines.proofs.SettingLemmas.{at_write, ran_out, text_ends, silent_ends, drop_at, drop_none, script_more, script_refused, tally_more, done_refused}
