@@ -125,7 +125,7 @@ fn each_answer_is_there_before_the_next_byte(rt: HostRuntime) -> Result<(), Fail
     let Ok(log) = log.try_borrow() else {
         return Err(Fail::from("the log is lent"));
     };
-    assert_eq!(rt; log.seen.len(), log.read + 1);
+    assert_eq!(rt; log.seen.len(), log.read.saturating_add(1));
     for (count, written) in log.seen.iter().enumerate() {
         let wanted = behind(answered(count as u64));
         assert_eq!(rt; *written as u64, wanted.written, "behind {count} bytes");
