@@ -32,6 +32,22 @@ fn ran(alloc: Global, session: &mut Session, script: &[u8], steps: u32) -> Optio
     Some(run(alloc, session, &script, &stand_ins, &limits))
 }
 
+/// Whether a variable has this value.
+fn has(session: &Session, name: &[u8], value: &[u8]) -> bool {
+    match session.vars().get(name) {
+        Some(found) => found == value,
+        None => false,
+    }
+}
+
+/// Whether the first copy has these bytes.
+fn has_first_copy(session: &Session, bytes: &[u8]) -> bool {
+    match session.copy(Side::First) {
+        Some(copy) => copy == bytes,
+        None => false,
+    }
+}
+
 #[test]
 fn a_run_that_sets_a_name_again_and_again_touches_one(rt: HostRuntime) -> Result<(), Fail> {
     let mut session = started(rt.alloc(), 4096, &[]).ok_or("no start")?;
@@ -58,9 +74,9 @@ fn a_run_is_undone_though_the_room_is_passed_on_the_way_back(rt: HostRuntime) ->
     assert_eq!(rt; outcome.status, 0);
     assert_eq!(rt; session.vars().used(), 13);
     assert!(rt; session.undo().is_ok());
-    assert_eq!(rt; session.vars().get(b"a"), Some(b"xxxxx".as_slice()));
-    assert_eq!(rt; session.vars().get(b"b"), Some(b"1".as_slice()));
-    assert_eq!(rt; session.copy(Side::First), Some([0xFF; 17].as_slice()));
+    assert!(rt; has(&session, b"a", b"xxxxx"));
+    assert!(rt; has(&session, b"b", b"1"));
+    assert!(rt; has_first_copy(&session, &[0xFF; 17]));
     assert_eq!(rt; session.current(), Choice::Neither);
     Ok(())
 }
