@@ -14,8 +14,8 @@ from board import Board
 from dry_run import ANSWER, Copy, answer_of
 
 TOP = Path(__file__).resolve().parents[2]
-sys.path.insert(0, str(TOP / "scripts" / "runs"))
-from readable import pairs, sections  # noqa: E402
+sys.path.insert(0, str(TOP / "scripts"))
+from differential.rows import pairs, sections  # noqa: E402
 
 SAVED = re.compile(rb"Saving Environment to Flash\.\.\. .*?\nOK\n", re.DOTALL)
 COMMAND_BEGINS = rb"((?:^|[;&|\n]|\b(?:if|elif|then|else|while|until|do)\s)\s*)"
