@@ -126,7 +126,7 @@ build() {
     fi
     crates_of_program
     most_at_once
-    echo 'fwenv is missing or older than its sources: proving and building it takes about twenty minutes the first time' >&2
+    echo 'fwenv is missing or older than its sources: proving and building it takes up to half an hour the first time' >&2
     # what runs in a session of its own doesn't hear of Ctrl-C
     trap 'stop_provers; exit 130' INT TERM
     while [ ${#built[@]} -lt ${#crates[@]} ]; do
