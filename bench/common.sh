@@ -28,11 +28,12 @@ compiled() {
     echo "$program"
 }
 
-# counted COMMAND [WORDS]: the instructions of a command, which has to end with the status WANTED (0); nothing where LIMIT
-# seconds (600) don't suffice. Its output goes to $work/output, its profile to $work/profile.
+# counted COMMAND [WORDS]: the instructions of a command, which has to end with the status WANTED (0); nothing if LIMIT
+# seconds (600) don't suffice. Its output goes to $work/output, its profile to $work/profile. The C library copies without
+# `rep movsb`, of which callgrind counts each byte as an instruction.
 counted() {
-    local status=0
-    timeout "${LIMIT:-600}" valgrind --tool=callgrind --callgrind-out-file="$work/profile" "$@" \
+    local status=0 most=0x7fffffff
+    GLIBC_TUNABLES=glibc.cpu.x86_rep_movsb_threshold=$most:glibc.cpu.x86_rep_stosb_threshold=$most timeout "${LIMIT:-600}" valgrind --tool=callgrind --callgrind-out-file="$work/profile" "$@" \
         >"$work/output" 2>"$work/counted" || status=$?
     if [ "$status" = 124 ]; then return; fi
     if [ "$status" != "${WANTED:-0}" ] || ! grep -q 'Collected' "$work/counted"; then

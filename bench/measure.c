@@ -1,5 +1,6 @@
-/* Runs a command with this process's streams and writes three numbers to a file: the nanoseconds that it took, the most
-   memory that it had at a time, in KiB, and the nanoseconds that processors worked for it, in the program and in the kernel.
+/* Runs a command with this process's streams and writes four numbers to a file: the nanoseconds that it took, the most
+   memory that it had at a time, in KiB, the nanoseconds that processors worked for it, in the program and in the kernel, and
+   its page faults without input or output.
    Usage: measure FILE COMMAND [WORDS]. Answers the command's exit status. */
 #include <stdio.h>
 #include <sys/resource.h>
@@ -26,8 +27,8 @@ int main(int count, char **words) {
     clock_gettime(CLOCK_MONOTONIC, &end);
     FILE *file = fopen(words[1], "w");
     if (!file) return 2;
-    fprintf(file, "%lld %ld %lld\n", (end.tv_sec - start.tv_sec) * 1000000000LL + end.tv_nsec - start.tv_nsec, used.ru_maxrss,
-            nanoseconds(used.ru_utime) + nanoseconds(used.ru_stime));
+    fprintf(file, "%lld %ld %lld %ld\n", (end.tv_sec - start.tv_sec) * 1000000000LL + end.tv_nsec - start.tv_nsec, used.ru_maxrss,
+            nanoseconds(used.ru_utime) + nanoseconds(used.ru_stime), used.ru_minflt);
     if (fclose(file) != 0) return 2;
     return WIFEXITED(status) ? WEXITSTATUS(status) : 1;
 }

@@ -1,7 +1,8 @@
 # What scripts/fwenv and scripts/install share; they read it with `source`, with top set to the repository.
-# Sets program, the built program's path.
+# Sets program, the built program's path, and static_program, that of the one that link_static makes.
 # shellcheck shell=bash
 program=$top/crates/fwenv/out/fwenv
+static_program=$top/crates/fwenv/out/fwenv-static
 
 # crates_of_program: the crates of this repository that the program stands on, each behind those below it, in $crates.
 crates_of_program() {
@@ -144,3 +145,11 @@ build() {
     [ ${#failed[@]} = 0 ] || return 1
     touch "$program"
 }
+
+# link_static: links the built program once more, in one piece with the C library, as $static_program: it runs on any Linux of this
+# processor and starts sooner. It fails where there is no C library to link like that.
+link_static() {
+    local kit made=$static_program.$$
+    if [ "$static_program" -nt "$program" ]; then return; fi
+    kit=$(dirname "$(rt doc)") && "${CC:-cc}" -static -o "$made" "$program.o" "$kit"/c/lib{libc,os}_c.a && mv "$made" "$static_program"
+} 2>/dev/null

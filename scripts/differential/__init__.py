@@ -2,7 +2,9 @@
 and every byte of every file, for cases that are made of a seed, and for those that cut, turn and damage what the
 program reads.
 
-    python3 -m differential PROGRAM CUT.so FOLDER PART [COUNT SEED [EVERY]]     (PYTHONPATH=scripts)
+    python3 -m differential PROGRAM FOLDER PART [COUNT SEED [EVERY]]     (PYTHONPATH=scripts)
+
+FOLDER has the libraries cut.so, refuse.so and raw.so that are preloaded, which scripts/test compiles.
 
     part          cases (the file of its name makes them)
     images        each bit of images and pairs turned, and images changed at random
@@ -16,7 +18,15 @@ program reads.
     largest       texts, images, names and values as large as they may be
     documents     the rows of docs/ that show what is printed
     tool_rows     the tools by hand
+    report_rows   reports of what is stored by hand
+    client_rows   fw_printenv and fw_setenv by hand, called through links
     session_rows  sessions by hand
+    streams       streams that are closed, full, endless or reset, and a session line by line
+    files         files that are faulty, and those that can't be written
+    hostile_files files that are none, pipes, raw flash, and files that change under the program
+    costs         inputs that are made to cost much, and those that are as long as they may be, in bounded time and memory
+    memory        each allocation of the program refused
+    other_tools   tools of other makers over the same files
     mistakes      mistakes in answers of the program, each of which some case has to find out
 
 With EVERY one of so many cases is tried, and what is rare isn't told. The last line is 'N passed, M failed'.

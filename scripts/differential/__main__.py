@@ -12,7 +12,10 @@ from collections import Counter
 from differential import running
 from differential.running import Runner
 
-PARTS = ("images", "texts", "scripts", "runs", "requests", "inputs", "calls", "largest", "documents", "mistakes", "session_rows", "tool_rows", "cuts")
+PARTS = (
+    "images", "texts", "scripts", "runs", "requests", "inputs", "calls", "largest", "documents", "mistakes", "session_rows", "tool_rows",
+    "report_rows", "client_rows", "cuts", "streams", "files", "hostile_files", "costs", "memory", "other_tools",
+)
 SHOWN = 5
 # What an answer tells: the ending of a block, a dot line's answer, a message, or that nothing is said
 TOLD = re.compile(
@@ -32,15 +35,15 @@ def names_of(answer):
 class Worker:
     """One process of several, with a runner of its own."""
 
-    def __init__(self, program, preload, folder, every):
-        self.words = program, preload, folder
+    def __init__(self, program, preloads, folder, every):
+        self.words = program, preloads, folder
         self.every = every
         self.runner = None
 
     def runner_here(self):
         if self.runner is None:
-            program, preload, folder = self.words
-            self.runner = Runner(program, preload, tempfile.mkdtemp(dir=folder))
+            program, preloads, folder = self.words
+            self.runner = Runner(program, preloads, tempfile.mkdtemp(dir=folder))
         return self.runner
 
     def mistakes(self, missed):
@@ -52,8 +55,8 @@ class Worker:
         """How many cases passed and failed, texts for the first failures, and how often each name came."""
         passed, failed, texts, names = 0, 0, [], Counter()
         for case in itertools.islice(cases, 0, None, self.every):
-            wanted = case.answer()
-            names.update(names_of(wanted))
+            wanted = case.answer() if case.is_modelled else case.wanted
+            names.update(names_of(wanted) if wanted else ())
             failure = self.runner_here().failure(case, wanted)
             if failure is None:
                 passed += case.weight
@@ -80,7 +83,7 @@ def folder_for(name, folder):
 
 def main():
     global worker, chunks, is_of_mistakes
-    program, preload, folder, name, *numbers = sys.argv[1:]
+    program, preloads, name, *numbers = sys.argv[1:]
     numbers = list(map(int, numbers))
     if name not in PARTS:
         sys.exit(f"no part is called {name}")
@@ -90,9 +93,9 @@ def main():
     # A chunk makes some of the cases; each process takes one after the other
     chunks, is_of_mistakes = part.chunks(*numbers[:2]), name == "mistakes"
     passed, failed, texts, names = 0, 0, [], Counter()
-    with tempfile.TemporaryDirectory(dir=folder_for(name, folder)) as folder:
+    with tempfile.TemporaryDirectory(dir=folder_for(name, preloads)) as folder:
         every = numbers[2] if len(numbers) > 2 else 1
-        worker = Worker(os.path.abspath(program), preload, folder, every)
+        worker = Worker(os.path.abspath(program), os.path.abspath(preloads), folder, every)
         with multiprocessing.get_context("fork").Pool() as pool:
             for found in pool.imap_unordered(compare_chunk, range(len(chunks))):
                 passed, failed, texts = passed + found[0], failed + found[1], texts + found[2]
@@ -102,6 +105,8 @@ def main():
     for rarity in rare(part, names, passed + failed) if every == 1 else ():
         failed += 1
         print(f"FAILED: of {passed + failed} cases of {name} only {names[rarity]} are '{rarity}'")
+    for text in getattr(part, "UNTRIED", ()):
+        print(f"NOT TRIED: {text}")
     print(f"{name}:", ", ".join(f"{count} {each}" for each, count in sorted(names.items())))
     print(f"{passed} passed, {failed} failed")
     sys.exit(failed != 0)

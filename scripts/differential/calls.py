@@ -96,10 +96,12 @@ class Calls:
             return forms[0] if value[:1] in (b"-", b"") or self.chance(50) else forms[1]
         return self.numbers.choice([[name, value], [name + value], [name + b"=" + value]])
 
-    def shared(self):
-        """The options that each subcommand has, in any order."""
+    def shared(self, tool, words):
+        """The options that each subcommand has, in any order; a report of a file mostly has none."""
+        if tool == b"status" and words and not self.chance(5):
+            return []
         options = [self.option(b"-c", CONFIG if not self.chance(3) else b"absent")]
-        if self.chance(40):
+        if tool != b"status" and self.chance(40):
             options.append(self.option(b"--default", self.text(b"default", self.entries_text())))
         return options
 
@@ -111,7 +113,9 @@ class Calls:
             if self.chance(40):
                 return [self.option(b"-s", self.text(b"script", self.numbers.choice(SET_SCRIPTS)))], self.some(NAMES, 1) * self.chance(5)
             return [], [self.numbers.choice(NAMES), *self.some(VALUES, 3)] * self.chance(96)
-        if tool == b"import":
+        if tool == b"status":
+            return [], [self.numbers.choice([b"one", b"two", CONFIG])] * self.chance(40)
+        if tool in (b"import", b"restore"):
             return [], [self.text(b"text", self.entries_text())]
         if tool == b"export":
             return [], []
@@ -121,10 +125,10 @@ class Calls:
         return options + [[b"--write"]] * self.chance(60), []
 
     def subcommand(self):
-        tool = self.numbers.choice([b"printenv", b"setenv", b"setenv", b"import", b"export", b"session"])
+        tool = self.numbers.choice([b"printenv", b"setenv", b"setenv", b"import", b"export", b"restore", b"status", b"session"])
         self.board()
         own, words = self.own(tool)
-        options = self.shared() + own
+        options = self.shared(tool, words) + own
         front = []
         if self.order == "big":
             (front if self.chance(30) else options).append([b"--big-endian"])

@@ -42,6 +42,8 @@ PRINTING = [
     call([b"printenv", b"m", b"a"]),
     call([b"printenv", b"-n", b"a"]),
     call([b"export"], over=board(FORM, [FORM.image(7, b"a=b\0"), ERASED * FORM.size])),
+    call([b"status"]),
+    call([b"status"], over=NEVER_WRITTEN),
 ]
 # What prints on both streams
 ON_BOTH = [call([b"printenv", b"q", b"a"]), call([b"export"])]
@@ -58,6 +60,7 @@ SAYING = [
     call([b"setenv", b"-s", b"text"], {b"text": b"a 1\nb " + TOO_MUCH + b"\na 2\n"}),
     call([b"import", b"text"], {b"text": b"a=1\nb=" + TOO_MUCH + b"\n"}),
     call([b"import", b"text"], {b"text": b"=1\n"}),
+    call([b"restore", b"text"], {b"text": b"a=1\nb=" + TOO_MUCH + b"\n"}),
     call([b"session", b"--write", b"--stubs", b"absent"], given=b".save\n"),
     call([b"printenv", b"--default", b"text"], {b"text": b"p=1\n"}, over=NEVER_WRITTEN),
 ]
@@ -66,6 +69,8 @@ READING = [
     (CONFIG, call([b"setenv", b"a", b"1"])),
     (b"text", call([b"import", b"text"], {b"text": b"a=1\nm=2\\\n3\n#q=\nb=4\n"})),
     (b"text", call([b"setenv", b"-s", b"text"], {b"text": b"a 1\nm\n# n\nb 4 \n"})),
+    (b"text", call([b"restore", b"text"], {b"text": b"a=1\nm=2\\\n3\n#q=\nb=4\n"})),
+    (b"image", Case("a whole file", [b"status", b"image"], FILES | {b"image": FORM.image(7, b"a=b\0")})),
     (b"text", call([b"setenv", b"--default", b"text", b"c", b"3"], {b"text": b"a=1\nb=2\n"}, over=NEVER_WRITTEN)),
     (b"text", call([b"session", b"--write", b"--stubs", b"text"], {b"text": STAND_INS}, ASKED)),
 ]
@@ -150,11 +155,17 @@ def printed():
         yield from output_cut(case, case.answer())
 
 
+def opening_of(name):
+    """Which opening of a file it is read by: what a report looks at is opened to be locked first."""
+    return 2 if name == b"image" else 1
+
+
 def read_failing(name, case):
     """The fault is said, the file isn't read again, and nothing is written."""
     warning = WARNING * (name != CONFIG and case.files[DEVICE] == NEVER_WRITTEN[DEVICE])
     for place in places(len(case.files[name]) + 1, "fail"):
-        yield cut_case(case, name, "read", place, Answer(1, b"", warning + CANNOT_READ % name, case.files))
+        wanted = Answer(1, b"", warning + CANNOT_READ % name, case.files)
+        yield cut_case(case, name, "read", place, wanted, opening_of(name))
 
 
 def read_ending(name, case):
@@ -166,7 +177,7 @@ def read_ending(name, case):
     for place in places(len(whole) + 1, "none", "pause"):
         answer = shorter[place[0]]
         wanted = replace(answer, files=answer.files | {name: whole})
-        yield cut_case(case, name, "read", place, wanted)
+        yield cut_case(case, name, "read", place, wanted, opening_of(name))
 
 
 def image_read():
@@ -179,14 +190,15 @@ def image_read():
 
 
 def copies_read():
+    """The device is opened to be locked, then for each copy, and before the write for each copy again."""
     case = call([b"setenv", b"a", b"1"])
-    for opening in (1, 2):
+    for opening in (2, 3, 4, 5):
         for place in places(FORM.size, "fail", "none", "pause"):
-            text = CANNOT_READ if place[2] == "fail" else TOO_SHORT
+            text = CANNOT_WRITE if opening > 3 else CANNOT_READ if place[2] == "fail" else TOO_SHORT
             wanted = Answer(1, b"", text % DEVICE, case.files)
             yield cut_case(case, DEVICE, "read", place, wanted, opening, counted=False)
     case = call([b"printenv", b"a"])
-    yield replace(case, cut=Cut(DEVICE, "read", step=1), moved=(FORM.size, FORM.size), wanted=case.answer())
+    yield replace(case, cut=Cut(DEVICE, "read", step=1, opening=2), moved=(FORM.size, FORM.size), wanted=case.answer())
 
 
 def saves():

@@ -61,12 +61,12 @@ def runs():
 
 def calculations():
     answers = {"division by zero": b"## Error: division by zero\n", "wrong use": b"## Error: wrong use of 'setexpr'\n"}
-    for words, answer in rows_under("commands.md", "Words", "Answer"):
+    for words, answer in rows_under("test-and-setexpr.md", "Words", "Answer"):
         for each in texts_in(words):
             given = b"setexpr " + each.encode() + b"\n.print\n"
             said = next((text for start, text in answers.items() if answer.startswith(start)), None)
             wanted = said + b"[Finished 1 1]\n" if said else b"[Finished 0 1]\n" + texts_in(answer)[0].encode() + b"\n"
-            yield session("docs/commands.md", USUAL, given, wanted)
+            yield session("docs/test-and-setexpr.md", USUAL, given, wanted)
 
 
 def stand_in_files():

@@ -1,7 +1,9 @@
 """Runs the program over cases and compares all that it leaves with what the model answers."""
 
+import contextlib
 import os
 import signal
+import stat
 from dataclasses import dataclass, field
 
 from model.program import Program
@@ -38,8 +40,13 @@ class Cut:
 @dataclass
 class Case:
     """A call: its arguments, the files by their names, standard input, and perhaps a stream that is cut, of which `moved` are the
-    wanted calls and bytes. `wanted` is an answer that is given by hand, which the model has to have too where it is asked for the
-    same, and `accepts` stands for it where there are several."""
+    wanted calls and bytes. `wanted` is an answer that is given by hand, which the model has to have too if it is asked for the
+    same, and `accepts` is used in its place if there are several.
+
+    `prefix` are the words of a command that runs the program, `preload` is a library that is preloaded with the environment
+    `variables`, and `around` makes of the runner what is done before the program and after it: as a context it gives other
+    streams, a descriptor for each or None for one that is closed. With `check` that function of the runner is called in place
+    of all this, and answers what is wrong, if anything is."""
 
     name: str
     arguments: list
@@ -52,6 +59,11 @@ class Case:
     is_modelled: bool = True
     seconds: float = SECONDS
     weight: int = 1
+    prefix: tuple = ()
+    preload: str = "cut"
+    variables: dict = field(default_factory=dict)
+    around: object = None
+    check: object = None
 
     def fails(self):
         """Whether standard input fails after its bytes."""
@@ -86,8 +98,8 @@ class Found:
 class Runner:
     """Runs the program in a folder of its own, which is the current one. The streams are files outside of it."""
 
-    def __init__(self, program, preload, folder):
-        self.program, self.preload = program, preload
+    def __init__(self, program, preloads, folder):
+        self.program, self.preloads = program, preloads
         self.there = {}
         os.makedirs(folder + "/files")
         os.chdir(folder + "/files")
@@ -95,8 +107,9 @@ class Runner:
         self.streams = [os.open(f"{folder}/{name}", os.O_RDWR | os.O_CREAT, 0o600) for name in ("in", "out", "err")]
 
     def put(self, files):
-        for name in self.there.keys() - files.keys():
-            os.unlink(name)
+        for name, content in self.there.items():
+            if content is None or name not in files:
+                (os.rmdir if stat.S_ISDIR(os.lstat(name).st_mode) else os.unlink)(name)
         for name, content in files.items():
             if self.there.get(name) != content:
                 with open(name, "wb") as file:
@@ -104,11 +117,13 @@ class Runner:
         self.there = dict(files)
 
     def left(self):
-        """The files as they are now."""
+        """The files as they are now; None for what is no file."""
         found = {}
         for name in os.listdir(b"."):
-            with open(name, "rb", 0) as file:
-                found[name] = file.read()
+            found[name] = None
+            if stat.S_ISREG(os.lstat(name).st_mode):
+                with open(name, "rb", 0) as file:
+                    found[name] = file.read()
         self.there = found
         return dict(found)
 
@@ -123,21 +138,29 @@ class Runner:
         # (after a cut the input would go on)
         is_input = case.cut is not None and case.cut.stream == 0 and case.cut.after == len(case.given)
         self.fill_streams(case.given + b"\n.save\n" * is_input)
-        moves = [(os.POSIX_SPAWN_DUP2, stream, at) for at, stream in enumerate(self.streams)]
-        process = os.posix_spawn(self.program, [b"fwenv", *case.arguments], self.environment(case), file_actions=moves)
-        signal.signal(signal.SIGALRM, lambda *_: os.kill(process, signal.SIGKILL))
-        signal.alarm(WAITED)
-        _, status, usage = os.wait4(process, 0)
-        signal.alarm(0)
+        words = [*case.prefix, self.program] if case.prefix else [b"fwenv"]
+        with case.around(self) if case.around else contextlib.nullcontext({}) as given:
+            moves = [move(given.get(at, stream), at) for at, stream in enumerate(self.streams)]
+            process = os.posix_spawnp(
+                case.prefix[0] if case.prefix else self.program, [*words, *case.arguments], self.environment(case),
+                file_actions=moves, setsigdef=[signal.SIGPIPE],
+            )
+            signal.signal(signal.SIGALRM, lambda *_: os.kill(process, signal.SIGKILL))
+            signal.alarm(WAITED)
+            _, status, usage = os.wait4(process, 0)
+            signal.alarm(0)
         output, errors = [os.pread(stream, os.fstat(stream).st_size, 0) for stream in self.streams[1:]]
         seconds = usage.ru_utime + usage.ru_stime
         return Found(os.waitstatus_to_exitcode(status), output, errors, self.left(), seconds)
 
     def environment(self, case):
         """The words of the environment, which cut a stream."""
-        if case.cut is None:
-            return os.environ
-        return {**os.environ, **case.cut.words(), "LD_PRELOAD": self.preload, "CUT_COUNT": self.moved}
+        variables = {**os.environ, **case.variables}
+        if case.cut is not None:
+            variables |= {**case.cut.words(), "CUT_COUNT": self.moved}
+        if case.cut is not None or case.variables:
+            variables["LD_PRELOAD"] = f"{self.preloads}/{case.preload}.so"
+        return variables
 
     def is_moved(self, case):
         """Whether the cut stream moved what it had to, in as many calls."""
@@ -147,7 +170,9 @@ class Runner:
             return tuple(map(int, file.read().split())) == case.moved
 
     def failure(self, case, wanted):
-        """What is wrong with a case, as a text; None where nothing is."""
+        """What is wrong with a case, as a text; None if nothing is."""
+        if case.check:
+            return case.check(self)
         if case.tells_on_model() and not Found(**vars(case.wanted), seconds=0).is_as(wanted):
             return told(case, wanted, case.wanted).replace("found", "of the model")
         wanted = case.wanted or wanted
@@ -158,6 +183,11 @@ class Runner:
             if found.seconds <= case.seconds:
                 return None
         return f"{case.name}: {found.seconds} seconds of a processor\n  {shown(case.arguments)}"
+
+
+def move(stream, at):
+    """What gives a process this stream, or closes it."""
+    return (os.POSIX_SPAWN_CLOSE, at) if stream is None else (os.POSIX_SPAWN_DUP2, stream, at)
 
 
 def shown(value):

@@ -36,6 +36,9 @@ OVER_GOOD_COPIES = [
     ([b"import", b"text"], 1, b"", b"## Error: 2 entries refused\n", EMPTIED, b"a=bc\nq=1\na=\n"),
     ([b"import", b"text"], 1, b"", b"fwenv: text: EmptyName in line 3\n", SECOND, b"a=b\n\n=c\n"),
     ([b"import", b"text"], 1, b"", b"fwenv: text: Nul\n", SECOND, b"a=b\0\n"),
+    ([b"restore", b"text"], 0, b"", b"", PAIR.image(8, b"q=1\0"), b"q=1\n"),
+    ([b"restore", b"text"], 1, b"", b'## Error: no room for "q" in line 2\n', SECOND, b"a=b\nq=1\n"),
+    ([b"restore", b"absent"], 1, b"", b"fwenv: cannot read absent\n"),
 ]
 # The same where no copy is good; the warning comes first, and it is the first copy that is written
 OVER_BLANK_COPIES = [
@@ -46,6 +49,8 @@ OVER_BLANK_COPIES = [
     ([b"printenv", b"--default", b"absent"], 1, b"", b"fwenv: cannot read absent\n"),
     ([b"import", b"--default", b"text", b"absent"], 1, b"", b"fwenv: cannot read absent\n", BLANK, b"p=1\n"),
     ([b"setenv", b"a", b"b"], 0, b"", b"", PAIR.image(1, b"a=b\0")),
+    ([b"restore", b"text"], 0, b"", b"", PAIR.image(1, b"q=1\0"), b"q=1\n"),
+    ([b"restore", b"--default", b"text", b"text"], 0, b"", b"", PAIR.image(1, b"q=1\0"), b"q=1\n"),
 ]
 # A single image of 64 bytes whose variables have types and accesses: arguments, status, output, errors, and what is changed
 SINGLE = Geometry(1, 64)
@@ -57,11 +62,25 @@ OVER_TYPES = [
     ([b"setenv", b"--", b"#q", b"1"], 0, b"", b"", {b"#q": b"1"}),
     ([b"export"], 0, b".flags=n:d,r:sr\na=1\nm=x\\\\\\\ny\n", b"", {}),
 ]
+# A restore there: the text, status, errors, and the variables afterwards, if it is saved
+NO_ROOM_B = b'## Error: no room for "b" in line 3\n'
+RESTORED = [
+    (b"a=2\nb=3\n", 0, b"", {b"a": b"2", b"b": b"3"}),
+    (b".flags=n:d,r:sr\nr=1\nn=7\n", 0, b"", {b".flags": b"n:d,r:sr", b"r": b"1", b"n": b"7"}),
+    (b"# nothing\n", 0, b"", {}),
+    (b"a=1\nb=2\na=\n", 0, b"", {b"b": b"2"}),
+    (b"n=x\n.flags=n:d\n", 0, b"", {b"n": b"x", b".flags": b"n:d"}),
+    (b"a=1\n\nb=%s\nc=2\n" % (b"0" * 60), 1, NO_ROOM_B, None),
+    (b"b=1\n.flags=.flags:d\na=1\n.flags=x\n", 1, b'## Error: type check failure for ".flags" in line 4\n', None),
+    (b"a=2\n=b\n", 1, b"fwenv: text: EmptyName in line 2\n", None),
+]
 WRONG_WORDS = [
     ([b"frob"], NO_SUBCOMMAND % b"frob"),
     ([b""], NO_SUBCOMMAND % b""),
     ([b"setenv", b"-c", CONFIG], None),
     ([b"setenv", b"-c", CONFIG, b"-s", b"text", b"a"], None),
+    ([b"restore", b"-c", CONFIG], None),
+    ([b"restore", b"-c", CONFIG, b"text", b"text"], None),
 ]
 
 
@@ -93,6 +112,15 @@ def over_types():
     yield Case("an image", [], given=image, wanted=Answer(0, b"#q=1\nm=x\ny\n", b"", {}))
 
 
+def restores():
+    """Names that `.flags` makes read-only are there before, and come in the text."""
+    before = SINGLE.image(0, entries(TYPED | {b"r": b"5"}))
+    for text, status, errors, variables in RESTORED:
+        after = before if variables is None else SINGLE.image(0, entries(variables))
+        wanted = Answer(status, b"", errors, board(SINGLE, [after]) | {b"text": text})
+        yield Case("a restore", arguments(b"restore", b"text"), board(SINGLE, [before]) | {b"text": text}, wanted=wanted)
+
+
 def in_big_endian():
     """The word may stand before the subcommand and after it."""
     form = Geometry(1, 9, "big")
@@ -111,4 +139,4 @@ def words():
 
 
 def chunks():
-    return [over_pairs, over_types, in_big_endian, words]
+    return [over_pairs, over_types, restores, in_big_endian, words]

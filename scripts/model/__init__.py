@@ -6,10 +6,11 @@ once; everything is bytes. The tests compare the built program with it (scripts/
     variables     variables with types and access        docs/variables.md
     words         words and tokens of a script           docs/scripts.md
     grammar       the tree of a script                   docs/scripts.md
-    calculations  test and setexpr                       docs/commands.md
+    calculations  test and setexpr                       docs/test-and-setexpr.md
     script        what a script does                     docs/runs.md
-    session       copies, saves, marks and undo          docs/sessions.md
+    session       copies, saves, marks and undo          docs/undo.md
     dry_run       blocks and dot lines                   docs/dry-runs.md
+    report        what is stored, line by line           docs/tools.md
     arguments     the command line                       docs/tools.md
     program       the tools over files                   docs/tools.md
 """

@@ -2,6 +2,7 @@
 subcommand"), as far as the rules of clap are used: options before and after the other words, values after a blank, an
 `=` or a letter."""
 
+import pathlib
 import re
 from dataclasses import dataclass, field
 
@@ -12,8 +13,11 @@ FORMS = {
     "setenv": (set(), {"-s"}, (0, None)),
     "import": (set(), set(), (1, 1)),
     "export": (set(), set(), (0, 0)),
+    "restore": (set(), set(), (1, 1)),
+    "status": (set(), set(), (0, 1)),
     "session": ({"--write"}, {"--stubs", "--steps", "--depth", "--word", "--output"}, (0, 0)),
 }
+WITHOUT_DEFAULT = {"status"}
 # The limits of a session: the usual one, and the largest
 LIMITS = {
     "--steps": (100_000, 1_000_000),
@@ -21,10 +25,18 @@ LIMITS = {
     "--word": (4096, 65_536),
     "--output": (1_048_576, 16_777_216),
 }
-VERSION = b"fwenv 0.1.0\n"
+# The version that the changelog says is the program's
+[VERSION, *_] = re.findall(rb"^## (\S+) ", (pathlib.Path(__file__).parent.parent.parent / "CHANGELOG.md").read_bytes(), re.M)
+VERSION = b"fwenv %s\n" % VERSION
 NO_SUBCOMMAND = b"""error: unrecognized subcommand '%s'
 
 Usage: fwenv [OPTIONS] [COMMAND]
+
+For more information, try '--help'.
+"""
+CONFIG_AND_FILE = b"""error: the argument '-c <FILE>' cannot be used with '[FILE]'
+
+Usage: fwenv status [OPTIONS] [FILE]
 
 For more information, try '--help'.
 """
@@ -95,13 +107,16 @@ def read_subcommand(tool, options, rest):
             call.words += rest
             break
         if word[:1] == b"-" and word != b"-":
-            read_option(call, word, rest, FLAGS | flags, VALUES | values)
+            shared = VALUES - {"--default"} if tool in WITHOUT_DEFAULT else VALUES
+            read_option(call, word, rest, FLAGS | flags, shared | values)
         else:
             call.words.append(word)
     if len(call.words) < least or (most is not None and len(call.words) > most):
         raise Wrong
     if tool == "setenv" and ("-s" in call.options) == bool(call.words):
         raise Wrong
+    if tool == "status" and "-c" in call.options and call.words:
+        raise Wrong(CONFIG_AND_FILE)
     return call
 
 

@@ -1,4 +1,4 @@
-"""The commands of a script that compute: test and setexpr (docs/commands.md)."""
+"""The commands of a script that compute: test and setexpr (docs/test-and-setexpr.md)."""
 
 import re
 

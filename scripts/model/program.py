@@ -3,7 +3,7 @@
 
 from dataclasses import dataclass
 
-from model import texts
+from model import report, texts
 from model.arguments import VERSION, Wrong, read_arguments
 from model.dry_run import LONGEST, DryRun
 from model.image import LARGEST, Geometry
@@ -11,6 +11,7 @@ from model.session import Session
 from model.texts import TextFault
 from model.variables import NOT_DEFINED, REFUSALS, Environment
 
+CONFIG = b"/etc/fw_env.config"
 WARNING = b"Warning: Bad CRC, using default environment\n"
 CANNOT_READ_INPUT = b"fwenv: cannot read standard input\n"
 CANNOT_READ = b"fwenv: cannot read %s\n"
@@ -22,6 +23,7 @@ REFUSED_TEXT = b"fwenv: %s: %s\n"
 TOO_LONG = b"fwenv: input too long\n"
 BAD_IMAGE = b"## Error: bad image: %s\n"
 ONE_NAME = b"## Error: -n takes exactly one name\n"
+REFUSED_LINE = b"%s in line %d\n"
 REFUSED_ENTRIES = b"## Error: %d entries refused\n"
 NO_EXPORT = b'## Error: can\'t export "%s"\n'
 
@@ -99,14 +101,15 @@ class Program:
         except TextFault as fault:
             raise Ended(REFUSED_TEXT % (path, fault.text))
 
-    def copy(self, place, size):
+    def device(self, place, size):
+        """Where a copy begins, and the bytes of its device from there on."""
         device = self.files.get(place.device)
         if device is None:
             raise Ended(CANNOT_READ % place.device)
         start = place.start(size, len(device))
         if start is None:
             raise Ended(TOO_SHORT % place.device)
-        return start, device[start : start + size]
+        return start, device[start:]
 
     def defaults(self, call, geometry):
         """The values of the default environment."""
@@ -119,16 +122,20 @@ class Program:
                 raise Ended(REFUSED_TEXT % (path, b"%s in line %d" % (refusal.encode(), line)))
         return environment.values
 
-    def opened(self, call):
-        """A session over the copies that the configuration names."""
-        configuration = self.parsed(call.options.get("-c", b"/etc/fw_env.config"), texts.configuration)
-        geometry = configuration.geometry(call.order())
+    def found(self, call):
+        """The geometry of the copies that the configuration names, and what their devices hold from their places on."""
+        configuration = self.parsed(call.options.get("-c", CONFIG), texts.configuration)
         self.places, size = configuration.places, configuration.size
-        read = [self.copy(place, size) for place in self.places]
+        read = [self.device(place, size) for place in self.places]
         self.starts = [start for start, _ in read]
         if len(read) == 2 and self.places[0].device == self.places[1].device and abs(self.starts[0] - self.starts[1]) < size:
             raise Ended(OVERLAP)
-        copies = [copy for _, copy in read]
+        return configuration.geometry(call.order()), read
+
+    def opened(self, call):
+        """A session over those copies."""
+        geometry, read = self.found(call)
+        copies = [rest[: geometry.size] for _, rest in read]
         if geometry.choice(copies)[0] is None:
             self.errors += WARNING
         return Session(geometry, copies, self.defaults(call, geometry))
@@ -185,6 +192,25 @@ class Program:
         refused = sum(session.environment.write(name, value, False) is not None for _, name, value in entries)
         self.saved(session)
         return self.say(REFUSED_ENTRIES % refused) if refused else 0
+
+    def call_restore(self, call):
+        session = self.opened(call)
+        entries = self.parsed(call.words[0], texts.import_entries)
+        session.environment = Environment(session.geometry.room, (), session.environment.defaults)
+        for line, name, value in sorted(entries, key=lambda entry: entry[1] == b".flags"):
+            refusal = session.environment.write(name, value, True)
+            if refusal:
+                return self.say(REFUSED_LINE % ((REFUSALS[refusal] % name).removesuffix(b"\n"), line))
+        return self.saved(session)
+
+    def call_status(self, call):
+        if call.words:
+            self.output, status = report.of_file(call.words[0], self.text(call.words[0]), call.order())
+            return status
+        path = call.options.get("-c", CONFIG)
+        geometry, read = self.found(call)
+        self.output, status = report.of_copies(path, self.files[path], geometry, self.places, read)
+        return status
 
     def saved(self, session):
         session.save()

@@ -1,4 +1,4 @@
-"""Sessions: the stored copies and the variables, with what a save, a mark and an undo do to them (docs/sessions.md)."""
+"""Sessions: the stored copies and the variables, with what a save, a mark and an undo do to them (docs/undo.md)."""
 
 from model.image import ERASED
 from model.variables import Environment

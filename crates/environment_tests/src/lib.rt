@@ -1,9 +1,13 @@
-//! Tests of the crates below sessions: images, texts, variables in memory, and variables with their types and access.
-//! They stand apart from those crates, so that each of them is proved once.
+//! Tests of the crates up to the session: images, texts, variables in memory, variables with their types and access, kept
+//! values, and sessions with undo. They stand apart from those crates, so that each of them is proved once.
 #![tactic(auto)]
 
 #[cfg(test)]
 mod images;
+#[cfg(test)]
+mod keeping;
+#[cfg(test)]
+mod sessions;
 #[cfg(test)]
 mod store;
 #[cfg(test)]

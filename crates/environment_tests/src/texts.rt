@@ -1,30 +1,25 @@
-//! Worked examples, with values taken from docs/texts.md and U-Boot's own documents.
+//! Texts: worked examples, with values taken from docs/texts.md and U-Boot's own documents.
 use envcfg_core::{
     Config, ConfigFault, ExportFault, Place, TextEntry, TextFault, export_entry, parse_config,
     parse_import, parse_set_script,
 };
-use envimg_core::Layout;
 use std::alloc::{AllocError, Global};
 use std::test::Fail;
 
 /// The entries one after the other, each as `line:name=value` or `line:name` and `;`, or the fault's line.
 fn shown(alloc: Global, outcome: Result<Vec<TextEntry>, TextFault>) -> Result<Vec<u8>, AllocError> {
     let mut text = Vec::new(alloc);
-    let entries = match outcome {
-        Ok(entries) => entries,
-        Err(fault) => {
-            text.extend_from_slice(format!(in alloc; "{fault}")?.as_bytes())?;
-            return Ok(text);
-        }
-    };
-    for entry in &entries {
-        text.extend_from_slice(format!(in alloc; "{}:", entry.line)?.as_bytes())?;
-        text.extend_from_slice(&entry.name)?;
-        if let Some(value) = &entry.value {
-            text.push(b'=')?;
-            text.extend_from_slice(value)?;
-        }
-        text.push(b';')?;
+    match outcome {
+        Ok(entries) => for entry in &entries {
+            text.extend_from_slice(format!(in alloc; "{}:", entry.line)?.as_bytes())?;
+            text.extend_from_slice(&entry.name)?;
+            if let Some(value) = &entry.value {
+                text.push(b'=')?;
+                text.extend_from_slice(value)?;
+            }
+            text.push(b';')?;
+        },
+        Err(fault) => text.extend_from_slice(format!(in alloc; "{fault}")?.as_bytes())?,
     }
     Ok(text)
 }
@@ -35,15 +30,10 @@ fn said(alloc: Global, outcome: Result<Config, ConfigFault>) -> Result<String, A
         Ok(config) => config,
         Err(fault) => return format!(in alloc; "{fault}"),
     };
-    let layout = if config.layout == Layout::Single {
-        "single"
-    } else {
-        "redundant"
-    };
     let first = &config.first;
     let mut text = format!(in alloc;
-        "{layout} {} {}@{}",
-        config.size, first.device, first.offset
+        "{:?} {} {}@{}",
+        config.layout, config.size, first.device, first.offset
     )?;
     if let Some(second) = &config.second {
         text.push_str(format!(in alloc; " {}@{}", second.device, second.offset)?.as_str())?;
@@ -51,46 +41,45 @@ fn said(alloc: Global, outcome: Result<Config, ConfigFault>) -> Result<String, A
     Ok(text)
 }
 
+/// Texts for import, and what is read of them.
+const IMPORTS: [(&[u8], &[u8]); 12] = [
+    (b"", b""),
+    (b"  a=1\n# x\nb\nc=\n", b"1:a=1;3:b;4:c;"),
+    (b"=z", b"EmptyName in line 1"),
+    (b"a=1\n\n \t=z\n=y", b"EmptyName in line 3"),
+    (b"a=1\\", b"1:a=1\\;"),
+    (b"=x\n\0", b"Nul"),
+    (b"#\0", b"Nul"),
+    (b"a=x\\\ny\nb=1", b"1:a=x\ny;3:b=1;"),
+    (b"a=b=c\n \t# no\n# \\\nd\\=e", b"1:a=b=c;4:d\\=e;"),
+    (b"a=1\r\n\tb\r\n", b"1:a=1\r;2:b\r;"),
+    (b"a\\\nb=\\\\\\q", b"1:a\\;2:b=\\q;"),
+    (b"a=# no comment\n\n\n#last", b"1:a=# no comment;"),
+];
+
+/// Set scripts, and what is read of them.
+const SET_SCRIPTS: [(&[u8], &[u8]); 9] = [
+    (b"", b""),
+    (
+        b"# c\n\nnetdev  eth0\nfoo a  b\nbar\nk=v w\n",
+        b"3:netdev=eth0;4:foo=a  b;5:bar;6:k=v w;",
+    ),
+    (b"a 1\r\nb\r\n \t\r\n\r\n", b"1:a=1;2:b;"),
+    (b"a 1\r\r\n", b"1:a=1\r;"),
+    (b"a 1\r", b"1:a=1;"),
+    (b" # x\n\t k\t= v ", b"1:#=x;2:k== v ;"),
+    (b"a\n =v", b"EmptyName in line 2"),
+    (b"=v\n\0", b"Nul"),
+    (b"a=", b"1:a;"),
+];
+
 #[test]
-fn imports_are_read(rt: HostRuntime) -> Result<(), Fail> {
-    let table: [(&[u8], &[u8]); 12] = [
-        (b"", b""),
-        (b"  a=1\n# x\nb\nc=\n", b"1:a=1;3:b;4:c;"),
-        (b"=z", b"EmptyName in line 1"),
-        (b"a=1\n\n \t=z\n=y", b"EmptyName in line 3"),
-        (b"a=1\\", b"1:a=1\\;"),
-        (b"=x\n\0", b"Nul"),
-        (b"#\0", b"Nul"),
-        (b"a=x\\\ny\nb=1", b"1:a=x\ny;3:b=1;"),
-        (b"a=b=c\n \t# no\n# \\\nd\\=e", b"1:a=b=c;4:d\\=e;"),
-        (b"a=1\r\n\tb\r\n", b"1:a=1\r;2:b\r;"),
-        (b"a\\\nb=\\\\\\q", b"1:a\\;2:b=\\q;"),
-        (b"a=# no comment\n\n\n#last", b"1:a=# no comment;"),
-    ];
-    for (text, expected) in table {
+fn entries_are_read(rt: HostRuntime) -> Result<(), Fail> {
+    for (text, expected) in IMPORTS {
         let found = shown(rt.alloc(), parse_import(rt.alloc(), text))?;
         assert_eq!(rt; found.as_slice(), expected, "of {text:?}");
     }
-    Ok(())
-}
-
-#[test]
-fn set_scripts_are_read(rt: HostRuntime) -> Result<(), Fail> {
-    let table: [(&[u8], &[u8]); 9] = [
-        (b"", b""),
-        (
-            b"# c\n\nnetdev  eth0\nfoo a  b\nbar\nk=v w\n",
-            b"3:netdev=eth0;4:foo=a  b;5:bar;6:k=v w;",
-        ),
-        (b"a 1\r\nb\r\n \t\r\n\r\n", b"1:a=1;2:b;"),
-        (b"a 1\r\r\n", b"1:a=1\r;"),
-        (b"a 1\r", b"1:a=1;"),
-        (b" # x\n\t k\t= v ", b"1:#=x;2:k== v ;"),
-        (b"a\n =v", b"EmptyName in line 2"),
-        (b"=v\n\0", b"Nul"),
-        (b"a=", b"1:a;"),
-    ];
-    for (text, expected) in table {
+    for (text, expected) in SET_SCRIPTS {
         let found = shown(rt.alloc(), parse_set_script(rt.alloc(), text))?;
         assert_eq!(rt; found.as_slice(), expected, "of {text:?}");
     }
@@ -102,131 +91,70 @@ fn exported_variables_read_back(rt: HostRuntime) -> Result<(), Fail> {
     let mut text = Vec::new(rt.alloc());
     assert_eq!(rt; export_entry(b"m", b"x\n\\y", &mut text), Ok(()));
     assert_eq!(rt; text.as_slice(), b"m=x\\\n\\\\y\n".as_slice());
-    assert_eq!(rt; export_entry(b"n", b"=#", &mut text), Ok(()));
+    let names: [&[u8]; 4] = [b"#a", b" a", b"\ta", b"a\nb"];
+    for name in names {
+        assert_eq!(rt; export_entry(name, b"1", &mut text), Err(ExportFault::Name));
+    }
+    assert_eq!(rt; export_entry(b"n#", b"=#", &mut text), Ok(()));
     let found = shown(rt.alloc(), parse_import(rt.alloc(), &text))?;
-    assert_eq!(rt; found.as_slice(), b"1:m=x\n\\y;3:n==#;".as_slice());
+    assert_eq!(rt; found.as_slice(), b"1:m=x\n\\y;3:n#==#;".as_slice());
     Ok(())
 }
 
-#[test]
-fn names_that_cannot_be_exported(rt: HostRuntime) -> Result<(), Fail> {
-    let mut text = b"k=1\n".to_vec(rt.alloc())?;
-    assert_eq!(rt;
-        export_entry(b"#a", b"1", &mut text),
-        Err(ExportFault::Name)
-    );
-    assert_eq!(rt;
-        export_entry(b" a", b"1", &mut text),
-        Err(ExportFault::Name)
-    );
-    assert_eq!(rt;
-        export_entry(b"\ta", b"1", &mut text),
-        Err(ExportFault::Name)
-    );
-    assert_eq!(rt;
-        export_entry(b"a\nb", b"1", &mut text),
-        Err(ExportFault::Name)
-    );
-    assert_eq!(rt; text.as_slice(), b"k=1\n".as_slice());
-    assert_eq!(rt; export_entry(b"a#", b"1", &mut text), Ok(()));
-    assert_eq!(rt; text.as_slice(), b"k=1\na#=1\n".as_slice());
-    Ok(())
-}
+/// Configurations, with their numerals and their faults; the last ones as the README of U-Boot's `tools/env` has them, and
+/// as they reach users.
+const CONFIGURATIONS: [(&[u8], &str); 24] = [
+    (
+        b"# c\nd 0200000 4000\nshort line\nd -0x4000 0x4000 0x200 1\ne 0 8\n",
+        "Redundant 16384 d@65536 d@-16384",
+    ),
+    (b"d 0 4000\nd 0x2000 4000\n", "Overlap"),
+    (b"d 0 4000\nd 0x4000 4000\n", "Redundant 16384 d@0 d@16384"),
+    (b"d 0 4000\ne 0 4000\n", "Redundant 16384 d@0 e@0"),
+    (b"d -4000 4000\nd -0X4000 4000\n", "Overlap"),
+    (b"d 0 7\n", "Size in line 1"),
+    (b"d 0 8\n", "Single 8 d@0"),
+    (b"d 0 8\ne 0 8\n", "Size in line 1"),
+    (b"d 0 8\ne 0 9\n", "Unequal"),
+    (b"\nd 0 100001\ne 0 1\n", "Size in line 2"),
+    (b"d 0 100000\n\xff 0 1\n", "NotUtf8 in line 2"),
+    (b"", "NoCopy"),
+    (b"d 9223372036854775808 4000\n", "NoCopy"),
+    (
+        b"d -9223372036854775807 4000\n",
+        "Single 16384 d@-9223372036854775807",
+    ),
+    (b"d 08 4000\n", "NoCopy"),
+    (b"d 017 4000\n", "Single 16384 d@15"),
+    (b"d +0X1f 0X4000\n", "Single 16384 d@31"),
+    (b"d 0 FFFFFFFFFFFFFFFFFFFF\n", "Size in line 1"),
+    (b"\xff 0 4000\n", "NotUtf8 in line 1"),
+    (b"\xff 08 4000\n", "NoCopy"),
+    (
+        b"# Notice, that the \"Number of sectors\" is not required on NOR and SPI-dataflash.\n\
+          \n\
+          # MTD device name\tDevice offset\tEnv. size\tFlash sector size\tNumber of sectors\n\
+          /dev/mtd1\t\t0x0000\t\t0x4000\t\t0x4000\n\
+          /dev/mtd2\t\t0x0000\t\t0x4000\t\t0x4000\n",
+        "Redundant 16384 /dev/mtd1@0 /dev/mtd2@0",
+    ),
+    (
+        b"#/dev/mtd5\t\t0x4200\t\t0x4200\n/dev/mmcblk0\t\t0xc0000\t\t0x20000\r\n",
+        "Single 131072 /dev/mmcblk0@786432",
+    ),
+    (
+        b"/boot/uboot.env\t0x0000          0x4000",
+        "Single 16384 /boot/uboot.env@0",
+    ),
+    (
+        b"/dev/mmcblk0 -0x20000 0x20000\r\n/dev/mmcblk0 -0x40000 0x20000 1 # comment\n",
+        "Redundant 131072 /dev/mmcblk0@-131072 /dev/mmcblk0@-262144",
+    ),
+];
 
 #[test]
 fn configurations_are_read(rt: HostRuntime) -> Result<(), Fail> {
-    let table: [(&[u8], &str); 13] = [
-        (
-            b"# c\nd 0200000 4000\nshort line\nd -0x4000 0x4000 0x200 1\ne 0 8\n",
-            "redundant 16384 d@65536 d@-16384",
-        ),
-        (b"d 0 4000\nd 0x2000 4000\n", "Overlap"),
-        (b"d 0 4000\nd 0x4000 4000\n", "redundant 16384 d@0 d@16384"),
-        (b"d 0 4000\nd 0x3fff 4000\n", "Overlap"),
-        (b"d 0 4000\ne 0 4000\n", "redundant 16384 d@0 e@0"),
-        (b"d -4000 4000\nd -0X4000 4000\n", "Overlap"),
-        (b"d 0 7\n", "Size in line 1"),
-        (b"d 0 8\n", "single 8 d@0"),
-        (b"d 0 8\ne 0 8\n", "Size in line 1"),
-        (b"d 0 8\ne 0 9\n", "Unequal"),
-        (b"\nd 0 100001\ne 0 1\n", "Size in line 2"),
-        (b"d 0 100000\n\xff 0 1\n", "NotUtf8 in line 2"),
-        (b"", "NoCopy"),
-    ];
-    for (text, expected) in table {
-        let found = said(rt.alloc(), parse_config(rt.alloc(), text))?;
-        assert_eq!(rt; found.as_str(), expected, "of {text:?}");
-    }
-    Ok(())
-}
-
-#[test]
-fn numerals_are_read(rt: HostRuntime) -> Result<(), Fail> {
-    let table: [(&[u8], &str); 17] = [
-        (b"d 9223372036854775808 4000\n", "NoCopy"),
-        (
-            b"d 9223372036854775807 4000\n",
-            "single 16384 d@9223372036854775807",
-        ),
-        (
-            b"d -9223372036854775807 4000\n",
-            "single 16384 d@-9223372036854775807",
-        ),
-        (b"d -0x8000000000000000 4000\n", "NoCopy"),
-        (b"d 08 4000\n", "NoCopy"),
-        (b"d 017 4000\n", "single 16384 d@15"),
-        (b"d +0X1f 4000\n", "single 16384 d@31"),
-        (b"d -0 0X4000\n", "single 16384 d@0"),
-        (b"d 1f 4000\n", "NoCopy"),
-        (b"d 0x 4000\n", "NoCopy"),
-        (b"d + 4000\n", "NoCopy"),
-        (b"d +-1 4000\n", "NoCopy"),
-        (b"d 0 0x\n", "NoCopy"),
-        (b"d 0 40g0\n", "NoCopy"),
-        (b"d 0 FFFFFFFFFFFFFFFFFFFF\n", "Size in line 1"),
-        (b"\xff 0 4000\n", "NotUtf8 in line 1"),
-        (b"\xff 08 4000\n", "NoCopy"),
-    ];
-    for (text, expected) in table {
-        let found = said(rt.alloc(), parse_config(rt.alloc(), text))?;
-        assert_eq!(rt; found.as_str(), expected, "of {text:?}");
-    }
-    Ok(())
-}
-
-/// As the README of U-Boot's `tools/env` has it, and as it reaches users.
-#[test]
-fn configurations_as_users_have_them(rt: HostRuntime) -> Result<(), Fail> {
-    let table: [(&[u8], &str); 5] = [
-        (
-            b"# Configuration file for fw_(printenv/setenv) utility.\n\
-              # Up to two entries are valid, in this case the redundant\n\
-              # environment sector is assumed present.\n\
-              # Notice, that the \"Number of sectors\" is not required on NOR and SPI-dataflash.\n\
-              \n\
-              # MTD device name\tDevice offset\tEnv. size\tFlash sector size\tNumber of sectors\n\
-              /dev/mtd1\t\t0x0000\t\t0x4000\t\t0x4000\n\
-              /dev/mtd2\t\t0x0000\t\t0x4000\t\t0x4000\n",
-            "redundant 16384 /dev/mtd1@0 /dev/mtd2@0",
-        ),
-        (
-            b"#/dev/mtd5\t\t0x4200\t\t0x4200\n/dev/mmcblk0\t\t0xc0000\t\t0x20000\r\n",
-            "single 131072 /dev/mmcblk0@786432",
-        ),
-        (
-            b"/boot/uboot.env\t0x0000          0x4000",
-            "single 16384 /boot/uboot.env@0",
-        ),
-        (
-            b"/dev/mmcblk0 -0x20000 0x20000\r\n/dev/mmcblk0 -0x40000 0x20000\r\n",
-            "redundant 131072 /dev/mmcblk0@-131072 /dev/mmcblk0@-262144",
-        ),
-        (
-            b"  /dev/mtd1 0x0 0x1000 0x1000 1 # comment\n",
-            "single 4096 /dev/mtd1@0",
-        ),
-    ];
-    for (text, expected) in table {
+    for (text, expected) in CONFIGURATIONS {
         let found = said(rt.alloc(), parse_config(rt.alloc(), text))?;
         assert_eq!(rt; found.as_str(), expected, "of {text:?}");
     }
@@ -241,9 +169,6 @@ fn copies_begin_inside_their_device(rt: HostRuntime) -> Result<(), Fail> {
         (-16384, 16384, Some(0)),
         (-16384, 16383, None),
         (-16383, 20000, None),
-        (-20000, 20001, Some(1)),
-        (0, 16384, Some(0)),
-        (0, 16383, None),
         (i64::MAX, u64::MAX, Some(9223372036854775807)),
         (i64::MIN, u64::MAX, Some(9223372036854775807)),
     ];

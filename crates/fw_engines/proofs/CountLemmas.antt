@@ -2,7 +2,7 @@
 use Rattle.std.proofs.Common.{◌≡◌, ℕ, zero, suc, ◌+◌, ◌/◌, ◌%◌, ◌<◌, ◌≤◌, ◌^◌, [], ◌∷◌, ◌++◌, refl, sym, ap, ◌∙◌, arith, codes}
 use Rattle.std.specs.Fmt.{decimal}
 use Rattle.std.proofs.lemmas.Fmt.{decimal_digit, decimal_step}
-use Rattle.fw_engines.specs.Setting.{count_text}
+use Rattle.fw_engines.specs.Changes.{count_text}
 
 pub one_digit : (n : ℕ) → n < 10 → (48 + n % 10) ∷ [] ≡ decimal n
 one_digit n h = let e : 48 + n % 10 ≡ 48 + n = omega arith in ap (λ (x : ℕ). x ∷ []) e ∙ sym (decimal_digit n h)

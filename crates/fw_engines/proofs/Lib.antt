@@ -1,8 +1,10 @@
+mod ChangeLemmas
 mod CountLemmas
 mod DefaultsLemmas
+mod LineLemmas
 mod ListingLemmas
-mod PrintingLemmas
-mod SettingLemmas
+mod PartLemmas
+mod RestorationLemmas
 mod ShowLemmas
 mod StreamLemmas
 mod WriteLemmas

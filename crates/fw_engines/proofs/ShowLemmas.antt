@@ -12,9 +12,9 @@ use Rattle.fw_engines.specs.Shown.{shown, shown_in, state_shown, listing}
 use Rattle.fw_engines.specs.Streams.{AppendsPart}
 use Rattle.fw_engines.specs.Tool.{Printed, PrintsText, Lists}
 use Rattle.fw_engines.proofs.WriteLemmas.{nothing}
-use Rattle.fw_engines.specs.declared.ending.ToolEnd.{ToolEnd}
-use Rattle.fw_engines.specs.declared.ending.StreamFault.{StreamFault}
-use Rattle.fw_engines.specs.declared.ending.StreamFault.TheVariants.{Write, Memory}
+use Rattle.fw_engines.specs.declared.tool_end.ToolEnd.{ToolEnd}
+use Rattle.fw_engines.specs.declared.tool_end.StreamFault.{StreamFault}
+use Rattle.fw_engines.specs.declared.tool_end.StreamFault.TheVariants.{Write, Memory}
 
 listed : (f : Option StreamFault) (s : ℕ) (w w' e : Option (List ℕ)) (text : List ℕ) →
     MatchOption f (Appends w w' text × (s ≡ 0)) (λ fault. (fault ≡ Write) × AppendsPart w w' text × (s ≡ 1)) ⊎ ((f ≡ Some Memory) × Keeps w w' × (s ≡ 1)) →

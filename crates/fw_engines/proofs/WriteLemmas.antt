@@ -5,9 +5,9 @@ use Rattle.std.proofs.KnownBytes.{Appends-nil, Appends-trans}
 use Rattle.std.specs.Io.KnownBytes.{Appends}
 use Rattle.fw_engines.specs.Streams.{AppendsFront, AppendsPart, Writers}
 use Rattle.fw_engines.specs.Tool.{Texts, Writes, WritesPart, Printed, Prints, PrintsText}
-use Rattle.fw_engines.specs.declared.ending.ToolEnd.{ToolEnd}
-use Rattle.fw_engines.specs.declared.ending.StreamFault.{StreamFault}
-use Rattle.fw_engines.specs.declared.ending.StreamFault.TheVariants.{Write}
+use Rattle.fw_engines.specs.declared.tool_end.ToolEnd.{ToolEnd}
+use Rattle.fw_engines.specs.declared.tool_end.StreamFault.{StreamFault}
+use Rattle.fw_engines.specs.declared.tool_end.StreamFault.TheVariants.{Write}
 
 pub nothing : (a : Option (List ℕ)) → AppendsFront a a []
 nothing a = ([], [], refl, Appends-nil a)

@@ -1,8 +1,12 @@
+pub mod Changes
+pub mod CopyStatus
 pub mod Defaults
-pub mod Exporting
 pub mod Messages
-pub mod Printing
-pub mod Setting
+pub mod Restoration
 pub mod Shown
+pub mod SkippedLines
 pub mod Streams
+pub mod TextForm
 pub mod Tool
+pub mod VariableLines
+pub mod Ways

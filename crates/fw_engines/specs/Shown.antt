@@ -11,7 +11,7 @@ use Rattle.envimg_core.specs.declared.state.CopyState.{CopyState}
 use Rattle.envimg_core.specs.declared.state.CopyState.TheVariants.{Good, BadLength, BadCrc, Unterminated}
 use Rattle.fw_engines.specs.Streams.{Streams, writers_of}
 use Rattle.fw_engines.specs.Tool.{Texts, Took, Printed}
-use Rattle.fw_engines.specs.declared.ending.ToolEnd.{ToolEnd}
+use Rattle.fw_engines.specs.declared.tool_end.ToolEnd.{ToolEnd}
 
 -- name=value and a newline
 abbrev pub line_of : Pair → List ℕ

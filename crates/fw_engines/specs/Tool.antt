@@ -2,9 +2,9 @@
 use Rattle.std.specs.Prelude.{◌≡◌, ◌⊎◌, ℕ, List, Option, Some, None, MatchOption}
 use Rattle.std.specs.Io.KnownBytes.{Appends, Keeps}
 use Rattle.fw_engines.specs.Streams.{AppendsFront, AppendsPart, Gave, GaveAll, Writers}
-use Rattle.fw_engines.specs.declared.ending.ToolEnd.{ToolEnd}
-use Rattle.fw_engines.specs.declared.ending.StreamFault.{StreamFault}
-use Rattle.fw_engines.specs.declared.ending.StreamFault.TheVariants.{Read, Write, Memory}
+use Rattle.fw_engines.specs.declared.tool_end.ToolEnd.{ToolEnd}
+use Rattle.fw_engines.specs.declared.tool_end.StreamFault.{StreamFault}
+use Rattle.fw_engines.specs.declared.tool_end.StreamFault.TheVariants.{Read, Write, Memory}
 
 -- what a tool prints on standard output and standard error, and its status
 pub record Texts : Type 0 where

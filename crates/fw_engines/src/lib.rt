@@ -1,22 +1,34 @@
-//! The tools over readers, writers and sessions: what `printenv`, `setenv`, a set script, `import` and `export` do to a
-//! session and print, what the program shows of an image, and the default environment of a text. docs/tools.md states the
-//! rules.
+//! The tools over readers, writers and sessions: what `printenv`, `setenv`, a set script, `import`, `restore` and `export`
+//! do to a session and print, what the program shows of an image, what is reported of stored copies, and the default
+//! environment of a text. docs/tools.md states the rules.
 //!
-//! To read in this order: ending, streams, messages; showing; printing, exporting; setting, defaulting.
+//! To read in this order: tool_end, streams, tool_texts; single_image; variable_lines, text_form; changes, restoration,
+//! default_environment; copy_status, with copy_words, ways, variable_count, skipped_lines and line_parts; whole_file.
 #![tactic(auto)]
 
-mod defaulting;
-mod ending;
-mod exporting;
-mod messages;
-mod printing;
-mod setting;
-mod showing;
+mod changes;
+mod copy_status;
+mod copy_words;
+mod default_environment;
+mod line_parts;
+mod restoration;
+mod single_image;
+mod skipped_lines;
 pub mod streams;
+mod text_form;
+mod tool_end;
+mod tool_texts;
+mod variable_count;
+mod variable_lines;
+mod ways;
+mod whole_file;
 
-pub use defaulting::defaults;
-pub use ending::{StreamFault, ToolEnd};
-pub use exporting::export;
-pub use printing::printenv;
-pub use setting::{import, set_script, setenv};
-pub use showing::show;
+pub use changes::{import, set_script, setenv};
+pub use copy_status::{FoundCopy, Survey, status};
+pub use default_environment::defaults;
+pub use restoration::restore;
+pub use single_image::show;
+pub use text_form::export;
+pub use tool_end::{StreamFault, ToolEnd};
+pub use variable_lines::{print_values, printenv};
+pub use whole_file::file_status;

@@ -5,7 +5,7 @@ ghost use Rattle.std.specs.Io.KnownBytes.{Appends};
 ghost use Rattle.fw_engines.specs.Streams.{AppendsFront, AppendsPart, Gave, GaveAll};
 ghost use Rattle.fw_engines.specs.Tool.{IsEarly};
 
-use crate::ending::StreamFault;
+use crate::tool_end::StreamFault;
 use std::alloc::Global;
 use std::io::{Read, Write};
 

@@ -7,72 +7,75 @@ use Rattle.std.specs.declared.alloc.Global.{Global}
 use Rattle.fw_session.specs.Input.{Item, Block, Dot}
 use Rattle.fw_session.specs.Streams.{Counts}
 use Rattle.hush_run.specs.Meaning.{Rules}
-use Rattle.fw_session.specs.Replies.{NamedSession, Note, reply, replies, MayStand, AllStand, Request, request_of}
+use Rattle.env_requests.specs.Requests.{Note}
+use Rattle.fw_session.specs.Asked.{Asked, asked_by, asked_by_line}
+use Rattle.fw_session.specs.Turns.{NamedSession, turn, turns, MayStand, AllStand}
 use Rattle.fw_session.specs.Ends.{AllAnswered, CutShort, IsLast, AnsweredOrCut}
-use Rattle.fw_session.specs.Handling.{ItemAnswered, RequestAnswered, block_items}
+use Rattle.fw_session.specs.Handling.{Answered, IsAskedByBlock, ItemAnswered, block_items}
 use Rattle.std.proofs.lemmas.Bool.{eqb-true, eqb-false}
 use Rattle.std.proofs.lemmas.List.{take_all}
+use Rattle.fw_session.proofs.BlockLemmas.{block_answered}
 use Rattle.fw_session.proofs.StreamLemmas.{counts_none, counts_then}
 
 pub after_text : (rules : Rules) (h : NamedSession) (xs ys : List Item) (ns ms : List Note) → AllStand rules h xs ns →
-    (replies rules h (xs ++ ys) (ns ++ ms)).text ≡ (replies rules h xs ns).text ++ (replies rules (replies rules h xs ns).session ys ms).text
-unfolding replies AllStand
+    (turns rules h (xs ++ ys) (ns ++ ms)).text ≡ (turns rules h xs ns).text ++ (turns rules (turns rules h xs ns).session ys ms).text
+unfolding turns AllStand
 after_text rules h [] ys [] ms s = refl
 after_text rules h [] ys (n ∷ ns) ms s = absurd s
 after_text rules h (x ∷ xs) ys [] ms s = absurd s
 after_text rules h (x ∷ xs) ys (n ∷ ns) ms s =
-    let r = reply rules h x n in ap (λ t. r.text ++ t) (after_text rules r.session xs ys ns ms s.1) ∙ sym (append_assoc r.text (replies rules r.session xs ns).text (replies rules (replies rules r.session xs ns).session ys ms).text)
+    let r = turn rules h x n in ap (λ t. r.text ++ t) (after_text rules r.session xs ys ns ms s.1) ∙ sym (append_assoc r.text (turns rules r.session xs ns).text (turns rules (turns rules r.session xs ns).session ys ms).text)
 
 pub after_held : (rules : Rules) (h : NamedSession) (xs ys : List Item) (ns ms : List Note) → AllStand rules h xs ns →
-    (replies rules h (xs ++ ys) (ns ++ ms)).session ≡ (replies rules (replies rules h xs ns).session ys ms).session
-unfolding replies AllStand
+    (turns rules h (xs ++ ys) (ns ++ ms)).session ≡ (turns rules (turns rules h xs ns).session ys ms).session
+unfolding turns AllStand
 after_held rules h [] ys [] ms s = refl
 after_held rules h [] ys (n ∷ ns) ms s = absurd s
 after_held rules h (x ∷ xs) ys [] ms s = absurd s
-after_held rules h (x ∷ xs) ys (n ∷ ns) ms s = after_held rules (reply rules h x n).session xs ys ns ms s.1
+after_held rules h (x ∷ xs) ys (n ∷ ns) ms s = after_held rules (turn rules h x n).session xs ys ns ms s.1
 
-pub after_stand : (rules : Rules) (h : NamedSession) (xs ys : List Item) (ns ms : List Note) → AllStand rules h xs ns → AllStand rules (replies rules h xs ns).session ys ms → AllStand rules h (xs ++ ys) (ns ++ ms)
-unfolding replies AllStand
+pub after_stand : (rules : Rules) (h : NamedSession) (xs ys : List Item) (ns ms : List Note) → AllStand rules h xs ns → AllStand rules (turns rules h xs ns).session ys ms → AllStand rules h (xs ++ ys) (ns ++ ms)
+unfolding turns AllStand
 after_stand rules h [] ys [] ms s t = t
 after_stand rules h [] ys (n ∷ ns) ms s t = absurd s
 after_stand rules h (x ∷ xs) ys [] ms s t = absurd s
-after_stand rules h (x ∷ xs) ys (n ∷ ns) ms s t = (s.0, after_stand rules (reply rules h x n).session xs ys ns ms s.1 t)
+after_stand rules h (x ∷ xs) ys (n ∷ ns) ms s t = (s.0, after_stand rules (turn rules h x n).session xs ys ns ms s.1 t)
 
 pub answered_none : (rules : Rules) (h : NamedSession) (out : Option (List ℕ)) (n : ℕ) → AllAnswered rules h [] out out n n h
-unfolding replies AllStand
+unfolding turns AllStand
 answered_none rules h out n = record { notes = []; stand = tt; text = Appends-nil out; count = counts_none n; session = refl }
 
 pub answered_then : (rules : Rules) (h h' h'' : NamedSession) (xs ys : List Item) (out out' out'' : Option (List ℕ)) (n n' n'' : ℕ) →
     AllAnswered rules h xs out out' n n' h' → AllAnswered rules h' ys out' out'' n' n'' h'' → AllAnswered rules h (xs ++ ys) out out'' n n'' h''
 answered_then rules h h' h'' xs ys out out' out'' n n' n'' p q =
-    let mid = (replies rules h xs p.notes).session in
+    let mid = (turns rules h xs p.notes).session in
     let stand : AllStand rules mid ys q.notes = subst (λ s. AllStand rules s ys q.notes) p.session q.stand in
-    let text : Appends out' out'' (replies rules mid ys q.notes).text = subst (λ s. Appends out' out'' (replies rules s ys q.notes).text) p.session q.text in
-    let count : Counts n' n'' (replies rules mid ys q.notes).text = subst (λ s. Counts n' n'' (replies rules s ys q.notes).text) p.session q.count in
-    let table : h'' ≡ (replies rules mid ys q.notes).session = subst (λ s. h'' ≡ (replies rules s ys q.notes).session) p.session q.session in
+    let text : Appends out' out'' (turns rules mid ys q.notes).text = subst (λ s. Appends out' out'' (turns rules s ys q.notes).text) p.session q.text in
+    let count : Counts n' n'' (turns rules mid ys q.notes).text = subst (λ s. Counts n' n'' (turns rules s ys q.notes).text) p.session q.count in
+    let table : h'' ≡ (turns rules mid ys q.notes).session = subst (λ s. h'' ≡ (turns rules s ys q.notes).session) p.session q.session in
     let e = after_text rules h xs ys p.notes q.notes p.stand in
     record {
       notes = p.notes ++ q.notes;
       stand = after_stand rules h xs ys p.notes q.notes p.stand stand;
-      text = subst (λ t. Appends out out'' t) (sym e) (Appends-trans out out' out'' (replies rules h xs p.notes).text (replies rules mid ys q.notes).text p.text text);
-      count = subst (λ t. Counts n n'' t) (sym e) (counts_then n n' n'' (replies rules h xs p.notes).text (replies rules mid ys q.notes).text p.count count);
+      text = subst (λ t. Appends out out'' t) (sym e) (Appends-trans out out' out'' (turns rules h xs p.notes).text (turns rules mid ys q.notes).text p.text text);
+      count = subst (λ t. Counts n n'' t) (sym e) (counts_then n n' n'' (turns rules h xs p.notes).text (turns rules mid ys q.notes).text p.count count);
       session = table ∙ sym (after_held rules h xs ys p.notes q.notes p.stand);
     }
 
 pub answered_cut_short : (rules : Rules) (h h' h'' : NamedSession) (xs ys : List Item) (out out' out'' : Option (List ℕ)) (n n' n'' : ℕ) →
     AllAnswered rules h xs out out' n n' h' → CutShort rules h' ys out' out'' n' n'' h'' → CutShort rules h (xs ++ ys) out out'' n n'' h''
 answered_cut_short rules h h' h'' xs ys out out' out'' n n' n'' p q =
-    let mid = (replies rules h xs p.notes).session in
+    let mid = (turns rules h xs p.notes).session in
     let stand : AllStand rules mid q.before q.notes = subst (λ s. AllStand rules s q.before q.notes) p.session q.stand in
-    let may : MayStand rules (replies rules mid q.before q.notes).session q.item q.note = subst (λ s. MayStand rules (replies rules s q.before q.notes).session q.item q.note) p.session q.may in
-    let text : (reply rules (replies rules mid q.before q.notes).session q.item q.note).text ≡ q.front ++ q.rest = subst (λ s. (reply rules (replies rules s q.before q.notes).session q.item q.note).text ≡ q.front ++ q.rest) p.session q.text in
-    let wrote : Appends out' out'' ((replies rules mid q.before q.notes).text ++ q.front) = subst (λ s. Appends out' out'' ((replies rules s q.before q.notes).text ++ q.front)) p.session q.wrote in
-    let count : Counts n' n'' ((replies rules mid q.before q.notes).text ++ q.front) = subst (λ s. Counts n' n'' ((replies rules s q.before q.notes).text ++ q.front)) p.session q.count in
-    let table : h'' ≡ (reply rules (replies rules mid q.before q.notes).session q.item q.note).session = subst (λ s. h'' ≡ (reply rules (replies rules s q.before q.notes).session q.item q.note).session) p.session q.session in
-    let a = (replies rules h xs p.notes).text in
-    let b = (replies rules mid q.before q.notes).text in
-    let e : (replies rules h (xs ++ q.before) (p.notes ++ q.notes)).text ++ q.front ≡ a ++ (b ++ q.front) = ap (λ t. t ++ q.front) (after_text rules h xs q.before p.notes q.notes p.stand) ∙ append_assoc a b q.front in
-    let k : (replies rules h (xs ++ q.before) (p.notes ++ q.notes)).session ≡ (replies rules mid q.before q.notes).session = after_held rules h xs q.before p.notes q.notes p.stand in
+    let may : MayStand rules (turns rules mid q.before q.notes).session q.item q.note = subst (λ s. MayStand rules (turns rules s q.before q.notes).session q.item q.note) p.session q.may in
+    let text : (turn rules (turns rules mid q.before q.notes).session q.item q.note).text ≡ q.front ++ q.rest = subst (λ s. (turn rules (turns rules s q.before q.notes).session q.item q.note).text ≡ q.front ++ q.rest) p.session q.text in
+    let wrote : Appends out' out'' ((turns rules mid q.before q.notes).text ++ q.front) = subst (λ s. Appends out' out'' ((turns rules s q.before q.notes).text ++ q.front)) p.session q.wrote in
+    let count : Counts n' n'' ((turns rules mid q.before q.notes).text ++ q.front) = subst (λ s. Counts n' n'' ((turns rules s q.before q.notes).text ++ q.front)) p.session q.count in
+    let table : h'' ≡ (turn rules (turns rules mid q.before q.notes).session q.item q.note).session = subst (λ s. h'' ≡ (turn rules (turns rules s q.before q.notes).session q.item q.note).session) p.session q.session in
+    let a = (turns rules h xs p.notes).text in
+    let b = (turns rules mid q.before q.notes).text in
+    let e : (turns rules h (xs ++ q.before) (p.notes ++ q.notes)).text ++ q.front ≡ a ++ (b ++ q.front) = ap (λ t. t ++ q.front) (after_text rules h xs q.before p.notes q.notes p.stand) ∙ append_assoc a b q.front in
+    let k : (turns rules h (xs ++ q.before) (p.notes ++ q.notes)).session ≡ (turns rules mid q.before q.notes).session = after_held rules h xs q.before p.notes q.notes p.stand in
     record {
       before = xs ++ q.before;
       item = q.item;
@@ -85,11 +88,11 @@ answered_cut_short rules h h' h'' xs ys out out' out'' n n' n'' p q =
       may = subst (λ s. MayStand rules s q.item q.note) (sym k) may;
       front = q.front;
       rest = q.rest;
-      text = subst (λ s. (reply rules s q.item q.note).text ≡ q.front ++ q.rest) (sym k) text;
+      text = subst (λ s. (turn rules s q.item q.note).text ≡ q.front ++ q.rest) (sym k) text;
       left = q.left;
       wrote = subst (λ t. Appends out out'' t) (sym e) (Appends-trans out out' out'' a (b ++ q.front) p.text wrote);
       count = subst (λ t. Counts n n'' t) (sym e) (counts_then n n' n'' a (b ++ q.front) p.count count);
-      session = subst (λ s. h'' ≡ (reply rules s q.item q.note).session) (sym k) table;
+      session = subst (λ s. h'' ≡ (turn rules s q.item q.note).session) (sym k) table;
     }
 
 one_alone : (x item : Item) (before after : List Item) → x ∷ [] ≡ before ++ item ∷ after → (item ≡ x) × (after ≡ [])
@@ -134,9 +137,9 @@ last_alone (Dot line) = refl
 
 -- one item alone
 pub answers_one : (rules : Rules) (h h' : NamedSession) (item : Item) (out out' : Option (List ℕ)) (n n' : ℕ) (ok : Bool) → ItemAnswered rules h item out out' n n' h' ok → AnsweredOrCut rules h (item ∷ []) out out' n n' h' ok
-unfolding replies AllStand
+unfolding turns AllStand
 answers_one rules h h' item out out' n n' true p =
-    let e : (reply rules h item p.note).text ++ [] ≡ (reply rules h item p.note).text = append-nil (reply rules h item p.note).text in
+    let e : (turn rules h item p.note).text ++ [] ≡ (turn rules h item p.note).text = append-nil (turn rules h item p.note).text in
     record {
       notes = p.note ∷ [];
       stand = (p.may, tt);
@@ -163,27 +166,28 @@ answers_one rules h h' item out out' n n' false p = record {
   session = p.session;
 }
 
-pub answers_request : (rules : Rules) (h h' : NamedSession) (line : List ℕ) (a : Request) (out out' : Option (List ℕ)) (n n' : ℕ) (ok : Bool) → a ≡ request_of line → RequestAnswered h a out out' n n' h' ok → AnsweredOrCut rules h (Dot line ∷ []) out out' n n' h' ok
-unfolding reply MayStand
-answers_request rules h h' line a out out' n n' ok e p =
-    let q : RequestAnswered h (request_of line) out out' n n' h' ok = subst (λ o. RequestAnswered h o out out' n n' h' ok) e p in
+pub answers_line : (rules : Rules) (h h' : NamedSession) (line : List ℕ) (a : Asked) (out out' : Option (List ℕ)) (n n' : ℕ) (ok : Bool) → a ≡ asked_by_line line → Answered rules h a out out' n n' h' ok → AnsweredOrCut rules h (Dot line ∷ []) out out' n n' h' ok
+unfolding turn MayStand asked_by
+answers_line rules h h' line a out out' n n' ok e p =
+    let q : Answered rules h (asked_by_line line) out out' n n' h' ok = subst (λ o. Answered rules h o out out' n n' h' ok) e p in
     answers_one rules h h' (Dot line) out out' n n' ok (record { note = q.note; may = q.may; wrote = q.wrote; session = q.session })
 
 pub answers_no_block : (rules : Rules) (h : NamedSession) (bytes : List ℕ) (k : ℕ) (out : Option (List ℕ)) (n : ℕ) → length bytes ≡ k → (k == 0) ≡ true → AllAnswered rules h (block_items bytes) out out n n h
 answers_no_block rules h [] k out n l e = answered_none rules h out n
 answers_no_block rules h (b ∷ bs) k out n l e = absurd (let bad : k ≡ 0 = eqb-true _ _ e in omega arith)
 
-pub answers_block : (rules : Rules) (h h' : NamedSession) (bytes block : List ℕ) (k : ℕ) (out out' : Option (List ℕ)) (n n' : ℕ) (ok : Bool) → length bytes ≡ k → (k == 0) ≡ false → block ≡ bytes → ItemAnswered rules h (Block block) out out' n n' h' ok →
+pub answers_block : (rules : Rules) (h h' : NamedSession) (bytes block : List ℕ) (k : ℕ) (a : Asked) (out out' : Option (List ℕ)) (n n' : ℕ) (ok : Bool) → length bytes ≡ k → (k == 0) ≡ false → block ≡ bytes → IsAskedByBlock block a → Answered rules h a out out' n n' h' ok →
     AnsweredOrCut rules h (block_items bytes) out out' n n' h' ok
-answers_block rules h h' [] block k out out' n n' ok l e is p = absurd (eqb-false _ _ e (sym l))
-answers_block rules h h' (b ∷ bs) block k out out' n n' ok l e is p = answers_one rules h h' (Block (b ∷ bs)) out out' n n' ok (subst (λ v. ItemAnswered rules h (Block v) out out' n n' h' ok) is p)
+answers_block rules h h' [] block k a out out' n n' ok l e is asks p = absurd (eqb-false _ _ e (sym l))
+answers_block rules h h' (b ∷ bs) block k a out out' n n' ok l e is asks p =
+    answers_one rules h h' (Block (b ∷ bs)) out out' n n' ok (block_answered rules h h' (b ∷ bs) a out out' n n' ok (subst (λ v. IsAskedByBlock v a) is asks) p)
 
 -- a block and then a dot line
-pub answers_both : (rules : Rules) (h h' h'' : NamedSession) (block block' line line' : List ℕ) (a : Request) (out out' out'' : Option (List ℕ)) (n n' n'' : ℕ) (ok : Bool) → block' ≡ block → a ≡ request_of line' → line' ≡ line →
-    AllAnswered rules h (block_items block') out out' n n' h' → RequestAnswered h' a out' out'' n' n'' h'' ok → AnsweredOrCut rules h (block_items block ++ Dot line ∷ []) out out'' n n'' h'' ok
+pub answers_both : (rules : Rules) (h h' h'' : NamedSession) (block block' line line' : List ℕ) (a : Asked) (out out' out'' : Option (List ℕ)) (n n' n'' : ℕ) (ok : Bool) → block' ≡ block → a ≡ asked_by_line line' → line' ≡ line →
+    AllAnswered rules h (block_items block') out out' n n' h' → Answered rules h' a out' out'' n' n'' h'' ok → AnsweredOrCut rules h (block_items block ++ Dot line ∷ []) out out'' n n'' h'' ok
 answers_both rules h h' h'' block block' line line' a out out' out'' n n' n'' ok eb eo el p q =
     answers_then rules h h' h'' (block_items block) (Dot line ∷ []) out out' out'' n n' n'' ok (subst (λ b. AllAnswered rules h (block_items b) out out' n n' h') eb p)
-    (answers_request rules h' h'' line a out' out'' n' n'' ok (eo ∙ ap request_of el) q)
+    (answers_line rules h' h'' line a out' out'' n' n'' ok (eo ∙ ap asked_by_line el) q)
 
 pub answers_first : (rules : Rules) (h h' : NamedSession) (block block' line : List ℕ) (out out' : Option (List ℕ)) (n n' : ℕ) (ok : Bool) → ok ≡ false → block' ≡ block → AnsweredOrCut rules h (block_items block') out out' n n' h' ok →
     AnsweredOrCut rules h (block_items block ++ Dot line ∷ []) out out' n n' h' ok

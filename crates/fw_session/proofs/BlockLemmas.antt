@@ -1,87 +1,49 @@
--- A block and what it prints.
-use Rattle.std.proofs.Common.{◌≡◌, ℕ, ◌++◌, List, Option, Some, None, Bool, refl, sym, ap, subst, ◌∙◌, codes}
-use Rattle.env_session.specs.Session.{Held}
+-- A block, by what it asks for.
+use Rattle.std.proofs.Common.{◌≡◌, ℕ, List, Option, Some, None, Bool, refl, subst, sym, ap, ◌∙◌, inl, inr}
 use Rattle.hush_syntax.specs.Grammar.{Chains}
 use Rattle.hush_syntax.specs.Reading.{read}
-use Rattle.hush_run.specs.declared.ending.Ending.{Ending}
-use Rattle.hush_run.specs.declared.ending.Ending.TheVariants.{Finished, Exited, Steps, Depth, Word, Output, Memory}
-use Rattle.hush_run.specs.declared.outcome.Outcome.{Outcome}
-use Rattle.hush_run.specs.Meaning.{Rules, State, meaning, within}
-use Rattle.hush_run.specs.Runs.{Runs, RunsBy, Shows, reason_of, ending_of}
+use Rattle.hush_run.specs.Meaning.{Rules}
+use Rattle.env_requests.specs.Requests.{Note, Through, Refused, Stopped, MayBe}
+use Rattle.fw_session.specs.Asked.{Asked, Says, no_memory, asked_by_script, asked_by}
 use Rattle.fw_session.specs.Input.{Block}
 use Rattle.fw_session.specs.Streams.{Writes}
-use Rattle.fw_session.specs.NamedSessions.{named_session}
-use Rattle.fw_session.specs.Replies.{NamedSession, Through, Refused, Stopped, reply, MayStand, with_newline, tried, stopped_run, run_reply, ending_line, RunStops}
-use Rattle.fw_session.specs.Handling.{ItemAnswered}
+use Rattle.fw_session.specs.Turns.{NamedSession, done, turn, MayDo, MayStand}
+use Rattle.fw_session.specs.Handling.{Answered, IsAskedByBlock, ItemAnswered}
 
-pub no_room : (rules : Rules) (t : NamedSession) (text : List ℕ) (out out' : Option (List ℕ)) (n n' : ℕ) (ok : Bool) → Writes out out' n n' (with_newline (codes "[Memory]")) ok → ItemAnswered rules t (Block text) out out' n n' t ok
-unfolding reply MayStand
-no_room rules t text out out' n n' ok w = record { note = Refused; may = tt; wrote = w; session = refl }
+-- no run is refused as a whole, so a block that was read as a script is done
+refused_may : (rules : Rules) (t : NamedSession) (script : Option (Option Chains)) → MayDo rules t (asked_by_script script) Refused → MayDo rules t (asked_by_script script) Through
+unfolding MayBe
+refused_may rules t None may = tt
+refused_may rules t (Some tree) may = absurd may
 
-pub no_script : (rules : Rules) (t : NamedSession) (text : List ℕ) (out out' : Option (List ℕ)) (n n' : ℕ) (ok : Bool) → read text ≡ None →
-    Writes out out' n n' (with_newline (codes "[Syntax]")) ok → ItemAnswered rules t (Block text) out out' n n' t ok
-unfolding reply MayStand
-no_script rules t text out out' n n' ok e w = record {
-  note = Through;
-  may = tt;
-  wrote = subst (λ v. Writes out out' n n' (tried rules t v).text ok) (sym e) w;
-  session = subst (λ v. t ≡ (tried rules t v).session) (sym e) refl;
-}
+refused_is : (rules : Rules) (t : NamedSession) (script : Option (Option Chains)) → MayDo rules t (asked_by_script script) Refused → done rules t (asked_by_script script) Refused ≡ done rules t (asked_by_script script) Through
+unfolding MayBe
+refused_is rules t None may = refl
+refused_is rules t (Some tree) may = absurd may
 
--- what a run prints is what its state tells
-shown : (e : Ending) (s : State) (t : NamedSession) (now : Held) (o : Outcome) → Shows s now o → o.text.items ++ ending_line e o.status o.steps ≡ (run_reply e s t).text
-shown e s t now o x =
-    ap (λ (v : List ℕ). v ++ ending_line e o.status o.steps) x.text
-    ∙ ap (λ (v : ℕ). s.printed.text ++ ending_line e v o.steps) x.status
-    ∙ ap (λ (v : ℕ). s.printed.text ++ ending_line e s.status v) x.steps
-
-ran_through : (rules : Rules) (e : Ending) (tree : Option Chains) (h h' : Held) (names : List (Option (List ℕ))) (text : List ℕ) (o : Outcome) (out out' : Option (List ℕ)) (n n' : ℕ) (ok : Bool) → read text ≡ Some tree →
-    ending_of (meaning rules tree h).0 ≡ e → Shows (meaning rules tree h).1 h' o → Writes out out' n n' (o.text.items ++ ending_line e o.status o.steps) ok →
-    ItemAnswered rules (named_session h names) (Block text) out out' n n' (named_session h' names) ok
-unfolding reply MayStand
-ran_through rules e tree h h' names text o out out' n n' ok is told shows w =
-    let t = named_session h names in
-    let s = (meaning rules tree h).1 in
-    let w1 : Writes out out' n n' (run_reply e s t).text ok = subst (λ v. Writes out out' n n' v ok) (shown e s t h' o shows) w in
-    let w2 : Writes out out' n n' (tried rules t (Some tree)).text ok = subst (λ (v : Ending). Writes out out' n n' (run_reply v s t).text ok) (sym told) w1 in
-    let k : named_session h' names ≡ (tried rules t (Some tree)).session = ap (λ v. named_session v names) shows.held in
+by_note : (rules : Rules) (t t' : NamedSession) (text : List ℕ) (out out' : Option (List ℕ)) (n n' : ℕ) (ok : Bool) (note : Note) → MayDo rules t (asked_by_script (read text)) note →
+    Writes out out' n n' (done rules t (asked_by_script (read text)) note).text ok → t' ≡ (done rules t (asked_by_script (read text)) note).session → ItemAnswered rules t (Block text) out out' n n' t' ok
+unfolding turn MayStand asked_by
+by_note rules t t' text out out' n n' ok Through may w s = record { note = Through; may = may; wrote = w; session = s }
+by_note rules t t' text out out' n n' ok (Stopped k) may w s = record { note = Stopped k; may = may; wrote = w; session = s }
+by_note rules t t' text out out' n n' ok Refused may w s =
+    let e = refused_is rules t (read text) may in
     record {
       note = Through;
-      may = tt;
-      wrote = subst (λ v. Writes out out' n n' (tried rules t v).text ok) (sym is) w2;
-      session = subst (λ v. named_session h' names ≡ (tried rules t v).session) (sym is) k;
+      may = refused_may rules t (read text) may;
+      wrote = subst (λ v. Writes out out' n n' v.text ok) e w;
+      session = subst (λ v. t' ≡ v.session) e s;
     }
 
-ran_stopped : (rules : Rules) (tree : Option Chains) (h h' : Held) (names : List (Option (List ℕ))) (text : List ℕ) (o : Outcome) (out out' : Option (List ℕ)) (n n' : ℕ) (ok : Bool) → read text ≡ Some tree →
-    RunsBy None rules tree h h' o → Writes out out' n n' (o.text.items ++ ending_line Memory o.status o.steps) ok →
-    ItemAnswered rules (named_session h names) (Block text) out out' n n' (named_session h' names) ok
-unfolding reply MayStand
-ran_stopped rules tree h h' names text o out out' n n' ok e r w =
-    let t = named_session h names in
-    let s = (meaning (within o.steps rules) tree h).1 in
-    let w1 : Writes out out' n n' (stopped_run rules t o.steps (Some tree)).text ok = subst (λ v. Writes out out' n n' v ok) (shown Memory s t h' o r.1) w in
-    let m : RunStops rules t o.steps (Some tree) = (r.0, sym r.1.steps) in
-    let k : named_session h' names ≡ (stopped_run rules t o.steps (Some tree)).session = ap (λ v. named_session v names) r.1.held in
-    record {
-      note = Stopped o.steps;
-      may = subst (λ v. RunStops rules t o.steps v) (sym e) m;
-      wrote = subst (λ v. Writes out out' n n' (stopped_run rules t o.steps v).text ok) (sym e) w1;
-      session = subst (λ v. named_session h' names ≡ (stopped_run rules t o.steps v).session) (sym e) k;
-    }
+pub block_answered : (rules : Rules) (t t' : NamedSession) (text : List ℕ) (asked : Asked) (out out' : Option (List ℕ)) (n n' : ℕ) (ok : Bool) → IsAskedByBlock text asked → Answered rules t asked out out' n n' t' ok → ItemAnswered rules t (Block text) out out' n n' t' ok
+unfolding turn MayStand asked_by
+block_answered rules t t' text asked out out' n n' ok (inl e) p =
+    let q : Answered rules t (asked_by_script (read text)) out out' n n' t' ok = subst (λ v. Answered rules t v out out' n n' t' ok) e p in
+    by_note rules t t' text out out' n n' ok q.note q.may q.wrote q.session
+block_answered rules t t' text asked out out' n n' ok (inr e) p =
+    let q : Answered rules t (Says no_memory) out out' n n' t' ok = subst (λ v. Answered rules t v out out' n n' t' ok) e p in
+    record { note = Refused; may = tt; wrote = q.wrote; session = q.session }
 
-ran_by : (e : Ending) (rules : Rules) (tree : Option Chains) (h h' : Held) (names : List (Option (List ℕ))) (text : List ℕ) (o : Outcome) (out out' : Option (List ℕ)) (n n' : ℕ) (ok : Bool) → read text ≡ Some tree →
-    RunsBy (reason_of e) rules tree h h' o → Writes out out' n n' (o.text.items ++ ending_line e o.status o.steps) ok →
-    ItemAnswered rules (named_session h names) (Block text) out out' n n' (named_session h' names) ok
-ran_by Finished rules tree h h' names text o out out' n n' ok is r w = ran_through rules Finished tree h h' names text o out out' n n' ok is (ap ending_of r.0) r.1 w
-ran_by Exited rules tree h h' names text o out out' n n' ok is r w = ran_through rules Exited tree h h' names text o out out' n n' ok is (ap ending_of r.0) r.1 w
-ran_by Steps rules tree h h' names text o out out' n n' ok is r w = ran_through rules Steps tree h h' names text o out out' n n' ok is (ap ending_of r.0) r.1 w
-ran_by Depth rules tree h h' names text o out out' n n' ok is r w = ran_through rules Depth tree h h' names text o out out' n n' ok is (ap ending_of r.0) r.1 w
-ran_by Word rules tree h h' names text o out out' n n' ok is r w = ran_through rules Word tree h h' names text o out out' n n' ok is (ap ending_of r.0) r.1 w
-ran_by Output rules tree h h' names text o out out' n n' ok is r w = ran_through rules Output tree h h' names text o out out' n n' ok is (ap ending_of r.0) r.1 w
-ran_by Memory rules tree h h' names text o out out' n n' ok is r w = ran_stopped rules tree h h' names text o out out' n n' ok is r w
-
-pub block_ran : (rules : Rules) (tree : Option Chains) (h h' : Held) (names : List (Option (List ℕ))) (text source : List ℕ) (o : Outcome) (out out' : Option (List ℕ)) (n n' : ℕ) (ok : Bool) → read source ≡ Some tree → source ≡ text →
-    Runs rules tree h h' o → Writes out out' n n' (o.text.items ++ ending_line o.ending o.status o.steps) ok →
-    ItemAnswered rules (named_session h names) (Block text) out out' n n' (named_session h' names) ok
-block_ran rules tree h h' names text source o out out' n n' ok e same r w =
-    ran_by o.ending rules tree h h' names text o out out' n n' ok (sym (ap read same) ∙ e) r w
+-- what a block asks for, as it was read
+pub is_script : (text source : List ℕ) (script : Option (Option Chains)) → read source ≡ script → source ≡ text → IsAskedByBlock text (asked_by_script script)
+is_script text source script e same = inl (ap asked_by_script (sym e) ∙ ap (λ v. asked_by_script (read v)) same)

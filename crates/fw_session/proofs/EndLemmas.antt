@@ -6,7 +6,7 @@ use Rattle.env_session.specs.Session.{Held}
 use Rattle.std.specs.Io.KnownBytes.{Consumes, Keeps, IsAtEnd}
 use Rattle.std.proofs.KnownBytes.{Consumes-nil, Consumes-trans, Consumes-kept}
 use Rattle.hush_run.specs.Meaning.{Rules}
-use Rattle.fw_session.specs.Replies.{NamedSession}
+use Rattle.fw_session.specs.Turns.{NamedSession}
 use Rattle.fw_session.specs.NamedSessions.{names_of, named_session, session_of}
 use Rattle.fw_session.specs.Ends.{Ends, input_limit, read_limit}
 use Rattle.fw_session.specs.Handling.{Handled, HandledUntilCut, IsPending}

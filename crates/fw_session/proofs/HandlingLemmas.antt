@@ -2,7 +2,7 @@
 use Rattle.std.proofs.Common.{◌≡◌, ℕ, ◌+◌, ◌<◌, length, get_or, Err, ◌++◌, List, [], ◌∷◌, Option, Bool, true, false, refl, sym, ap, subst, ◌∙◌, append_assoc, append-nil, take, drop, length-drop, arith}
 use Rattle.fw_session.specs.Input.{Dot, items_of, to_last_dot, is_dot_line}
 use Rattle.hush_run.specs.Meaning.{Rules}
-use Rattle.fw_session.specs.Replies.{NamedSession}
+use Rattle.fw_session.specs.Turns.{NamedSession}
 use Rattle.fw_session.specs.NamedSessions.{session_of}
 use Rattle.fw_session.specs.Ends.{AllAnswered, CutShort, AnsweredOrCut}
 use Rattle.fw_session.specs.Handling.{Handled, HandledUntilCut, IsPending, IsLine, block_items}

@@ -3,8 +3,11 @@ mod BlockLemmas
 mod CutLemmas
 mod EndLemmas
 mod HandlingLemmas
+mod LastUndo
+mod LineLemmas
+mod ListLemmas
 mod MarkLemmas
 mod NameLemmas
-mod RequestLemmas
+mod ReplyLemmas
 mod SessionRows
 mod StreamLemmas

@@ -2,7 +2,7 @@
 use Rattle.std.proofs.Common.{◌≡◌, ℕ, suc, ◌<◌, ◌++◌, List, [], ◌∷◌, length, Bool, true, false, Option, Some, None, refl, sym, ap, ◌∙◌, arith}
 use Rattle.std.specs.Prelude.{map}
 use Rattle.std.proofs.lemmas.List.{length-take}
-use Rattle.fw_session.specs.Replies.{NamedSession, has_name, last_named, later, standing}
+use Rattle.fw_session.specs.Turns.{NamedSession, has_name, last_named, later, standing}
 
 abbrev or_here : ℕ → Option ℕ → Bool → Option ℕ
 or_here k found true = Some k

@@ -1,8 +1,9 @@
 -- How inputs are cut into blocks and dot lines, and what dot lines ask for: rows that the checker computes
 -- (docs/dry-runs.md).
-use Rattle.std.specs.Prelude.{◌≡◌, ℕ, ◌++◌, List, [], ◌∷◌, codes, replicate, refl}
+use Rattle.std.specs.Prelude.{◌≡◌, ℕ, ◌++◌, List, [], ◌∷◌, Some, None, codes, replicate, refl}
 use Rattle.fw_session.specs.Input.{Block, Dot, items_of, to_last_dot}
-use Rattle.fw_session.specs.Replies.{Undo, Save, Print, Mark, UndoTo, Unknown, request_of}
+use Rattle.env_requests.specs.Requests.{Save, Print, Mark, Undo}
+use Rattle.fw_session.specs.Asked.{Asks, Seeks, unknown, asked_by_line}
 
 abbrev input : List ℕ
 input = codes "setenv a 1\necho $a\n\n.save\n.print \r\necho \"\n.x\n\"\n.undo"
@@ -32,38 +33,38 @@ pub a_blank_before : items_of (codes " .save\n") ≡ Block (codes " .save\n") �
 unfolding items_of
 a_blank_before = refl
 
-pub blanks_behind : request_of (codes ".undo \t\r\n") ≡ Undo
-unfolding request_of
-blanks_behind = refl
+pub blanks_after : asked_by_line (codes ".undo \t\r\n") ≡ Asks Undo None
+unfolding asked_by_line
+blanks_after = refl
 
-pub saved : request_of (codes ".save\r\n") ≡ Save
-unfolding request_of
+pub saved : asked_by_line (codes ".save\r\n") ≡ Asks Save None
+unfolding asked_by_line
 saved = refl
 
-pub printed : request_of (codes ".print") ≡ Print
-unfolding request_of
+pub printed : asked_by_line (codes ".print") ≡ Asks Print None
+unfolding asked_by_line
 printed = refl
 
-pub a_mark : request_of (codes ".mark \t p\r\n") ≡ Mark (codes "p")
-unfolding request_of
+pub a_mark : asked_by_line (codes ".mark \t p\r\n") ≡ Asks Mark (Some (codes "p"))
+unfolding asked_by_line
 a_mark = refl
 
-pub a_name_of_32_bytes : request_of (codes ".undo " ++ replicate 32 120) ≡ UndoTo (replicate 32 120)
-unfolding request_of
+pub a_name_of_32_bytes : asked_by_line (codes ".undo " ++ replicate 32 120) ≡ Seeks (replicate 32 120)
+unfolding asked_by_line
 a_name_of_32_bytes = refl
 
-pub a_name_of_33_bytes : request_of (codes ".mark " ++ replicate 33 120) ≡ Unknown
-unfolding request_of
+pub a_name_of_33_bytes : asked_by_line (codes ".mark " ++ replicate 33 120) ≡ unknown
+unfolding asked_by_line
 a_name_of_33_bytes = refl
 
-pub no_name : request_of (codes ".mark\n") ≡ Unknown
-unfolding request_of
+pub no_name : asked_by_line (codes ".mark\n") ≡ unknown
+unfolding asked_by_line
 no_name = refl
 
-pub two_names : request_of (codes ".undo p q\n") ≡ Unknown
-unfolding request_of
+pub two_names : asked_by_line (codes ".undo p q\n") ≡ unknown
+unfolding asked_by_line
 two_names = refl
 
-pub no_blank : request_of (codes ".markp\n") ≡ Unknown
-unfolding request_of
+pub no_blank : asked_by_line (codes ".markp\n") ≡ unknown
+unfolding asked_by_line
 no_blank = refl

@@ -1,10 +1,15 @@
 -- How a session over a reader and a writer ends.
-use Rattle.std.specs.Prelude.{◌≡◌, ◌⊎◌, ℕ, ◌<◌, ◌≤◌, Bool, true, false, List, [], ◌∷◌, ◌++◌, Option, length}
+use Rattle.std.specs.Prelude.{◌≡◌, ◌⊎◌, ℕ, ◌<◌, ◌≤◌, Bool, true, false, List, [], ◌∷◌, ◌++◌, Option, Some, None, length}
 use Rattle.std.specs.Io.KnownBytes.{Appends, Consumes, IsAtEnd}
 use Rattle.fw_session.specs.Input.{Item, Block, Dot, items_of, to_last_dot}
 use Rattle.fw_session.specs.Streams.{Counts}
 use Rattle.hush_run.specs.Meaning.{Rules}
-use Rattle.fw_session.specs.Replies.{NamedSession, Note, reply, replies, MayStand, AllStand}
+use Rattle.env_session.specs.Session.{Held, opening}
+use Rattle.env_session.specs.Laws.{IsSameState}
+use Rattle.env_requests.specs.Headline.{Headline}
+use Rattle.env_requests.specs.Requests.{Request, Undo, Note, Reply}
+use Rattle.fw_session.specs.Asked.{Asks, asked_by_line}
+use Rattle.fw_session.specs.Turns.{NamedSession, undone_text, turn, turns, MayStand, AllStand}
 use Rattle.fw_session.specs.declared.session_end.SessionEnding.{SessionEnding}
 use Rattle.fw_session.specs.declared.session_end.SessionEnding.TheVariants.{Done, ReadFault, TooLong, WriteFault, Memory}
 
@@ -13,9 +18,9 @@ pub record AllAnswered (rules : Rules) (h : NamedSession) (items : List Item) (o
     (h' : NamedSession) : Type 0 where
   pub notes : List Note
   pub stand : AllStand rules h items notes
-  pub text : Appends out out' (replies rules h items notes).text
-  pub count : Counts n n' (replies rules h items notes).text
-  pub session : h' ≡ (replies rules h items notes).session
+  pub text : Appends out out' (turns rules h items notes).text
+  pub count : Counts n n' (turns rules h items notes).text
+  pub session : h' ≡ (turns rules h items notes).session
 
 -- after an item, of the same line: a block is answered at the dot line after it, or at the end
 abbrev pub IsLast : Item → List Item → Type 0
@@ -33,14 +38,14 @@ pub record CutShort (rules : Rules) (h : NamedSession) (items : List Item) (out 
   pub notes : List Note
   pub stand : AllStand rules h before notes
   pub note : Note
-  pub may : MayStand rules (replies rules h before notes).session item note
+  pub may : MayStand rules (turns rules h before notes).session item note
   pub front : List ℕ
   pub rest : List ℕ
-  pub text : (reply rules (replies rules h before notes).session item note).text ≡ front ++ rest
+  pub text : (turn rules (turns rules h before notes).session item note).text ≡ front ++ rest
   pub left : 0 < length rest
-  pub wrote : Appends out out' ((replies rules h before notes).text ++ front)
-  pub count : Counts n n' ((replies rules h before notes).text ++ front)
-  pub session : h' ≡ (reply rules (replies rules h before notes).session item note).session
+  pub wrote : Appends out out' ((turns rules h before notes).text ++ front)
+  pub count : Counts n n' ((turns rules h before notes).text ++ front)
+  pub session : h' ≡ (turn rules (turns rules h before notes).session item note).session
 
 abbrev pub AnsweredOrCut : Rules → NamedSession → List Item → Option (List ℕ) → Option (List ℕ) → ℕ → ℕ →
     NamedSession → Bool → Type 0
@@ -76,3 +81,14 @@ Ends WriteFault rules h input input' out out' read written h' =
 Ends Memory rules h input input' out out' read written h' =
     (bytes : List ℕ) × IsRead input input' bytes read
     × ((front : List ℕ) × (rest : List ℕ) × (bytes ≡ front ++ rest) × AllAnswered rules h (to_last_dot (items_of front)) out out' 0 written h')
+
+-- requests were obeyed, one after the other: what the headline says of a list of them holds of the session that is left
+abbrev pub AreRequests : Rules → Held → Held → Type 0
+AreRequests rules h h' = (requests : List Request) × (told : List Reply) × Headline rules h requests told h'
+
+-- after a whole input that ends with a `.undo`, for which `[Undone]` was printed, all is shown that was shown at the opening
+abbrev pub LastUndoRestores : SessionEnding → Held → Option (List ℕ) → Option (List ℕ) → Option (List ℕ) → Held → Type 0
+LastUndoRestores ending h input out out' h' =
+    (bytes line begun printed : List ℕ) (items : List Item) → ending ≡ Done → input ≡ Some bytes →
+    items_of bytes ≡ items ++ Dot line ∷ [] → asked_by_line line ≡ Asks Undo None → out ≡ Some begun →
+    out' ≡ Some (printed ++ undone_text) → IsSameState (opening h) h'.now

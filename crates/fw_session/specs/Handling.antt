@@ -1,10 +1,13 @@
 -- A line after another: what is answered, and what waits.
-use Rattle.std.specs.Prelude.{◌≡◌, ℕ, ◌<◌, ◌≤◌, ◌==◌, Bool, true, not, List, [], ◌∷◌, ◌++◌, Option, length, take, drop}
+use Rattle.std.specs.Prelude.{◌≡◌, ◌⊎◌, ℕ, ◌<◌, ◌≤◌, ◌==◌, Bool, true, not, List, [], ◌∷◌, ◌++◌, Option, length, take, drop}
 use Rattle.std.specs.List.{list_all}
 use Rattle.fw_session.specs.Input.{Item, Block, joined, items_of, to_last_dot}
 use Rattle.fw_session.specs.Streams.{Writes}
 use Rattle.hush_run.specs.Meaning.{Rules}
-use Rattle.fw_session.specs.Replies.{NamedSession, Note, Request, reply, undo_reply, request_reply, MayStand, UndoNote, RequestNote}
+use Rattle.hush_syntax.specs.Reading.{read}
+use Rattle.env_requests.specs.Requests.{Note}
+use Rattle.fw_session.specs.Asked.{Asked, Says, asked_by_script, no_memory}
+use Rattle.fw_session.specs.Turns.{NamedSession, done, turn, MayDo, MayStand}
 use Rattle.fw_session.specs.Ends.{AllAnswered, CutShort}
 
 -- an item for these bytes, if there are any
@@ -58,26 +61,22 @@ pub record HandledUntilCut (rules : Rules) (bytes piece : List ℕ) (h h' : Name
   pub whole : EndWhole items
   pub cut_short : CutShort rules h items out out' n n' h'
 
--- an undo to a mark that was found
-pub record UndoAnswered (t : NamedSession) (found : Option ℕ) (out out' : Option (List ℕ)) (n n' : ℕ)
+-- what is asked for was done, and its text written
+pub record Answered (rules : Rules) (t : NamedSession) (asked : Asked) (out out' : Option (List ℕ)) (n n' : ℕ)
     (t' : NamedSession) (ok : Bool) : Type 0 where
   pub note : Note
-  pub may : UndoNote found t.held note
-  pub wrote : Writes out out' n n' (undo_reply found t note).text ok
-  pub session : t' ≡ (undo_reply found t note).session
+  pub may : MayDo rules t asked note
+  pub wrote : Writes out out' n n' (done rules t asked note).text ok
+  pub session : t' ≡ (done rules t asked note).session
 
--- a dot line obeyed
-pub record RequestAnswered (t : NamedSession) (request : Request) (out out' : Option (List ℕ)) (n n' : ℕ)
-    (t' : NamedSession) (ok : Bool) : Type 0 where
-  pub note : Note
-  pub may : RequestNote t request note
-  pub wrote : Writes out out' n n' (request_reply t request note).text ok
-  pub session : t' ≡ (request_reply t request note).session
+-- what a block asks for, or that memory was refused while it was read as a script
+abbrev pub IsAskedByBlock : List ℕ → Asked → Type 0
+IsAskedByBlock text asked = (asked ≡ asked_by_script (read text)) ⊎ (asked ≡ Says no_memory)
 
 -- an item answered
-pub record ItemAnswered (rules : Rules) (h : NamedSession) (item : Item) (out out' : Option (List ℕ)) (n n' : ℕ)
-    (h' : NamedSession) (ok : Bool) : Type 0 where
+pub record ItemAnswered (rules : Rules) (t : NamedSession) (item : Item) (out out' : Option (List ℕ)) (n n' : ℕ)
+    (t' : NamedSession) (ok : Bool) : Type 0 where
   pub note : Note
-  pub may : MayStand rules h item note
-  pub wrote : Writes out out' n n' (reply rules h item note).text ok
-  pub session : h' ≡ (reply rules h item note).session
+  pub may : MayStand rules t item note
+  pub wrote : Writes out out' n n' (turn rules t item note).text ok
+  pub session : t' ≡ (turn rules t item note).session

@@ -1,10 +1,11 @@
 -- What the public calls promise.
 pub mod Input
+pub mod Asked
 pub mod Streams
-pub mod Replies
+pub mod Turns
 pub mod Ends
 pub mod NamedSessions
 -- What the steps of the code do: no promise speaks of these.
-pub mod Requests
+pub mod Views
 pub mod Handling
 pub mod Talks

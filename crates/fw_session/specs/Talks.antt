@@ -3,7 +3,7 @@ use Rattle.std.specs.Io.KnownBytes.{Consumes}
 use Rattle.std.specs.Prelude.{◌≡◌, ◌<◌, ◌≤◌, ℕ, Bool, true, false, List, [], ◌∷◌, ◌++◌, Option, length, Result, Ok, Err}
 use Rattle.fw_session.specs.Input.{items_of}
 use Rattle.hush_run.specs.Meaning.{Rules}
-use Rattle.fw_session.specs.Replies.{NamedSession}
+use Rattle.fw_session.specs.Turns.{NamedSession}
 use Rattle.fw_session.specs.NamedSessions.{session_of}
 use Rattle.fw_session.specs.Ends.{AllAnswered, CutShort, input_limit}
 use Rattle.fw_session.specs.Handling.{Handled, HandledUntilCut, IsPending}

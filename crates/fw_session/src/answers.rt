@@ -1,14 +1,13 @@
 //! Answers: a text is written whole, and counted.
-ghost use Rattle.std.specs.Prelude.{◌≡◌, ◌++◌, [], ◌∷◌, ℕ, List};
-ghost use Rattle.fw_session.specs.Replies.{listing};
+ghost use Rattle.std.specs.Prelude.{◌++◌};
+ghost use Rattle.env_requests.specs.Requests.{listing};
 ghost use Rattle.fw_session.specs.Streams.{Writes};
 
 use env_session::Session;
-use std::alloc::Global;
 use std::io::Write;
 
-/// Writes a text, as often as the writer takes a part of it; false where it fails or takes nothing, with a front of the
-/// text written. Counts what was written.
+/// Writes a text, as often as the writer takes a part of it; false where it fails or takes nothing, with a prefix of
+/// the text written. Counts what was written.
 pub(crate) fn write_text<W: Write>(writer: &mut W, text: &[u8], written: &mut u64) -> bool
     ensures { Writes (W.contents writer.old) (W.contents writer.new) written.old written.new text.now result }
 {
@@ -25,25 +24,8 @@ pub(crate) fn write_text<W: Write>(writer: &mut W, text: &[u8], written: &mut u6
     true
 }
 
-/// Writes every variable in one text; if there is no memory for it, line by line.
-pub(crate) fn write_listing<W: Write>(
-    alloc: Global,
-    session: &Session,
-    output: &mut W,
-    written: &mut u64,
-) -> bool
-    ensures { Writes (W.contents output.old) (W.contents output.new) written.old written.new (listing session.now.now.env) result }
-{
-    let mut text: Vec<u8> = Vec::new(alloc);
-    if write_lines(session, &mut text, &mut 0) {
-        write_text(output, &text, written)
-    } else {
-        write_lines(session, output, written)
-    }
-}
-
-/// Writes every variable.
-fn write_lines<W: Write>(session: &Session, output: &mut W, written: &mut u64) -> bool
+/// Writes every variable, line by line.
+pub(crate) fn write_lines<W: Write>(session: &Session, output: &mut W, written: &mut u64) -> bool
     ensures { Writes (W.contents output.old) (W.contents output.new) written.old written.new (listing session.now.now.env) result }
 {
     for line in session.vars().lines() {

@@ -1,49 +1,35 @@
-//! Blocks: a script is read, run, and what it comes to is written.
-ghost use Rattle.std.specs.Prelude.{◌≡◌, ℕ, List, Option, ◌+◌, ◌≤◌, ◌++◌, [], length};
-ghost use Rattle.fw_session.specs.Input.{Block};
-ghost use Rattle.fw_session.specs.Replies.{ending_name, ending_line};
-ghost use Rattle.fw_session.specs.Handling.{ItemAnswered};
+//! Blocks: a script is read, and what its run comes to is written.
+ghost use Rattle.std.specs.Prelude.{◌≡◌, ◌+◌, ◌≤◌, ◌++◌, length};
+ghost use Rattle.fw_session.specs.Handling.{IsAskedByBlock};
 ghost use Rattle.fw_session.specs.Streams.{Writes};
-ghost use Rattle.fw_session.specs.NamedSessions.{named_session};
-ghost use Rattle.hush_run.specs.Runs.{rules};
+ghost use Rattle.fw_session.specs.Turns.{ending_name, ending_line};
+ghost use Rattle.fw_session.specs.Views.{asked_view};
 
 use crate::answers::{write_both, write_text};
+use crate::dot_lines::Asked;
 use arrayvec::ArrayVec;
-use env_session::Session;
-use hush_run::{Ending, Limits, Outcome, Stubs, run};
+use env_requests::Request;
+use hush_run::{Ending, Outcome};
 use hush_syntax::{FaultKind, Script};
 use itoa::Buffer;
 use std::alloc::Global;
 use std::io::Write;
 
-/// Runs a block, and writes what it has to say.
-pub(crate) fn run_block<W: Write>(
-    alloc: Global,
-    session: &mut Session,
-    stand_ins: &Stubs,
-    limits: &Limits,
-    block: Vec<u8>,
-    output: &mut W,
-    written: &mut u64,
-) -> bool
-    ensures { (names : List (Option (List ℕ))) → ItemAnswered (rules stand_ins.now limits.now) (named_session session.old names)
-        (Block block.items) (W.contents output.old) (W.contents output.new) written.old written.new
-        (named_session session.new names) result }
+/// What a block asks for.
+pub(crate) fn asked_by_block(alloc: Global, block: Vec<u8>) -> Asked
+    ensures { IsAskedByBlock block.items (asked_view result) }
 {
     match Script::parse(alloc, block) {
-        Ok(script) => {
-            let outcome = run(alloc, session, &script, stand_ins, limits);
-            write_outcome(outcome, output, written)
-        }
+        Ok(script) => Asked::Request(Request::Run(script), None),
         Err(fault) => match fault.kind {
-            FaultKind::Memory => write_text(output, b"[Memory]\n", written),
-            _ => write_text(output, b"[Syntax]\n", written),
+            FaultKind::Memory => Asked::Text(b"[Memory]\n"),
+            _ => Asked::Text(b"[Syntax]\n"),
         },
     }
 }
 
 /// Writes the text of a run and how it ended as one text; if there is no memory for that, one after the other.
-fn write_outcome<W: Write>(outcome: Outcome, output: &mut W, written: &mut u64) -> bool
+pub(crate) fn write_outcome<W: Write>(outcome: Outcome, output: &mut W, written: &mut u64) -> bool
     ensures { Writes (W.contents output.old) (W.contents output.new) written.old written.new
         (outcome.text.items ++ ending_line outcome.ending outcome.status outcome.steps) result }
 {

@@ -1,149 +1,77 @@
-//! Dot lines: what each asks for is done, and its answer written.
-ghost use Rattle.std.specs.Prelude.{◌≡◌, ◌<◌, Some, length, take, drop};
-ghost use Rattle.fw_session.specs.Replies.{request_of, request_in, named_request_in, is_end_blank};
-ghost use Rattle.fw_session.specs.Handling.{RequestAnswered, UndoAnswered};
-ghost use Rattle.fw_session.specs.Requests.{request_view};
-ghost use Rattle.fw_session.specs.Streams.{Writes};
-ghost use Rattle.fw_session.specs.NamedSessions.{named_session, names_of};
+//! What a block or a dot line asks for, and what each dot line does.
+ghost use Rattle.std.specs.Prelude.{◌≡◌, take, drop};
+ghost use Rattle.fw_session.specs.Asked.{asked_by_line, asked_by_word, asked_with_name, is_end_blank};
+ghost use Rattle.fw_session.specs.Views.{asked_view};
 
-use crate::answers::{write_listing, write_text};
-use crate::marks::{Name, Names, last_named, mark, name_in, standing};
-use env_session::{Session, Side, UndoFault};
-use std::alloc::Global;
-use std::io::Write;
+use crate::marks::{Name, name_in};
+use env_requests::Request;
 
-/// What a dot line asks for.
+/// What a block or a dot line asks for.
 #[derive(Drop)]
-pub(crate) enum Request {
-    /// `.undo`
-    Undo,
-    /// `.save`
-    Save,
-    /// `.print`
-    Print,
-    /// `.mark NAME`
-    Mark(Name),
-    /// `.undo NAME`
+pub(crate) enum Asked {
+    /// Nothing, and this is printed.
+    Text(&'static [u8]),
+    /// A request, and the name of the mark if it makes one.
+    Request(Request, Option<Name>),
+    /// An undo to the last mark of this name.
     UndoTo(Name),
-    /// Any other.
-    Unknown,
-}
-
-/// Obeys a dot line, and writes its answer.
-pub(crate) fn obey<W: Write>(
-    alloc: Global,
-    session: &mut Session,
-    names: &mut Names,
-    request: Request,
-    output: &mut W,
-    written: &mut u64,
-) -> bool
-    ensures { RequestAnswered (named_session session.old (names_of names.old.items)) (request_view request) (W.contents output.old)
-        (W.contents output.new) written.old written.new (named_session session.new (names_of names.new.items)) result }
-{
-    match request {
-        Request::Undo => {
-            // Does nothing: it tells the prover that the opening stands.
-            let _marks = session.marks();
-            undo(session, names, 0, output, written)
-        }
-        Request::Save => match session.save() {
-            Ok(Side::First) => write_text(output, b"Saved copy 1\n", written),
-            Ok(Side::Second) => write_text(output, b"Saved copy 2\n", written),
-            Err(_refused) => write_text(output, b"[Memory]\n", written),
-        },
-        Request::Print => write_listing(alloc, session, output, written),
-        Request::Mark(name) => {
-            if mark(session, names, name) {
-                write_text(output, b"[Marked]\n", written)
-            } else {
-                write_text(output, b"[Full]\n", written)
-            }
-        }
-        Request::UndoTo(name) => match last_named(standing(names, session), &name) {
-            Some(found) => undo(session, names, found, output, written),
-            None => write_text(output, b"[Gone]\n", written),
-        },
-        Request::Unknown => write_text(output, b"[Unknown]\n", written),
-    }
-}
-
-/// Brings back the state of a mark that stands.
-fn undo<W: Write>(
-    session: &mut Session,
-    names: &Names,
-    found: usize,
-    output: &mut W,
-    written: &mut u64,
-) -> bool
-    requires { found < length session.old.marks }
-    ensures { UndoAnswered (named_session session.old (names_of names.now.items)) (Some found) (W.contents output.old)
-        (W.contents output.new) written.old written.new (named_session session.new (names_of names.now.items)) result }
-{
-    // Does nothing: it tells the prover that there are at most 65 marks.
-    let _marks = session.marks();
-    match session.undo_to(found as u32) {
-        Ok(()) => write_text(output, b"[Undone]\n", written),
-        Err(UndoFault::Gone) => unreachable!(),
-        Err(UndoFault::Memory) => write_text(output, b"[Memory]\n", written),
-    }
 }
 
 /// What a dot line asks for.
-pub(crate) fn request_of(line: &[u8]) -> Request
-    ensures { request_view result ≡ request_of line.now }
+pub(crate) fn asked_by_line(line: &[u8]) -> Asked
+    ensures { asked_view result ≡ asked_by_line line.now }
 {
     let mut length = line.len();
     while length > 0 && is_end_blank(line[length - 1]) {
         length -= 1;
     }
-    request_in(&line[..length])
+    asked_by_word(&line[..length])
 }
 
 /// The same of a line without the blanks at its end.
-fn request_in(word: &[u8]) -> Request
-    ensures { request_view result ≡ request_in word.now }
+fn asked_by_word(word: &[u8]) -> Asked
+    ensures { asked_view result ≡ asked_by_word word.now }
 {
     if word == b".undo".as_slice() {
-        Request::Undo
+        Asked::Request(Request::Undo, None)
     } else if word == b".save".as_slice() {
-        Request::Save
+        Asked::Request(Request::Save, None)
     } else if word == b".print".as_slice() {
-        Request::Print
+        Asked::Request(Request::Print, None)
     } else {
-        named_request_in(word)
+        asked_with_name(word)
     }
 }
 
 /// The same of a line with a name, if it has one.
-fn named_request_in(word: &[u8]) -> Request
-    ensures { request_view result ≡ named_request_in word.now }
+fn asked_with_name(word: &[u8]) -> Asked
+    ensures { asked_view result ≡ asked_with_name word.now }
 {
-    let front = front_of(word);
-    if front == b".mark".as_slice() {
-        match name_in(behind_of(word)) {
-            Some(name) => Request::Mark(name),
-            None => Request::Unknown,
+    let prefix = prefix_of(word);
+    if prefix == b".mark".as_slice() {
+        match name_in(rest_of(word)) {
+            Some(name) => Asked::Request(Request::Mark, Some(name)),
+            None => Asked::Text(b"[Unknown]\n"),
         }
-    } else if front == b".undo".as_slice() {
-        match name_in(behind_of(word)) {
-            Some(name) => Request::UndoTo(name),
-            None => Request::Unknown,
+    } else if prefix == b".undo".as_slice() {
+        match name_in(rest_of(word)) {
+            Some(name) => Asked::UndoTo(name),
+            None => Asked::Text(b"[Unknown]\n"),
         }
     } else {
-        Request::Unknown
+        Asked::Text(b"[Unknown]\n")
     }
 }
 
 /// The first five bytes.
-fn front_of(word: &[u8]) -> &[u8]
+fn prefix_of(word: &[u8]) -> &[u8]
     ensures { result.now ≡ take 5 word.now }
 {
     &word[..word.len().min(5)]
 }
 
-/// What stands behind the first five bytes.
-fn behind_of(word: &[u8]) -> &[u8]
+/// What is after the first five bytes.
+fn rest_of(word: &[u8]) -> &[u8]
     ensures { result.now ≡ drop 5 word.now }
 {
     &word[word.len().min(5)..]

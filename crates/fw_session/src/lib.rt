@@ -1,13 +1,15 @@
 //! Dry runs over streams: blocks of script and dot lines are read, and what they do is written.
 //! docs/dry-runs.md states the rules.
 //!
-//! To read in this order: session_end, talk; blocks, dot_lines; marks; answers.
+//! To read in this order: session_end, talk, input; dot_lines, blocks; replies; marks; answers.
 #![tactic(auto)]
 
 mod answers;
 mod blocks;
 mod dot_lines;
+mod input;
 mod marks;
+mod replies;
 mod session_end;
 mod talk;
 

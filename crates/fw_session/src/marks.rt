@@ -1,10 +1,14 @@
 //! The marks of a session with their names, in a fixed table.
-ghost use Rattle.std.specs.Prelude.{◌≡◌, ◌≤◌, ◌++◌, length, map, option_map, replicate, None};
+ghost use Rattle.std.specs.Prelude.{◌≡◌, ◌≤◌, length, map, option_map, replicate, None};
 ghost use Rattle.std.specs.List.{list_any};
-ghost use Rattle.fw_session.specs.Replies.{standing, has_name, last_named, is_blank, skipped, is_name, name_in};
-ghost use Rattle.fw_session.specs.NamedSessions.{named_session, MarksNamed, names_of};
+ghost use Rattle.env_requests.specs.Views.{told};
+ghost use Rattle.fw_session.specs.Asked.{is_blank, skipped, is_name, name_in};
+ghost use Rattle.fw_session.specs.Turns.{standing, has_name, last_named, number_in, names_after};
+ghost use Rattle.fw_session.specs.NamedSessions.{named_session, names_of, IsLowMark};
+ghost use Rattle.fw_session.specs.Views.{name_of};
 
 use arrayvec::ArrayVec;
+use env_requests::Reply;
 use env_session::Session;
 
 /// The name of a mark: 1 to 32 bytes, none of them a space or a tab.
@@ -32,18 +36,24 @@ pub(crate) fn standing<'a>(names: &'a Names, session: &Session) -> &'a [Option<N
     &all[..all.len().min(session.marks() as usize + 1)]
 }
 
-/// Makes a mark of this name where fewer than 64 stand: whether it is made.
-pub(crate) fn mark(session: &mut Session, names: &mut Names, name: Name) -> bool
-    ensures { MarksNamed (named_session session.old (names_of names.old.items)) name.items (named_session session.new (names_of names.new.items)) result }
+/// Gives the mark of which a reply tells this name.
+pub(crate) fn name_mark(names: &mut Names, reply: &Reply, name: Option<Name>)
+    requires { IsLowMark (number_in (told reply.now)) }
+    ensures { names_of names.new.items ≡ names_after (number_in (told reply.now)) (name_of name) (names_of names.old.items) }
 {
-    let count = session.marks() as usize + 1;
-    match session.mark() {
-        Ok(_number) => {
-            names.truncate(count);
-            names.push(Some(name));
-            true
-        }
-        Err(_full) => false,
+    if let Some(number) = number_in(reply) {
+        names.truncate(number as usize);
+        names.push(name);
+    }
+}
+
+/// The number of the mark that a reply tells of, if it tells of one.
+fn number_in(reply: &Reply) -> Option<u32>
+    ensures { result ≡ number_in (told reply.now) }
+{
+    match reply {
+        Reply::Marked(Ok(number)) => Some(*number),
+        _ => None,
     }
 }
 
@@ -60,7 +70,7 @@ pub(crate) fn last_named(names: &[Option<Name>], name: &[u8]) -> Option<usize>
     found
 }
 
-/// The name behind `.mark` or `.undo`: one or more blanks, and then 1 to 32 bytes that are no blanks.
+/// The name after `.mark` or `.undo`: one or more blanks, and then 1 to 32 bytes that are no blanks.
 pub(crate) fn name_in(rest: &[u8]) -> Option<Name>
     ensures { option_map (λ v. v.items) result ≡ name_in rest.now }
 {
@@ -85,7 +95,7 @@ fn has_name(given: &Option<Name>, name: &[u8]) -> bool
     }
 }
 
-/// The bytes behind the blanks at the front.
+/// The bytes after the blanks at the beginning.
 fn skipped(bytes: &[u8]) -> &[u8]
     ensures { result.now ≡ skipped bytes.now }
 {

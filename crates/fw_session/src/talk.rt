@@ -1,21 +1,18 @@
 //! A session over a reader and a writer.
-ghost use Rattle.std.specs.Prelude.{◌≡◌, ◌+◌, ◌≤◌, ◌<◌, ◌++◌, [], ◌∷◌, ℕ, List, Option, length, take, drop};
-ghost use Rattle.fw_session.specs.Input.{Block, Dot, items_of};
-ghost use Rattle.fw_session.specs.NamedSessions.{named_session, session_of, names_of, unnamed};
-ghost use Rattle.fw_session.specs.Ends.{AnsweredOrCut, Ends};
-ghost use Rattle.fw_session.specs.Handling.{IsPending, IsLine, block_items};
-ghost use Rattle.fw_session.specs.Talks.{HandlesPiece, HandlesByte, HandlesLine, Finishes};
+ghost use Rattle.std.specs.Prelude.{◌≡◌, [], ℕ, List, Option};
+ghost use Rattle.fw_session.specs.NamedSessions.{named_session, session_of, unnamed};
+ghost use Rattle.fw_session.specs.Ends.{Ends, AreRequests, LastUndoRestores};
+ghost use Rattle.fw_session.specs.Handling.{IsPending};
+ghost use Rattle.fw_session.specs.Talks.{Finishes};
 ghost use Rattle.hush_run.specs.Runs.{rules};
 
-use crate::blocks::run_block;
-use crate::dot_lines::{obey, request_of};
+use crate::input::{answer_rest, handle_piece};
 use crate::marks::{Names, unnamed};
 use crate::session_end::{SessionEnd, SessionEnding, Stop};
 use env_session::Session;
 use hush_run::{Limits, Stubs};
 use std::alloc::Global;
 use std::io::{Read, Write};
-use std::mem;
 
 /// The most bytes that are handled.
 const INPUT_LIMIT: usize = 16_777_216;
@@ -26,22 +23,44 @@ const PIECE: usize = 4_096;
 /// A session with the part of its input that waits.
 #[derive(Drop)]
 pub(crate) struct Talk {
-    alloc: Global,
-    session: Session,
+    pub(crate) alloc: Global,
+    pub(crate) session: Session,
     /// The names of its marks.
-    names: Names,
-    /// The block that is being read, and behind it the line that is being read.
-    bytes: Vec<u8>,
+    pub(crate) names: Names,
+    /// The block that is being read, and after it the line that is being read.
+    pub(crate) bytes: Vec<u8>,
     /// Where that line begins.
-    start: usize,
-    /// How many bytes the writer took, 2^64 - 1 where there are more.
-    written: u64,
+    pub(crate) start: usize,
+    /// How many bytes the writer took, 2^64 - 1 if there are more.
+    pub(crate) written: u64,
 }
 
 /// Answers the blocks of script and the dot lines of `input` on `output`, each before more is read, until the reader ends,
 /// a stream fails, or memory for the block that is being read is refused; `SessionEnding` says which. At most 16,777,217
-/// bytes are read. docs/dry-runs.md has the rules.
+/// bytes are read. docs/dry-runs.md has the rules. Each block that is a script and each dot line that asks for anything is
+/// a request to the session, obeyed by [`env_requests::obey`].
 pub fn session<R: Read, W: Write>(
+    alloc: Global,
+    session: Session,
+    stand_ins: &Stubs,
+    limits: &Limits,
+    input: &mut R,
+    output: &mut W,
+) -> SessionEnd
+    ensures ends { (names : List (Option (List ℕ))) × Ends result.ending (rules stand_ins.now limits.now) (unnamed session)
+        (R.remaining input.old) (R.remaining input.new) (W.contents output.old) (W.contents output.new) result.read
+        result.written (named_session result.session names) }
+    ensures requests { AreRequests (rules stand_ins.now limits.now) session result.session }
+    ensures undone { LastUndoRestores result.ending session (R.remaining input.old) (W.contents output.old)
+        (W.contents output.new) result.session }
+{
+    // Does nothing: it tells the prover that the opening stands.
+    let _marks = session.marks();
+    answer_all(alloc, session, stand_ins, limits, input, output)
+}
+
+/// The same, of which the other two clauses follow.
+fn answer_all<R: Read, W: Write>(
     alloc: Global,
     session: Session,
     stand_ins: &Stubs,
@@ -130,136 +149,5 @@ fn finished<W: Write>(
         ended(talk, SessionEnding::Done, read)
     } else {
         ended(talk, SessionEnding::WriteFault, read)
-    }
-}
-
-/// Answers what waits at the end of the input.
-fn answer_rest<W: Write>(
-    talk: &mut Talk,
-    stand_ins: &Stubs,
-    limits: &Limits,
-    output: &mut W,
-) -> bool
-    requires { IsPending talk.old.bytes.items talk.old.start }
-    ensures { AnsweredOrCut (rules stand_ins.now limits.now) (session_of talk.old) (items_of talk.old.bytes.items)
-        (W.contents output.old) (W.contents output.new) talk.old.written talk.new.written (session_of talk.new) result }
-{
-    if talk.start < talk.bytes.len() && talk.bytes[talk.start] == b'.' {
-        answer_dot(talk, stand_ins, limits, output)
-    } else {
-        answer_block(talk, stand_ins, limits, output)
-    }
-}
-
-/// Answers the dot line that is there as far as it goes, and before it the block.
-fn answer_dot<W: Write>(talk: &mut Talk, stand_ins: &Stubs, limits: &Limits, output: &mut W) -> bool
-    requires { talk.old.start ≤ length talk.old.bytes.items }
-    ensures empty { talk.new.bytes.items ≡ [] }
-    ensures start { talk.new.start ≡ 0 }
-    ensures answers { AnsweredOrCut (rules stand_ins.now limits.now) (session_of talk.old)
-        (block_items (take talk.old.start talk.old.bytes.items) ++ Dot (drop talk.old.start talk.old.bytes.items) ∷ [])
-        (W.contents output.old) (W.contents output.new) talk.old.written talk.new.written (session_of talk.new) result }
-{
-    let request = request_of(&talk.bytes[talk.start..]);
-    talk.bytes.truncate(talk.start);
-    talk.start = 0;
-    answer_block(talk, stand_ins, limits, output)
-        && obey(
-            talk.alloc,
-            &mut talk.session,
-            &mut talk.names,
-            request,
-            output,
-            &mut talk.written,
-        )
-}
-
-/// Answers the block that waits, if it has bytes.
-fn answer_block<W: Write>(
-    talk: &mut Talk,
-    stand_ins: &Stubs,
-    limits: &Limits,
-    output: &mut W,
-) -> bool
-    ensures empty { talk.new.bytes.items ≡ [] }
-    ensures start { talk.new.start ≡ talk.old.start }
-    ensures answers { AnsweredOrCut (rules stand_ins.now limits.now) (session_of talk.old) (block_items talk.old.bytes.items)
-        (W.contents output.old) (W.contents output.new) talk.old.written talk.new.written (session_of talk.new) result }
-{
-    if talk.bytes.is_empty() {
-        return true;
-    }
-    let block = mem::replace(&mut talk.bytes, Vec::new(talk.alloc));
-    run_block(
-        talk.alloc,
-        &mut talk.session,
-        stand_ins,
-        limits,
-        block,
-        output,
-        &mut talk.written,
-    )
-}
-
-/// Handles a piece of the input.
-fn handle_piece<W: Write>(
-    talk: &mut Talk,
-    stand_ins: &Stubs,
-    limits: &Limits,
-    output: &mut W,
-    piece: &[u8],
-) -> Result<(), Stop>
-    requires { IsPending talk.old.bytes.items talk.old.start }
-    ensures { HandlesPiece (rules stand_ins.now limits.now) piece.now talk.old talk.new (W.contents output.old) (W.contents output.new) result }
-{
-    for byte in piece {
-        match handle_byte(talk, stand_ins, limits, output, *byte) {
-            Ok(()) => {}
-            Err(stop) => return Err(stop),
-        }
-    }
-    Ok(())
-}
-
-/// Handles one byte of the input.
-fn handle_byte<W: Write>(
-    talk: &mut Talk,
-    stand_ins: &Stubs,
-    limits: &Limits,
-    output: &mut W,
-    byte: u8,
-) -> Result<(), Stop>
-    requires { IsPending talk.old.bytes.items talk.old.start }
-    ensures { HandlesByte (rules stand_ins.now limits.now) byte talk.old talk.new (W.contents output.old) (W.contents output.new) result }
-{
-    match talk.bytes.push(byte) {
-        Err(_) => Err(Stop::Memory),
-        Ok(()) => {
-            if byte != b'\n' {
-                Ok(())
-            } else if handle_line(talk, stand_ins, limits, output) {
-                Ok(())
-            } else {
-                Err(Stop::Write)
-            }
-        }
-    }
-}
-
-/// Handles a whole line.
-fn handle_line<W: Write>(
-    talk: &mut Talk,
-    stand_ins: &Stubs,
-    limits: &Limits,
-    output: &mut W,
-) -> bool
-    requires { IsLine talk.old.bytes.items talk.old.start }
-    ensures { HandlesLine (rules stand_ins.now limits.now) talk.old talk.new (W.contents output.old) (W.contents output.new) result }
-{
-    if talk.bytes[talk.start] == b'.' {
-        answer_dot(talk, stand_ins, limits, output)
-    } else {
-        talk.start = talk.bytes.len();
-        true
     }
 }

@@ -1,9 +1,12 @@
 -- The getters of matches, with a value for where there is none.
-use Rattle.std.proofs.Common.{◌≡◌, ℕ, List, Option, Some, None, Bor, option_map, codes, refl}
+use Rattle.std.proofs.Common.{◌≡◌, ◌++◌, ℕ, Bool, List, [], ◌∷◌, map, ap, ◌∙◌, Option, Some, None, Bor, option_map, codes, refl}
 use Rattle.std.specs.Prelude.{Ok, unwrap_or}
-use Rattle.clap.specs.Words.{Row, Text, first_of}
+use Rattle.std.proofs.lemmas.List.{map-append}
+use Rattle.clap.specs.Words.{AddsAliases, Row, Rule, Text, rule_of}
+use Rattle.clap.specs.declared.builder.arg.Arg.{Arg}
 use Rattle.envimg_core.specs.declared.geometry.Order.{Order}
-use Rattle.fw_tools.specs.Calls.{Job, with_files}
+use Rattle.fw_tools.specs.Calls.{Defaults, Job, defaults_of, is_client, lock_of, with_files}
+use Rattle.fw_tools.specs.Report.{Subject, in_order, report_of, subject_of}
 use Rattle.fw_tools.specs.Values.{first_or}
 use Rattle.fw_tools.specs.Words.{big_endian, either_order, order_by, source_in}
 
@@ -11,7 +14,21 @@ pub text_or : (o : Option (Bor (List ℕ))) (other : Bor (List ℕ)) → (unwrap
 text_or None other = refl
 text_or (Some s) other = refl
 
-pub with_files_is : (order : Order) (rows : List Row) (config : Text) (default : Option Text) (chosen : Order) (job : Job) →
-    config ≡ first_or (codes "/etc/fw_env.config") (codes "config") rows → default ≡ first_of (codes "default") rows → chosen ≡ either_order order (order_by (source_in big_endian.id rows)) →
-    Ok (record { config = config; default = default; order = chosen; job = job }) ≡ with_files order rows (Ok job)
-with_files_is order rows config default chosen job p q r = λ i. Ok (record { config = p i; default = q i; order = r i; job = job })
+-- one more long name of an argument
+pub alias_rule : (old new : Arg) (alias : Bor (List ℕ)) (shown : Bool) (rule : Rule) → AddsAliases old new ((alias, shown) ∷ []) → rule_of old ≡ rule →
+    rule_of new ≡ record rule { aliases = rule.aliases ++ alias.now ∷ [] }
+alias_rule old new alias shown rule (same, more) is =
+    ap rule_of same ∙ ap (λ (xs : List (Bor (List ℕ) × Bool)). record (rule_of old) { aliases = map (λ a. a.0.now) xs }) more
+    ∙ ap (λ xs. record (rule_of old) { aliases = xs }) (map-append (λ (a : Bor (List ℕ) × Bool). a.0.now) old.aliases.items ((alias, shown) ∷ []))
+    ∙ ap (λ (r : Rule). record r { aliases = r.aliases ++ alias.now ∷ [] }) is
+
+pub with_files_is : (order : Order) (name : Text) (rows : List Row) (config : Text) (defaults : Defaults) (lock : Option Text) (chosen : Order) (only : Bool) (job : Job) →
+    config ≡ first_or (codes "/etc/fw_env.config") (codes "config") rows → defaults ≡ defaults_of name rows → lock ≡ lock_of name rows →
+    chosen ≡ either_order order (order_by (source_in big_endian.id rows)) → only ≡ is_client name →
+    Ok (record { config = config; defaults = defaults; lock = lock; order = chosen; only_changes = only; job = job }) ≡ with_files order name rows (Ok job)
+with_files_is order name rows config defaults lock chosen only job p q l r o =
+    λ i. Ok (record { config = p i; defaults = q i; lock = l i; order = r i; only_changes = o i; job = job })
+
+pub report_is : (order chosen : Order) (rows : List Row) (subject : Subject) →
+    chosen ≡ either_order order (order_by (source_in big_endian.id rows)) → Ok subject ≡ subject_of rows → Ok (record { order = chosen; subject = subject }) ≡ report_of order rows
+report_is order chosen rows subject p q = λ i. in_order (p i) (q i)

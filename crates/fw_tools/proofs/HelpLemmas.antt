@@ -3,7 +3,7 @@ use Rattle.std.proofs.Common.{ℕ}
 use Rattle.std.specs.Prelude.{◌≢◌}
 use Rattle.clap.specs.declared.error.kind.ErrorKind.{ErrorKind}
 use Rattle.clap.specs.declared.error.kind.ErrorKind.TheVariants.{DisplayHelp, DisplayVersion, InvalidValue, UnknownArgument, InvalidSubcommand, NoEquals, ValueValidation, TooManyValues, TooFewValues, WrongNumberOfValues, ArgumentConflict, MissingRequiredArgument, MissingSubcommand, DisplayHelpOnMissingArgumentOrSubcommand, Io, Format, OutOfMemory}
-use Rattle.fw_tools.specs.Running.{RepliesTo, Helps}
+use Rattle.fw_tools.specs.EntryPoint.{RepliesTo, Helps}
 use Rattle.fw_engines.specs.Streams.{Writers}
 
 -- what doesn't go to standard error is the help or the version

@@ -1,9 +1,11 @@
-mod ActingLemmas
+mod SubcommandLemmas
 mod CallLemmas
+mod CopyReportLemmas
 mod DryRunLemmas
+mod FileLemmas
 mod HelpLemmas
-mod SayLemmas
-mod TalkLemmas
+mod SaidLemmas
+mod SessionRunLemmas
 mod WordLemmas
 pub mod Rows
 pub mod SameTexts

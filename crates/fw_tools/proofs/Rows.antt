@@ -4,7 +4,7 @@ use Rattle.clap.proofs.OnLiterals.{clap_on_literals}
 use Rattle.clap.specs.declared.error.kind.ErrorKind.TheVariants.{ArgumentConflict, DisplayHelp, DisplayVersion, InvalidSubcommand, MissingRequiredArgument, TooManyValues, UnknownArgument}
 use Rattle.envimg_core.specs.declared.geometry.Order.TheVariants.{Little, Big}
 use Rattle.fw_tools.specs.DryRuns.{number_in}
-use Rattle.fw_tools.specs.Words.{faults, order_of}
+use Rattle.fw_tools.specs.ProgramNames.{faults, order_of}
 
 -- no word but the program's own name
 pub name_alone : faults (codes "fwenv" ∷ []) ≡ []
@@ -107,6 +107,18 @@ file_imported = refl
 pub no_word_exported : faults (codes "fwenv" ∷ codes "export" ∷ codes "a" ∷ []) ≡ UnknownArgument ∷ []
 unfolding clap_on_literals
 no_word_exported = refl
+
+pub no_file_restored : faults (codes "fwenv" ∷ codes "restore" ∷ []) ≡ MissingRequiredArgument ∷ []
+unfolding clap_on_literals
+no_file_restored = refl
+
+pub copies_reported : faults (codes "fwenv" ∷ codes "status" ∷ codes "--big-endian" ∷ []) ≡ []
+unfolding clap_on_literals
+copies_reported = refl
+
+pub file_reported : faults (codes "fwenv" ∷ codes "status" ∷ codes "f" ∷ []) ≡ []
+unfolding clap_on_literals
+file_reported = refl
 
 pub help_of_a_subcommand : faults (codes "fwenv" ∷ codes "export" ∷ codes "--help" ∷ []) ≡ DisplayHelp ∷ []
 unfolding clap_on_literals

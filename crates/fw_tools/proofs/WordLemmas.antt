@@ -1,7 +1,8 @@
 -- What the words choose, and what is answered where the help breaks off.
-use Rattle.std.proofs.Common.{arith, inl, ◌≡◌, ◌≤◌, ◌||◌, ℕ, Bool, List, [], ◌∷◌, length, Option, Some, None, option_map, true, false, refl, sym, ap, ◌∙◌, subst}
+use Rattle.std.proofs.Common.{arith, inl, inr, ◌≡◌, ◌⊎◌, ◌≤◌, ◌||◌, ℕ, Bool, Bor, List, [], ◌∷◌, length, Option, Some, None, option_map, true, false, refl, sym, ap, ◌∙◌, subst}
 use Rattle.std.specs.Prelude.{Result, unwrap_or, codes, find, option_and_then}
 use Rattle.std.specs.Str.{bytes_eq}
+use Rattle.std.proofs.lemmas.Bool.{leb-true}
 use Rattle.clap.proofs.OnLiterals.{clap_on_literals}
 use Rattle.clap.proofs.WalkLemmas.{find_row}
 use Rattle.clap.specs.Facts.{Entry}
@@ -15,12 +16,16 @@ use Rattle.clap.specs.declared.parser.matches.ArgMatches.{ArgMatches}
 use Rattle.clap.specs.declared.parser.matches.Found.{Found}
 use Rattle.envimg_core.specs.declared.geometry.Order.{Order}
 use Rattle.envimg_core.specs.declared.geometry.Order.TheVariants.{Little}
-use Rattle.fw_tools.specs.Words.{big_endian, called_by, faults, fwenv, order_by, order_in, order_of, source_in}
-use Rattle.clap.specs.Words.{is_simple_and_free, subcommand_rows_of}
-use Rattle.fw_tools.specs.Acting.{Called}
-use Rattle.fw_tools.specs.Calls.{Call, call_of}
-use Rattle.fw_tools.specs.Running.{Does, Runs, ShowsAndSays}
-use Rattle.fw_engines.specs.Streams.{Streams}
+use Rattle.fw_tools.specs.ProgramNames.{app_of_name, called_by, called_in, called_under, name_in, order_of, order_under}
+use Rattle.fw_tools.specs.Words.{big_endian, fwenv, order_by, order_in, source_in}
+use Rattle.fw_tools.specs.declared.program_name.ProgramName.{ProgramName}
+use Rattle.fw_tools.specs.declared.program_name.ProgramName.TheVariants.{Fwenv, Printenv, Setenv}
+use Rattle.clap.specs.Words.{HasKind, IsAmong, fault_of, is_simple_and_free, kind_of, matches_of, subcommand_of, subcommand_rows_of}
+use Rattle.clap.specs.declared.error.Error.{Error}
+use Rattle.fw_tools.specs.Subcommands.{Called}
+use Rattle.fw_tools.specs.Report.{Asked, asked_of}
+use Rattle.fw_tools.specs.EntryPoint.{Does, LacksMemory, RepliesTo, Runs, ShowsAndSays, is_shown}
+use Rattle.fw_engines.specs.Streams.{Streams, writers_of}
 
 pub source_found : (f : Found) (id : Text) → option_and_then (λ a. a.source) (matched_of f id) ≡ source_in id (rows_of f)
 source_found f id = of_entry (find (λ e. bytes_eq e.0.now id) f.entries.items) ∙ sym (ap (option_and_then (λ r. r.source)) (find_row f.entries.items id))
@@ -33,26 +38,37 @@ source_found f id = of_entry (find (λ e. bytes_eq e.0.now id) f.entries.items) 
 pub order_by_rows : (m : ArgMatches) → order_in m ≡ order_by (source_in big_endian.id (rows_of (found_of m)))
 order_by_rows m = ap order_by (source_found (found_of m) (codes "big-endian"))
 
-fwenv_simple : is_simple fwenv ≡ true
+app_simple : (name : ProgramName) → is_simple (app_of_name name) ≡ true
 unfolding clap_on_literals
-fwenv_simple = refl
+app_simple Fwenv = refl
+app_simple Printenv = refl
+app_simple Setenv = refl
 
-pub fwenv_free : is_simple_and_free fwenv ≡ true
+pub app_free : (name : ProgramName) → is_simple_and_free (app_of_name name) ≡ true
 unfolding clap_on_literals
-fwenv_free = refl
+app_free Fwenv = refl
+app_free Printenv = refl
+app_free Setenv = refl
 
 -- the byte order by the matches is that by the words
-pub order_chosen : (app : App) (words : List Text) (m : ArgMatches) → app ≡ fwenv → HasMatchesOf app words m →
-    order_in m ≡ order_of words
-order_chosen app words m is has =
-    let of_fwenv : HasMatchesOf fwenv words m = subst (λ a. HasMatchesOf a words m) is has in
-    ap order_by (source_found (found_of m) (codes "big-endian") ∙ ap (source_in (codes "big-endian")) (of_fwenv fwenv_simple).0)
+pub order_chosen : (name : ProgramName) (app : App) (words : List Text) (m : ArgMatches) → app ≡ app_of_name name → HasMatchesOf app words m →
+    order_in m ≡ order_under name words
+order_chosen name app words m is has =
+    let of_name : HasMatchesOf (app_of_name name) words m = subst (λ a. HasMatchesOf a words m) is has in
+    ap order_by (source_found (found_of m) (codes "big-endian") ∙ ap (source_in (codes "big-endian")) (of_name (app_simple name)).0)
 
 -- and so is the subcommand that is called
-pub tool_called : (app : App) (words : List Text) (m : ArgMatches) → app ≡ fwenv → HasMatchesOf app words m → subcommand_rows_of m ≡ called_by words
-tool_called app words m is has =
-    let of_fwenv : HasMatchesOf fwenv words m = subst (λ a. HasMatchesOf a words m) is has in
-    (of_fwenv fwenv_simple).1
+called_there : (name : ProgramName) (words : List Text) (m : ArgMatches) → rows_of (found_of m) ≡ matches_of (app_of_name name) words →
+    subcommand_rows_of m ≡ subcommand_of (app_of_name name) words → called_in name m ≡ called_under name words
+called_there Fwenv words m rows sub = sub
+called_there Printenv words m rows sub = λ i. Some (codes "fw_printenv", rows i)
+called_there Setenv words m rows sub = λ i. Some (codes "fw_setenv", rows i)
+
+pub tool_called : (name : ProgramName) (app : App) (words : List Text) (m : ArgMatches) → app ≡ app_of_name name → HasMatchesOf app words m →
+    called_in name m ≡ called_under name words
+tool_called name app words m is has =
+    let of_name : HasMatchesOf (app_of_name name) words m = subst (λ a. HasMatchesOf a words m) is has in
+    called_there name words m (of_name (app_simple name)).0 (of_name (app_simple name)).1
 
 -- what is done by the matches is done by the words
 pub done_by_words : (order order' : Order) (tool tool' : Option (Text × List Row)) (old new : Streams) (status : ℕ) → Does order tool old new status → order ≡ order' → tool ≡ tool' → Does order' tool' old new status
@@ -63,31 +79,56 @@ pub neither : (x y : Bool) → x ≡ false → y ≡ false → (x || y) ≡ fals
 neither x y p q = λ i. p i || q i
 
 -- clap finds nothing wrong with the program's own name alone, or with no word at all; no subcommand is called, and no byte order chosen
-pub alone_is_right : (words : List Text) → length words ≤ 1 → faults words ≡ []
+pub alone_is_right : (words : List Text) → length words ≤ 1 → fault_of fwenv words ≡ []
 unfolding clap_on_literals
 alone_is_right [] short = refl
 alone_is_right (w ∷ []) short = refl
 alone_is_right (w ∷ v ∷ ws) short = absurd (omega (arith, short))
 
-pub alone_is_little : (words : List Text) → length words ≤ 1 → order_of words ≡ Little
+pub alone_is_little : (words : List Text) → length words ≤ 1 → order_under Fwenv words ≡ Little
 unfolding clap_on_literals
 alone_is_little [] short = refl
 alone_is_little (w ∷ []) short = refl
 alone_is_little (w ∷ v ∷ ws) short = absurd (omega (arith, short))
 
-pub alone_calls_nothing : (words : List Text) → length words ≤ 1 → called_by words ≡ None
+pub alone_calls_nothing : (words : List Text) → length words ≤ 1 → subcommand_of fwenv words ≡ None
 unfolding clap_on_literals
 alone_calls_nothing [] short = refl
 alone_calls_nothing (w ∷ []) short = refl
 alone_calls_nothing (w ∷ v ∷ ws) short = absurd (omega (arith, short))
 
--- so for no words but the name what is done is to show the image
-pub alone_is_shown : (words : List Text) (old new : Streams) (status : ℕ) → length words ≤ 1 → ShowsAndSays Little old new status → Runs words old new status
-alone_is_shown words old new status short shows =
+-- so for no words but this name what is done is to show the image
+pub alone_is_shown : (words : List Text) (old new : Streams) (status : ℕ) → name_in words ≡ Fwenv → length words ≤ 1 → ShowsAndSays Little old new status → Runs words old new status
+alone_is_shown words old new status is short shows =
     inl (
-      alone_is_right words short,
-      done_by_words Little (order_of words) None (called_by words) old new status shows (sym (alone_is_little words short)) (sym (alone_calls_nothing words short)),
+      ap (λ n. fault_of (app_of_name n) words) is ∙ alone_is_right words short,
+      done_by_words Little (order_of words) None (called_by words) old new status shows (sym (ap (λ n. order_under n words) is ∙ alone_is_little words short))
+          (sym (ap (λ n. called_under n words) is ∙ alone_calls_nothing words short)),
     )
+
+-- and what is done by the matches under a name is done by the words that begin with it
+pub runs_by : (name : ProgramName) (words : List Text) (m : ArgMatches) (old new : Streams) (status : ℕ) → name ≡ name_in words → fault_of (app_of_name name) words ≡ [] →
+    order_in m ≡ order_under name words → called_in name m ≡ called_under name words → Does (order_in m) (called_in name m) old new status → Runs words old new status
+runs_by name words m old new status is right order called does =
+    inl (
+      subst (λ n. fault_of (app_of_name n) words ≡ []) is right,
+      done_by_words (order_in m) (order_of words) (called_in name m) (called_by words) old new status does (order ∙ ap (λ n. order_under n words) is)
+          (called ∙ ap (λ n. called_under n words) is),
+    )
+
+-- what is said of words under a name is said of the words that begin with it
+pub replies_by : (name : ProgramName) (words : List Text) (e : Error) (old new : Streams) (status : ℕ) → name ≡ name_in words → HasKind (fault_of (app_of_name name) words) e →
+    new.input ≡ old.input → LacksMemory (writers_of old) (writers_of new) status ⊎ RepliesTo (kind_of e) (writers_of old) (writers_of new) status → Runs words old new status
+replies_by name words e old new status is fails same (inl lacks) = inr (same, inl lacks)
+replies_by name words e old new status is (inl lacks) same (inr replies) = inr (same, inl (subst (λ k. RepliesTo k (writers_of old) (writers_of new) status) lacks replies))
+replies_by name words e old new status is (inr among) same (inr replies) =
+    inr (same, inr (kind_of e, subst (λ n. IsAmong (kind_of e) (fault_of (app_of_name n) words)) is among, replies))
+
+-- the name under which it is
+pub shown_under : (name : ProgramName) (count : ℕ) → is_shown name count ≡ true → (name ≡ Fwenv) × (count ≤ 1)
+shown_under Fwenv count shown = (refl, leb-true count 1 shown)
+shown_under Printenv count shown = absurd cc
+shown_under Setenv count shown = absurd cc
 
 -- the subcommand of matches is there with its rows
 pair_there : {T A B : Type 0} (o : Option T) (f : T → A × B) (a : A) (b : B) → Some a ≡ option_map (λ t. (f t).0) o → Some b ≡ option_map (λ p. p.1) (option_map f o) → option_map f o ≡ Some (a, b)
@@ -97,11 +138,26 @@ pair_there None f a b p q = absurd (no p)
     no e = cc
 pair_there (Some t) f a b p q = λ i. Some (sym (ap (λ o. unwrap_or o a) p) i, sym (ap (λ o. unwrap_or o b) q) i)
 
-pub called_is : (m : ArgMatches) (name : Text) (rows : List Row) → Some name ≡ subcommand_name_of m → Some rows ≡ option_map (λ p. p.1) (subcommand_rows (out-ArgMatches m).subcommand) → subcommand_rows_of m ≡ Some (name, rows)
+none_there : {T A B : Type 0} (o : Option T) (f : T → A × B) → None ≡ option_map (λ t. (f t).0) o → None ≡ option_map f o
+none_there None f p = refl
+none_there (Some t) f p = absurd (no p)
+  where
+    no : None ≡ Some (f t).0 → ⊥
+    no e = cc
+
+called_is : (m : ArgMatches) (name : Text) (rows : List Row) → Some name ≡ subcommand_name_of m → Some rows ≡ option_map (λ p. p.1) (subcommand_rows (out-ArgMatches m).subcommand) → subcommand_rows_of m ≡ Some (name, rows)
 called_is m name rows is has = pair_there (out-ArgMatches m).subcommand (λ b. ((out-SubCommand (box_value b)).name.now, rows_of (found_of (out-SubCommand (box_value b)).matches))) name rows is has
 
+-- the subcommand of matches as the code has it
+pub called_found : (m : ArgMatches) (o : Option (Bor Text × Bor ArgMatches)) → option_map (λ p. p.0.now) o ≡ subcommand_name_of m →
+    option_map (λ p. rows_of (found_of p.1.now)) o ≡ option_map (λ p. p.1) (subcommand_rows (out-ArgMatches m).subcommand) →
+    option_map (λ p. (p.0.now, rows_of (found_of p.1.now))) o ≡ subcommand_rows_of m
+called_found m None name rows =
+    none_there (out-ArgMatches m).subcommand (λ b. ((out-SubCommand (box_value b)).name.now, rows_of (found_of (out-SubCommand (box_value b)).matches))) name
+called_found m (Some p) name rows = sym (called_is m p.0.now (rows_of (found_of p.1.now)) name rows)
+
 -- what a call does is what its words do
-pub called_does : (order : Order) (called : Option (Text × List Row)) (name : Text) (rows : List Row) (call : Result Call Text) (old new : Streams) (status : ℕ) →
-    called ≡ Some (name, rows) → call ≡ call_of order name rows → Called call old new status → Does order called old new status
+pub called_does : (order : Order) (called : Option (Text × List Row)) (name : Text) (rows : List Row) (call : Result Asked Text) (old new : Streams) (status : ℕ) →
+    called ≡ Some (name, rows) → call ≡ asked_of order name rows → Called call old new status → Does order called old new status
 called_does order called name rows call old new status is reads done =
     subst (λ k. Does order k old new status) (sym is) (subst (λ r. Called r old new status) reads done)

@@ -1,13 +1,15 @@
 -- Copies in devices (docs/tools.md, "Subcommands over files").
-use Rattle.std.specs.Prelude.{ℕ, ◌+◌, Bool, false, ◌&&◌, nat_lt, string_bytes, List, [], ◌∷◌, Option, Some, None, Vec, if◌then◌else◌, option_map}
+use Rattle.std.specs.Prelude.{ℕ, ◌+◌, ◌==◌, Bool, false, ◌&&◌, nat_lt, string_bytes, List, [], ◌∷◌, Option, Some, None, Result, Ok, Err, Vec, if◌then◌else◌, option_map}
 use Rattle.std.specs.Str.{bytes_eq}
 use Rattle.std.specs.declared.alloc.Global.{Global}
 use Rattle.env_session.specs.declared.session.Stored.{Stored}
 use Rattle.envcfg_core.specs.declared.config.Config.{Config}
 use Rattle.envcfg_core.specs.declared.place.Place.{Place}
-use Rattle.fw_tools.specs.declared.closing.Change.{Change}
+use Rattle.fw_tools.specs.declared.changed_copies.Change.{Change}
 use Rattle.fw_tools.specs.declared.copies.ReadCopy.{ReadCopy}
-use Rattle.fw_tools.specs.declared.opening.Source.{Source}
+use Rattle.fw_tools.specs.declared.files.FileFault.{FileFault}
+use Rattle.fw_tools.specs.declared.files.FileFault.TheVariants as file
+use Rattle.fw_tools.specs.declared.source.Source.{Source}
 
 -- two copies of one device share a byte: each begins before the end of the other
 abbrev pub share_a_byte : ℕ → ℕ → ℕ → Bool
@@ -20,6 +22,16 @@ overlap_at first start size place second = false
 
 abbrev pub overlap : Config → ReadCopy → Option ReadCopy → Bool
 overlap config first second = overlap_at config.first first.start config.size config.second second
+
+-- two reads of a copy gave the same bytes at the same place
+abbrev pub stays : ReadCopy → ReadCopy → Bool
+stays old again = (old.start == again.start) && bytes_eq old.bytes.items again.bytes.items
+
+-- why a copy may not be written that was read so at the start, and so just before the write
+abbrev pub change_in_reads : ReadCopy → Result ReadCopy FileFault → Option FileFault
+change_in_reads old (Ok again) = if stays old again then None else Some file.CannotWrite
+change_in_reads old (Err file.Memory) = Some file.Memory
+change_in_reads old (Err fault) = Some file.CannotWrite
 
 -- a copy is written where its bytes are others than before
 abbrev pub to_write : List ℕ → List ℕ → Option (List ℕ)

@@ -1,12 +1,16 @@
 -- What the public calls promise.
-pub mod Acting
 pub mod Calls
+pub mod ClientWords
+pub mod CopyReport
 pub mod DryRuns
+pub mod EntryPoint
 pub mod Files
-pub mod Opening
-pub mod Running
-pub mod Saying
-pub mod Talking
+pub mod ProgramNames
+pub mod Report
+pub mod Said
+pub mod SessionRun
+pub mod Source
+pub mod Subcommands
 pub mod Values
 pub mod Words
 -- What the steps of the code do: no promise speaks of these.

@@ -4,7 +4,7 @@ use Rattle.std.specs.Option.{option_and_then}
 use Rattle.std.specs.Str.{bytes_eq}
 use Rattle.clap.specs.Lexer.{usize_max}
 use Rattle.clap.specs.Simple.{new_shape}
-use Rattle.clap.specs.Words.{AddsSubcommand, App, Kinds, Row, Rule, Text, app_of, fault_of, found_of, matched_of, matches_of, new_app, new_rule, subcommand_of, with_rule, with_subcommand}
+use Rattle.clap.specs.Words.{AddsSubcommand, App, Row, Rule, Text, app_of, found_of, matched_of, new_app, new_rule, with_rule, with_subcommand}
 use Rattle.clap.specs.declared.builder.command.Command.{Command}
 use Rattle.clap.specs.declared.builder.action.ArgAction.TheVariants.{SetTrue}
 use Rattle.clap.specs.declared.parser.matches.ArgMatches.{ArgMatches}
@@ -52,11 +52,24 @@ script = record (one (codes "script")) { short = Some 115 }
 abbrev pub setenv : App
 setenv = with_rule (with_rule (with_rule (tool (codes "setenv")) script) (one (codes "name"))) (any_number (codes "words"))
 
+abbrev pub file : Rule
+file = one (codes "file")
+
+abbrev pub wanted_file : Rule
+wanted_file = record file { required = true }
+
 abbrev pub import : App
-import = with_rule (tool (codes "import")) (record (one (codes "file")) { required = true })
+import = with_rule (tool (codes "import")) wanted_file
 
 abbrev pub export : App
 export = tool (codes "export")
+
+abbrev pub restore : App
+restore = with_rule (tool (codes "restore")) wanted_file
+
+-- a report has no default environment
+abbrev pub status : App
+status = with_rule (with_rule (with_rule (new_app (codes "status")) config) big_endian) file
 
 abbrev pub write : Rule
 write = record (flag (codes "write")) { long = Some (codes "write") }
@@ -99,17 +112,17 @@ limited app = with_output (with_word (with_depth (with_steps app)))
 abbrev pub session : App
 session = limited (with_rule (with_rule (tool (codes "session")) write) stand_ins)
 
+-- the command with the tools over a session
+abbrev pub with_tools : App → App
+with_tools app = with_subcommand (with_subcommand (with_subcommand (with_subcommand (with_subcommand app printenv.top) setenv.top) import.top) export.top) restore.top
+
 -- the command
 abbrev pub fwenv : App
-fwenv = with_subcommand (with_subcommand (with_subcommand (with_subcommand (with_subcommand top printenv.top) setenv.top) import.top) export.top) session.top
+fwenv = with_subcommand (with_subcommand (with_tools top) status.top) session.top
 
 -- a command that clap's rules see so, alone and as the subcommand of another
 abbrev pub IsTool : App → Command → Type 0
 IsTool app c = (app_of c ≡ app) × ((old new : Command) → AddsSubcommand old c new → app_of new ≡ with_subcommand (app_of old) app.top)
-
--- what clap's rules say of the words: nothing, or the kind of what is wrong with them
-abbrev pub faults : List Text → Kinds
-faults words = fault_of fwenv words
 
 -- where the value of an argument comes from
 abbrev pub source_in : Text → List Row → Option ValueSource
@@ -128,11 +141,3 @@ order_in m = order_by (option_and_then (λ a. a.source) (matched_of (found_of m)
 abbrev pub either_order : Order → Order → Order
 either_order Big other = Big
 either_order Little other = other
-
--- the byte order that the words before a subcommand choose
-abbrev pub order_of : List Text → Order
-order_of words = order_by (source_in big_endian.id (matches_of fwenv words))
-
--- the subcommand that the words call, and what clap's rules find of it
-abbrev pub called_by : List Text → Option (Text × List Row)
-called_by words = subcommand_of fwenv words

@@ -1,11 +1,15 @@
 //! The words that the program is called with.
 ghost use Rattle.std.specs.Prelude.{◌≡◌, IfOk, codes, false, map};
-ghost use Rattle.clap.specs.Words.{FailsBy, app_of, found_of, rows_of, rule_of, subcommand_rows_of};
+ghost use Rattle.clap.specs.Words.{FailsBy, app_of, fault_of, found_of, rows_of, rule_of};
 ghost use Rattle.fw_tools.specs.Values.{given_by, is_given};
-ghost use Rattle.fw_tools.specs.Words.{IsTool, called_by, faults, fwenv, order_in, order_of};
+ghost use Rattle.fw_tools.specs.ProgramNames.{app_of_name, called_in, called_under, order_under};
+ghost use Rattle.fw_tools.specs.Words.{IsTool, fwenv, order_in};
 ghost use Rattle.fw_tools.specs.Words as words;
 
+use crate::client_words::{fw_printenv, fw_setenv};
+use crate::program_name::ProgramName;
 use crate::session_words::session;
+use crate::upkeep_words::{restore, status, wanted_file};
 use clap::parser::ValueSource;
 use clap::{Arg, ArgAction, ArgMatches, Command, Error};
 use envimg_core::Order;
@@ -22,7 +26,7 @@ const EXAMPLE: &str =
     "Example:\n  dd if=/dev/mtd1 bs=64k count=1 | fwenv\n  fwenv printenv bootcmd";
 
 /// What `--version` prints behind the program's name.
-const VERSION: &str = "0.1.0";
+pub(crate) const VERSION: &str = "0.2.0";
 
 /// The flag for images of big-endian boards, and what the help says of it.
 const BIG_ENDIAN: &str = "big-endian";
@@ -33,17 +37,18 @@ const BIG_ENDIAN_HELP: &str =
 /// The configuration where the words name none.
 pub(crate) const CONFIG: &str = "/etc/fw_env.config";
 
-/// Reads the words of the command line, the program's own name first. At an error its text is the help or the version, or
-/// says what is wrong with the words.
+/// Reads the words of the command line, which are those of the program under this name, its own name first. At an error its
+/// text is the help or the version, or says what is wrong with the words.
 pub(crate) fn read_words<'a, S: AsStr>(
     alloc: Global,
+    under: ProgramName,
     words: &'a [S],
 ) -> Result<ArgMatches<'a>, Error>
-    ensures fails { FailsBy (faults (map S.text words.entry.now)) result }
-    ensures order { IfOk result (λ m. order_in m ≡ order_of (map S.text words.entry.now)) }
-    ensures called { IfOk result (λ m. subcommand_rows_of m ≡ called_by (map S.text words.entry.now)) }
+    ensures fails { FailsBy (fault_of (app_of_name under) (map S.text words.entry.now)) result }
+    ensures order { IfOk result (λ m. order_in m ≡ order_under under (map S.text words.entry.now)) }
+    ensures called { IfOk result (λ m. called_in under m ≡ called_under under (map S.text words.entry.now)) }
 {
-    let command = command(alloc)?;
+    let command = command_of_name(alloc, under)?;
     let matches = command.try_get_matches_from(words)?;
     Ok(matches)
 }
@@ -113,6 +118,17 @@ fn is_from_words(source: Option<ValueSource>) -> bool
     matches!(source, Some(ValueSource::CommandLine))
 }
 
+/// The command of a name.
+fn command_of_name<'a>(alloc: Global, name: ProgramName) -> Result<Command<'a>, AllocError>
+    ensures { IfOk result (λ c. app_of c ≡ app_of_name name) }
+{
+    match name {
+        ProgramName::Fwenv => command(alloc),
+        ProgramName::Printenv => fw_printenv(alloc),
+        ProgramName::Setenv => fw_setenv(alloc),
+    }
+}
+
 /// The command, as clap knows it.
 fn command<'a>(alloc: Global) -> Result<Command<'a>, AllocError>
     ensures { IfOk result (λ c. app_of c ≡ fwenv) }
@@ -122,7 +138,9 @@ fn command<'a>(alloc: Global) -> Result<Command<'a>, AllocError>
     let setting = printing.subcommand(setenv(alloc)?)?;
     let importing = setting.subcommand(import(alloc)?)?;
     let exporting = importing.subcommand(export(alloc)?)?;
-    let talking = exporting.subcommand(session(alloc)?)?;
+    let restoring = exporting.subcommand(restore(alloc)?)?;
+    let reporting = restoring.subcommand(status(alloc)?)?;
+    let talking = reporting.subcommand(session(alloc)?)?;
     Ok(talking)
 }
 
@@ -138,7 +156,7 @@ fn top<'a>(alloc: Global) -> Result<Command<'a>, AllocError>
 }
 
 /// An argument that takes any number of values.
-fn any_number<'a>(alloc: Global, id: &'a str, name: &'a str) -> Arg<'a>
+pub(crate) fn any_number<'a>(alloc: Global, id: &'a str, name: &'a str) -> Arg<'a>
     ensures rule { rule_of result ≡ words.any_number id.entry.now }
     ensures local { result.global ≡ false }
 {
@@ -167,7 +185,7 @@ fn printenv<'a>(alloc: Global) -> Result<Command<'a>, AllocError>
 }
 
 /// `-s FILE`
-fn script<'a>(alloc: Global) -> Arg<'a>
+pub(crate) fn script<'a>(alloc: Global) -> Arg<'a>
     ensures rule { rule_of result ≡ words.script }
     ensures local { result.global ≡ false }
 {
@@ -177,7 +195,7 @@ fn script<'a>(alloc: Global) -> Arg<'a>
 }
 
 /// `NAME`
-fn name<'a>(alloc: Global) -> Arg<'a>
+pub(crate) fn name<'a>(alloc: Global) -> Arg<'a>
     ensures rule { rule_of result ≡ words.one (codes "name") }
     ensures local { result.global ≡ false }
 {
@@ -187,7 +205,7 @@ fn name<'a>(alloc: Global) -> Arg<'a>
 }
 
 /// `WORDS`
-fn words<'a>(alloc: Global) -> Arg<'a>
+pub(crate) fn words<'a>(alloc: Global) -> Arg<'a>
     ensures rule { rule_of result ≡ words.any_number (codes "words") }
     ensures local { result.global ≡ false }
 {
@@ -218,17 +236,13 @@ fn setenv<'a>(alloc: Global) -> Result<Command<'a>, AllocError>
 fn import<'a>(alloc: Global) -> Result<Command<'a>, AllocError>
     ensures { IfOk result (IsTool words.import) }
 {
-    let file = Arg::new(alloc, "file")
-        .value_name("FILE")
-        .required(true)
-        .help("The text, as export prints it");
     let command = Command::new(alloc, "import")
         .about("Sets the variables of a text, and saves")
         .after_help("Example:\n  fwenv import variables.txt")
         .arg(config(alloc))?
         .arg(default(alloc))?
         .arg(big_endian(alloc))?
-        .arg(file)?;
+        .arg(wanted_file(alloc))?;
     Ok(command)
 }
 

@@ -1,11 +1,15 @@
 //! Copies in their devices: found, read and written in place.
 ghost use Rattle.std.specs.Prelude.{◌≡◌, ◌+◌, IfOk, length, nat_le, option_copied};
-ghost use Rattle.fw_tools.specs.Copies.{share_a_byte, to_write};
+ghost use Rattle.std.specs.Str.{bytes_eq};
+ghost use Rattle.fw_tools.specs.Copies.{change_in_reads, share_a_byte, stays, to_write};
 ghost use Rattle.fw_tools.specs.Files.{copy_fault};
 
 use crate::files::FileFault;
+use crate::system::{Hold, System};
 use envcfg_core::Place;
-use fw_engines::streams::write_text;
+use envimg_core::SIZE_MAX;
+use fw_engines::StreamFault;
+use fw_engines::streams::{read_up_to, write_text};
 use std::fs::{self, FileType, OpenFile, OpenOptions};
 use std::io::{ErrorKind, Read, Seek, SeekFrom};
 use std::os::unix::fs::FileTypeExt;
@@ -49,6 +53,116 @@ pub(crate) fn read_copy<X: Files + AllocGlobal>(
         Ok(()) => Ok(ReadCopy { bytes, start }),
         Err(error) => Err(short_or_unreadable(error.kind())),
     }
+}
+
+/// Reads at most so many bytes of a device from `start` on.
+fn read_from<X: Files + AllocGlobal>(
+    rt: &X,
+    place: &Place,
+    start: u64,
+    most: usize,
+) -> Result<Vec<u8>, FileFault> {
+    let Ok(mut device) = OpenOptions::new()
+        .read(true)
+        .open(rt, place.device.as_str())
+    else {
+        return Err(FileFault::CannotRead);
+    };
+    if device.seek(SeekFrom::Start(start)).is_err() {
+        return Err(FileFault::CannotRead);
+    }
+    match read_up_to(rt.alloc(), &mut device, most) {
+        Ok(bytes) => Ok(bytes),
+        Err(StreamFault::Memory) => Err(FileFault::Memory),
+        Err(_) => Err(FileFault::CannotRead),
+    }
+}
+
+/// A copy with what follows it in its device, as many bytes in all as the largest image has; the copy alone if that can't be
+/// read.
+pub(crate) fn with_following<X: Files + AllocGlobal>(
+    rt: &X,
+    place: &Place,
+    copy: ReadCopy,
+) -> Result<ReadCopy, FileFault> {
+    let ReadCopy { mut bytes, start } = copy;
+    let end = start.saturating_add(bytes.len() as u64);
+    let most = (SIZE_MAX as usize).saturating_sub(bytes.len());
+    match read_from(rt, place, end, most) {
+        Ok(following) => match bytes.extend_from_slice(&following) {
+            Ok(()) => Ok(ReadCopy { bytes, start }),
+            Err(_) => Err(FileFault::Memory),
+        },
+        Err(FileFault::Memory) => Err(FileFault::Memory),
+        Err(_) => Ok(ReadCopy { bytes, start }),
+    }
+}
+
+/// Locks the device of a copy against other programs that lock it, until what is answered is dropped; none if it can't be
+/// opened or locked, and it is used without then.
+pub(crate) fn lock_device<X: System>(rt: &X, place: &Place, hold: Hold) -> Option<X::File> {
+    lock_path(rt, place.device.as_str(), hold)
+}
+
+/// The same of the file at a path.
+pub(crate) fn lock_path<X: System>(rt: &X, path: &str, hold: Hold) -> Option<X::File> {
+    if is_pipe(rt, path) {
+        return None;
+    }
+    match OpenOptions::new().read(true).open(rt, path) {
+        Ok(device) => locked(rt, device, hold),
+        Err(_) => None,
+    }
+}
+
+/// The open file, if it can be locked.
+fn locked<X: System>(rt: &X, device: X::File, hold: Hold) -> Option<X::File> {
+    if rt.lock(&device, hold) {
+        Some(device)
+    } else {
+        None
+    }
+}
+
+/// Why a copy that is read again, before anything is written, may not be written; none if it is what was read at the start.
+pub(crate) fn change_since<X: Files + AllocGlobal>(
+    rt: &X,
+    place: &Place,
+    size: u32,
+    old: &ReadCopy,
+) -> Option<FileFault> {
+    change_in_reads(old, read_copy(rt, place, size))
+}
+
+/// Why a copy may not be written that was read so at the start, and now so.
+fn change_in_reads(old: &ReadCopy, again: Result<ReadCopy, FileFault>) -> Option<FileFault>
+    ensures { result ≡ change_in_reads old.now again }
+{
+    match again {
+        Ok(copy) => {
+            if stays(old, &copy) {
+                None
+            } else {
+                Some(FileFault::CannotWrite)
+            }
+        }
+        Err(FileFault::Memory) => Some(FileFault::Memory),
+        Err(_) => Some(FileFault::CannotWrite),
+    }
+}
+
+/// Whether two reads of a copy gave the same bytes at the same place.
+fn stays(old: &ReadCopy, again: &ReadCopy) -> bool
+    ensures { result ≡ stays old.now again.now }
+{
+    old.start == again.start && same_bytes(&old.bytes, &again.bytes)
+}
+
+/// Whether two texts have the same bytes.
+fn same_bytes(one: &[u8], other: &[u8]) -> bool
+    ensures { result ≡ bytes_eq one.now other.now }
+{
+    one == other
 }
 
 /// Writes a copy over its place, and flushes it to storage. The device keeps its length: one that is too short by now is

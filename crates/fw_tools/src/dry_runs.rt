@@ -4,9 +4,9 @@ ghost use Rattle.clap.specs.Words.{found_of, rows_of};
 ghost use Rattle.fw_tools.specs.DryRuns.{dry_run_of, dry_run_view, limits_of, number_in, number_of};
 ghost use Rattle.fw_tools.specs.WordFaults.{word_seen};
 
-use crate::calls::{WordFault, first, first_or};
+use crate::call::{WordFault, first, first_or};
 use crate::command_line::is_given;
-use crate::messages::{BAD_DEPTH, BAD_OUTPUT, BAD_STEPS, BAD_WORD, INVALID_VALUE};
+use crate::program_texts::{BAD_DEPTH, BAD_OUTPUT, BAD_STEPS, BAD_WORD, INVALID_VALUE};
 use crate::session_words::{DEPTH, OUTPUT, STEPS, WORD};
 use clap::ArgMatches;
 use hush_run::{Limits, MOST_DEPTH, MOST_OUTPUT, MOST_STEPS, MOST_WORD};

@@ -1,15 +1,15 @@
 //! Files that are read whole, and why a file can not be used.
-ghost use Rattle.std.specs.Prelude.{◌≡◌, ◌≤◌, Ok, Some, IfOk, MatchOption, length, map, option_map};
+ghost use Rattle.std.specs.Prelude.{◌≡◌, ◌≤◌, ℕ, List, Ok, Some, IfOk, MatchOption, length, map, option_map};
 ghost use Rattle.std.specs.Result.{result_ok};
-ghost use Rattle.fw_tools.specs.Saying.{SaysSome};
+ghost use Rattle.fw_tools.specs.Said.{SaysSome};
 ghost use Rattle.envcfg_core.specs.Entries.{entry_view};
 ghost use Rattle.envcfg_core.specs.Import.{import_of};
 ghost use Rattle.envcfg_core.specs.SetScript.{set_script_of};
 ghost use Rattle.fw_tools.specs.Files.{file_limit, name_of, text_fault};
-ghost use Rattle.fw_tools.specs.Talking.{AreStubsOf};
+ghost use Rattle.fw_tools.specs.SessionRun.{AreStubsOf};
 ghost use Rattle.hush_commands.specs.Stubs.{stand_ins_of};
 
-use crate::messages::{
+use crate::program_texts::{
     CANNOT_READ_FILE, CANNOT_WRITE_FILE, COLON, FWENV, IN_LINE, NEWLINE, OUT_OF_MEMORY, TOO_SHORT,
 };
 use envcfg_core::{ConfigFault, TextEntry, TextFault, parse_import, parse_set_script};
@@ -74,6 +74,19 @@ pub(crate) fn import_from(alloc: Global, text: &[u8]) -> Result<Vec<TextEntry>, 
         Ok(entries) => Ok(entries),
         Err(fault) => Err(text_fault(fault)),
     }
+}
+
+/// The entries of the text for import at a path; a fault is said on `errors`.
+pub(crate) fn entries_or_say<X: Files + AllocGlobal, E: Write>(
+    rt: &X,
+    path: &str,
+    errors: &mut E,
+) -> Option<Vec<TextEntry>>
+    ensures { MatchOption result (SaysSome (E.contents errors.old) (E.contents errors.new))
+        (λ entries. ((text : List ℕ) × (import_of text ≡ Ok (map entry_view entries.items))) × (E.contents errors.new ≡ E.contents errors.old)) }
+{
+    let text = value_or_say(rt.alloc(), errors, path, read_file(rt, path))?;
+    value_or_say(rt.alloc(), errors, path, import_from(rt.alloc(), &text))
 }
 
 /// The entries of a set script.

@@ -1,25 +1,36 @@
 //! The program: its words, the files that they name, and the tools and dry runs over them. docs/tools.md and
 //! docs/dry-runs.md state the rules.
 //!
-//! To read in this order: running; command_line, session_words, calls, dry_runs; acting, opening, copies, files,
-//! closing; talking; messages.
+//! To read in this order: entry_point, program_name; command_line, client_words, upkeep_words, session_words, call, report,
+//! dry_runs; subcommands, lock_file, source, default_text, copies, files, changed_copies; session_run, copy_report; system,
+//! program_texts.
 #![tactic(auto)]
 
-mod acting;
-mod calls;
-mod closing;
+mod call;
+mod changed_copies;
+mod client_words;
 mod command_line;
 mod copies;
+mod copy_report;
+mod default_text;
 mod dry_runs;
+mod entry_point;
 mod files;
-mod messages;
-mod opening;
-mod running;
+mod lock_file;
+mod program_name;
+mod program_texts;
+mod report;
+mod session_run;
 mod session_words;
-mod talking;
+mod source;
+mod subcommands;
+mod system;
+mod upkeep_words;
 
+pub use entry_point::{program, words_failed};
 pub use fw_engines::{
-    StreamFault, ToolEnd, defaults, export, import, printenv, set_script, setenv, show,
+    FoundCopy, StreamFault, Survey, ToolEnd, defaults, export, file_status, import, print_values,
+    printenv, restore, set_script, setenv, show, status,
 };
 pub use fw_session::{SessionEnd, SessionEnding, session};
-pub use running::{program, words_failed};
+pub use system::{Hold, System};

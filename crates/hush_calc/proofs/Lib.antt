@@ -1,3 +1,4 @@
+pub mod FieldLemmas
 pub mod HexLemmas
 pub mod TermLemmas
 pub mod LawLemmas

@@ -1,4 +1,4 @@
--- Worked examples of docs/commands.md, which the checker computes from the definitions.
+-- Worked examples of docs/test-and-setexpr.md, which the checker computes from the definitions.
 use Rattle.std.proofs.Common.{◌≡◌, ℕ, pos, negsuc, true, false, List, [], ◌∷◌, None, Some, Ok, Err, refl}
 use Rattle.std.specs.Prelude.{codes, map}
 use Rattle.hush_calc.specs.declared.calculation.SetexprFault.TheVariants.{WrongUse, DivisionByZero}

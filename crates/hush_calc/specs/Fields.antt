@@ -1,4 +1,4 @@
--- The fields of a command (docs/commands.md, "Fields").
+-- The fields of a command (docs/test-and-setexpr.md, "Fields").
 use Rattle.std.specs.Prelude.{ℕ, Bool, true, false, if◌then◌else◌, List, [], ◌∷◌, take, drop}
 use Rattle.std.specs.Borrow.{Bor}
 use Rattle.std.specs.Str.{bytes_eq}

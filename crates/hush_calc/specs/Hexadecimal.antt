@@ -1,4 +1,4 @@
--- The text of a value (docs/commands.md, "setexpr").
+-- The text of a value (docs/test-and-setexpr.md, "setexpr").
 use Rattle.std.specs.Prelude.{ℕ, zero, suc, ◌+◌, ◌-◌, ◌/◌, ◌%◌, ◌==◌, nat_lt, List, [], ◌∷◌, ◌++◌, codes, if◌then◌else◌}
 use Rattle.text_parts.specs.Digits.{digit_0, small_a}
 

@@ -1,4 +1,4 @@
--- Numbers, by the longest front of a text that is one (docs/commands.md, "Numbers").
+-- Numbers, by the longest front of a text that is one (docs/test-and-setexpr.md, "Numbers").
 use Rattle.std.specs.Prelude.{ℕ, ◌%◌, min, ◌==◌, List, [], ◌∷◌, ℤ, pos, neg_ℤ, if◌then◌else◌}
 use Rattle.std.specs.Option.{option_map_or}
 use Rattle.text_parts.specs.declared.digits.Base.{Base}

@@ -1,4 +1,4 @@
--- The command `setexpr` (docs/commands.md, "setexpr").
+-- The command `setexpr` (docs/test-and-setexpr.md, "setexpr").
 use Rattle.std.specs.Prelude.{ℕ, ◌+◌, ◌-◌, ◌*◌, ◌/◌, ◌%◌, ◌==◌, ◌&&◌, ◌||◌, Bool, not, bit_and, bit_or, bit_xor, List, [], ◌∷◌, codes, find, Option, Some, None, Result, Ok, Err, if◌then◌else◌}
 use Rattle.std.specs.Str.{bytes_eq}
 use Rattle.hush_calc.specs.declared.operator.Operator.{Operator}

@@ -1,4 +1,4 @@
--- The command `test` (docs/commands.md, "test"): an expression is terms, each joined with all that stands before it.
+-- The command `test` (docs/test-and-setexpr.md, "test"): an expression is terms, each joined with all that stands before it.
 use Rattle.std.specs.Prelude.{ℕ, ◌==◌, ◌&&◌, ◌||◌, Bool, true, false, not, List, [], ◌∷◌, length, codes, find, Option, Some, None, unwrap_or, int_lt, int_le, if◌then◌else◌}
 use Rattle.std.specs.Option.{option_and_then}
 use Rattle.std.specs.Ordering.{nat_cmp, int_eq, is_lt, is_gt}

@@ -1,4 +1,4 @@
-//! The command `setexpr` (docs/commands.md, "setexpr").
+//! The command `setexpr` (docs/test-and-setexpr.md, "setexpr").
 ghost use Rattle.std.specs.Prelude.{◌≡◌, [], ◌∷◌};
 ghost use Rattle.hush_calc.specs.Setexpr.{answer_view, is_first_value, is_value, setexpr_of};
 

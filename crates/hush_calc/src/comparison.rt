@@ -1,4 +1,4 @@
-//! The words of a test, and the comparisons (docs/commands.md, "test").
+//! The words of a test, and the comparisons (docs/test-and-setexpr.md, "test").
 ghost use Rattle.std.specs.Prelude.{◌≡◌};
 
 use crate::fields::is_text;

@@ -1,4 +1,4 @@
-//! The command `test` (docs/commands.md, "test").
+//! The command `test` (docs/test-and-setexpr.md, "test").
 ghost use Rattle.std.specs.Prelude.{◌≡◌, ◌≤◌, ◌<◌, not, false, length, option_map};
 ghost use Rattle.hush_calc.specs.Test.{expression_of, from_comparison, from_operand, from_term, is_empty, signed, test_of};
 ghost use Rattle.hush_calc.specs.TestSteps.{Reads};

@@ -1,10 +1,13 @@
 //! The fields of a command, lent one after the other.
-ghost use Rattle.std.specs.Prelude.{◌≡◌, ℕ, List};
+ghost use Rattle.std.specs.Prelude.{◌≡◌, ℕ, List, IfOk};
 ghost use Rattle.std.specs.Iterator.{YieldsFirstBy, item_count};
 ghost use Rattle.std.specs.Str.{bytes_eq};
+ghost use Rattle.text_parts.specs.Words.{spaced};
 ghost use Rattle.hush_calc.specs.Fields.{pieces, field_view, split_option};
 
+use std::alloc::{AllocError, Global};
 use std::marker::Model;
+use text_parts::joined;
 
 /// The fields of a command that are left. They stand one behind the other in a text; each has its length.
 #[derive(Drop)]
@@ -44,6 +47,13 @@ impl<'a> Fields<'a> {
         ensures { pieces result.0.now result.1.now ≡ self.now }
     {
         (self.bytes, self.lengths)
+    }
+
+    /// The fields joined by one space, in memory of their own.
+    pub fn joined(self, alloc: Global) -> Result<Vec<u8>, AllocError>
+        ensures { IfOk result (λ text. text.items ≡ spaced self.entry) }
+    {
+        joined(alloc, self)
     }
 
     /// Whether the first field is this option, and the fields without it.

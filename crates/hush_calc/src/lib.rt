@@ -1,5 +1,5 @@
 //! The two commands that compute, over the fields of a command: `test` and `setexpr`.
-//! docs/commands.md states their rules.
+//! docs/test-and-setexpr.md states their rules.
 //!
 //! To read in this order: fields, numbers; expression, comparison; calculation, operator, hexadecimal; laws.
 #![tactic(auto)]

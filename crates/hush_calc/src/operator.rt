@@ -1,4 +1,4 @@
-//! The operators of `setexpr` (docs/commands.md, "setexpr").
+//! The operators of `setexpr` (docs/test-and-setexpr.md, "setexpr").
 ghost use Rattle.std.specs.Prelude.{◌≡◌, ◌<◌};
 
 use crate::fields::is_text;

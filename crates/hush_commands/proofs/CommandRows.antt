@@ -28,7 +28,7 @@ suffix : command_of (codes "setexpr.q" ∷ codes "n" ∷ []) ≡ Calculate (code
 unfolding builtin_of
 suffix = refl
 
-no_builtin : command_of (codes "envs" ∷ codes "set" ∷ []) ≡ Other (codes "envs") (codes "set" ∷ [])
+no_builtin : command_of (codes "envs" ∷ codes "set" ∷ []) ≡ Other (codes "envs") (codes "envs" ∷ codes "set" ∷ [])
 unfolding builtin_of
 no_builtin = refl
 
@@ -77,8 +77,8 @@ exit_past_255 : (held : Held) → done (codes "exit" ∷ codes "256" ∷ []) hel
 unfolding done builtin_of
 exit_past_255 held = refl
 
-unknown_command : other_of None (codes "ls") (codes "-l" ∷ []) ≡ answer 1 (codes "Unknown command 'ls' - try 'help'\n")
+unknown_command : other_of None (codes "ls") (codes "ls" ∷ codes "-l" ∷ []) ≡ answer 1 (codes "Unknown command 'ls' - try 'help'\n")
 unknown_command = refl
 
-stand_in_command : other_of (Some 3) (codes "mmc") (codes "dev" ∷ []) ≡ answer 3 (codes "+ mmc dev\n")
+stand_in_command : other_of (Some 3) (codes "mmc") (codes "mmc" ∷ codes "dev" ∷ []) ≡ answer 3 (codes "+ mmc dev\n")
 stand_in_command = refl

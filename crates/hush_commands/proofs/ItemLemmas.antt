@@ -11,7 +11,7 @@ use Rattle.hush_words.specs.declared.parts.Span.{Span}
 use Rattle.hush_words.specs.declared.parts.Part.{Part}
 use Rattle.hush_words.specs.declared.parts.Part.TheVariants as part
 use Rattle.hush_commands.specs.Expansion.{Known, value_in, atom_items, Item, Byte, Split, Mark, splits, substituted, items_of, item_bytes, bytes_of, onto_first, cut, is_there, fields, size}
-use Rattle.hush_commands.specs.Buffers.{Made, whole, opened, closed, with_bytes, ended, with_items, joined, kept, AddsItems, CutsAtBlank, with_item}
+use Rattle.hush_commands.specs.Buffers.{Made, whole, opened, closed, with_bytes, ended, with_items, joined, kept, AddsItems, AddsPart, CutsAtBlank, with_item}
 use Rattle.std.specs.Prelude.{Ok, Err, Result, decimal}
 use Rattle.hush_words.specs.Words.{Atom}
 use Rattle.hush_commands.specs.declared.expansion.ExpansionFault.{ExpansionFault}
@@ -181,6 +181,10 @@ pub text-over : (quoted : Bool) (bs : List ℕ) (left : ℕ) → quoted ≡ fals
 text-over true bs left q h = cc
 text-over false bs left q h = omega (arith, h, size-substituted bs)
 
+pub text-fits : (quoted : Bool) (bs : List ℕ) (left : ℕ) → quoted ≡ false → length bs ≤ left → size (substituted quoted bs) ≤ left
+text-fits true bs left e le = absurd (cc)
+text-fits false bs left e le = omega (arith, le, size-substituted bs)
+
 pub text-within : (quoted : Bool) (bs : List ℕ) (left : ℕ) (a b : Made) → quoted ≡ false → length bs ≤ left → b ≡ with_items a (substituted false bs) → AddsItems (substituted quoted bs) left a b (Ok (left - length bs))
 text-within true bs left a b q h e = absurd (cc)
 text-within false bs left a b q h e = (omega (arith, h, size-substituted bs), e)
@@ -222,7 +226,7 @@ no-part true known atoms done whole e read = sym (append-nil done) ∙ ap (λ (x
 no-part false known atoms done whole e read = sym (append-nil done) ∙ ap (λ (xs : List Atom). done ++ kept false (items_of known xs)) (sym e) ∙ read
 
 -- what was added, and what is added behind it
-pub adds-then : (xs ys : List Item) (left mid : ℕ) (a b c : Made) (r : Result ℕ ExpansionFault) → AddsItems xs left a b (Ok mid) → AddsItems ys mid b c r → AddsItems (xs ++ ys) left a c r
+pub adds-then : (xs ys : List Item) (left mid : ℕ) (a b c : Made) (r : Result ℕ ExpansionFault) → AddsItems xs left a b (Ok mid) → AddsPart ys mid b c r → AddsItems (xs ++ ys) left a c r
 adds-then xs ys left mid a b c (Ok rest) f g =
     (omega (arith, f.0, g.0, size-append xs ys), g.1 ∙ ap (λ (m : Made). with_items m ys) f.1 ∙ sym (fold-append with_item a xs ys))
 adds-then xs ys left mid a b c (Err Word) f g = omega (arith, f.0, g, size-append xs ys)
@@ -236,6 +240,6 @@ adds-front xs ys left a b Memory h = tt
 pub adds-nothing : (left : ℕ) (a : Made) → AddsItems [] left a a (Ok left)
 adds-nothing left a = (omega arith, refl)
 
-pub part-refused : (xs ys zs whole : List Item) (left mid : ℕ) (a b c : Made) (f : ExpansionFault) → AddsItems xs left a b (Ok mid) → AddsItems ys mid b c (Err f) → (xs ++ ys) ++ zs ≡ whole → AddsItems whole left a c (Err f)
+pub part-refused : (xs ys zs whole : List Item) (left mid : ℕ) (a b c : Made) (f : ExpansionFault) → AddsItems xs left a b (Ok mid) → AddsPart ys mid b c (Err f) → (xs ++ ys) ++ zs ≡ whole → AddsItems whole left a c (Err f)
 part-refused xs ys zs whole left mid a b c f g h e =
     subst (λ (is : List Item). AddsItems is left a c (Err f)) e (adds-front (xs ++ ys) zs left a c f (adds-then xs ys left mid a b c (Err f) g h))

@@ -8,3 +8,4 @@ pub mod WordLemmas
 pub mod OutputLemmas
 pub mod CarryingLemmas
 pub mod CommandRows
+pub mod LeavingLemmas

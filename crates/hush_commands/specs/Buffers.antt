@@ -75,6 +75,12 @@ AddsItems is left old new (Ok rest) = (left ≡ size is + rest) × (new ≡ with
 AddsItems is left old new (Err Word) = left < size is
 AddsItems is left old new (Err Memory) = Unit {0}
 
+-- the same of a part, which takes memory only where it is within the limit
+abbrev pub AddsPart : List Item → ℕ → Made → Made → Result ℕ ExpansionFault → Type 0
+AddsPart is left old new (Ok rest) = (left ≡ size is + rest) × (new ≡ with_items old is)
+AddsPart is left old new (Err Word) = left < size is
+AddsPart is left old new (Err Memory) = size is ≤ left
+
 -- what an expansion leaves: the fields that are wanted, or why there are none
 abbrev pub Expands : Option (List (List ℕ)) → Made → Result (Unit {0}) ExpansionFault → Type 0
 Expands wanted new (Ok u) = option_map whole wanted ≡ Some new

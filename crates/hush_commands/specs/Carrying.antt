@@ -1,8 +1,9 @@
 -- What a simple command does (docs/runs.md, "Commands").
-use Rattle.std.specs.Prelude.{◌≡◌, ℕ, ◌<◌, ◌≤◌, Bool, if◌then◌else◌, List, [], ◌++◌, codes, length, Option, Some, None, unwrap_or, is_some, Result, Ok, Err}
+use Rattle.std.specs.Prelude.{◌≡◌, ℕ, ◌<◌, ◌≤◌, Bool, true, false, if◌then◌else◌, List, [], ◌++◌, codes, length, Option, Some, None, unwrap_or, is_some, Result, Ok, Err}
 use Rattle.std.specs.FinMap as names
 use Rattle.envvars_core.specs.declared.refusals.Memory.{Memory}
 use Rattle.env_session.specs.Session.{Held, saved, side_of}
+use Rattle.text_parts.specs.Words.{spaced}
 use Rattle.hush_calc.specs.Test.{test_of}
 use Rattle.hush_commands.specs.declared.command.Command.{Command}
 use Rattle.hush_commands.specs.declared.command.Command.TheVariants as command
@@ -13,7 +14,7 @@ use Rattle.hush_commands.specs.declared.output.PrintFault.TheVariants as fault
 use Rattle.hush_commands.specs.declared.writes.Complaint.{Complaint}
 use Rattle.hush_commands.specs.Stubs.{Statuses}
 use Rattle.hush_commands.specs.Messages.{text_of}
-use Rattle.hush_commands.specs.Output.{Printed, printed, Answer, answer, Answers, status_if, behind_spaces, spaced}
+use Rattle.hush_commands.specs.Output.{Printed, printed, Answer, answer, Answers, LacksRoom, OnMemory, status_if}
 use Rattle.hush_commands.specs.Commands.{command_of}
 use Rattle.hush_commands.specs.Listing.{listed}
 use Rattle.hush_commands.specs.Saving.{saved_line}
@@ -33,14 +34,14 @@ line_end newline = if newline then codes "\n" else []
 abbrev pub echo_of : (newline : Bool) → List (List ℕ) → Answer
 echo_of newline words = answer 0 (spaced words ++ line_end newline)
 
--- a stand-in prints its name and the words, and has its own status
-abbrev pub stand_in_of : ℕ → (called : List ℕ) → List (List ℕ) → Answer
-stand_in_of status called words = answer status (codes "+ " ++ (called ++ (behind_spaces words ++ codes "\n")))
+-- a stand-in prints its fields, its name first, and has its own status
+abbrev pub stand_in_of : ℕ → (fields : List (List ℕ)) → Answer
+stand_in_of status fields = answer status (codes "+ " ++ (spaced fields ++ codes "\n"))
 
 -- no builtin: a stand-in, if the name has a status
-abbrev pub other_of : Option ℕ → (called : List ℕ) → List (List ℕ) → Answer
-other_of (Some status) called words = stand_in_of status called words
-other_of None called words = answer 1 (text_of message.UnknownCommand called)
+abbrev pub other_of : Option ℕ → (called : List ℕ) → (fields : List (List ℕ)) → Answer
+other_of (Some status) called fields = stand_in_of status fields
+other_of None called fields = answer 1 (text_of message.UnknownCommand called)
 
 -- a write, and its complaint
 abbrev pub told : Change → Done
@@ -66,7 +67,7 @@ done_by stand_ins (command.Test words) status held = quiet (status_if (test_of w
 done_by stand_ins (command.Calculate called words) status held = told (calculated_of held called words)
 done_by stand_ins (command.Exit own) status held = quiet (unwrap_or own status) held
 done_by stand_ins (command.WrongUse called) status held = (answer 1 (text_of message.WrongUse called), held)
-done_by stand_ins (command.Other called words) status held = (other_of (names.get stand_ins called) called words, held)
+done_by stand_ins (command.Other called fields) status held = (other_of (names.get stand_ins called) called fields, held)
 
 -- what the command of these fields does
 abbrev pub done_of : Statuses → List (List ℕ) → (status : ℕ) → Held → Done
@@ -98,6 +99,31 @@ Carries done held after old new (Ok status) =
 Carries done held after old new (Err fault.Output) =
     (old.limit < length (old.text ++ done.0.text)) × (after ≡ held) × (new ≡ old)
 Carries done held after old new (Err fault.Memory) = (after ≡ held) × (new ≡ old)
+
+-- whether a command takes memory for more than its text
+abbrev pub takes_more : Command → Bool
+takes_more command.True = false
+takes_more command.False = false
+takes_more (command.Echo newline words) = true
+takes_more (command.Set force name words) = true
+takes_more (command.Print all names) = true
+takes_more command.Save = true
+takes_more (command.Run names) = true
+takes_more (command.Delete force names) = true
+takes_more (command.Exists name) = false
+takes_more (command.Test words) = false
+takes_more (command.Calculate called words) = true
+takes_more (command.Exit own) = false
+takes_more (command.WrongUse called) = false
+takes_more (command.Other called fields) = true
+
+-- where memory is refused to a command that takes it for its text alone, it has a text, and the text fits
+abbrev pub RefusedBy : (more : Bool) → (text : List ℕ) → Printed → Result ℕ PrintFault → Type 0
+RefusedBy true text old result = Unit {0}
+RefusedBy false text old result = OnMemory result (LacksRoom text old)
+
+abbrev pub IsRefused : Command → Done → Printed → Result ℕ PrintFault → Type 0
+IsRefused command done old result = RefusedBy (takes_more command) done.0.text old result
 
 -- the status that a command answers, beside what follows it
 abbrev pub status_in : Result (ℕ × Follow) PrintFault → Result ℕ PrintFault

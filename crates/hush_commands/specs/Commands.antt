@@ -100,7 +100,7 @@ builtin_command builtin.Exit called words = exit_command called words
 -- builtins come first
 abbrev pub named_command : Option Builtin → (called : List ℕ) → List (List ℕ) → Command
 named_command (Some builtin) called words = builtin_command builtin called words
-named_command None called words = command.Other called words
+named_command None called words = command.Other called (called ∷ words)
 
 -- no fields are as `true`
 abbrev pub command_of : List (List ℕ) → Command

@@ -20,7 +20,7 @@ follow_by (command.Test words) = follow.Next
 follow_by (command.Calculate called words) = follow.Next
 follow_by (command.Exit own) = follow.End
 follow_by (command.WrongUse called) = follow.Next
-follow_by (command.Other called words) = follow.Next
+follow_by (command.Other called fields) = follow.Next
 
 -- what follows the command of these fields
 abbrev pub follow_of : List (List ℕ) → Follow

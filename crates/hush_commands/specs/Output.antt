@@ -1,6 +1,5 @@
 -- What a run has printed, and what is printed after it.
-use Rattle.std.specs.Prelude.{◌≡◌, ℕ, ◌<◌, ◌≤◌, Bool, if◌then◌else◌, List, [], ◌∷◌, ◌++◌, length, Result, Ok, Err}
-use Rattle.std.specs.List.{flat_map}
+use Rattle.std.specs.Prelude.{◌≡◌, ℕ, ◌<◌, ◌≤◌, Bool, if◌then◌else◌, List, ◌++◌, length, Result, Ok, Err}
 use Rattle.hush_commands.specs.declared.output.PrintFault.{PrintFault}
 use Rattle.hush_commands.specs.declared.output.PrintFault.TheVariants.{Output, Memory}
 
@@ -22,11 +21,21 @@ Prints text old new (Ok u) = new ≡ printed (old.text ++ text) old.limit
 Prints text old new (Err Output) = (old.limit < length (old.text ++ text)) × GoesOn old new
 Prints text old new (Err Memory) = GoesOn old new
 
--- the same, and where it isn't printed, nothing has changed
+-- memory was refused for a text that isn't empty and that fits
+abbrev pub LacksRoom : List ℕ → Printed → Type 0
+LacksRoom text old = (0 < length text) × (length (old.text ++ text) ≤ old.limit)
+
+-- this where memory was refused
+abbrev pub OnMemory : {X : Type 0} → Result X PrintFault → Type 0 → Type 0
+OnMemory (Ok x) fact = Unit {0}
+OnMemory (Err Output) fact = Unit {0}
+OnMemory (Err Memory) fact = fact
+
+-- a text is printed, or nothing has changed: it doesn't fit, or it fits and memory was refused
 abbrev pub PrintsWhole : List ℕ → Printed → Printed → Result (Unit {0}) PrintFault → Type 0
 PrintsWhole text old new (Ok u) = (length (old.text ++ text) ≤ old.limit) × (new ≡ printed (old.text ++ text) old.limit)
 PrintsWhole text old new (Err Output) = (old.limit < length (old.text ++ text)) × (new ≡ old)
-PrintsWhole text old new (Err Memory) = new ≡ old
+PrintsWhole text old new (Err Memory) = LacksRoom text old × (new ≡ old)
 
 -- a command's status, and what it prints
 pub record Answer : Type 0 where
@@ -44,11 +53,3 @@ Answers a old new (Err fault) = Prints a.text old new (Err fault)
 -- true has status 0
 abbrev pub status_if : Bool → ℕ
 status_if holds = if holds then 0 else 1
-
--- words each after a space, and words joined by one
-abbrev pub behind_spaces : List (List ℕ) → List ℕ
-behind_spaces words = flat_map (λ word. 32 ∷ word) words
-
-abbrev pub spaced : List (List ℕ) → List ℕ
-spaced [] = []
-spaced (word ∷ words) = word ++ behind_spaces words

@@ -31,13 +31,8 @@ CarriesOut change old new (Err refused) = new ≡ old
 
 -- the message about a refused write; out of memory has none
 abbrev pub message_of : Refusal → Option Message
-message_of refusal.BadForm = Some (Refused refusal.BadForm)
-message_of refusal.BadType = Some (Refused refusal.BadType)
-message_of refusal.NoCreate = Some (Refused refusal.NoCreate)
-message_of refusal.NoDelete = Some (Refused refusal.NoDelete)
-message_of refusal.NoOverwrite = Some (Refused refusal.NoOverwrite)
-message_of refusal.Full = Some (Refused refusal.Full)
 message_of refusal.Memory = None
+message_of other = Some (Refused other)
 
 abbrev pub about : List ℕ → Message → About
 about name message = (message, name)

@@ -89,10 +89,10 @@ pub(crate) enum Command<'a> {
     WrongUse {
         called: Name<'a>,
     },
-    /// No builtin: a stand-in, or unknown
+    /// No builtin: a stand-in, or unknown; its name is the first of the fields
     Other {
         called: Name<'a>,
-        words: Fields<'a>,
+        fields: Fields<'a>,
     },
 }
 
@@ -106,13 +106,13 @@ impl<'a> Command<'a> {
     pub(crate) fn of(fields: Fields<'a>) -> Command<'a>
         ensures { result ≡ command_of fields.entry }
     {
-        let mut words = fields;
+        let mut words = fields.again();
         match words.next() {
             Some(called) => match Builtin::of(called) {
                 Some(builtin) => Command::of_builtin(builtin, called, words),
                 None => Command::Other {
                     called: Name::of(called),
-                    words,
+                    fields,
                 },
             },
             None => Command::True,

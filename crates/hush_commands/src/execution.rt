@@ -2,9 +2,11 @@
 ghost use Rattle.std.specs.Prelude.{◌≡◌, ◌++◌, IfOk};
 ghost use Rattle.std.specs.FinMap as names;
 ghost use Rattle.hush_commands.specs.Following.{follow_of};
-ghost use Rattle.hush_commands.specs.Output.{Prints, Answers, behind_spaces, spaced, status_if};
+ghost use Rattle.text_parts.specs.Words.{spaced};
+ghost use Rattle.hush_commands.specs.Commands.{command_of};
+ghost use Rattle.hush_commands.specs.Output.{Prints, Answers, status_if};
 ghost use Rattle.hush_commands.specs.Carrying.{echo_of, line_end, stand_in_of, other_of, save_of, done_by, done_of};
-ghost use Rattle.hush_commands.specs.Carrying.{Attempts, Carries, Tells, status_in};
+ghost use Rattle.hush_commands.specs.Carrying.{Attempts, Carries, IsRefused, Tells, status_in};
 
 use crate::command::Command;
 use crate::field_buffer::FieldBuffer;
@@ -23,7 +25,8 @@ use std::alloc::Global;
 /// change.
 ///
 /// The names of `run` and `env delete` are steps of their own, which follow: here these leave the status. `exit` answers
-/// the status with which the run ends. If the text doesn't fit or memory is refused, nothing has changed.
+/// the status with which the run ends. If the text doesn't fit or memory is refused, nothing has changed. Memory is refused
+/// to `true`, `false`, `test`, `exit`, `env exists` and a wrong use only for a text that fits.
 pub fn carry_out(
     alloc: Global,
     session: &mut Session,
@@ -34,13 +37,12 @@ pub fn carry_out(
 ) -> Result<(u8, Follow), PrintFault>
     ensures carries { Carries (done_of stand_ins.now fields.now.done status session.old)
         session.old session.new output.old output.new (status_in result) }
+    ensures memory { IsRefused (command_of fields.now.done) (done_of stand_ins.now fields.now.done status session.old)
+        output.old (status_in result) }
     ensures follows { IfOk result (λ done. done.1 ≡ follow_of fields.now.done) }
 {
     let command = Command::of(fields.fields());
-    let follow = match command.follow(alloc) {
-        Ok(follow) => follow,
-        Err(_) => return Err(PrintFault::Memory),
-    };
+    let follow = command.follow(alloc)?;
     let start = output.text().len();
     match attempt(alloc, session, stand_ins, command, status, output) {
         Ok(status) => {
@@ -64,13 +66,14 @@ fn attempt(
     status: u8,
     output: &mut Output,
 ) -> Result<u8, PrintFault>
-    ensures { Attempts (done_by stand_ins.now command.entry status session.old)
+    ensures attempts { Attempts (done_by stand_ins.now command.entry status session.old)
         session.old session.new output.old output.new result }
+    ensures memory { IsRefused command.entry (done_by stand_ins.now command.entry status session.old) output.old result }
 {
     match command {
         Command::True => Ok(0),
         Command::False => Ok(1),
-        Command::Echo { newline, words } => echo(newline, words, output),
+        Command::Echo { newline, words } => echo(alloc, newline, words, output),
         Command::Set { force, name, words } => {
             tell(
                 write_words(alloc, session, name.bytes(), words, force),
@@ -88,15 +91,22 @@ fn attempt(
         }
         Command::Exit { status: own } => Ok(own.unwrap_or(status)),
         Command::WrongUse { called } => Message::WrongUse.fail(called.bytes(), output),
-        Command::Other { called, words } => other(stand_ins, called.bytes(), words, output),
+        Command::Other { called, fields } => {
+            other(alloc, stand_ins, called.bytes(), fields, output)
+        }
     }
 }
 
 /// `echo`: prints the words, joined by one space, and perhaps a newline.
-fn echo(newline: bool, words: Fields<'_>, output: &mut Output) -> Result<u8, PrintFault>
+fn echo(
+    alloc: Global,
+    newline: bool,
+    words: Fields<'_>,
+    output: &mut Output,
+) -> Result<u8, PrintFault>
     ensures { Answers (echo_of newline words.entry) output.old output.new result }
 {
-    print_words(words, line_end(newline), output)?;
+    print_words(alloc, b"", words, line_end(newline), output)?;
     Ok(0)
 }
 
@@ -118,32 +128,31 @@ fn save(session: &mut Session, output: &mut Output) -> Result<u8, PrintFault>
 
 /// A stand-in, or a command that isn't known.
 fn other(
+    alloc: Global,
     stand_ins: &Stubs,
     called: &[u8],
-    words: Fields<'_>,
+    fields: Fields<'_>,
     output: &mut Output,
 ) -> Result<u8, PrintFault>
-    ensures { Answers (other_of (names.get stand_ins.now called.now) called.now words.entry)
+    ensures { Answers (other_of (names.get stand_ins.now called.now) called.now fields.entry)
         output.old output.new result }
 {
     match stand_ins.status(called) {
-        Some(status) => stand_in(status, called, words, output),
+        Some(status) => stand_in(alloc, status, fields, output),
         None => Message::UnknownCommand.fail(called, output),
     }
 }
 
-/// A stand-in: prints `+`, its name and the words, and has its own status.
+/// A stand-in: prints `+` and its fields, its name first, and has its own status.
 fn stand_in(
+    alloc: Global,
     status: u8,
-    called: &[u8],
-    words: Fields<'_>,
+    fields: Fields<'_>,
     output: &mut Output,
 ) -> Result<u8, PrintFault>
-    ensures { Answers (stand_in_of status called.now words.entry) output.old output.new result }
+    ensures { Answers (stand_in_of status fields.entry) output.old output.new result }
 {
-    output.print(b"+ ")?;
-    output.print(called)?;
-    print_behind_spaces(words, b"\n", output)?;
+    print_words(alloc, b"+ ", fields, b"\n", output)?;
     Ok(status)
 }
 
@@ -168,28 +177,16 @@ pub(crate) fn status_if(holds: bool) -> u8
     if holds { 0 } else { 1 }
 }
 
-/// Prints words, joined by one space, and what ends them.
-fn print_words(words: Fields<'_>, end: &[u8], output: &mut Output) -> Result<(), PrintFault>
-    ensures { Prints (spaced words.entry ++ end.now) output.old output.new result }
+/// Prints words, joined by one space, between two texts.
+fn print_words(
+    alloc: Global,
+    front: &[u8],
+    words: Fields<'_>,
+    back: &[u8],
+    output: &mut Output,
+) -> Result<(), PrintFault>
+    ensures { Prints (front.now ++ (spaced words.entry ++ back.now)) output.old output.new result }
 {
-    let mut rest = words;
-    match rest.next() {
-        Some(first) => {
-            output.print(first)?;
-            print_behind_spaces(rest, end, output)
-        }
-        None => output.print(end),
-    }
-}
-
-/// Prints words, each after a space, and what ends them.
-fn print_behind_spaces(words: Fields<'_>, end: &[u8], output: &mut Output) -> Result<(), PrintFault>
-    ensures { Prints (behind_spaces words.entry ++ end.now) output.old output.new result }
-{
-    let mut rest = words;
-    while let Some(word) = rest.next() {
-        output.print(b" ")?;
-        output.print(word)?;
-    }
-    output.print(end)
+    let text = words.joined(alloc)?;
+    output.print_parts(front, &text, back)
 }

@@ -3,7 +3,7 @@ ghost use Rattle.std.specs.Prelude.{◌≡◌, [], ◌∷◌, map, option_map, O
 ghost use Rattle.hush_words.specs.Parts.{part_atoms, word_atoms};
 ghost use Rattle.hush_words.specs.Ranges.{Fits};
 ghost use Rattle.hush_commands.specs.Expansion.{Byte, items_of, substituted, expanded, expanded_value, value_in};
-ghost use Rattle.hush_commands.specs.Buffers.{with_items, kept, AddsItems, CutsAtBlank, Expands};
+ghost use Rattle.hush_commands.specs.Buffers.{with_items, kept, AddsItems, AddsPart, CutsAtBlank, Expands};
 ghost use Rattle.hush_commands.specs.Scopes.{known};
 
 use crate::field_buffer::FieldBuffer;
@@ -135,7 +135,7 @@ impl FieldBuffer {
         left: usize,
     ) -> Result<usize, ExpansionFault>
         requires { Fits scope.now.text.now.source part }
-        ensures { AddsItems (kept uncut (items_of (known scope.now) (part_atoms scope.now.text.now.source part)))
+        ensures { AddsPart (kept uncut (items_of (known scope.now) (part_atoms scope.now.text.now.source part)))
             left self.old self.new result }
     {
         match part {
@@ -163,7 +163,7 @@ impl FieldBuffer {
         quoted: bool,
         left: usize,
     ) -> Result<usize, ExpansionFault>
-        ensures { AddsItems (substituted quoted text.now) left self.old self.new result }
+        ensures { AddsPart (substituted quoted text.now) left self.old self.new result }
     {
         if quoted {
             return self.add_bytes(text, left);
@@ -180,7 +180,7 @@ impl FieldBuffer {
     /// Adds bytes.
     #[inline(always)]
     fn add_bytes(&mut self, bytes: &[u8], left: usize) -> Result<usize, ExpansionFault>
-        ensures { AddsItems (map Byte bytes.now) left self.old self.new result }
+        ensures { AddsPart (map Byte bytes.now) left self.old self.new result }
     {
         if bytes.len() > left {
             return Err(ExpansionFault::Word);

@@ -1,5 +1,6 @@
 //! What follows a simple command (docs/runs.md, "Commands").
-ghost use Rattle.std.specs.Prelude.{◌≡◌, IfOk};
+ghost use Rattle.std.specs.Prelude.{◌≡◌, true, IfOk, OnErr};
+ghost use Rattle.hush_commands.specs.Carrying.{takes_more};
 ghost use Rattle.hush_commands.specs.Following.{follow_by};
 
 use crate::command::Command;
@@ -27,7 +28,8 @@ pub enum Follow {
 impl<'a> Command<'a> {
     /// What follows the command. Memory is taken for names alone.
     pub(crate) fn follow(&self, alloc: Global) -> Result<Follow, AllocError>
-        ensures { IfOk result (λ follow. follow ≡ follow_by self.now) }
+        ensures follow { IfOk result (λ follow. follow ≡ follow_by self.now) }
+        ensures taken { OnErr result (takes_more self.now ≡ true) }
     {
         match self {
             Command::Run { names } => Ok(Follow::Starts(FieldQueue::of(alloc, names)?)),

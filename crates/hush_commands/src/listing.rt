@@ -71,7 +71,7 @@ fn print_one(vars: &Vars, name: &[u8], output: &mut Output) -> Result<bool, Prin
             Ok(true)
         }
         None => {
-            Message::NotDefined.print(name, output)?;
+            Message::NotDefined.tell(name, output)?;
             Ok(false)
         }
     }

@@ -1,6 +1,6 @@
 //! What a run prints where a command fails (docs/runs.md, "Messages").
 ghost use Rattle.std.specs.Prelude.{◌≡◌};
-ghost use Rattle.hush_commands.specs.Output.{Prints, PrintsWhole, Answers, answer};
+ghost use Rattle.hush_commands.specs.Output.{Prints, PrintsWhole, Answers, LacksRoom, OnMemory, answer};
 ghost use Rattle.hush_commands.specs.Messages.{text_of, parts_of};
 
 use crate::output::{Output, PrintFault};
@@ -26,38 +26,21 @@ pub enum Message {
 }
 
 impl Message {
-    /// Prints the text about a name, given as raw bytes. If it can't be printed a prefix of it may be left; [`Message::tell`]
-    /// leaves nothing.
-    pub(crate) fn print(self, name: &[u8], output: &mut Output) -> Result<(), PrintFault>
-        ensures { Prints (text_of self name.now) output.old output.new result }
+    /// Prints the text about a name, given as raw bytes, or nothing of it.
+    pub fn tell(self, name: &[u8], output: &mut Output) -> Result<(), PrintFault>
+        ensures prints { Prints (text_of self name.now) output.old output.new result }
+        ensures whole { PrintsWhole (text_of self name.now) output.old output.new result }
     {
         let (front, name, back) = self.parts(name);
         output.print_parts(front, name, back)
     }
 
-    /// Prints the text about a name, or nothing of it.
-    pub fn tell(self, name: &[u8], output: &mut Output) -> Result<(), PrintFault>
-        ensures { PrintsWhole (text_of self name.now) output.old output.new result }
-    {
-        let start = output.text().len();
-        match self.print(name, output) {
-            Ok(()) => {
-                // Does nothing: it tells the prover that what was printed is within the limit.
-                let _printed = output.text();
-                Ok(())
-            }
-            Err(fault) => {
-                output.cut(start);
-                Err(fault)
-            }
-        }
-    }
-
     /// Prints the text of a command that fails, which has status 1.
     pub(crate) fn fail(self, name: &[u8], output: &mut Output) -> Result<u8, PrintFault>
-        ensures { Answers (answer 1 (text_of self name.now)) output.old output.new result }
+        ensures answers { Answers (answer 1 (text_of self name.now)) output.old output.new result }
+        ensures memory { OnMemory result (LacksRoom (text_of self name.now) output.old) }
     {
-        self.print(name, output)?;
+        self.tell(name, output)?;
         Ok(1)
     }
 

@@ -1,11 +1,11 @@
 //! The text that a run prints.
 ghost use Rattle.std.specs.Prelude.{◌≡◌, ◌≤◌, [], ◌+◌, ◌++◌, length, take, vec_len, vec_capacity};
 ghost use Rattle.std.specs.Option.{SomeIff};
-ghost use Rattle.hush_commands.specs.Output.{printed, Prints};
+ghost use Rattle.hush_commands.specs.Output.{printed, Prints, PrintsWhole};
 ghost use Rattle.hush_commands.specs.Saving.{saved_line, Saves};
 
 use env_session::{Session, Side};
-use std::alloc::Global;
+use std::alloc::{AllocError, Global};
 use std::marker::Model;
 use thiserror::Error;
 
@@ -18,6 +18,16 @@ pub enum PrintFault {
     /// A growth was refused.
     #[error("Memory")]
     Memory,
+}
+
+impl From<AllocError> for PrintFault {
+    ghost use Rattle.hush_commands.specs.declared.output.PrintFault.TheVariants.{Memory};
+
+    ghost from_gives = { λ _ fault. fault ≡ Memory };
+
+    fn from(_refused: AllocError) -> PrintFault {
+        PrintFault::Memory
+    }
 }
 
 /// The text that a run prints, and how long it may be.
@@ -61,20 +71,20 @@ impl Output {
     pub fn into_text(self) -> Vec<u8>
         ensures { result.items ≡ self.text }
     {
-        self.text
+        let Output { text, limit: _ } = self;
+        text
     }
 
-    /// Prints a text. Where it can't be printed, what was printed before stands.
+    /// Prints a text, or nothing.
     pub(crate) fn print(&mut self, text: &[u8]) -> Result<(), PrintFault>
-        ensures { Prints text.now self.old self.new result }
+        ensures prints { Prints text.now self.old self.new result }
+        ensures whole { PrintsWhole text.now self.old self.new result }
     {
         if text.len() > self.limit as usize - self.text.len() {
             return Err(PrintFault::Output);
         }
-        match self.text.extend_from_slice(text) {
-            Ok(()) => Ok(()),
-            Err(_) => Err(PrintFault::Memory),
-        }
+        self.text.extend_from_slice(text)?;
+        Ok(())
     }
 
     /// Keeps the first bytes of what was printed, at most `len`.
@@ -84,22 +94,21 @@ impl Output {
         self.text.truncate(len);
     }
 
-    /// Prints three texts. Room for all three is had before the first is printed.
+    /// Prints three texts, or nothing. Room for all three is had before the first is printed.
     pub(crate) fn print_parts(
         &mut self,
         front: &[u8],
         middle: &[u8],
         back: &[u8],
     ) -> Result<(), PrintFault>
-        ensures { Prints (front.now ++ (middle.now ++ back.now)) self.old self.new result }
+        ensures prints { Prints (front.now ++ (middle.now ++ back.now)) self.old self.new result }
+        ensures whole { PrintsWhole (front.now ++ (middle.now ++ back.now)) self.old self.new result }
     {
         let room = self.limit as usize - self.text.len();
         let Some(len) = len_within(room, front, middle, back) else {
             return Err(PrintFault::Output);
         };
-        if self.text.reserve(len).is_err() {
-            return Err(PrintFault::Memory);
-        }
+        self.text.reserve(len)?;
         append(&mut self.text, front);
         append(&mut self.text, middle);
         append(&mut self.text, back);
@@ -113,10 +122,7 @@ impl Output {
         if SAVED_LEN > self.limit as usize - self.text.len() {
             return Err(PrintFault::Output);
         }
-        match self.text.reserve(SAVED_LEN) {
-            Ok(()) => {}
-            Err(_) => return Err(PrintFault::Memory),
-        }
+        self.text.reserve(SAVED_LEN)?;
         match session.save() {
             Ok(side) => {
                 append(&mut self.text, saved_line(side));

@@ -1,6 +1,6 @@
 //! Commands that write variables (docs/runs.md, "Commands").
-ghost use Rattle.std.specs.Prelude.{◌≡◌, ◌++◌, OnOk, IfOk};
-ghost use Rattle.hush_commands.specs.Output.{spaced, behind_spaces};
+ghost use Rattle.std.specs.Prelude.{◌≡◌};
+ghost use Rattle.text_parts.specs.Words.{spaced};
 ghost use Rattle.hush_commands.specs.Writing.{CarriesOut, message_of, write_of, calculated_of};
 ghost use Rattle.hush_commands.specs.Carrying.{Carries, deletion_of};
 
@@ -9,7 +9,7 @@ use crate::output::{Output, PrintFault};
 use env_session::Session;
 use envvars_core::{Memory, Refusal};
 use hush_calc::{Fields, SetexprFault, setexpr};
-use std::alloc::{AllocError, Global};
+use std::alloc::Global;
 
 /// What a command says when it fails: a message, and the name that it is about.
 #[derive(Clone, Copy, Debug, PartialEq, Eq)]
@@ -100,10 +100,8 @@ pub(crate) fn write_words<'a>(
     ensures { CarriesOut (write_of session.old name.now (spaced words.entry) force)
         session.old session.new result }
 {
-    match joined(alloc, words) {
-        Ok(text) => write(session, name, &text, force),
-        Err(_) => Err(Memory),
-    }
+    let text = words.joined(alloc)?;
+    write(session, name, &text, force)
 }
 
 /// The message about a refused write; out of memory has none.
@@ -114,31 +112,4 @@ fn message_of(refusal: Refusal) -> Option<Message>
         Refusal::Memory => None,
         _ => Some(Message::Refused(refusal)),
     }
-}
-
-/// Words joined by one space.
-fn joined(alloc: Global, words: Fields<'_>) -> Result<Vec<u8>, AllocError>
-    ensures { IfOk result (λ text. text.items ≡ spaced words.entry) }
-{
-    let mut rest = words;
-    match rest.next() {
-        Some(first) => {
-            let mut text = Vec::from_slice(alloc, first)?;
-            append_behind_spaces(rest, &mut text)?;
-            Ok(text)
-        }
-        None => Ok(Vec::new(alloc)),
-    }
-}
-
-/// Appends words, each after a space.
-fn append_behind_spaces(words: Fields<'_>, text: &mut Vec<u8>) -> Result<(), AllocError>
-    ensures { OnOk result (text.new.items ≡ text.old.items ++ behind_spaces words.entry) }
-{
-    let mut rest = words;
-    while let Some(word) = rest.next() {
-        text.extend_from_slice(b" ")?;
-        text.extend_from_slice(word)?;
-    }
-    Ok(())
 }

@@ -9,15 +9,15 @@ use Rattle.hush_run.specs.declared.frames.Frame.{Frame}
 use Rattle.hush_run.specs.declared.frames.Frame.TheVariants as frame
 use Rattle.hush_run.specs.declared.due.Due.{Due}
 use Rattle.hush_run.specs.declared.due.Due.TheVariants as due
-use Rattle.hush_run.specs.declared.ending.Stop.{Stop}
-use Rattle.hush_run.specs.declared.ending.Stop.TheVariants as stop
-use Rattle.hush_run.specs.Meaning.{Rules, Begin, State, Out, Goes, ◌>>=◌, ◌then◌, with_status, if_ok, in_turn, bindings, deletions, ended, script, chains, start, run_from, within}
+use Rattle.hush_run.specs.declared.ending.Ending.{Ending}
+use Rattle.hush_run.specs.Runs.{reason_of}
+use Rattle.hush_run.specs.Meaning.{Rules, Reason, Begin, State, Out, Goes, ◌>>=◌, ◌then◌, with_status, if_ok, in_turn, bindings, deletions, ended, script, chains, start, run_from, within}
 use Rattle.hush_run.specs.Resume.{begin_in, at_in, behind, levels, resume, subtree_does, room, at_command, of_for, Leads}
 use Rattle.hush_run.specs.Turns.{IsDue, IsPart, due_does, due_room}
 use Rattle.hush_run.specs.Rises.{IsLeft}
-use Rattle.hush_run.specs.Steps.{Did, Started}
-use Rattle.hush_run.specs.Advances.{IsReady, Advances, Ran, due_left}
-use Rattle.hush_run.specs.Stacks.{script_frames}
+use Rattle.hush_run.specs.Steps.{Did, NotDone, Started, NotStarted}
+use Rattle.hush_run.specs.Advances.{IsReady, Advances, EndsSo, Ran, due_left}
+use Rattle.hush_run.specs.Stacks.{script_frames, frame_limit}
 use Rattle.hush_run.proofs.Parts.{bind_goes, bind_assoc}
 use Rattle.hush_run.proofs.Descends.{stack-frame}
 use Rattle.hush_run.proofs.Halting.{due-halts, chains-halt}
@@ -27,40 +27,40 @@ halted : (rules : Rules) (calls : List Parsed) (old : List Frame) (d : Due) (s :
 halted rules calls old d s is part = ap (λ (o : Out). (ended (o >>= resume (within s.steps rules) calls old)).1) (due-halts (within s.steps rules) (levels (within s.steps rules) calls) (at_in calls) d is part s (omega arith))
 
 -- a step that stops
-pub stopped : (rules : Rules) (calls after : List Parsed) (old new : List Frame) (depth : ℕ) (d : Due) (s t : State) (halt : Stop) → IsDue (at_in calls) d → IsPart d → Did rules (λ r begin. due_does r begin (at_in calls) d) (λ (u : Unit {0}) r begin. Goes) s t (Err halt) → Advances rules calls old d s after new depth t (Err halt)
-stopped rules calls after old new depth d s t (stop.Ended e) is part did = ap (λ (o : Out). ended (o >>= resume rules calls old)) (did (begin_in rules calls))
-stopped rules calls after old new depth d s t stop.Memory is part did = (ap (λ (x : State). x.steps) did, halted rules calls old d s is part ∙ sym did)
+pub stopped : (rules : Rules) (calls : List Parsed) (old : List Frame) (d : Due) (s t : State) (o : Option Reason) → IsDue (at_in calls) d → IsPart d → NotDone rules (λ r begin. due_does r begin (at_in calls) d) s t o → EndsSo rules calls old d s t o
+stopped rules calls old d s t (Some e) is part did = ap (λ (o : Out). ended (o >>= resume rules calls old)) (did (begin_in rules calls))
+stopped rules calls old d s t None is part did = (ap (λ (x : State). x.steps) did, halted rules calls old d s is part ∙ sym did)
 
 -- a node
-module _ (rules : Rules) (top : Parsed) (rest : List Parsed) (old new : List Frame) (depth after : ℕ) (id node : NodeId) (s t : State) (ready : IsReady rules (top ∷ rest) old depth (due.Node id)) (le : s.steps ≤ rules.limits.steps) (same : after ≡ depth) (down : Leads top old new id node) where
+module _ (rules : Rules) (top : Parsed) (rest : List Parsed) (old new : List Frame) (capacity after : ℕ) (id node : NodeId) (s t : State) (ready : IsReady rules (top ∷ rest) old capacity (due.Node id)) (le : s.steps ≤ rules.limits.steps) (same : after ≡ capacity) (down : Leads top old new id node) where
   node-goes : (next : Due) → Did rules (λ r begin. subtree_does r begin (subtree_at top node)) (λ d r begin. due_does r begin (subtree_at top) d) s t (Ok next) → IsDue (subtree_at top) next → due_room (subtree_at top) next ≤ room (subtree_at top node) → Advances rules (top ∷ rest) old (due.Node id) s (top ∷ rest) new after t (Ok next)
   node-goes next did is fits =
       let m = down.1 rest ready.stack ready.frames_fit in (
         did.0,
-        record { stack = m.0; is_due = is; some = ready.some; calls_fit = ready.calls_fit; frames_fit = omega (arith, m.1, fits); same_depth = same ∙ ready.same_depth },
+        record { stack = m.0; is_due = is; some = ready.some; calls_fit = ready.calls_fit; frames_fit = omega (arith, m.1, fits); capacity_fits = same ∙ ready.capacity_fits },
         λ n more.
             down.2 (within n rules) rest s (omega (arith, more))
             ∙ ap (λ (o : Out). o >>= resume (within n rules) (top ∷ rest) new) (did.1 n (begin_in (within n rules) (top ∷ rest)) more),
       )
 
-  node-stops : (halt : Stop) → Did rules (λ r begin. subtree_does r begin (subtree_at top node)) (λ (d : Due) r begin. due_does r begin (subtree_at top) d) s t (Err halt) → Advances rules (top ∷ rest) old (due.Node id) s (top ∷ rest) new after t (Err halt)
-  node-stops (stop.Ended e) did = ap ended (down.2 rules rest s le ∙ ap (λ (o : Out). o >>= resume rules (top ∷ rest) new) (did (begin_in rules (top ∷ rest))))
-  node-stops stop.Memory did = (ap (λ (x : State). x.steps) did, halted rules (top ∷ rest) old (due.Node id) s ready.is_due tt ∙ sym did)
+  node-stops : (o : Option Reason) → NotDone rules (λ r begin. subtree_does r begin (subtree_at top node)) s t o → EndsSo rules (top ∷ rest) old (due.Node id) s t o
+  node-stops (Some e) did = ap ended (down.2 rules rest s le ∙ ap (λ (o : Out). o >>= resume rules (top ∷ rest) new) (did (begin_in rules (top ∷ rest))))
+  node-stops None did = (ap (λ (x : State). x.steps) did, halted rules (top ∷ rest) old (due.Node id) s ready.is_due tt ∙ sym did)
 
-pub node_advances : (rules : Rules) (calls : List Parsed) (top : Parsed) (old new : List Frame) (depth after : ℕ) (id node : NodeId) (s t : State) (result : Result Due Stop) → calls ≡ top ∷ behind calls → IsReady rules calls old depth (due.Node id) → s.steps ≤ rules.limits.steps → after ≡ depth → Leads top old new id node → Did rules (λ r begin. subtree_does r begin (subtree_at top node)) (λ d r begin. due_does r begin (subtree_at top) d) s t result → IfOk result (λ (d : Due). IsDue (subtree_at top) d × (due_room (subtree_at top) d ≤ room (subtree_at top node))) → Advances rules calls old (due.Node id) s calls new after t result
-node_advances rules calls top old new depth after id node s t result is ready le same down did fits =
+pub node_advances : (rules : Rules) (calls : List Parsed) (top : Parsed) (old new : List Frame) (capacity after : ℕ) (id node : NodeId) (s t : State) (result : Result Due Ending) → calls ≡ top ∷ behind calls → IsReady rules calls old capacity (due.Node id) → s.steps ≤ rules.limits.steps → after ≡ capacity → Leads top old new id node → Did rules (λ r begin. subtree_does r begin (subtree_at top node)) (λ d r begin. due_does r begin (subtree_at top) d) s t result → IfOk result (λ (d : Due). IsDue (subtree_at top) d × (due_room (subtree_at top) d ≤ room (subtree_at top node))) → Advances rules calls old (due.Node id) s calls new after t result
+node_advances rules calls top old new capacity after id node s t result is ready le same down did fits =
     subst (λ (cs : List Parsed). Advances rules cs old (due.Node id) s cs new after t result) (sym is)
-    (by result (subst (λ (cs : List Parsed). IsReady rules cs old depth (due.Node id)) is ready) did fits)
+    (by result (subst (λ (cs : List Parsed). IsReady rules cs old capacity (due.Node id)) is ready) did fits)
   where
-    by : (r : Result Due Stop) → IsReady rules (top ∷ behind calls) old depth (due.Node id) → Did rules (λ r begin. subtree_does r begin (subtree_at top node)) (λ d r begin. due_does r begin (subtree_at top) d) s t r → IfOk r (λ (d : Due). IsDue (subtree_at top) d × (due_room (subtree_at top) d ≤ room (subtree_at top node))) → Advances rules (top ∷ behind calls) old (due.Node id) s (top ∷ behind calls) new after t r
-    by (Ok next) now did fits = node-goes rules top (behind calls) old new depth after id node s t now le same down next did fits.0 fits.1
-    by (Err halt) now did fits = node-stops rules top (behind calls) old new depth after id node s t now le same down halt did
+    by : (r : Result Due Ending) → IsReady rules (top ∷ behind calls) old capacity (due.Node id) → Did rules (λ r begin. subtree_does r begin (subtree_at top node)) (λ d r begin. due_does r begin (subtree_at top) d) s t r → IfOk r (λ (d : Due). IsDue (subtree_at top) d × (due_room (subtree_at top) d ≤ room (subtree_at top node))) → Advances rules (top ∷ behind calls) old (due.Node id) s (top ∷ behind calls) new after t r
+    by (Ok next) now did fits = node-goes rules top (behind calls) old new capacity after id node s t now le same down next did fits.0 fits.1
+    by (Err e) now did fits = node-stops rules top (behind calls) old new capacity after id node s t now le same down (reason_of e) did
 
 -- a name of `env delete`
-pub delete_goes : (rules : Rules) (calls : List Parsed) (old : List Frame) (depth : ℕ) (force failed again : Bool) (name : List ℕ) (names left : List (List ℕ)) (next : Due) (s t : State) → names ≡ name ∷ left → IsReady rules calls old depth (due.Delete force failed names) → Did rules (λ r begin. deletions r force failed (name ∷ left)) (λ flag r begin. deletions r force flag left) s t (Ok again) → IsDue (at_in calls) next → due_room (at_in calls) next ≡ 0 → ((r : Rules) (begin : Begin) (u : State) → deletions r force again left u ≡ due_does r begin (at_in calls) next u) → Advances rules calls old (due.Delete force failed names) s calls old depth t (Ok next)
-delete_goes rules calls old depth force failed again name names left next s t is ready did isdue none same = (
+pub delete_goes : (rules : Rules) (calls : List Parsed) (old : List Frame) (capacity : ℕ) (force failed again : Bool) (name : List ℕ) (names left : List (List ℕ)) (next : Due) (s t : State) → names ≡ name ∷ left → IsReady rules calls old capacity (due.Delete force failed names) → Did rules (λ r begin. deletions r force failed (name ∷ left)) (λ flag r begin. deletions r force flag left) s t (Ok again) → IsDue (at_in calls) next → due_room (at_in calls) next ≡ 0 → ((r : Rules) (begin : Begin) (u : State) → deletions r force again left u ≡ due_does r begin (at_in calls) next u) → Advances rules calls old (due.Delete force failed names) s calls old capacity t (Ok next)
+delete_goes rules calls old capacity force failed again name names left next s t is ready did isdue none same = (
   did.0,
-  record { stack = ready.stack; is_due = isdue; some = ready.some; calls_fit = ready.calls_fit; frames_fit = omega (arith, ready.frames_fit, none); same_depth = ready.same_depth },
+  record { stack = ready.stack; is_due = isdue; some = ready.some; calls_fit = ready.calls_fit; frames_fit = omega (arith, ready.frames_fit, none); capacity_fits = ready.capacity_fits },
   λ n more.
       ap (λ (ns : List (List ℕ)). deletions (within n rules) force failed ns s >>= resume (within n rules) calls old) is
       ∙ ap (λ (o : Out). o >>= resume (within n rules) calls old) (did.1 n (begin_in (within n rules) calls) more ∙ same (within n rules) (begin_in (within n rules) calls) t),
@@ -70,26 +70,22 @@ pub delete_over : (r : Rules) (force again : Bool) (left : List (List ℕ)) (u :
 delete_over r force again [] u e = refl
 delete_over r force again (n ∷ ns) u e = absurd (omega (arith, e))
 
-pub delete_stops_so : (rules : Rules) (calls after : List Parsed) (old new : List Frame) (depth : ℕ) (force failed : Bool) (name : List ℕ) (names left : List (List ℕ)) (s t : State) (halt : Stop) → names ≡ name ∷ left → IsDue (at_in calls) (due.Delete force failed names) → Did rules (λ r begin. deletions r force failed (name ∷ left)) (λ flag r begin. deletions r force flag left) s t (Err halt) → Advances rules calls old (due.Delete force failed names) s after new depth t (Err halt)
-delete_stops_so rules calls after old new depth force failed name names left s t halt is isdue did =
-    stopped rules calls after old new depth (due.Delete force failed names) s t halt isdue tt (subst (λ (ns : List (List ℕ)). Did rules (λ r begin. deletions r force failed ns) (λ (u : Unit {0}) r begin. Goes) s t (Err halt)) (sym is) (as-unit halt did))
-  where
-    as-unit : (h : Stop) → Did rules (λ r begin. deletions r force failed (name ∷ left)) (λ (flag : Bool) r begin. deletions r force flag left) s t (Err h) → Did rules (λ r begin. deletions r force failed (name ∷ left)) (λ (u : Unit {0}) r begin. Goes) s t (Err h)
-    as-unit (stop.Ended e) d = d
-    as-unit stop.Memory d = d
+pub delete_stops_so : (rules : Rules) (calls : List Parsed) (old : List Frame) (force failed : Bool) (name : List ℕ) (names left : List (List ℕ)) (s t : State) (o : Option Reason) → names ≡ name ∷ left → IsDue (at_in calls) (due.Delete force failed names) → NotDone rules (λ r begin. deletions r force failed (name ∷ left)) s t o → EndsSo rules calls old (due.Delete force failed names) s t o
+delete_stops_so rules calls old force failed name names left s t o is isdue did =
+    stopped rules calls old (due.Delete force failed names) s t o isdue tt (subst (λ (ns : List (List ℕ)). NotDone rules (λ r begin. deletions r force failed ns) s t o) (sym is) did)
 
 -- a binding
-module _ (rules : Rules) (top : Parsed) (rest : List Parsed) (old : List Frame) (depth : ℕ) (node body : NodeId) (name field : List ℕ) (words fields left : List (List ℕ)) (ws : List (List Atom)) (d : Chains) (s t : State) (e : subtree_at top node ≡ Some (OfCommand (For name ws d))) (eb : subtree_at top body ≡ Some (OfChains d)) (is : fields ≡ field ∷ left) (ready : IsReady rules (top ∷ rest) old depth (due.Binding node fields)) where
+module _ (rules : Rules) (top : Parsed) (rest : List Parsed) (old : List Frame) (capacity : ℕ) (node body : NodeId) (name field : List ℕ) (words fields left : List (List ℕ)) (ws : List (List Atom)) (d : Chains) (s t : State) (e : subtree_at top node ≡ Some (OfCommand (For name ws d))) (eb : subtree_at top body ≡ Some (OfChains d)) (is : fields ≡ field ∷ left) (ready : IsReady rules (top ∷ rest) old capacity (due.Binding node fields)) where
   -- what is left before it
   first : (r : Rules) → due_left r (top ∷ rest) old (due.Binding node fields) s ≡ (bindings r name (chains r (begin_in r (top ∷ rest)) d) (field ∷ left) s >>= resume r (top ∷ rest) old)
   first r =
       ap (λ (o : Option Subtree). at_command Goes (of_for r (begin_in r (top ∷ rest)) fields) o s >>= resume r (top ∷ rest) old) e
       ∙ ap (λ (xs : List (List ℕ)). bindings r name (chains r (begin_in r (top ∷ rest)) d) xs s >>= resume r (top ∷ rest) old) is
 
-  pub bound_goes : Did rules (λ r begin. bindings r name (chains r begin d) (field ∷ left)) (λ bound r begin. if bound then (chains r begin d then bindings r name (chains r begin d) left) else Goes) s t (Ok true) → Advances rules (top ∷ rest) old (due.Binding node fields) s (top ∷ rest) (frame.Bindings node left ∷ old) depth t (Ok (due.Node body))
+  pub bound_goes : Did rules (λ r begin. bindings r name (chains r begin d) (field ∷ left)) (λ bound r begin. if bound then (chains r begin d then bindings r name (chains r begin d) left) else Goes) s t (Ok true) → Advances rules (top ∷ rest) old (due.Binding node fields) s (top ∷ rest) (frame.Bindings node left ∷ old) capacity t (Ok (due.Node body))
   bound_goes did = (
     did.0,
-    record { stack = stack-frame (top ∷ rest) (frame.Bindings node left) old refl (omega arith) (ap (λ (o : Option Subtree). is_some o) e) ready.frames_fit ready.stack; is_due = ap (λ (o : Option Subtree). is_some o) eb; some = ready.some; calls_fit = ready.calls_fit; frames_fit = omega (arith, ready.frames_fit, ap room e, ap room eb); same_depth = ready.same_depth },
+    record { stack = stack-frame (top ∷ rest) (frame.Bindings node left) old refl (omega arith) (ap (λ (o : Option Subtree). is_some o) e) ready.frames_fit ready.stack; is_due = ap (λ (o : Option Subtree). is_some o) eb; some = ready.some; calls_fit = ready.calls_fit; frames_fit = omega (arith, ready.frames_fit, ap room e, ap room eb); capacity_fits = ready.capacity_fits },
     λ n more.
         first (within n rules)
         ∙ ap (λ (o : Out). o >>= resume (within n rules) (top ∷ rest) old) (did.1 n (begin_in (within n rules) (top ∷ rest)) more)
@@ -98,40 +94,40 @@ module _ (rules : Rules) (top : Parsed) (rest : List Parsed) (old : List Frame) 
         ∙ ap (λ (o : Option Subtree). subtree_does (within n rules) (begin_in (within n rules) (top ∷ rest)) o t >>= resume (within n rules) (top ∷ rest) (frame.Bindings node left ∷ old)) (sym eb),
   )
 
-  pub bound_not : Did rules (λ r begin. bindings r name (chains r begin d) (field ∷ left)) (λ bound r begin. if bound then (chains r begin d then bindings r name (chains r begin d) left) else Goes) s t (Ok false) → Advances rules (top ∷ rest) old (due.Binding node fields) s (top ∷ rest) old depth t (Ok due.Over)
+  pub bound_not : Did rules (λ r begin. bindings r name (chains r begin d) (field ∷ left)) (λ bound r begin. if bound then (chains r begin d then bindings r name (chains r begin d) left) else Goes) s t (Ok false) → Advances rules (top ∷ rest) old (due.Binding node fields) s (top ∷ rest) old capacity t (Ok due.Over)
   bound_not did = (
     did.0,
-    record { stack = ready.stack; is_due = tt; some = ready.some; calls_fit = ready.calls_fit; frames_fit = omega (arith, ready.frames_fit); same_depth = ready.same_depth },
+    record { stack = ready.stack; is_due = tt; some = ready.some; calls_fit = ready.calls_fit; frames_fit = omega (arith, ready.frames_fit); capacity_fits = ready.capacity_fits },
     λ n more. first (within n rules) ∙ ap (λ (o : Out). o >>= resume (within n rules) (top ∷ rest) old) (did.1 n (begin_in (within n rules) (top ∷ rest)) more),
   )
 
-  pub bound_stops : (halt : Stop) → Did rules (λ r begin. bindings r name (chains r begin d) (field ∷ left)) (λ bound r begin. if bound then (chains r begin d then bindings r name (chains r begin d) left) else Goes) s t (Err halt) → Advances rules (top ∷ rest) old (due.Binding node fields) s (top ∷ rest) old depth t (Err halt)
-  bound_stops (stop.Ended x) did = ap ended (first rules ∙ ap (λ (o : Out). o >>= resume rules (top ∷ rest) old) (did (begin_in rules (top ∷ rest))))
-  bound_stops stop.Memory did = (ap (λ (x : State). x.steps) did, halted rules (top ∷ rest) old (due.Binding node fields) s ready.is_due tt ∙ sym did)
+  pub bound_stops : (o : Option Reason) → NotDone rules (λ r begin. bindings r name (chains r begin d) (field ∷ left)) s t o → EndsSo rules (top ∷ rest) old (due.Binding node fields) s t o
+  bound_stops (Some x) did = ap ended (first rules ∙ ap (λ (o : Out). o >>= resume rules (top ∷ rest) old) (did (begin_in rules (top ∷ rest))))
+  bound_stops None did = (ap (λ (x : State). x.steps) did, halted rules (top ∷ rest) old (due.Binding node fields) s ready.is_due tt ∙ sym did)
 
 -- a start
 levels_are : (rules : Rules) (calls : List Parsed) → 1 ≤ length calls → rules.limits.depth + 1 - length calls ≡ levels rules calls
 levels_are rules [] some = absurd (omega (arith, some))
 levels_are rules (p ∷ ps) some = omega arith
 
-module _ (rules : Rules) (calls : List Parsed) (old : List Frame) (depth : ℕ) (name : List ℕ) (names left : List (List ℕ)) (s t : State) (is : names ≡ name ∷ left) (ready : IsReady rules calls old depth (due.Start names)) where
+module _ (rules : Rules) (calls : List Parsed) (old : List Frame) (capacity : ℕ) (name : List ℕ) (names left : List (List ℕ)) (s t : State) (is : names ≡ name ∷ left) (ready : IsReady rules calls old capacity (due.Start names)) where
   first_start : (n : ℕ) → due_left (within n rules) calls old (due.Start names) s ≡ (start (within n rules) (rules.limits.depth + 1 - length calls) name s >>= if_ok (in_turn (begin_in (within n rules) calls) left) Goes >>= resume (within n rules) calls old)
   first_start n =
       ap (λ (ns : List (List ℕ)). in_turn (begin_in (within n rules) calls) ns s >>= resume (within n rules) calls old) is
       ∙ ap (λ (k : ℕ). start (within n rules) k name s >>= if_ok (in_turn (begin_in (within n rules) calls) left) Goes >>= resume (within n rules) calls old) (sym (levels_are rules calls ready.some))
 
-  pub not_started : Started rules (rules.limits.depth + 1 - length calls) name s t (Ok None) → Advances rules calls old (due.Start names) s calls old depth t (Ok due.Over)
+  pub not_started : Started rules (rules.limits.depth + 1 - length calls) name s t (Ok None) → Advances rules calls old (due.Start names) s calls old capacity t (Ok due.Over)
   not_started b = (
     b.0,
-    record { stack = ready.stack; is_due = tt; some = ready.some; calls_fit = ready.calls_fit; frames_fit = omega (arith, ready.frames_fit); same_depth = ready.same_depth },
+    record { stack = ready.stack; is_due = tt; some = ready.some; calls_fit = ready.calls_fit; frames_fit = omega (arith, ready.frames_fit); capacity_fits = ready.capacity_fits },
     λ n le.
         first_start n
         ∙ ap (λ (o : Out). o >>= if_ok (in_turn (begin_in (within n rules) calls) left) Goes >>= resume (within n rules) calls old) (b.2 n le)
         ∙ ap (λ (c : Bool). (if c then in_turn (begin_in (within n rules) calls) left t else Goes t) >>= resume (within n rules) calls old) b.1,
   )
 
-  ready_on : (p : Parsed) (below : ℕ) (next : Due) → rules.limits.depth + 1 - length calls ≡ suc below → IsDue (subtree_at p) next → due_room (subtree_at p) next ≤ script_frames → IsReady rules (p ∷ calls) (frame.Started left ∷ old) depth next
-  ready_on p below next opens isdue fits = record { stack = (ready.some, tt, ready.frames_fit, ready.stack); is_due = isdue; some = omega arith; calls_fit = omega (arith, opens); frames_fit = omega (arith, ready.frames_fit, fits); same_depth = ready.same_depth }
+  ready_on : (p : Parsed) (below : ℕ) (next : Due) → rules.limits.depth + 1 - length calls ≡ suc below → IsDue (subtree_at p) next → due_room (subtree_at p) next ≤ script_frames → IsReady rules (p ∷ calls) (frame.Started left ∷ old) capacity next
+  ready_on p below next opens isdue fits = record { stack = (ready.some, tt, ready.frames_fit, ready.stack); is_due = isdue; some = omega arith; calls_fit = omega (arith, opens); frames_fit = omega (arith, ready.frames_fit, fits); capacity_fits = ready.capacity_fits }
 
   below_is : (n below : ℕ) (p : Parsed) → rules.limits.depth + 1 - length calls ≡ suc below → levels (within n rules) (p ∷ calls) ≡ below
   below_is n below p opens = omega (arith, opens, ready.some)
@@ -143,14 +139,14 @@ module _ (rules : Rules) (calls : List Parsed) (old : List Frame) (depth : ℕ) 
       ∙ bind_assoc (script (within n rules) (start (within n rules) b.1) (tree_of p) t) (if_ok (in_turn (begin_in (within n rules) calls) left) Goes) (resume (within n rules) calls old)
       ∙ ap (λ (k : ℕ). script (within n rules) (start (within n rules) k) (tree_of p) t >>= (if_ok (in_turn (begin_in (within n rules) calls) left) Goes then resume (within n rules) calls old)) (sym (below_is n b.1 p b.2))
 
-  pub started_empty : (p : Parsed) → Started rules (rules.limits.depth + 1 - length calls) name s t (Ok (Some p)) → RootIs p None → Advances rules calls old (due.Start names) s (p ∷ calls) (frame.Started left ∷ old) depth t (Ok due.Over)
+  pub started_empty : (p : Parsed) → Started rules (rules.limits.depth + 1 - length calls) name s t (Ok (Some p)) → RootIs p None → Advances rules calls old (due.Start names) s (p ∷ calls) (frame.Started left ∷ old) capacity t (Ok due.Over)
   started_empty p b none = (
     b.0,
     ready_on p b.1 due.Over b.2 tt (omega arith),
     λ n le. started_left n p le b ∙ ap (λ (o : Option Chains). script (within n rules) (begin_in (within n rules) (p ∷ calls)) o t >>= resume (within n rules) (p ∷ calls) (frame.Started left ∷ old)) none,
   )
 
-  pub started_root : (p : Parsed) (root : NodeId) → Started rules (rules.limits.depth + 1 - length calls) name s t (Ok (Some p)) → RootIs p (Some root) → Advances rules calls old (due.Start names) s (p ∷ calls) (frame.Started left ∷ old) depth t (Ok (due.Node root))
+  pub started_root : (p : Parsed) (root : NodeId) → Started rules (rules.limits.depth + 1 - length calls) name s t (Ok (Some p)) → RootIs p (Some root) → Advances rules calls old (due.Start names) s (p ∷ calls) (frame.Started left ∷ old) capacity t (Ok (due.Node root))
   started_root p root b r = (
     b.0,
     ready_on p b.1 (due.Node root) b.2 (ap (λ (o : Option Subtree). is_some o) r.1) (omega (arith, ap room r.1, r.3)),
@@ -160,27 +156,32 @@ module _ (rules : Rules) (calls : List Parsed) (old : List Frame) (depth : ℕ) 
         ∙ ap (λ (o : Option Subtree). subtree_does (within n rules) (begin_in (within n rules) (p ∷ calls)) o t >>= resume (within n rules) (p ∷ calls) (frame.Started left ∷ old)) (sym r.1),
   )
 
-  pub start_stops : (halt : Stop) → Started rules (rules.limits.depth + 1 - length calls) name s t (Err halt) → Advances rules calls old (due.Start names) s calls old depth t (Err halt)
-  start_stops (stop.Ended x) b = ap ended (first_start rules.limits.steps ∙ ap (λ (o : Out). o >>= if_ok (in_turn (begin_in rules calls) left) Goes >>= resume rules calls old) b)
-  start_stops stop.Memory b = (ap (λ (x : State). x.steps) b, halted rules calls old (due.Start names) s ready.is_due tt ∙ sym b)
+  pub start_stops : (o : Option Reason) → NotStarted rules (rules.limits.depth + 1 - length calls) name s t o → EndsSo rules calls old (due.Start names) s t o
+  start_stops (Some x) b = ap ended (first_start rules.limits.steps ∙ ap (λ (o : Out). o >>= if_ok (in_turn (begin_in rules calls) left) Goes >>= resume rules calls old) b)
+  start_stops None b = (ap (λ (x : State). x.steps) b.0, halted rules calls old (due.Start names) s ready.is_due tt ∙ sym b.0)
 
 -- what is due where something is over, and its step
-pub rise_then : (rules : Rules) (calls calls1 calls2 : List Parsed) (old frames1 new : List Frame) (status1 depth : ℕ) (due1 : Due) (s t : State) (r : Result Due Stop) → s.steps ≤ rules.limits.steps → IsLeft calls old s.status calls1 frames1 status1 due1 → Advances rules calls1 frames1 due1 (with_status status1 s) calls2 new depth t r → Advances rules calls old due.Over s calls2 new depth t r
-rise_then rules calls calls1 calls2 old frames1 new status1 depth due1 s t (Ok d) le l a = (a.0, a.1, λ n h. l.5 (within n rules) s (omega (arith, h)) ∙ a.2 n h)
-rise_then rules calls calls1 calls2 old frames1 new status1 depth due1 s t (Err (stop.Ended e)) le l a = ap ended (l.5 rules s le) ∙ a
-rise_then rules calls calls1 calls2 old frames1 new status1 depth due1 s t (Err stop.Memory) le l a = (a.0, ap (λ (o : Out). (ended o).1) (l.5 (within s.steps rules) s (omega arith)) ∙ a.1)
+pub rise_then : (rules : Rules) (calls calls1 calls2 : List Parsed) (old frames1 new : List Frame) (status1 capacity : ℕ) (due1 : Due) (s t : State) (r : Result Due Ending) → s.steps ≤ rules.limits.steps → IsLeft calls old s.status calls1 frames1 status1 due1 → Advances rules calls1 frames1 due1 (with_status status1 s) calls2 new capacity t r → Advances rules calls old due.Over s calls2 new capacity t r
+rise_then rules calls calls1 calls2 old frames1 new status1 capacity due1 s t (Ok d) le l a = (a.0, a.1, λ n h. l.5 (within n rules) s (omega (arith, h)) ∙ a.2 n h)
+rise_then rules calls calls1 calls2 old frames1 new status1 capacity due1 s t (Err x) le l a = so (reason_of x) a
+  where
+    so : (o : Option Reason) → EndsSo rules calls1 frames1 due1 (with_status status1 s) t o → EndsSo rules calls old due.Over s t o
+    so (Some e) h = ap ended (l.5 rules s le) ∙ h
+    so None h = (h.0, ap (λ (o : Out). (ended o).1) (l.5 (within s.steps rules) s (omega arith)) ∙ h.1)
 
 -- the run from a state is what is due, and the frames behind it
 abbrev pub Same : Rules → Option Chains → State → List Parsed → List Frame → Due → State → Type 0
 Same rules tree s calls frames d now = (n : ℕ) → now.steps ≤ n → script (within n rules) (start (within n rules) rules.limits.depth) tree s ≡ due_left (within n rules) calls frames d now
 
-pub same_ends : (rules : Rules) (tree : Option Chains) (s now t : State) (calls after : List Parsed) (frames new : List Frame) (depth : ℕ) (d : Due) (halt : Stop) → now.steps ≤ rules.limits.steps → Same rules tree s calls frames d now → Advances rules calls frames d now after new depth t (Err halt) → Ran rules tree s t halt
-same_ends rules tree s now t calls after frames new depth d (stop.Ended e) le same a = ap ended (same rules.limits.steps le) ∙ a
-same_ends rules tree s now t calls after frames new depth d stop.Memory le same a =
-    (omega (arith, a.0, le), ap (λ (n : ℕ). (run_from (within n rules) tree s).1) a.0 ∙ ap (λ (o : Out). (ended o).1) (same now.steps (omega arith)) ∙ a.1)
+pub same_ends : (rules : Rules) (tree : Option Chains) (s now t : State) (calls after : List Parsed) (frames new : List Frame) (capacity : ℕ) (d : Due) (e : Ending) → now.steps ≤ rules.limits.steps → Same rules tree s calls frames d now → Advances rules calls frames d now after new capacity t (Err e) → Ran rules tree s t (reason_of e)
+same_ends rules tree s now t calls after frames new capacity d e le same a = so (reason_of e) a
+  where
+    so : (o : Option Reason) → EndsSo rules calls frames d now t o → Ran rules tree s t o
+    so (Some r) h = ap ended (same rules.limits.steps le) ∙ h
+    so None h = (omega (arith, h.0, le), ap (λ (n : ℕ). (run_from (within n rules) tree s).1) h.0 ∙ ap (λ (o : Out). (ended o).1) (same now.steps (omega arith)) ∙ h.1)
 
-pub same_on : (rules : Rules) (tree : Option Chains) (s now t : State) (calls after : List Parsed) (frames new : List Frame) (depth : ℕ) (d next : Due) → Same rules tree s calls frames d now → Advances rules calls frames d now after new depth t (Ok next) → Same rules tree s after new next t
-same_on rules tree s now t calls after frames new depth d next same a n le = same n (omega (arith, a.0.0, le)) ∙ a.2 n (omega (arith, a.0.0, le))
+pub same_on : (rules : Rules) (tree : Option Chains) (s now t : State) (calls after : List Parsed) (frames new : List Frame) (capacity : ℕ) (d next : Due) → Same rules tree s calls frames d now → Advances rules calls frames d now after new capacity t (Ok next) → Same rules tree s after new next t
+same_on rules tree s now t calls after frames new capacity d next same a n le = same n (omega (arith, a.0.0, le)) ∙ a.2 n (omega (arith, a.0.0, le))
 
 pub same_root : (rules : Rules) (p : Parsed) (root : NodeId) (s : State) → RootIs p (Some root) → Same rules (tree_of p) s (p ∷ []) [] (due.Node root) s
 same_root rules p root s r n le =
@@ -192,13 +193,13 @@ same_root rules p root s r n le =
 pub same_empty : (rules : Rules) (p : Parsed) (s : State) → RootIs p None → Same rules (tree_of p) s (p ∷ []) [] due.Over s
 same_empty rules p s r n le = ap (λ (o : Option Chains). script (within n rules) (start (within n rules) rules.limits.depth) o s) r
 
-pub ready_root : (rules : Rules) (p : Parsed) (root : NodeId) → RootIs p (Some root) → IsReady rules (p ∷ []) [] rules.limits.depth (due.Node root)
-ready_root rules p root r = record { stack = tt; is_due = ap (λ (o : Option Subtree). is_some o) r.1; some = omega arith; calls_fit = omega arith; frames_fit = omega (arith, ap room r.1, r.3); same_depth = refl }
+pub ready_root : (rules : Rules) (p : Parsed) (root : NodeId) → RootIs p (Some root) → IsReady rules (p ∷ []) [] (frame_limit rules.limits.depth) (due.Node root)
+ready_root rules p root r = record { stack = tt; is_due = ap (λ (o : Option Subtree). is_some o) r.1; some = omega arith; calls_fit = omega arith; frames_fit = omega (arith, ap room r.1, r.3); capacity_fits = refl }
 
-pub ready_empty : (rules : Rules) (p : Parsed) → IsReady rules (p ∷ []) [] rules.limits.depth due.Over
-ready_empty rules p = record { stack = tt; is_due = tt; some = omega arith; calls_fit = omega arith; frames_fit = omega arith; same_depth = refl }
+pub ready_empty : (rules : Rules) (p : Parsed) → IsReady rules (p ∷ []) [] (frame_limit rules.limits.depth) due.Over
+ready_empty rules p = record { stack = tt; is_due = tt; some = omega arith; calls_fit = omega arith; frames_fit = omega arith; capacity_fits = refl }
 
 -- before the first step
-pub none_counted : (rules : Rules) (tree : Option Chains) (s : State) → s.steps ≤ rules.limits.steps → Ran rules tree s s stop.Memory
+pub none_counted : (rules : Rules) (tree : Option Chains) (s : State) → s.steps ≤ rules.limits.steps → Ran rules tree s s None
 none_counted rules None s le = (le, refl)
 none_counted rules (Some cs) s le = (le, ap (λ (o : Out). (ended o).1) (chains-halt (within s.steps rules) (start (within s.steps rules) rules.limits.depth) cs s (omega arith)))

@@ -1,7 +1,7 @@
 -- Each command counts a step at least, so a loop makes no more turns than the limit.
 use Rattle.std.proofs.Common.{◌≡◌, not, ℕ, zero, suc, ◌+◌, ◌<◌, ◌≤◌, Bool, true, false, List, [], ◌∷◌, Option, Some, None, refl, ap, arith, if◌then◌else◌, nat_lt, ◌==◌, ltb-true}
 use Rattle.hush_syntax.specs.Grammar.{Command, Simple, Assign, If, For, While, Until, Branches, Elif, Else, Fi, Chain, First, Links, End, Link, Chains, Last, More}
-use Rattle.hush_run.specs.declared.ending.Reason.TheVariants.{Steps}
+use Rattle.hush_run.specs.Meaning.Reason.{Steps}
 use Rattle.hush_run.specs.Counting.{Within, Counts, Keeps}
 use Rattle.std.specs.FinMap as map
 use Rattle.hush_commands.specs.declared.follow.Follow.{Follow}

@@ -2,7 +2,7 @@
 use Rattle.std.proofs.Common.{◌≡◌, ℕ, suc, ◌<◌, ◌≤◌, Bool, true, false, if◌then◌else◌, List, [], ◌∷◌, length, Option, Some, None, ap, arith, is_some}
 use Rattle.hush_syntax.specs.Nodes.{At, Subtree, OfChains, OfChain, OfCommand}
 use Rattle.hush_syntax.specs.Grammar.{Command, Simple, Assign, If, For, While, Until, Chain, First, Chains, Last, More}
-use Rattle.hush_run.specs.declared.ending.Reason.TheVariants.{Steps}
+use Rattle.hush_run.specs.Meaning.Reason.{Steps}
 use Rattle.hush_run.specs.declared.due.Due.{Due}
 use Rattle.hush_run.specs.declared.due.Due.TheVariants as due
 use Rattle.hush_run.specs.Meaning.{Rules, Begin, State, Out, Goes, Ends, ◌>>=◌, ◌then◌, goes_on, with_status, turns, in_turn, deletions, bindings, fields_of, command, chain, chains, start}

@@ -10,3 +10,4 @@ mod Halting
 mod AdvanceLemmas
 mod OutcomeLemmas
 mod MeaningRows
+pub mod FrameLemmas

@@ -13,9 +13,8 @@ use Rattle.hush_commands.specs.Builtins.{builtin_of}
 use Rattle.hush_commands.specs.Expansion.{fields}
 use Rattle.hush_commands.specs.Limits.{bounds}
 use Rattle.hush_commands.specs.Stubs.{Statuses}
-use Rattle.hush_run.specs.declared.ending.Reason.{Reason}
-use Rattle.hush_run.specs.declared.ending.Reason.TheVariants.{Finished, Exited, Steps, Depth, Word, Output}
-use Rattle.hush_run.specs.Meaning.{Rules, State, step, effect, turns, start, looked_up, meaning}
+use Rattle.hush_run.specs.Meaning.Reason.{Finished, Exited, Steps, Depth, Word, Output}
+use Rattle.hush_run.specs.Meaning.{Reason, Rules, State, step, effect, turns, start, looked_up, meaning}
 
 -- what a run tells: ending, status, counted steps and text
 abbrev Told : Type 0

@@ -7,7 +7,7 @@ use Rattle.hush_words.specs.declared.parts.Part.{Part}
 use Rattle.hush_words.specs.declared.parts.Part.TheVariants as part
 use Rattle.hush_words.specs.declared.parts.Span.{Span}
 use Rattle.hush_words.specs.Parts.{span_bytes, part_atoms}
-use Rattle.hush_run.specs.Names.{plain_bytes}
+use Rattle.hush_run.specs.Steps.{plain_bytes}
 
 pub plain-append : (xs ys : List Atom) → plain_bytes (xs ++ ys) ≡ plain_bytes xs ++ plain_bytes ys
 plain-append [] ys = refl

@@ -1,26 +1,21 @@
 -- What a run stopped with is what its outcome tells.
-use Rattle.std.proofs.Common.{◌≡◌, ℕ, Option, sym, ap, subst, ◌∙◌, Vec, Global}
+use Rattle.std.proofs.Common.{◌≡◌, ℕ, Option, Some, None, sym, ap, ◌∙◌, Vec, Global}
 use Rattle.env_session.specs.Session.{Held}
 use Rattle.hush_syntax.specs.Grammar.{Chains}
 use Rattle.hush_run.specs.declared.ending.Ending.{Ending}
-use Rattle.hush_run.specs.declared.ending.Reason.{Reason}
-use Rattle.hush_run.specs.declared.ending.Stop.{Stop}
-use Rattle.hush_run.specs.declared.ending.Stop.TheVariants as stop
 use Rattle.hush_run.specs.declared.outcome.Outcome.{Outcome}
-use Rattle.hush_run.specs.Meaning.{Rules, State, meaning, first_state, run_from, within}
+use Rattle.hush_run.specs.Meaning.{Reason, Rules, State, meaning, first_state, run_from, within}
 use Rattle.hush_run.specs.Advances.{Ran}
-use Rattle.hush_run.specs.Runs.{Runs, RunsBy, reason_of, stop_reason}
+use Rattle.hush_run.specs.Runs.{RunsBy}
 
 abbrev pub told : Ending → State → Vec ℕ Global → Outcome
 told ending t text = record { ending = ending; status = t.status; steps = t.steps; text = text }
 
-pub runs_so : (rules : Rules) (tree : Option Chains) (old : Held) (s t : State) (ending : Ending) (text : Vec ℕ Global) (halt : Stop) → s ≡ first_state rules old → Ran rules tree s t halt → reason_of ending ≡ stop_reason halt → text.items ≡ t.printed.text → Runs rules tree old t.held (told ending t text)
+pub runs_so : (rules : Rules) (tree : Option Chains) (old : Held) (s t : State) (ending : Ending) (text : Vec ℕ Global) (o : Option Reason) → s ≡ first_state rules old → Ran rules tree s t o → text.items ≡ t.printed.text → RunsBy o rules tree old t.held (told ending t text)
 unfolding meaning
-runs_so rules tree old s t ending text (stop.Ended e) is ran same printed =
+runs_so rules tree old s t ending text (Some e) is ran printed =
     let m : meaning rules tree old ≡ (e, t) = ap (λ (x : State). run_from rules tree x) (sym is) ∙ ran in
-    subst (λ (o : Option Reason). RunsBy o rules tree old t.held (told ending t text)) (sym same)
     (ap (λ (p : Reason × State). p.0) m, record { held = sym (ap (λ (p : Reason × State). p.1.held) m); status = sym (ap (λ (p : Reason × State). p.1.status) m); steps = sym (ap (λ (p : Reason × State). p.1.steps) m); text = printed ∙ sym (ap (λ (p : Reason × State). p.1.printed.text) m) })
-runs_so rules tree old s t ending text stop.Memory is ran same printed =
+runs_so rules tree old s t ending text None is ran printed =
     let m : (meaning (within t.steps rules) tree old).1 ≡ t = ap (λ (x : State). (run_from (within t.steps rules) tree x).1) (sym is) ∙ ran.1 in
-    subst (λ (o : Option Reason). RunsBy o rules tree old t.held (told ending t text)) (sym same)
     (ran.0, record { held = sym (ap (λ (x : State). x.held) m); status = sym (ap (λ (x : State). x.status) m); steps = sym (ap (λ (x : State). x.steps) m); text = printed ∙ sym (ap (λ (x : State). x.printed.text) m) })

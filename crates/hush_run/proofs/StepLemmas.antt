@@ -1,5 +1,5 @@
 -- What the body of a step shows of itself.
-use Rattle.std.proofs.Common.{◌≡◌, ℕ, zero, suc, ◌<◌, ◌≤◌, ◌==◌, Bool, true, false, not, if◌then◌else◌, List, [], ◌∷◌, ◌++◌, length, Option, Some, None, Result, Ok, Err, option_map, unwrap_or, refl, sym, ap, ◌∙◌, arith, nat_lt, is_some, eqb-true}
+use Rattle.std.proofs.Common.{◌≡◌, ℕ, zero, suc, ◌<◌, ◌≤◌, ◌==◌, Bool, true, false, not, if◌then◌else◌, List, [], ◌∷◌, ◌++◌, length, Option, Some, None, Result, Ok, Err, option_map, unwrap_or, refl, sym, ap, subst, ◌∙◌, arith, nat_lt, is_some, eqb-true}
 use Rattle.std.proofs.lemmas.Bool.{lt-ltb, le-ltb}
 use Rattle.env_session.specs.Session.{Held}
 use Rattle.hush_words.specs.Words.{Atom}
@@ -19,13 +19,13 @@ use Rattle.hush_syntax.specs.Grammar.{Chains}
 use Rattle.hush_syntax.specs.Reading.{read}
 use Rattle.hush_commands.specs.Carrying.{Done, done_of, deletion_of, Carries}
 use Rattle.hush_commands.specs.Following.{follow_of}
-use Rattle.hush_run.specs.declared.ending.Reason.{Reason}
-use Rattle.hush_run.specs.declared.ending.Reason.TheVariants.{Finished, Exited, Steps, Depth, Word, Output}
-use Rattle.hush_run.specs.declared.ending.Stop.{Stop}
-use Rattle.hush_run.specs.declared.ending.Stop.TheVariants.{Ended, Memory}
-use Rattle.hush_run.specs.Stops.{print_stop}
-use Rattle.hush_run.specs.Meaning.{Rules, Begin, State, Out, Goes, Ends, ◌>>=◌, ◌then◌, Effect, Does, Exits, Stops, done, step, with_status, carries, fails, exiting, effect, simple, follows, fields_of, for, bindings, assigned, assigned_to, has_variable, known_in, deletions, start, script, entered, within}
-use Rattle.hush_run.specs.Steps.{Meant, Did, Counted, MayStep, FieldsAre, Started, value_of}
+use Rattle.hush_run.specs.Meaning.Reason.{Exited, Steps, Depth, Word, Output}
+use Rattle.hush_run.specs.declared.ending.Ending.{Ending}
+use Rattle.hush_run.specs.declared.ending.Ending.TheVariants as ending
+use Rattle.hush_run.specs.Runs.{reason_of}
+use Rattle.hush_run.specs.Steps.{ending_of_print}
+use Rattle.hush_run.specs.Meaning.{Reason, Rules, Begin, State, Out, Goes, Ends, ◌>>=◌, ◌then◌, Effect, Does, Exits, Stops, done, step, with_status, carries, fails, exiting, effect, simple, follows, fields_of, for, bindings, assigned, assigned_to, has_variable, known_in, deletions, start, script, entered, within}
+use Rattle.hush_run.specs.Steps.{Meant, Did, NotDone, Counted, MayStep, FieldsAre, Started, NotStarted, value_of}
 
 -- a state with another count
 counting : ℕ → State → State
@@ -73,23 +73,17 @@ made_fields None m e = absurd (let f : false ≡ true = ap (λ (o : Option Made)
 made_fields (Some fs) m e = ap (λ (o : Option Made). option_map (λ x. x.done) o) e
 
 -- what stops before the step is begun
-pub no_step : {X : Type 0} (rules : Rules) (meant : Meant) (left : X → Meant) (s : State) (stop : Stop) → MayStep rules s.steps (Err stop) → ((begin : Begin) → rules.limits.steps ≤ s.steps → meant rules begin s ≡ Ends Steps s) → Did rules meant left s s (Err stop)
-no_step rules meant left s (Ended Steps) may halts = λ begin. halts begin may
-no_step rules meant left s (Ended Finished) may halts = absurd may
-no_step rules meant left s (Ended Exited) may halts = absurd may
-no_step rules meant left s (Ended Depth) may halts = absurd may
-no_step rules meant left s (Ended Word) may halts = absurd may
-no_step rules meant left s (Ended Output) may halts = absurd may
-no_step rules meant left s Memory may halts = refl
+pub no_step : {X : Type 0} (rules : Rules) (meant : Meant) (left : X → Meant) (s : State) (e : Ending) → MayStep rules s.steps (Err e) → ((begin : Begin) → rules.limits.steps ≤ s.steps → meant rules begin s ≡ Ends Steps s) → Did rules meant left s s (Err e)
+no_step rules meant left s e may halts = subst (λ (x : Ending). NotDone rules meant s s (reason_of x)) (sym may.0) (λ begin. halts begin may.1)
 
-pub no_fields : {X : Type 0} (rules : Rules) (meant : Meant) (left : X → Meant) (wanted : Option (List (List ℕ))) (s : State) (made : Made) (stop : Stop) → FieldsAre rules wanted s made (Err stop) → ((begin : Begin) → rules.limits.steps ≤ s.steps → meant rules begin s ≡ Ends Steps s) → ((begin : Begin) → s.steps < rules.limits.steps → wanted ≡ None → meant rules begin s ≡ Ends Word s) → Did rules meant left s s (Err stop)
-no_fields rules meant left wanted s made (Ended Steps) are halts large = λ begin. halts begin are
-no_fields rules meant left wanted s made (Ended Word) are halts large = λ begin. large begin are.0 are.1
-no_fields rules meant left wanted s made (Ended Finished) are halts large = absurd are
-no_fields rules meant left wanted s made (Ended Exited) are halts large = absurd are
-no_fields rules meant left wanted s made (Ended Depth) are halts large = absurd are
-no_fields rules meant left wanted s made (Ended Output) are halts large = absurd are
-no_fields rules meant left wanted s made Memory are halts large = refl
+pub no_fields : {X : Type 0} (rules : Rules) (meant : Meant) (left : X → Meant) (wanted : Option (List (List ℕ))) (s : State) (made : Made) (e : Ending) → FieldsAre rules wanted s made (Err e) → ((begin : Begin) → rules.limits.steps ≤ s.steps → meant rules begin s ≡ Ends Steps s) → ((begin : Begin) → s.steps < rules.limits.steps → wanted ≡ None → meant rules begin s ≡ Ends Word s) → Did rules meant left s s (Err e)
+no_fields rules meant left wanted s made ending.Steps are halts large = λ begin. halts begin are
+no_fields rules meant left wanted s made ending.Word are halts large = λ begin. large begin are.0 are.1
+no_fields rules meant left wanted s made ending.Memory are halts large = refl
+no_fields rules meant left wanted s made ending.Finished are halts large = absurd are
+no_fields rules meant left wanted s made ending.Exited are halts large = absurd are
+no_fields rules meant left wanted s made ending.Depth are halts large = absurd are
+no_fields rules meant left wanted s made ending.Output are halts large = absurd are
 
 -- simple commands
 pub simple_halts : (rules : Rules) (begin : Begin) (fields : Option (List (List ℕ))) (s : State) → rules.limits.steps ≤ s.steps → simple rules begin fields s ≡ Ends Steps s
@@ -139,7 +133,7 @@ module _ (rules : Rules) (words : List (List Atom)) (s : State) (fields : List (
       ∙ ap (λ (o : Out). o >>= follows rules begin (follow_of fields)) (step_left rules (effect rules.stand_ins fields) s (carried d s) k lt leaves is)
       )
 
-  pub simple_unprinted : (fault : PrintFault) → Carries d s.held after s.printed new (Err fault) → Did rules (λ r begin t. simple r begin (fields_of r words t) t) (λ g r begin. follows r begin g) s (record { held = after; locals = s.locals; status = s.status; printed = new; steps = s.steps }) (Err (print_stop fault))
+  pub simple_unprinted : (fault : PrintFault) → Carries d s.held after s.printed new (Err fault) → Did rules (λ r begin t. simple r begin (fields_of r words t) t) (λ g r begin. follows r begin g) s (record { held = after; locals = s.locals; status = s.status; printed = new; steps = s.steps }) (Err (ending_of_print fault))
   unfolding effect
   simple_unprinted print.Output c =
       rw (c.1, c.2) (
@@ -155,9 +149,9 @@ told rules message name s new k lt p is =
     let d : Done = (answer 1 (text_of message name), s.held) in
     rw p.1 (let did = step_done rules (fails message name) s (carried d s) k lt (fits d s p.0) is in (did.0, λ n begin le. did.1 n le))
 
-pub untold : {X : Type 0} (rules : Rules) (meant : Meant) (left : X → Meant) (message : Message) (name : List ℕ) (s : State) (new : Printed) (fault : PrintFault) → PrintsWhole (text_of message name) s.printed new (Err fault) → ((begin : Begin) → fails message name s ≡ Stops Output → meant rules begin s ≡ Ends Output s) → Did rules meant left s (record { held = s.held; locals = s.locals; status = s.status; printed = new; steps = s.steps }) (Err (print_stop fault))
+pub untold : {X : Type 0} (rules : Rules) (meant : Meant) (left : X → Meant) (message : Message) (name : List ℕ) (s : State) (new : Printed) (fault : PrintFault) → PrintsWhole (text_of message name) s.printed new (Err fault) → ((begin : Begin) → fails message name s ≡ Stops Output → meant rules begin s ≡ Ends Output s) → Did rules meant left s (record { held = s.held; locals = s.locals; status = s.status; printed = new; steps = s.steps }) (Err (ending_of_print fault))
 untold rules meant left message name s new print.Output p stops = rw p.1 (λ begin. stops begin (too_long (answer 1 (text_of message name), s.held) s p.0))
-untold rules meant left message name s new print.Memory p stops = rw p refl
+untold rules meant left message name s new print.Memory p stops = rw p.1 refl
 
 -- the head of a for
 pub for_halts : (rules : Rules) (name : List ℕ) (fields : Option (List (List ℕ))) (body : State → Out) (s : State) → rules.limits.steps ≤ s.steps → for rules name fields body s ≡ Ends Steps s
@@ -222,7 +216,7 @@ assign_done rules name word s v e is =
     ap (λ (o : Option (List ℕ)). assigned_to name o s) e
     ∙ ap (λ (b : Bool). if b then fails IsVariable name s else Does (record s { locals = map.insert s.locals name v; status = 0 })) is
 
-pub unprinted : {X : Type 0} (rules : Rules) (meant : Meant) (left : X → Meant) (d : Done) (s : State) (after : Held) (new : Printed) (fault : PrintFault) → Carries d s.held after s.printed new (Err fault) → ((begin : Begin) → carries d s ≡ Stops Output → meant rules begin s ≡ Ends Output s) → Did rules meant left s (record { held = after; locals = s.locals; status = s.status; printed = new; steps = s.steps }) (Err (print_stop fault))
+pub unprinted : {X : Type 0} (rules : Rules) (meant : Meant) (left : X → Meant) (d : Done) (s : State) (after : Held) (new : Printed) (fault : PrintFault) → Carries d s.held after s.printed new (Err fault) → ((begin : Begin) → carries d s ≡ Stops Output → meant rules begin s ≡ Ends Output s) → Did rules meant left s (record { held = after; locals = s.locals; status = s.status; printed = new; steps = s.steps }) (Err (ending_of_print fault))
 unprinted rules meant left d s after new print.Output c stops = rw (c.1, c.2) (λ begin. stops begin (too_long d s c.0))
 unprinted rules meant left d s after new print.Memory c stops = rw (c.0, c.1) refl
 
@@ -255,9 +249,9 @@ module _ (rules : Rules) (name field : List ℕ) (rest : List (List ℕ)) (body 
   pub bind_refused : (t : State) → has_variable s name ≡ true → Did rules (λ r begin. step r (fails IsVariable name)) (λ (u : Unit {0}) r begin. Goes) s t (Ok tt) → Did rules (λ r begin. bindings r name (body r begin) (field ∷ rest)) (λ bound r begin. if bound then (body r begin then bindings r name (body r begin) rest) else Goes) s t (Ok false)
   bind_refused t taken did = (did.0, λ n begin le. ap (λ (b : Bool). if b then step (within n rules) (fails IsVariable name) s else (step (within n rules) (λ t. Does (record t { locals = map.insert t.locals name field })) s >>= body (within n rules) begin >>= bindings (within n rules) name (body (within n rules) begin) rest)) taken ∙ did.1 n begin le)
 
-  pub bind_stopped : (t : State) (stop : Stop) → has_variable s name ≡ true → Did rules (λ r begin. step r (fails IsVariable name)) (λ (u : Unit {0}) r begin. Goes) s t (Err stop) → Did rules (λ r begin. bindings r name (body r begin) (field ∷ rest)) (λ bound r begin. if bound then (body r begin then bindings r name (body r begin) rest) else Goes) s t (Err stop)
-  bind_stopped t (Ended e) taken did = λ begin. ap (λ (b : Bool). if b then step rules (fails IsVariable name) s else (step rules (λ t. Does (record t { locals = map.insert t.locals name field })) s >>= body rules begin >>= bindings rules name (body rules begin) rest)) taken ∙ did begin
-  bind_stopped t Memory taken did = did
+  pub bind_stopped : (t : State) (o : Option Reason) → has_variable s name ≡ true → NotDone rules (λ r begin. step r (fails IsVariable name)) s t o → NotDone rules (λ r begin. bindings r name (body r begin) (field ∷ rest)) s t o
+  bind_stopped t (Some e) taken did = λ begin. ap (λ (b : Bool). if b then step rules (fails IsVariable name) s else (step rules (λ t. Does (record t { locals = map.insert t.locals name field })) s >>= body rules begin >>= bindings rules name (body rules begin) rest)) taken ∙ did begin
+  bind_stopped t None taken did = did
 
   pub bind_done : (k : ℕ) → s.steps < rules.limits.steps → has_variable s name ≡ false → k ≡ suc s.steps → Did rules (λ r begin. bindings r name (body r begin) (field ∷ rest)) (λ bound r begin. if bound then (body r begin then bindings r name (body r begin) rest) else Goes) s (record s { locals = map.insert s.locals name field; steps = k }) (Ok true)
   bind_done k lt free is =
@@ -301,18 +295,12 @@ start_deep rules levels name text s lt none e = ap (λ (l : ℕ). start rules l 
 pub start_failed : (rules : Rules) (message : Message) (levels : ℕ) (name : List ℕ) (s t : State) → ((r : Rules) → start r levels name s ≡ step r (fails message name) s) → t.status ≡ 1 → Did rules (λ r begin. step r (fails message name)) (λ (u : Unit {0}) r begin. Goes) s t (Ok tt) → Started rules levels name s t (Ok None)
 start_failed rules message levels name s t is one did = (did.0, ap (λ (n : ℕ). n == 0) one, λ n le. is (within n rules) ∙ did.1 n (start rules levels) le)
 
-pub start_stopped : (rules : Rules) (message : Message) (levels : ℕ) (name : List ℕ) (s t : State) (stop : Stop) → ((r : Rules) → start r levels name s ≡ step r (fails message name) s) → Did rules (λ r begin. step r (fails message name)) (λ (u : Unit {0}) r begin. Goes) s t (Err stop) → Started rules levels name s t (Err stop)
-start_stopped rules message levels name s t (Ended e) is did = is rules ∙ did (start rules levels)
-start_stopped rules message levels name s t Memory is did = did
+pub start_stopped : (rules : Rules) (message : Message) (levels : ℕ) (name : List ℕ) (s t : State) (o : Option Reason) → (has_variable s name ≡ true → 0 < levels) → ((r : Rules) → start r levels name s ≡ step r (fails message name) s) → NotDone rules (λ r begin. step r (fails message name)) s t o → NotStarted rules levels name s t o
+start_stopped rules message levels name s t (Some e) some is did = is rules ∙ did (start rules levels)
+start_stopped rules message levels name s t None some is did = (did, some)
 
-pub start_unstarted : (rules : Rules) (levels : ℕ) (name : List ℕ) (s : State) (stop : Stop) → MayStep rules s.steps (Err stop) → Started rules levels name s s (Err stop)
-start_unstarted rules levels name s (Ended Steps) may = start_halts rules levels name s may
-start_unstarted rules levels name s (Ended Finished) may = absurd may
-start_unstarted rules levels name s (Ended Exited) may = absurd may
-start_unstarted rules levels name s (Ended Depth) may = absurd may
-start_unstarted rules levels name s (Ended Word) may = absurd may
-start_unstarted rules levels name s (Ended Output) may = absurd may
-start_unstarted rules levels name s Memory may = refl
+pub start_unstarted : (rules : Rules) (levels : ℕ) (name : List ℕ) (s : State) (e : Ending) → MayStep rules s.steps (Err e) → Started rules levels name s s (Err e)
+start_unstarted rules levels name s e may = subst (λ (x : Ending). NotStarted rules levels name s s (reason_of x)) (sym may.0) (start_halts rules levels name s may.1)
 
 pub is_absent : (levels : ℕ) (name : List ℕ) (s : State) → map.get s.held.now.env name ≡ None → (r : Rules) → start r levels name s ≡ step r (fails NotDefined name) s
 is_absent levels name s e r = start-absent r levels name s e
@@ -339,10 +327,13 @@ step-same : (r : Rules) (effect other : State → Effect) (s : State) → effect
 unfolding step
 step-same r effect other s e = ap (λ (x : Effect). if nat_lt s.steps r.limits.steps then done s x else Ends Steps s) e
 
-pub as_step : (rules : Rules) (effect other : State → Effect) (s t : State) (result : Result (Unit {0}) Stop) → effect s ≡ other s → Did rules (λ r begin. step r other) (λ (u : Unit {0}) r begin. Goes) s t result → Did rules (λ r begin. step r effect) (λ (u : Unit {0}) r begin. Goes) s t result
+pub as_step : (rules : Rules) (effect other : State → Effect) (s t : State) (result : Result (Unit {0}) Ending) → effect s ≡ other s → Did rules (λ r begin. step r other) (λ (u : Unit {0}) r begin. Goes) s t result → Did rules (λ r begin. step r effect) (λ (u : Unit {0}) r begin. Goes) s t result
 as_step rules effect other s t (Ok u) e did = (did.0, λ n begin le. step-same (within n rules) effect other s e ∙ did.1 n begin le)
-as_step rules effect other s t (Err (Ended r)) e did = λ begin. step-same rules effect other s e ∙ did begin
-as_step rules effect other s t (Err Memory) e did = did
+as_step rules effect other s t (Err x) e did = stopped (reason_of x) did
+  where
+    stopped : (o : Option Reason) → NotDone rules (λ r begin. step r other) s t o → NotDone rules (λ r begin. step r effect) s t o
+    stopped (Some r) h = λ begin. step-same rules effect other s e ∙ h begin
+    stopped None h = h
 
 pub first_same : (x y : List ℕ) (xs ys : List (List ℕ)) → x ∷ xs ≡ y ∷ ys → x ≡ y
 first_same x y xs ys e = ap (λ (l : List (List ℕ)). first l) e

@@ -1,39 +1,42 @@
 -- One step of a run, whatever it is. (How the code goes about it; what a run means stands in Meaning.)
-use Rattle.std.specs.Prelude.{◌≡◌, ℕ, suc, ◌+◌, ◌*◌, ◌≤◌, List, length, Option, Result, Ok, Err}
+use Rattle.std.specs.Prelude.{◌≡◌, ℕ, suc, ◌+◌, ◌*◌, ◌≤◌, List, length, Option, Some, None, Result, Ok, Err}
 use Rattle.hush_syntax.specs.Scripts.{Parsed}
 use Rattle.hush_syntax.specs.Grammar.{Chains}
 use Rattle.hush_run.specs.declared.frames.Frame.{Frame}
 use Rattle.hush_run.specs.declared.due.Due.{Due}
-use Rattle.hush_run.specs.declared.ending.Stop.{Stop}
-use Rattle.hush_run.specs.declared.ending.Stop.TheVariants as stop
-use Rattle.hush_run.specs.Meaning.{Rules, State, Out, ◌>>=◌, ended, run_from, within}
+use Rattle.hush_run.specs.declared.ending.Ending.{Ending}
+use Rattle.hush_run.specs.Runs.{reason_of}
+use Rattle.hush_run.specs.Meaning.{Rules, Reason, State, Out, ◌>>=◌, ended, run_from, within}
 use Rattle.hush_run.specs.Resume.{begin_in, at_in, resume, IsStack}
 use Rattle.hush_run.specs.Turns.{due_does, due_room, IsDue}
 use Rattle.hush_run.specs.Steps.{Counted}
-use Rattle.hush_run.specs.Stacks.{script_frames}
+use Rattle.hush_run.specs.Stacks.{script_frames, frame_limit}
 
 -- what is due, and behind it the frames
 abbrev pub due_left : Rules → List Parsed → List Frame → Due → State → Out
 due_left rules calls frames due s = due_does rules (begin_in rules calls) (at_in calls) due s >>= resume rules calls frames
 
-pub record IsReady (rules : Rules) (calls : List Parsed) (frames : List Frame) (depth : ℕ) (due : Due) : Type 0 where
+pub record IsReady (rules : Rules) (calls : List Parsed) (frames : List Frame) (capacity : ℕ) (due : Due) : Type 0 where
   pub stack : IsStack calls frames
   pub is_due : IsDue (at_in calls) due
   pub some : 1 ≤ length calls
   pub calls_fit : length calls ≤ rules.limits.depth + 1
   pub frames_fit : length frames + due_room (at_in calls) due ≤ script_frames * length calls
-  pub same_depth : depth ≡ rules.limits.depth
+  pub capacity_fits : capacity ≡ frame_limit rules.limits.depth
 
--- a step was done and the rest is the same under each limit on the steps that lets it count; or the run has ended so; or
--- memory was refused, and the state is that of the run that may count no more steps
-abbrev pub Advances : Rules → List Parsed → List Frame → Due → State → List Parsed → List Frame → ℕ → State → Result Due Stop → Type 0
-Advances rules calls old due s after new depth t (Ok next) =
-    Counted rules s t × IsReady rules after new depth next
+-- the run has ended so; or memory was refused, and the state is that of the run that may count no more steps
+abbrev pub EndsSo : Rules → List Parsed → List Frame → Due → State → State → Option Reason → Type 0
+EndsSo rules calls frames due s t (Some e) = ended (due_left rules calls frames due s) ≡ (e, t)
+EndsSo rules calls frames due s t None = (t.steps ≡ s.steps) × ((ended (due_left (within s.steps rules) calls frames due s)).1 ≡ t)
+
+-- a step was done and the rest is the same under each limit on the steps that lets it count; or the run halts
+abbrev pub Advances : Rules → List Parsed → List Frame → Due → State → List Parsed → List Frame → ℕ → State → Result Due Ending → Type 0
+Advances rules calls old due s after new capacity t (Ok next) =
+    Counted rules s t × IsReady rules after new capacity next
     × ((n : ℕ) → suc s.steps ≤ n → due_left (within n rules) calls old due s ≡ due_left (within n rules) after new next t)
-Advances rules calls old due s after new depth t (Err (stop.Ended e)) = ended (due_left rules calls old due s) ≡ (e, t)
-Advances rules calls old due s after new depth t (Err stop.Memory) = (t.steps ≡ s.steps) × ((ended (due_left (within s.steps rules) calls old due s)).1 ≡ t)
+Advances rules calls old due s after new capacity t (Err ending) = EndsSo rules calls old due s t (reason_of ending)
 
--- a run from a state has stopped so
-abbrev pub Ran : Rules → Option Chains → State → State → Stop → Type 0
-Ran rules tree s t (stop.Ended e) = run_from rules tree s ≡ (e, t)
-Ran rules tree s t stop.Memory = (t.steps ≤ rules.limits.steps) × ((run_from (within t.steps rules) tree s).1 ≡ t)
+-- a run from a state has ended so
+abbrev pub Ran : Rules → Option Chains → State → State → Option Reason → Type 0
+Ran rules tree s t (Some e) = run_from rules tree s ≡ (e, t)
+Ran rules tree s t None = (t.steps ≤ rules.limits.steps) × ((run_from (within t.steps rules) tree s).1 ≡ t)

@@ -4,12 +4,9 @@ pub mod Stacks
 pub mod Runs
 pub mod Laws
 -- What the steps of the code do: no promise speaks of these.
-pub mod Stops
 pub mod Counting
-pub mod Calls
 pub mod Resume
 pub mod Turns
 pub mod Rises
 pub mod Steps
-pub mod Names
 pub mod Advances

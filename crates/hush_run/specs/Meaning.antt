@@ -19,8 +19,6 @@ use Rattle.hush_commands.specs.Output.{Printed, printed, answer}
 use Rattle.hush_commands.specs.Expansion.{Known, expanded, expanded_value}
 use Rattle.hush_commands.specs.Carrying.{Done, done_of, deletion_of}
 use Rattle.hush_commands.specs.Following.{follow_of}
-use Rattle.hush_run.specs.declared.ending.Reason.{Reason}
-use Rattle.hush_run.specs.declared.ending.Reason.TheVariants.{Finished, Exited, Steps, Depth, Word, Output}
 
 -- what a run is given: what stands in for hardware, and its limits
 pub record Rules : Type 0 where
@@ -34,6 +32,15 @@ pub record State : Type 0 where
   pub status : ℕ
   pub printed : Printed
   pub steps : ℕ
+
+-- why a run ends, if memory isn't refused: at the end of its script, by an `exit`, or at a limit
+pub data Reason : Type 0 where
+  Finished : Reason
+  Exited : Reason
+  Steps : Reason
+  Depth : Reason
+  Word : Reason
+  Output : Reason
 
 -- what a part of a script comes to: it goes on from a state, or the run has ended there
 pub data Out : Type 0 where

@@ -6,12 +6,9 @@ use Rattle.hush_commands.specs.Limits.{Bounds}
 use Rattle.hush_commands.specs.Stubs.{Statuses}
 use Rattle.hush_run.specs.declared.ending.Ending.{Ending}
 use Rattle.hush_run.specs.declared.ending.Ending.TheVariants as ending
-use Rattle.hush_run.specs.declared.ending.Reason.{Reason}
-use Rattle.hush_run.specs.declared.ending.Reason.TheVariants as reason
-use Rattle.hush_run.specs.declared.ending.Stop.{Stop}
-use Rattle.hush_run.specs.declared.ending.Stop.TheVariants as stop
 use Rattle.hush_run.specs.declared.outcome.Outcome.{Outcome}
-use Rattle.hush_run.specs.Meaning.{Rules, State, meaning, within}
+use Rattle.hush_run.specs.Meaning.{Rules, Reason, State, meaning, within}
+use Rattle.hush_run.specs.Meaning.Reason.{Finished, Exited, Steps, Depth, Word, Output}
 
 -- what a run is given
 abbrev pub rules : Statuses → Bounds → Rules
@@ -19,26 +16,22 @@ rules stand_ins limits = record { stand_ins = stand_ins; limits = limits }
 
 -- the ending of the definition; none where memory was refused
 abbrev pub reason_of : Ending → Option Reason
-reason_of ending.Finished = Some reason.Finished
-reason_of ending.Exited = Some reason.Exited
-reason_of ending.Steps = Some reason.Steps
-reason_of ending.Depth = Some reason.Depth
-reason_of ending.Word = Some reason.Word
-reason_of ending.Output = Some reason.Output
+reason_of ending.Finished = Some Finished
+reason_of ending.Exited = Some Exited
+reason_of ending.Steps = Some Steps
+reason_of ending.Depth = Some Depth
+reason_of ending.Word = Some Word
+reason_of ending.Output = Some Output
 reason_of ending.Memory = None
 
 -- the ending that tells it
 abbrev pub ending_of : Reason → Ending
-ending_of reason.Finished = ending.Finished
-ending_of reason.Exited = ending.Exited
-ending_of reason.Steps = ending.Steps
-ending_of reason.Depth = ending.Depth
-ending_of reason.Word = ending.Word
-ending_of reason.Output = ending.Output
-
-abbrev pub stop_reason : Stop → Option Reason
-stop_reason (stop.Ended reason) = Some reason
-stop_reason stop.Memory = None
+ending_of Finished = ending.Finished
+ending_of Exited = ending.Exited
+ending_of Steps = ending.Steps
+ending_of Depth = ending.Depth
+ending_of Word = ending.Word
+ending_of Output = ending.Output
 
 -- the session, the status, the steps that are counted and the text are those of a state
 pub record Shows (s : State) (now : Held) (outcome : Outcome) : Type 0 where

@@ -6,9 +6,8 @@ ghost use Rattle.hush_run.specs.Rises.{IsEnd};
 ghost use Rattle.hush_run.specs.Steps.{state_of, rules_of};
 ghost use Rattle.hush_run.specs.declared.due.Due.TheVariants as due;
 
-use crate::calls::Calls;
-use crate::ending::{Reason, Stop};
-use crate::frames::{Frame, Frames};
+use crate::ending::Ending;
+use crate::frames::{Calls, Frame, Frames};
 use crate::node_step::node_step;
 use crate::progress::{Given, Progress};
 use crate::steps::{bind_step, delete_step, start_step};
@@ -50,12 +49,12 @@ pub(crate) fn advance(
     calls: &mut Calls<'_>,
     frames: &mut Frames,
     due: Due,
-) -> Result<Due, Stop>
+) -> Result<Due, Ending>
     requires depth { given.now.limits.depth ≤ most_depth }
-    requires ready { IsReady (rules_of given.now) calls.old frames.old.frames frames.old.depth due }
+    requires ready { IsReady (rules_of given.now) calls.old frames.old.frames frames.old.capacity due }
     requires steps { progress.old.steps ≤ given.now.limits.steps }
     ensures { Advances (rules_of given.now) calls.old frames.old.frames due (state_of session.old progress.old)
-        calls.new frames.new.frames frames.new.depth (state_of session.new progress.new) result }
+        calls.new frames.new.frames frames.new.capacity (state_of session.new progress.new) result }
 {
     match due {
         Due::Over => {
@@ -75,16 +74,16 @@ fn step_due(
     calls: &mut Calls<'_>,
     frames: &mut Frames,
     due: Due,
-) -> Result<Due, Stop>
+) -> Result<Due, Ending>
     requires depth { given.now.limits.depth ≤ most_depth }
-    requires ready { IsReady (rules_of given.now) calls.old frames.old.frames frames.old.depth due }
+    requires ready { IsReady (rules_of given.now) calls.old frames.old.frames frames.old.capacity due }
     requires end { IsEnd due frames.old.frames }
     requires steps { progress.old.steps ≤ given.now.limits.steps }
     ensures { Advances (rules_of given.now) calls.old frames.old.frames due (state_of session.old progress.old)
-        calls.new frames.new.frames frames.new.depth (state_of session.new progress.new) result }
+        calls.new frames.new.frames frames.new.capacity (state_of session.new progress.new) result }
 {
     match due {
-        Due::Over => Err(Stop::Ended(Reason::Finished)),
+        Due::Over => Err(Ending::Finished),
         Due::Node(node) => node_due(given, session, progress, calls, frames, node),
         Due::Binding { node, fields } => {
             binding_due(given, session, progress, calls, frames, node, fields)
@@ -109,11 +108,11 @@ fn node_due(
     calls: &Calls<'_>,
     frames: &mut Frames,
     node: NodeId,
-) -> Result<Due, Stop>
-    requires ready { IsReady (rules_of given.now) calls.now frames.old.frames frames.old.depth (due.Node node) }
+) -> Result<Due, Ending>
+    requires ready { IsReady (rules_of given.now) calls.now frames.old.frames frames.old.capacity (due.Node node) }
     requires steps { progress.old.steps ≤ given.now.limits.steps }
     ensures { Advances (rules_of given.now) calls.now frames.old.frames (due.Node node)
-        (state_of session.old progress.old) calls.now frames.new.frames frames.new.depth
+        (state_of session.old progress.old) calls.now frames.new.frames frames.new.capacity
         (state_of session.new progress.new) result }
 {
     let script = calls.top();
@@ -130,11 +129,11 @@ fn binding_due(
     frames: &mut Frames,
     node: NodeId,
     fields: FieldQueue,
-) -> Result<Due, Stop>
-    requires ready { IsReady (rules_of given.now) calls.now frames.old.frames frames.old.depth (due.Binding node fields) }
+) -> Result<Due, Ending>
+    requires ready { IsReady (rules_of given.now) calls.now frames.old.frames frames.old.capacity (due.Binding node fields) }
     requires steps { progress.old.steps ≤ given.now.limits.steps }
     ensures { Advances (rules_of given.now) calls.now frames.old.frames (due.Binding node fields)
-        (state_of session.now progress.old) calls.now frames.new.frames frames.new.depth
+        (state_of session.now progress.old) calls.now frames.new.frames frames.new.capacity
         (state_of session.now progress.new) result }
 {
     let script = calls.top();
@@ -154,7 +153,7 @@ fn binding_due(
             frames.push(Frame::Bindings { node, fields: left });
             Ok(Due::Node(body))
         }
-        Err(stop) => Err(stop),
+        Err(ending) => Err(ending),
     }
 }
 
@@ -166,12 +165,12 @@ fn start_due(
     calls: &mut Calls<'_>,
     frames: &mut Frames,
     names: FieldQueue,
-) -> Result<Due, Stop>
+) -> Result<Due, Ending>
     requires depth { given.now.limits.depth ≤ most_depth }
-    requires ready { IsReady (rules_of given.now) calls.old frames.old.frames frames.old.depth (due.Start names) }
+    requires ready { IsReady (rules_of given.now) calls.old frames.old.frames frames.old.capacity (due.Start names) }
     requires steps { progress.old.steps ≤ given.now.limits.steps }
     ensures { Advances (rules_of given.now) calls.old frames.old.frames (due.Start names)
-        (state_of session.now progress.old) calls.new frames.new.frames frames.new.depth
+        (state_of session.now progress.old) calls.new frames.new.frames frames.new.capacity
         (state_of session.now progress.new) result }
 {
     let mut left = names;
@@ -190,7 +189,7 @@ fn start_due(
             }
         }
         Ok(None) => Ok(Due::Over),
-        Err(stop) => Err(stop),
+        Err(ending) => Err(ending),
     }
 }
 
@@ -213,11 +212,11 @@ fn delete_due(
     force: bool,
     failed: bool,
     names: FieldQueue,
-) -> Result<Due, Stop>
-    requires ready { IsReady (rules_of given.now) calls.now frames.now.frames frames.now.depth (due.Delete force failed names) }
+) -> Result<Due, Ending>
+    requires ready { IsReady (rules_of given.now) calls.now frames.now.frames frames.now.capacity (due.Delete force failed names) }
     requires steps { progress.old.steps ≤ given.now.limits.steps }
     ensures { Advances (rules_of given.now) calls.now frames.now.frames (due.Delete force failed names)
-        (state_of session.old progress.old) calls.now frames.now.frames frames.now.depth
+        (state_of session.old progress.old) calls.now frames.now.frames frames.now.capacity
         (state_of session.new progress.new) result }
 {
     let mut left = names;
@@ -236,6 +235,6 @@ fn delete_due(
                 names: left,
             })
         }
-        Err(stop) => Err(stop),
+        Err(ending) => Err(ending),
     }
 }

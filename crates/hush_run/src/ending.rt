@@ -2,7 +2,8 @@
 use hush_commands::{ExpansionFault, PrintFault};
 use std::alloc::AllocError;
 
-/// How a run ended.
+/// How a run ended. The meaning of a script has the same endings but for `Memory`, which it knows nothing of (`Reason` of
+/// specs/Meaning.antt).
 #[derive(Clone, Copy, Debug, PartialEq, Eq)]
 pub enum Ending {
     /// The script was run to its end.
@@ -17,85 +18,45 @@ pub enum Ending {
     Word,
     /// A text would have brought what was printed past the limit.
     Output,
-    /// A growth was refused.
-    Memory,
-}
-
-impl Ending {
-    ghost use Rattle.std.specs.Prelude.{◌≡◌};
-    ghost use Rattle.hush_run.specs.Runs.{reason_of, stop_reason};
-
-    /// How a run ended that stopped so.
-    pub(crate) fn of(stop: Stop) -> Ending
-        ensures { reason_of result ≡ stop_reason stop }
-    {
-        match stop {
-            Stop::Ended(Reason::Finished) => Ending::Finished,
-            Stop::Ended(Reason::Exited) => Ending::Exited,
-            Stop::Ended(Reason::Steps) => Ending::Steps,
-            Stop::Ended(Reason::Depth) => Ending::Depth,
-            Stop::Ended(Reason::Word) => Ending::Word,
-            Stop::Ended(Reason::Output) => Ending::Output,
-            Stop::Memory => Ending::Memory,
-        }
-    }
-}
-
-/// Why a run ended, where memory was had.
-#[derive(Clone, Copy, Debug, PartialEq, Eq)]
-pub(crate) enum Reason {
-    Finished,
-    Exited,
-    Steps,
-    Depth,
-    Word,
-    Output,
-}
-
-/// Why a run stops.
-#[derive(Clone, Copy, Debug, PartialEq, Eq)]
-pub(crate) enum Stop {
-    /// It has ended.
-    Ended(Reason),
     /// A growth was refused; the step that was due isn't counted and has changed nothing.
     Memory,
 }
 
-impl From<ExpansionFault> for Stop {
+impl From<ExpansionFault> for Ending {
     ghost use Rattle.std.specs.Prelude.{◌≡◌};
-    ghost use Rattle.hush_run.specs.Stops.{expansion_stop};
+    ghost use Rattle.hush_run.specs.Steps.{ending_of_expansion};
 
-    ghost from_gives = { λ fault stop. stop ≡ expansion_stop fault };
+    ghost from_gives = { λ fault ending. ending ≡ ending_of_expansion fault };
 
-    fn from(fault: ExpansionFault) -> Stop {
+    fn from(fault: ExpansionFault) -> Ending {
         match fault {
-            ExpansionFault::Word => Stop::Ended(Reason::Word),
-            ExpansionFault::Memory => Stop::Memory,
+            ExpansionFault::Word => Ending::Word,
+            ExpansionFault::Memory => Ending::Memory,
         }
     }
 }
 
-impl From<PrintFault> for Stop {
+impl From<PrintFault> for Ending {
     ghost use Rattle.std.specs.Prelude.{◌≡◌};
-    ghost use Rattle.hush_run.specs.Stops.{print_stop};
+    ghost use Rattle.hush_run.specs.Steps.{ending_of_print};
 
-    ghost from_gives = { λ fault stop. stop ≡ print_stop fault };
+    ghost from_gives = { λ fault ending. ending ≡ ending_of_print fault };
 
-    fn from(fault: PrintFault) -> Stop {
+    fn from(fault: PrintFault) -> Ending {
         match fault {
-            PrintFault::Output => Stop::Ended(Reason::Output),
-            PrintFault::Memory => Stop::Memory,
+            PrintFault::Output => Ending::Output,
+            PrintFault::Memory => Ending::Memory,
         }
     }
 }
 
-impl From<AllocError> for Stop {
+impl From<AllocError> for Ending {
     ghost use Rattle.std.specs.Prelude.{◌≡◌};
-    ghost use Rattle.hush_run.specs.declared.ending.Stop.TheVariants.{Memory};
+    ghost use Rattle.hush_run.specs.declared.ending.Ending.TheVariants.{Memory};
 
-    ghost from_gives = { λ _ stop. stop ≡ Memory };
+    ghost from_gives = { λ _ ending. ending ≡ Memory };
 
-    fn from(_refused: AllocError) -> Stop {
-        Stop::Memory
+    fn from(_refused: AllocError) -> Ending {
+        Ending::Memory
     }
 }

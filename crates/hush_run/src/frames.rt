@@ -1,10 +1,12 @@
-//! The stack of a run (docs/runs.md, "The stack").
+//! The stack of a run (docs/runs.md, "The stack"), and the scripts that its frames belong to.
 ghost use Rattle.std.specs.Prelude.{◌≡◌, ◌<◌, ◌≤◌, [], ◌∷◌, IfOk, IfSome, IfNone, length};
+ghost use Rattle.hush_commands.specs.Limits.{most_depth};
+ghost use Rattle.hush_run.specs.Resume.{behind};
 
 use envvars_core::Memory;
-use hush_commands::FieldQueue;
-use hush_syntax::NodeId;
-use std::alloc::Global;
+use hush_commands::{FieldQueue, MOST_DEPTH};
+use hush_syntax::{NodeId, Script};
+use std::alloc::{AllocError, Global};
 use std::marker::Model;
 
 /// What is left to do where a part of a script is done.
@@ -68,22 +70,18 @@ const SCRIPT_FRAMES: usize = 3 * NEST_LIMIT + 3;
 #[derive(Drop)]
 pub struct Frames {
     items: Vec<Frame>,
-    depth: u32,
 }
 
 impl Model for Frames {
-    ghost use Rattle.std.specs.Prelude.{vec_capacity, length, ◌≤◌};
-    ghost use Rattle.hush_run.specs.Stacks.{Stack, frame_limit, stack_of};
+    ghost use Rattle.std.specs.Prelude.{vec_capacity};
+    ghost use Rattle.hush_run.specs.Stacks.{Stack, stack_of};
 
     ghost Value = { Stack };
 
-    ghost view = { λ a. stack_of a.items.items a.depth };
-
-    ghost invariant = { λ a. (length a.items.items ≤ frame_limit a.depth) × (frame_limit a.depth ≤ vec_capacity a.items) };
+    ghost view = { λ a. stack_of a.items.items (vec_capacity a.items) };
 }
 
 impl Frames {
-    ghost use Rattle.hush_commands.specs.Limits.{most_depth};
     ghost use Rattle.hush_run.specs.Stacks.{frame_limit};
 
     /// No frames, and room for those of a script and of `depth` starts inside one another: (depth + 1) x 195, where 195
@@ -94,22 +92,18 @@ impl Frames {
     /// The room is refused.
     pub fn new(alloc: Global, depth: u32) -> Result<Frames, Memory>
         requires { depth ≤ most_depth }
-        ensures { IfOk result (λ frames. frames ≡ record { frames = []; depth = depth }) }
+        ensures { IfOk result (λ frames. frames ≡ record { frames = []; capacity = frame_limit depth }) }
     {
-        match Vec::with_capacity(alloc, (depth as usize + 1) * SCRIPT_FRAMES) {
-            Ok(items) => Ok(Frames { items, depth }),
-            Err(_refused) => Err(Memory),
-        }
+        let items = Vec::with_capacity(alloc, (depth as usize + 1) * SCRIPT_FRAMES)?;
+        Ok(Frames { items })
     }
 
-    /// Puts a frame on top, where the room isn't full. It takes no memory.
+    /// Puts a frame on top, if the room isn't full. It takes no memory: the capacity stays.
     pub fn push(&mut self, frame: Frame)
-        requires { length self.old.frames < frame_limit self.old.depth }
+        requires { length self.old.frames < self.old.capacity }
         ensures { self.new ≡ record self.old { frames = frame ∷ self.old.frames } }
     {
-        let pushed = self.items.push(frame);
-        // It tells the prover that room was reserved, so this isn't refused.
-        prove!(pushed.is_ok());
+        self.items.push_reserved(frame);
     }
 
     /// Takes the frame on top, if there is one.
@@ -118,5 +112,72 @@ impl Frames {
         ensures none { IfNone result ((self.old.frames ≡ []) × (self.new ≡ self.old)) }
     {
         self.items.pop()
+    }
+}
+
+/// The scripts that run, the innermost first.
+#[derive(Drop)]
+pub(crate) struct Calls<'s> {
+    first: &'s Script,
+    started: Vec<Script>,
+}
+
+impl<'s> Model for Calls<'s> {
+    ghost use Rattle.std.specs.Prelude.{List, vec_capacity, ◌≤◌};
+    ghost use Rattle.hush_syntax.specs.Scripts.{Parsed};
+    ghost use Rattle.hush_commands.specs.Limits.{most_depth};
+    ghost use Rattle.hush_run.specs.Stacks.{calls_of};
+
+    ghost Value = { List Parsed };
+
+    ghost view = { λ a. calls_of a.first.now a.started.items };
+
+    ghost invariant = { λ a. most_depth ≤ vec_capacity a.started };
+}
+
+impl<'s> Calls<'s> {
+    /// The first alone, and room for those of the most starts inside one another that limits may give ([`MOST_DEPTH`]).
+    pub(crate) fn new(alloc: Global, first: &'s Script) -> Result<Calls<'s>, AllocError>
+        ensures { IfOk result (λ calls. calls ≡ first.entry.now ∷ []) }
+    {
+        let started = Vec::with_capacity(alloc, MOST_DEPTH as usize)?;
+        Ok(Calls { first, started })
+    }
+
+    /// The innermost.
+    pub(crate) fn top(&self) -> &Script
+        ensures { self.now ≡ result.now ∷ behind self.now }
+    {
+        match self.started.as_slice().last() {
+            Some(script) => script,
+            None => self.first,
+        }
+    }
+
+    /// How many.
+    pub(crate) fn len(&self) -> usize
+        ensures { result ≡ length self.now }
+    {
+        self.started.len() + 1
+    }
+
+    /// One more. It takes no memory.
+    pub(crate) fn push(&mut self, script: Script)
+        requires { length self.old ≤ most_depth }
+        ensures { self.new ≡ script ∷ self.old }
+    {
+        let pushed = self.started.push(script);
+        // It tells the prover that room was reserved, so this isn't refused.
+        prove!(pushed.is_ok());
+    }
+
+    /// The innermost is done.
+    pub(crate) fn pop(&mut self)
+        requires { 2 ≤ length self.old }
+        ensures { self.new ≡ behind self.old }
+    {
+        let done = self.started.pop();
+        // It tells the prover that a script that was started is there.
+        prove!(done.is_some());
     }
 }

@@ -1,15 +1,13 @@
 //! Dry runs of boot scripts: a script run over a session under limits, with hardware answered by stand-ins.
 //! docs/runs.md states the rules.
 //!
-//! To read in this order: ending, outcome; progress, calls, due; walk, turns; node_step, steps, names; frames; laws.
+//! To read in this order: ending, outcome; progress, frames, due; walk, turns; node_step, steps; laws.
 #![tactic(auto)]
 
-mod calls;
 mod due;
 mod ending;
 pub mod frames;
 pub mod laws;
-mod names;
 mod node_step;
 mod outcome;
 mod progress;

@@ -10,7 +10,7 @@ ghost use Rattle.hush_run.specs.Steps.{state_of, rules_of, Did};
 ghost use Rattle.hush_run.specs.Turns.{due_does, due_room, IsDue};
 
 use crate::due::Due;
-use crate::ending::Stop;
+use crate::ending::Ending;
 use crate::progress::{Given, Progress};
 use crate::steps::{assign_step, head_step, simple_step};
 use env_session::Session;
@@ -25,7 +25,7 @@ pub(crate) fn node_step(
     progress: &mut Progress,
     script: &Script,
     node: NodeId,
-) -> Result<Due, Stop>
+) -> Result<Due, Ending>
     requires { IsStep (subtree_at script.now node) }
     ensures step { Did (rules_of given.now) (λ rules begin. subtree_does rules begin (subtree_at script.now node))
         (λ due rules begin. due_does rules begin (subtree_at script.now) due) (state_of session.old progress.old)
@@ -36,19 +36,19 @@ pub(crate) fn node_step(
         Node::Simple { words } => {
             match simple_step(given, session, progress, script.text(), words) {
                 Ok(follow) => Ok(due_behind(follow)),
-                Err(stop) => Err(stop),
+                Err(ending) => Err(ending),
             }
         }
         Node::Assign { name, value } => {
             match assign_step(given, session, progress, script.text(), name, value) {
                 Ok(()) => Ok(Due::Over),
-                Err(stop) => Err(stop),
+                Err(ending) => Err(ending),
             }
         }
         Node::For { words, .. } => {
             match head_step(given, session, progress, script.text(), words) {
                 Ok(fields) => Ok(due_binding(node, fields)),
-                Err(stop) => Err(stop),
+                Err(ending) => Err(ending),
             }
         }
         Node::List(_)

@@ -4,13 +4,12 @@ ghost use Rattle.std.specs.Prelude.{◌≡◌, ◌≤◌};
 ghost use Rattle.hush_syntax.specs.Scripts.{tree_of};
 ghost use Rattle.hush_commands.specs.Limits.{most_depth};
 ghost use Rattle.hush_run.specs.Advances.{Ran};
-ghost use Rattle.hush_run.specs.Runs.{rules, Runs};
+ghost use Rattle.hush_run.specs.Runs.{rules, Runs, reason_of};
 ghost use Rattle.hush_run.specs.Steps.{state_of, rules_of};
 
-use crate::calls::Calls;
 use crate::due::{Due, advance};
-use crate::ending::{Ending, Stop};
-use crate::frames::Frames;
+use crate::ending::Ending;
+use crate::frames::{Calls, Frames};
 use crate::progress::{Given, Progress};
 use env_session::Session;
 use hush_commands::{Limits, Stubs};
@@ -52,7 +51,7 @@ pub fn run(
     // Does nothing: it tells the prover that the depth is at most MOST_DEPTH.
     let _depth = limits.depth();
     let mut progress = Progress::new(&given);
-    let stop = run_script(&given, session, &mut progress, script);
+    let ending = run_script(&given, session, &mut progress, script);
     let Progress {
         locals: _,
         status,
@@ -62,29 +61,29 @@ pub fn run(
         name: _,
     } = progress;
     Outcome {
-        ending: Ending::of(stop),
+        ending,
         status,
         steps,
         text: output.into_text(),
     }
 }
 
-/// Runs a script from where the session and the progress stand: why it stopped.
+/// Runs a script from where the session and the progress are: how it ended.
 pub(crate) fn run_script(
     given: &Given<'_>,
     session: &mut Session,
     progress: &mut Progress,
     script: &Script,
-) -> Stop
+) -> Ending
     requires depth { given.now.limits.depth ≤ most_depth }
     requires steps { progress.old.steps ≤ given.now.limits.steps }
-    ensures { Ran (rules_of given.now) (tree_of script.now) (state_of session.old progress.old) (state_of session.new progress.new) result }
+    ensures { Ran (rules_of given.now) (tree_of script.now) (state_of session.old progress.old) (state_of session.new progress.new) (reason_of result) }
 {
     let Ok(mut frames) = Frames::new(given.alloc, given.limits.depth()) else {
-        return Stop::Memory;
+        return Ending::Memory;
     };
     let Ok(mut calls) = Calls::new(given.alloc, script) else {
-        return Stop::Memory;
+        return Ending::Memory;
     };
     let mut due = match script.root() {
         Some(root) => Due::Node(root),
@@ -93,7 +92,7 @@ pub(crate) fn run_script(
     loop {
         match advance(given, session, progress, &mut calls, &mut frames, due) {
             Ok(next) => due = next,
-            Err(stop) => return stop,
+            Err(ending) => return ending,
         }
     }
 }

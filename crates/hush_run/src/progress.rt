@@ -5,7 +5,7 @@ ghost use Rattle.env_session.specs.Session.{Held};
 ghost use Rattle.hush_commands.specs.Limits.{most_steps};
 ghost use Rattle.hush_run.specs.Meaning.{Rules, Goes, step, fails, fields_of, first_state};
 
-use crate::ending::{Reason, Stop};
+use crate::ending::Ending;
 use env_session::Session;
 use hush_commands::{FieldBuffer, Limits, Locals, Message, Output, Scope, Stubs};
 use hush_syntax::{Text, Word};
@@ -58,7 +58,7 @@ impl Progress {
         session: &Session,
         text: &Text,
         words: &[Word],
-    ) -> Result<(), Stop>
+    ) -> Result<(), Ending>
         ensures same { (held : Held) → state_of held self.new ≡ state_of held self.old }
         ensures fields { FieldsAre (rules_of given.now)
             (fields_of (rules_of given.now) (map (word_atoms text.now) words.now) (state_of session.now self.old))
@@ -83,7 +83,7 @@ impl Progress {
         session: &Session,
         text: &Text,
         word: Word,
-    ) -> Result<(), Stop>
+    ) -> Result<(), Ending>
         ensures same { (held : Held) → state_of held self.new ≡ state_of held self.old }
         ensures fields { FieldsAre (rules_of given.now)
             (value_of (rules_of given.now) (word_atoms text.now word) (state_of session.now self.old))
@@ -102,7 +102,7 @@ impl Progress {
     }
 
     /// A step that fails with a message.
-    pub(crate) fn fail(&mut self, message: Message, name: &[u8]) -> Result<(), Stop>
+    pub(crate) fn fail(&mut self, message: Message, name: &[u8]) -> Result<(), Ending>
         requires { self.old.steps < u32.MAX }
         ensures status { IfOk result (λ u. self.new.status ≡ 1) }
         ensures told { (rules : Rules) (held : Held) → self.old.steps < rules.limits.steps → Did rules
@@ -116,7 +116,7 @@ impl Progress {
     }
 
     /// A step that fails since the name that it assigns to is that of a variable.
-    pub(crate) fn refuse_name(&mut self) -> Result<(), Stop>
+    pub(crate) fn refuse_name(&mut self) -> Result<(), Ending>
         requires { self.old.steps < u32.MAX }
         ensures { (rules : Rules) (held : Held) → self.old.steps < rules.limits.steps → Did rules
             (λ r begin. step r (fails Message.IsVariable self.old.name.items)) (λ u r begin. Goes)
@@ -130,12 +130,12 @@ impl Progress {
 
     /// Whether one more step may be counted.
     #[inline(always)]
-    pub(crate) fn may_step(&self, given: &Given<'_>) -> Result<(), Stop>
+    pub(crate) fn may_step(&self, given: &Given<'_>) -> Result<(), Ending>
         ensures may { MayStep (rules_of given.now) self.now.steps result }
         ensures counts { IfOk result (λ u. self.now.steps < most_steps) }
     {
         if self.steps >= given.limits.steps() {
-            return Err(Stop::Ended(Reason::Steps));
+            return Err(Ending::Steps);
         }
         Ok(())
     }

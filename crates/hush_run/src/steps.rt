@@ -1,16 +1,17 @@
 //! The steps of a run (docs/runs.md, "Steps"). Each counts one, or stops with nothing changed.
-ghost use Rattle.std.specs.Prelude.{ℕ, List, ◌∷◌, map, if◌then◌else◌};
-ghost use Rattle.hush_words.specs.Parts.{word_atoms};
+ghost use Rattle.std.specs.Prelude.{◌≡◌, ◌++◌, ℕ, List, ◌∷◌, map, if◌then◌else◌, OnOk};
+ghost use Rattle.hush_words.specs.Parts.{part_atoms, word_atoms};
+ghost use Rattle.hush_words.specs.Ranges.{Fits};
 ghost use Rattle.hush_syntax.specs.Trees.{name_in};
 ghost use Rattle.hush_run.specs.Meaning.{Goes, ◌then◌, simple, follows, fields_of, step, assigned, for, bindings, deletions};
-ghost use Rattle.hush_run.specs.Steps.{state_of, rules_of, Meant, Did, Started};
+ghost use Rattle.hush_run.specs.Steps.{state_of, rules_of, Meant, Did, Started, plain_bytes};
 
-use crate::ending::{Reason, Stop};
-use crate::names::read_name;
+use crate::ending::Ending;
 use crate::progress::{Given, Progress};
 use env_session::Session;
 use hush_commands::{FieldQueue, Follow, Message, carry_out, delete};
-use hush_syntax::{FaultKind, Script, Text, Word};
+use hush_syntax::{FaultKind, Part, Parts, Script, Text, Word};
+use std::alloc::AllocError;
 
 /// A simple command of these words: what comes behind it.
 #[inline(always)]
@@ -20,7 +21,7 @@ pub(crate) fn simple_step(
     progress: &mut Progress,
     text: &Text,
     words: &[Word],
-) -> Result<Follow, Stop>
+) -> Result<Follow, Ending>
     ensures { Did (rules_of given.now)
         (λ rules begin s. simple rules begin (fields_of rules (map (word_atoms text.now) words.now) s) s)
         (λ follow rules begin. follows rules begin follow) (state_of session.old progress.old)
@@ -38,7 +39,7 @@ pub(crate) fn simple_step(
     progress.status = carried.0;
     progress.steps += 1;
     match carried.1 {
-        Follow::End => Err(Stop::Ended(Reason::Exited)),
+        Follow::End => Err(Ending::Exited),
         follow => Ok(follow),
     }
 }
@@ -51,7 +52,7 @@ pub(crate) fn assign_step(
     text: &Text,
     name: Word,
     value: Word,
-) -> Result<(), Stop>
+) -> Result<(), Ending>
     ensures { Did (rules_of given.now)
         (λ rules begin. step rules (assigned rules (name_in text.now name) (word_atoms text.now value)))
         (λ u rules begin. Goes) (state_of session.now progress.old) (state_of session.now progress.new) result }
@@ -77,7 +78,7 @@ pub(crate) fn head_step(
     progress: &mut Progress,
     text: &Text,
     words: &[Word],
-) -> Result<FieldQueue, Stop>
+) -> Result<FieldQueue, Ending>
     ensures { (name : List ℕ) (body : Meant) → Did (rules_of given.now)
         (λ rules begin s. for rules name (fields_of rules (map (word_atoms text.now) words.now) s) (body rules begin) s)
         (λ fields rules begin. bindings rules name (body rules begin) fields) (state_of session.now progress.old)
@@ -101,7 +102,7 @@ pub(crate) fn bind_step(
     text: &Text,
     name: Word,
     field: &[u8],
-) -> Result<bool, Stop>
+) -> Result<bool, Ending>
     ensures { (rest : List (List ℕ)) (body : Meant) → Did (rules_of given.now)
         (λ rules begin. bindings rules (name_in text.now name) (body rules begin) (field.now ∷ rest))
         (λ bound rules begin. if bound
@@ -127,7 +128,7 @@ pub(crate) fn delete_step(
     name: &[u8],
     force: bool,
     failed: bool,
-) -> Result<bool, Stop>
+) -> Result<bool, Ending>
     ensures { (rest : List (List ℕ)) → Did (rules_of given.now)
         (λ rules begin. deletions rules force failed (name.now ∷ rest))
         (λ failed rules begin. deletions rules force failed rest) (state_of session.old progress.old)
@@ -147,7 +148,7 @@ pub(crate) fn start_step(
     progress: &mut Progress,
     name: &[u8],
     levels: u32,
-) -> Result<Option<Script>, Stop>
+) -> Result<Option<Script>, Ending>
     ensures { Started (rules_of given.now) levels name.now (state_of session.now progress.old) (state_of session.now progress.new) result }
 {
     progress.may_step(given)?;
@@ -156,7 +157,7 @@ pub(crate) fn start_step(
         return Ok(None);
     };
     if levels == 0 {
-        return Err(Stop::Ended(Reason::Depth));
+        return Err(Ending::Depth);
     }
     match Script::parse(given.alloc, Vec::from_slice(given.alloc, value)?) {
         Ok(script) => {
@@ -165,11 +166,45 @@ pub(crate) fn start_step(
             Ok(Some(script))
         }
         Err(fault) => match fault.kind {
-            FaultKind::Memory => Err(Stop::Memory),
+            FaultKind::Memory => Err(Ending::Memory),
             _ => {
                 progress.fail(Message::NoScript, name)?;
                 Ok(None)
             }
         },
+    }
+}
+
+/// Reads the name that a word is, in place of what `name` holds; an empty one where it is none.
+fn read_name(text: &Text, word: Word, name: &mut Vec<u8>) -> Result<(), AllocError>
+    ensures { OnOk result (name.new.items ≡ name_in text.now word) }
+{
+    name.clear();
+    if word.is_name(text) {
+        append_plain(text, text.parts(word), name)?;
+    }
+    Ok(())
+}
+
+/// Appends the unquoted plain bytes of parts.
+fn append_plain(text: &Text, parts: Parts<'_>, name: &mut Vec<u8>) -> Result<(), AllocError>
+    requires { parts.source ≡ text.now.source }
+    ensures { OnOk result (name.new.items ≡ name.old.items ++ plain_bytes parts.entry.atoms) }
+{
+    let mut left = parts;
+    while let Some(part) = left.next_part() {
+        name.extend_from_slice(plain_in(text, part))?;
+    }
+    Ok(())
+}
+
+/// The unquoted plain bytes of a part.
+fn plain_in(text: &Text, part: Part) -> &[u8]
+    requires { Fits text.now.source part }
+    ensures { result.now ≡ plain_bytes (part_atoms text.now.source part) }
+{
+    match part {
+        Part::Plain(span) => text.bytes(span),
+        _ => &[],
     }
 }

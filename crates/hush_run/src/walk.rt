@@ -3,11 +3,10 @@ ghost use Rattle.std.specs.Prelude.{◌≡◌, ◌<◌, ◌≤◌, ◌+◌, ◌*
 ghost use Rattle.hush_syntax.specs.Scripts.{subtree_at};
 ghost use Rattle.hush_run.specs.Resume.{FirstPart, Descends, room, IsStack, owners};
 ghost use Rattle.hush_run.specs.Rises.{Rises, with_behind};
-ghost use Rattle.hush_run.specs.Stacks.{frame_limit, script_frames};
+ghost use Rattle.hush_run.specs.Stacks.{script_frames};
 
-use crate::calls::Calls;
 use crate::due::Due;
-use crate::frames::{Frame, Frames};
+use crate::frames::{Calls, Frame, Frames};
 use crate::turns::{Turn, member, turn_of};
 use hush_syntax::{Node, NodeId, Script};
 
@@ -15,9 +14,9 @@ use hush_syntax::{Node, NodeId, Script};
 #[inline(always)]
 pub(crate) fn descend(script: &Script, frames: &mut Frames, id: NodeId) -> NodeId
     requires known { IsSome (subtree_at script.now id) }
-    requires room { length frames.old.frames + room (subtree_at script.now id) ≤ frame_limit frames.old.depth }
+    requires room { length frames.old.frames + room (subtree_at script.now id) ≤ frames.old.capacity }
     ensures descends { Descends script.now frames.old.frames frames.new.frames id result }
-    ensures depth { frames.new.depth ≡ frames.old.depth }
+    ensures capacity { frames.new.capacity ≡ frames.old.capacity }
     ensures height { length frames.new.frames + room (subtree_at script.now result) ≤ length frames.old.frames + room (subtree_at script.now id) }
 {
     let mut node = id;
@@ -56,9 +55,9 @@ pub(crate) fn rise_up(calls: &mut Calls<'_>, frames: &mut Frames, status: &mut u
     requires stack { IsStack calls.old frames.old.frames }
     requires some { 1 ≤ length calls.old }
     requires fits { length frames.old.frames ≤ script_frames * length calls.old }
-    requires limit { script_frames * length calls.old ≤ frame_limit frames.old.depth }
+    requires limit { script_frames * length calls.old ≤ frames.old.capacity }
     ensures rises { Rises calls.old frames.old.frames status.old calls.new frames.new.frames status.new result }
-    ensures depth { frames.new.depth ≡ frames.old.depth }
+    ensures capacity { frames.new.capacity ≡ frames.old.capacity }
 {
     while let Some(frame) = frames.pop() {
         leave(calls, &frame);
@@ -89,9 +88,9 @@ fn leave(calls: &mut Calls<'_>, frame: &Frame)
 
 /// Puts the frame that is left behind on top.
 fn keep(frames: &mut Frames, behind: Option<Frame>)
-    requires { length frames.old.frames < frame_limit frames.old.depth }
+    requires { length frames.old.frames < frames.old.capacity }
     ensures frames { frames.new.frames ≡ with_behind behind frames.old.frames }
-    ensures depth { frames.new.depth ≡ frames.old.depth }
+    ensures capacity { frames.new.capacity ≡ frames.old.capacity }
 {
     match behind {
         Some(frame) => frames.push(frame),

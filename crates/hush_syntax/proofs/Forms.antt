@@ -1,5 +1,5 @@
 -- What the laws of hush_words on the forms of a word say of the words of a script.
-use Rattle.std.proofs.Common.{◌≡◌, ℕ, ◌==◌, Bool, true, false, not, List, [], ◌∷◌, ◌++◌, map, codes, refl, ap, subst, Option, Some, None}
+use Rattle.std.proofs.Common.{◌≡◌, ℕ, ◌==◌, ◌&&◌, bytes_eq, Bool, true, false, not, List, [], ◌∷◌, ◌++◌, map, codes, refl, ap, subst, Option, Some, None}
 use Rattle.std.proofs.lemmas.Bool.{and_parts, not-true}
 use Rattle.std.specs.List.{list_all, find}
 use Rattle.hush_words.specs.Words.{Atom, is_name}
@@ -13,6 +13,14 @@ use Rattle.hush_syntax.specs.Keywords.{keyword_of, keywords, spelling}
 use Rattle.hush_syntax.specs.Grammar.{begins}
 use Rattle.hush_syntax.specs.Reading.{behind, is, keyword_at}
 use Rattle.hush_syntax.proofs.Fronts.{by_test}
+
+-- a word of plain bytes alone is a text if its bytes are
+pub bytes_plain : (text bytes : List ℕ) → bytes_eq bytes text ≡ is_plain text (map Plain bytes)
+unfolding is_plain
+bytes_plain [] [] = refl
+bytes_plain [] (b ∷ bytes) = refl
+bytes_plain (t ∷ text) [] = refl
+bytes_plain (t ∷ text) (b ∷ bytes) = ap (λ r. b == t && r) (bytes_plain text bytes)
 
 -- a word's forms are told exactly
 pub record FormsAreTold : Type 0 where

@@ -1,6 +1,8 @@
 //! The reserved words.
-ghost use Rattle.std.specs.Prelude.{◌≡◌};
+ghost use Rattle.std.specs.Prelude.{◌≡◌, map};
+ghost use Rattle.hush_words.specs.Forms.{is_plain};
 ghost use Rattle.hush_words.specs.Parts.{word_atoms};
+ghost use Rattle.hush_words.specs.Words.Atom.{Plain};
 
 use hush_words::{Text, Word};
 
@@ -54,14 +56,43 @@ impl Keyword {
     }
 
     /// The reserved word that a word would be where a command may begin.
-    #[tactic(auto, unfolding(crate::specs::Keywords::keyword_of))]
     pub(crate) fn of(word: Word, text: &Text) -> Option<Keyword>
+        ensures { result ≡ keyword_of (word_atoms text.now word) }
+    {
+        match word.bare(text) {
+            Some(bytes) => Keyword::of_bare(bytes),
+            None => Keyword::of_written(word, text),
+        }
+    }
+
+    /// The same of a word that is these bytes, as most words are: they aren't read anew for each reserved word.
+    #[tactic(auto, unfolding(crate::specs::Keywords::keyword_of))]
+    fn of_bare(bytes: &[u8]) -> Option<Keyword>
+        ensures { result ≡ keyword_of (map Plain bytes.now) }
+    {
+        Keyword::ALL
+            .iter()
+            .copied()
+            .find(|keyword| keyword.is_spelled(bytes))
+    }
+
+    /// The same of a word with quotes, substitutions, escapes or joined lines.
+    #[tactic(auto, unfolding(crate::specs::Keywords::keyword_of))]
+    fn of_written(word: Word, text: &Text) -> Option<Keyword>
         ensures { result ≡ keyword_of (word_atoms text.now word) }
     {
         Keyword::ALL
             .iter()
             .copied()
             .find(|keyword| word.is_plain(text, keyword.text()))
+    }
+
+    /// It is spelled by these bytes.
+    #[tactic(auto, using(crate::proofs::Forms::bytes_plain))]
+    fn is_spelled(self, bytes: &[u8]) -> bool
+        ensures { result ≡ is_plain (spelling self) (map Plain bytes.now) }
+    {
+        bytes == self.text()
     }
 
     /// It ends a list of chains.

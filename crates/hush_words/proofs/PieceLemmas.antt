@@ -46,6 +46,10 @@ piece-run (b ∷ bs) rest all =
     let more = piece-run bs rest p.1 in
     (one.0 ∙ ap (λ l. Plain b ∷ l) more.0, one.1 ∙ more.1)
 
+pub bare-read : (bytes : List ℕ) → list_all is_bare bytes ≡ true → piece_atoms_left bytes ≡ map Plain bytes
+bare-read bytes all =
+    ap piece_atoms_left (sym (append-nil bytes)) ∙ (piece-run bytes [] all).0 ∙ ap (λ l. map Plain bytes ++ l) nothing ∙ append-nil (map Plain bytes)
+
 -- one piece, told by what stands behind it
 goes-by : (bs rest : List ℕ) (o : Found Piece) → piece_at bs ≡ o → option_map (λ (f : Piece × List ℕ). f.1) o ≡ Some rest →
     (is_some (piece_at bs) ≡ true) × (piece_end rest ≡ piece_end bs)

@@ -1,17 +1,20 @@
 //! The forms of a word that the grammar asks for (docs/scripts.md, "Grammar").
 
-ghost use Rattle.std.specs.Prelude.{◌≡◌, ◌<◌, take, drop, is_some, IfSome, Some, true};
+ghost use Rattle.std.specs.Prelude.{◌≡◌, take, drop, is_some, map, IfSome};
+ghost use Rattle.std.specs.List.{list_all};
 ghost use Rattle.std.specs.Option.{option_map};
 ghost use Rattle.hush_words.specs.Forms.{is_plain, goes_on, name_of, assignment_of, split_of};
-ghost use Rattle.hush_words.specs.Parts.{part_atoms, word_atoms};
+ghost use Rattle.hush_words.specs.Parts.{part_atoms, range_bytes, word_atoms};
 ghost use Rattle.hush_words.specs.Reading.{piece_atoms_left, piece_at};
 ghost use Rattle.hush_words.specs.Views.{assignment_view};
+ghost use Rattle.hush_words.specs.Words.{is_bare};
+ghost use Rattle.hush_words.specs.Words.Atom.{Plain};
 ghost use Rattle.hush_words.specs.Steps.{PlainRest, NameStep, NameFrom, SplitsAt, StandsAt};
 ghost use Rattle.hush_words.specs.Ranges.{Fits, IsShort};
 
 use crate::classes::{
-    Class, begins_name, byte_at, ends_word, is_in_name, is_joined_line, is_special, run_end,
-    stands_at,
+    Class, begins_name, byte_at, ends_word, is_bare, is_in_name, is_joined_line, is_special,
+    run_end, stands_at,
 };
 use crate::steps::NamePlace;
 use crate::words::piece;
@@ -32,6 +35,15 @@ impl Word {
         ensures { result ≡ is_plain bytes.now (word_atoms text.now self) }
     {
         are_plain(text.parts(self), text.source(), bytes)
+    }
+
+    /// The bytes that the word is written in, if each of them stands for itself.
+    pub fn bare(self, text: &Text) -> Option<&[u8]>
+        ensures bytes { IfSome result (λ bytes. word_atoms text.now self ≡ map Plain bytes.now) }
+        ensures only { is_some result ≡ list_all is_bare (range_bytes text.now.source self.start self.end) }
+    {
+        let bytes = written_in(self, text.source());
+        if are_bare(bytes) { Some(bytes) } else { None }
     }
 
     /// Whether the word is a name, in unquoted plain bytes alone: a letter or `_`, then letters, digits and `_`.
@@ -66,6 +78,21 @@ fn front(source: &[u8], end: u32) -> &[u8]
     ensures { result.now ≡ take end source.now }
 {
     &source[..(end as usize).min(source.len())]
+}
+
+/// The bytes that a word is written in, as far as there are any.
+fn written_in(word: Word, source: &[u8]) -> &[u8]
+    ensures { result.now ≡ range_bytes source.now word.start word.end }
+{
+    let front = front(source, word.end);
+    &front[(word.start as usize).min(front.len())..]
+}
+
+/// Whether each byte stands for itself.
+fn are_bare(bytes: &[u8]) -> bool
+    ensures { result ≡ list_all is_bare bytes.now }
+{
+    bytes.iter().all(|b| is_bare(*b))
 }
 
 /// Whether the parts are this text, in unquoted plain bytes alone.

@@ -1,6 +1,5 @@
 //! The stack of frames.
 ghost use Rattle.std.specs.Prelude.{◌+◌, ◌≤◌, length};
-ghost use Rattle.hush_run.specs.Stacks.{frame_limit};
 
 use hush_run::frames::{Frame, Frames};
 use hush_syntax::{NodeId, Script};
@@ -8,7 +7,7 @@ use std::test::Fail;
 
 /// Puts so many frames on top, each with its number.
 fn push_all(frames: &mut Frames, node: NodeId, room: usize)
-    requires { length frames.old.frames + room ≤ frame_limit frames.old.depth }
+    requires { length frames.old.frames + room ≤ frames.old.capacity }
 {
     let mut pushed = 0;
     while pushed < room {

@@ -4,7 +4,6 @@ ghost use Rattle.std.specs.Prelude.{All, IsSome};
 ghost use Rattle.hush_words.specs.Ranges.{Fits};
 ghost use Rattle.hush_syntax.specs.Scripts.{subtree_at};
 
-mod boots;
 mod faults;
 mod fronts;
 mod hostile;

@@ -1,16 +1,15 @@
 //! Enough variables that a refused growth meets a run of the store that is cut in two, and one that is new: names are
-//! written one behind another, then between others, taken out again, copied, and written into the copy.
-use crate::lines::{refused, row, wrong};
-use crate::states::sum_of_lines;
+//! written one after another, then between others, taken out again, copied, and written into the copy.
+
+use crate::harness::{self, Call, Outcome};
+use crate::pages::Page;
+use crate::states::sum_of_vars;
 use envvars_core::{Refusal, Vars};
 use std::alloc::Global;
 use std::io::{self, Write};
 
 /// More room than the variables take.
 const ROOM: u32 = 4096;
-
-/// The value of each variable.
-const ONE: Option<&[u8]> = Some(b"1");
 
 /// `v`, three digits and a letter.
 fn name(i: u32, letter: u8) -> [u8; 5] {
@@ -23,113 +22,145 @@ fn name(i: u32, letter: u8) -> [u8; 5] {
     ]
 }
 
-/// Whether there are so many variables, each of 8 bytes, in ascending order.
-fn are(vars: &Vars, count: u32) -> bool {
-    let mut found = 0u32;
-    let mut last: &[u8] = &[];
-    for (name, value) in vars.iter() {
-        if name <= last || value != b"1".as_slice() {
-            return false;
-        }
-        last = name;
-        found = found.wrapping_add(1);
-    }
-    found == count && vars.used() == count.wrapping_mul(8).wrapping_add(1)
-}
-
-/// A write that no check refuses. Refused for memory, it has changed nothing, and made again it writes.
-fn write<W: Write>(
-    out: &mut W,
-    vars: &mut Vars,
-    name: &[u8],
-    new: Option<&[u8]>,
-    defaults: &Vars,
-) -> io::Result<()> {
-    let before = sum_of_lines(vars);
-    match vars.write(name, new, false, defaults) {
-        Ok(_) => return Ok(()),
-        Err(Refusal::Memory) if sum_of_lines(vars) == before => refused(out, "write among many")?,
-        Err(_) => return wrong(out, "write among many"),
-    }
-    if vars.write(name, new, false, defaults).is_err() {
-        return wrong(out, "write among many, made again");
-    }
-    Ok(())
-}
-
-/// Gives the names of the numbers from `first` on a value, or takes them out.
-fn write_all<W: Write>(
-    out: &mut W,
-    vars: &mut Vars,
-    numbers: (u32, u32),
+/// Writes of one value to the names of numbers that follow one another, or removals, of which some are done.
+#[derive(Drop)]
+struct Series {
+    vars: Vars,
+    defaults: Vars,
+    at: u32,
+    end: u32,
     letter: u8,
-    new: Option<&[u8]>,
-    defaults: &Vars,
-) -> io::Result<()> {
-    for i in numbers.0..numbers.1 {
-        write(out, vars, &name(i, letter), new, defaults)?;
-    }
-    Ok(())
+    value: Option<&'static [u8]>,
 }
 
-fn count_row<W: Write>(
-    out: &mut W,
-    call: &str,
-    vars: &Vars,
-    count: u32,
-    shown: &[u8],
-) -> io::Result<()> {
-    if !are(vars, count) {
-        return wrong(out, call);
+impl Call for Series {
+    fn make(&mut self, _alloc: Global) -> Outcome {
+        for at in self.at..self.end {
+            let before = sum_of_vars(&self.vars);
+            let made = self
+                .vars
+                .write(&name(at, self.letter), self.value, false, &self.defaults);
+            match made {
+                Ok(_was) => self.at = at.wrapping_add(1),
+                Err(Refusal::Memory) if sum_of_vars(&self.vars) == before => return Outcome::Begun,
+                Err(_) => return Outcome::Wrong,
+            }
+        }
+        Outcome::Done
     }
-    row(out, call, shown)
+
+    fn state(&self) -> u32 {
+        sum_of_vars(&self.vars)
+    }
+
+    /// How many variables there are, each of 8 bytes; none if they aren't in ascending order.
+    fn tell(&self, page: &mut Page) {
+        let mut count = 0u32;
+        let mut last: &[u8] = &[];
+        for (name, value) in self.vars.iter() {
+            if name <= last || value != b"1".as_slice() {
+                return;
+            }
+            last = name;
+            count = count.wrapping_add(1);
+        }
+        if self.vars.used() == count.wrapping_mul(8).wrapping_add(1) {
+            page.put_number(count);
+        }
+    }
 }
 
-/// A copy of variables that ROOM holds, made again where memory ran out.
-fn copy<W: Write>(alloc: Global, out: &mut W, vars: &Vars) -> io::Result<Option<Vars>> {
-    let before = sum_of_lines(vars);
-    if vars.used() > ROOM {
-        return Ok(None);
-    }
-    if let Ok(copy) = vars.copy(alloc, ROOM) {
-        return Ok(Some(copy));
-    }
-    if sum_of_lines(vars) != before {
-        return Ok(None);
-    }
-    refused(out, "copy of many")?;
-    Ok(vars.copy(alloc, ROOM).ok())
+/// A copy of variables in so much room.
+#[derive(Drop)]
+pub struct Copied {
+    pub vars: Vars,
+    pub room: u32,
+    pub copy: Option<Vars>,
 }
 
-/// Names written one behind another, then between others, and taken out again.
-fn change<W: Write>(out: &mut W, vars: &mut Vars, defaults: &Vars) -> io::Result<()> {
-    write_all(out, vars, (0, 130), b'a', ONE, defaults)?;
-    count_row(out, "many written", vars, 130, b"130 variables")?;
-    write_all(out, vars, (95, 105), b'b', ONE, defaults)?;
-    count_row(out, "written between", vars, 140, b"140 variables")?;
-    write_all(out, vars, (5, 105), b'a', None, defaults)?;
-    count_row(out, "taken out", vars, 40, b"40 variables")
+impl Call for Copied {
+    fn make(&mut self, alloc: Global) -> Outcome {
+        if self.vars.used() > self.room {
+            return Outcome::Wrong;
+        }
+        match self.vars.copy(alloc, self.room) {
+            Ok(copy) => {
+                self.copy = Some(copy);
+                Outcome::Done
+            }
+            Err(_) => Outcome::Refused,
+        }
+    }
+
+    fn state(&self) -> u32 {
+        sum_of_vars(&self.vars)
+    }
+
+    fn tell(&self, page: &mut Page) {
+        if let Some(copy) = &self.copy {
+            if sum_of_vars(copy) == sum_of_vars(&self.vars) {
+                page.put(b"the same");
+            }
+        }
+    }
 }
 
-/// A copy of what that leaves, with writes into it.
-fn change_copy<W: Write>(
+/// A part of what is written: its name, the numbers from one up to another, a letter and the value.
+type Part = (&'static str, u32, u32, u8, Option<&'static [u8]>);
+
+const PARTS: [Part; 3] = [
+    ("many written", 0, 130, b'a', Some(b"1")),
+    ("written between", 95, 105, b'b', Some(b"1")),
+    ("taken out", 5, 105, b'a', None),
+];
+
+/// The parts one after another, and the variables that they leave.
+fn sweep_parts<W: Write>(
     alloc: Global,
     out: &mut W,
-    vars: &Vars,
-    defaults: &Vars,
-) -> io::Result<()> {
-    let Some(mut copied) = copy(alloc, out, vars)? else {
-        return wrong(out, "copy of many");
+    vars: Vars,
+    parts: &[Part],
+) -> io::Result<Vars> {
+    let mut series = Series {
+        vars,
+        defaults: Vars::empty(alloc, 1),
+        at: 0,
+        end: 0,
+        letter: b'a',
+        value: None,
     };
-    write_all(out, &mut copied, (0, 40), b'c', ONE, defaults)?;
-    count_row(out, "written into a copy", &copied, 80, b"80 variables")?;
-    count_row(out, "copied from", vars, 40, b"40 variables")
+    for (said, at, end, letter, value) in parts {
+        series.at = *at;
+        series.end = *end;
+        series.letter = *letter;
+        series.value = *value;
+        harness::sweep(alloc, out, said, &mut series)?;
+    }
+    Ok(series.vars)
 }
 
 /// Writes, removals, and a copy of what they leave, with writes into it.
 pub fn sweep<W: Write>(alloc: Global, out: &mut W) -> io::Result<()> {
-    let defaults = Vars::empty(alloc, 1);
-    let mut vars = Vars::empty(alloc, ROOM);
-    change(out, &mut vars, &defaults)?;
-    change_copy(alloc, out, &vars, &defaults)
+    let mut copied = Copied {
+        vars: sweep_parts(alloc, out, Vars::empty(alloc, ROOM), &PARTS)?,
+        room: ROOM,
+        copy: None,
+    };
+    harness::sweep(alloc, out, "copy of many", &mut copied)?;
+    let Copied {
+        vars: from,
+        copy,
+        room: _room,
+    } = copied;
+    let Some(vars) = copy else {
+        return out.write_all(b"no copy\n");
+    };
+    let _into = sweep_parts(
+        alloc,
+        out,
+        vars,
+        &[("written into a copy", 0, 40, b'c', Some(b"1".as_slice()))],
+    )?;
+    let _from = sweep_parts(alloc, out, from, &[("copied from", 0, 0, b'c', None)])?;
+    Ok(())
 }

@@ -1,183 +1,136 @@
-//! The tools over a session that was just started: `setenv`, `set_script`, `import` and `export`.
+//! The tools over a session that was just started.
 
-use crate::lines::{refused, row, wrong};
+use crate::harness::{self, Call, Outcome, outcome_of};
 use crate::pages::Page;
-use crate::sessions::{ALL, is_bad, shows, start};
-use crate::states::state_of;
-use env_session::Session;
-use envcfg_core::{TextEntry, TextFault, parse_import};
-use fw_engines::{StreamFault, ToolEnd, export, import, set_script, setenv};
+use crate::sessions::{IMPORTED, SIZE, TEXT, bad_copy, begun};
+use crate::states::{are_some_of, put_vars, sum_of_copies};
+use env_session::{Session, Stored};
+use envcfg_core::{TextEntry, parse_import};
+use fw_engines::{StreamFault, export, import, set_script, setenv};
 use std::alloc::Global;
 use std::io::{self, Write};
 
-/// The entries that a set script and an import take; read as either text they are the same. The second is refused: the first
-/// makes it one for decimal digits.
-const TEXT: &[u8] = b".flags=a:d\na=x\nb=1\n";
-
 /// A tool.
 #[derive(Clone, Copy)]
-enum Tool {
+pub enum Tool {
     Set,
     Script,
     Import,
     Export,
 }
 
-/// A tool, what it prints on both streams, and the variables that it leaves.
-#[derive(Clone, Copy)]
-struct Wanted {
-    tool: Tool,
-    name: &'static str,
-    output: &'static [u8],
-    errors: &'static [u8],
-    after: &'static [u8],
-    is_saved: bool,
+impl Tool {
+    /// Whether a call of it that ends with this status saves.
+    fn saves(self, status: u8) -> bool {
+        match self {
+            Tool::Set | Tool::Script => status == 0,
+            Tool::Import => true,
+            Tool::Export => false,
+        }
+    }
 }
 
-const SET: Wanted = Wanted {
-    tool: Tool::Set,
-    name: "setenv",
-    output: b"",
-    errors: b"",
-    after: b"a=x and more;p=1;q=2;r=3;",
-    is_saved: true,
-};
-
-const SCRIPT: Wanted = Wanted {
-    tool: Tool::Script,
-    name: "set_script",
-    output: b"",
-    errors: b"## Error: type check failure for \"a\"\n",
-    after: b".flags=a:d;p=1;q=2;r=3;",
-    is_saved: false,
-};
-
-const IMPORT: Wanted = Wanted {
-    tool: Tool::Import,
-    name: "import",
-    output: b"",
-    errors: b"## Error: 1 entries refused\n",
-    after: b".flags=a:d;b=1;p=1;q=2;r=3;",
-    is_saved: true,
-};
-
-const EXPORT: Wanted = Wanted {
-    tool: Tool::Export,
-    name: "export",
-    output: b"p=1\nq=2\nr=3\n",
-    errors: b"",
-    after: ALL,
-    is_saved: false,
-};
-
-/// What a tool printed.
+/// A tool over a session, the entries that it takes, and what it printed.
 #[derive(Drop)]
-struct Pages {
-    output: Page,
-    errors: Page,
+pub struct ToolCall<'a> {
+    pub tool: Tool,
+    pub session: Session,
+    pub entries: &'a [TextEntry],
+    pub output: Page,
 }
 
-impl Pages {
-    fn new() -> Pages {
-        Pages {
-            output: Page::new(),
-            errors: Page::new(),
+impl<'a> Call for ToolCall<'a> {
+    /// Refused, it has printed nothing and changed no copy, and some first entries are written.
+    fn make(&mut self, alloc: Global) -> Outcome {
+        let copies = sum_of_copies(&self.session);
+        let (mut output, mut errors) = (Page::new(), Page::new());
+        let session = &mut self.session;
+        let end = match self.tool {
+            Tool::Set => setenv(alloc, session, b"a", &[b"x", b"and", b"more"], &mut errors),
+            Tool::Script => set_script(session, self.entries, &mut errors),
+            Tool::Import => import(session, self.entries, &mut errors),
+            Tool::Export => export(alloc, session, &mut output, &mut errors),
+        };
+        let is_saved = sum_of_copies(&self.session) != copies;
+        if end.fault == Some(StreamFault::Memory) {
+            let is_silent = end.status == 1 && output.is_empty() && errors.is_empty();
+            let is_kept = !is_saved
+                && (are_some_of(self.session.vars(), &IMPORTED) || is_set(&self.session));
+            return if is_silent && is_kept {
+                Outcome::Begun
+            } else {
+                Outcome::Wrong
+            };
         }
+        let is_told = (end.status == 0) == errors.is_empty()
+            && is_saved == self.tool.saves(end.status);
+        if !errors.is_empty() {
+            output.put(errors.text());
+        }
+        self.output = output;
+        outcome_of(end.fault.is_none() && is_told, false)
     }
 
-    fn are(&self, output: &[u8], errors: &[u8]) -> bool {
-        self.output.text() == output && self.errors.text() == errors
+    fn state(&self) -> u32 {
+        sum_of_copies(&self.session)
+    }
+
+    fn tell(&self, page: &mut Page) {
+        if let Tool::Export = self.tool {
+            page.copy_from(&self.output);
+            return;
+        }
+        page.put(self.output.text());
+        put_vars(self.session.vars(), page);
     }
 }
 
-/// One call.
-fn call(
+/// Whether the write of `setenv` is done, which memory for the save comes after.
+fn is_set(session: &Session) -> bool {
+    match session.vars().get(b"a") {
+        Some(value) => value == b"x and more".as_slice(),
+        None => false,
+    }
+}
+
+/// A row: a tool over a session of its own.
+pub fn sweep_tool<W: Write>(
     alloc: Global,
+    out: &mut W,
+    said: &str,
     tool: Tool,
-    session: &mut Session,
-    entries: &[TextEntry],
-    pages: &mut Pages,
-) -> ToolEnd {
-    match tool {
-        Tool::Set => setenv(
-            alloc,
-            session,
-            b"a",
-            &[b"x", b"and", b"more"],
-            &mut pages.errors,
-        ),
-        Tool::Script => set_script(session, entries, &mut pages.errors),
-        Tool::Import => import(session, entries, &mut pages.errors),
-        Tool::Export => export(alloc, session, &mut pages.output, &mut pages.errors),
-    }
-}
-
-/// Whether the variables are those before the call, or what some first writes of it leave.
-fn is_begun(tool: Tool, session: &Session, after: &[u8]) -> bool {
-    let between = match tool {
-        Tool::Import => shows(session, b".flags=a:d;p=1;q=2;r=3;"),
-        _ => false,
-    };
-    between || shows(session, ALL) || shows(session, after)
-}
-
-/// A call over a session. Refused for memory, it has printed nothing, and neither a copy, nor the choice, nor a mark has
-/// changed; made again it does what it has to.
-fn sweep_over<W: Write>(
-    alloc: Global,
-    out: &mut W,
-    wanted: Wanted,
-    session: &mut Session,
+    stored: Option<Stored>,
     entries: &[TextEntry],
 ) -> io::Result<()> {
-    let before = state_of(session);
-    let mut pages = Pages::new();
-    let mut end = call(alloc, wanted.tool, session, entries, &mut pages);
-    if end.fault == Some(StreamFault::Memory) {
-        let has_copies = is_bad(session) && state_of(session).has_copies_of(&before);
-        let is_kept = has_copies && is_begun(wanted.tool, session, wanted.after);
-        if end.status != 1 || !pages.are(b"", b"") || !is_kept {
-            return wrong(out, wanted.name);
+    let has_defaults = entries.len() < 100;
+    match begun(alloc, out, "start for a tool", stored, has_defaults)? {
+        Some(session) => {
+            let mut call = ToolCall {
+                tool,
+                session,
+                entries,
+                output: Page::new(),
+            };
+            harness::sweep(alloc, out, said, &mut call)
         }
-        refused(out, wanted.name)?;
-        end = call(alloc, wanted.tool, session, entries, &mut pages);
+        None => Ok(()),
     }
-    let is_done = end.fault.is_none() && (end.status == 0) == wanted.errors.is_empty();
-    let is_saved = !is_bad(session);
-    if !is_done || is_saved != wanted.is_saved || !pages.are(wanted.output, wanted.errors) {
-        return wrong(out, wanted.name);
-    }
-    if !shows(session, wanted.after) {
-        return wrong(out, wanted.name);
-    }
-    row(out, wanted.name, wanted.after)
 }
 
-/// A tool over a session that was just started.
-fn sweep_one<W: Write>(
-    alloc: Global,
-    out: &mut W,
-    wanted: Wanted,
-    entries: &[TextEntry],
-) -> io::Result<()> {
-    match start(alloc, out)? {
-        Some(mut session) => sweep_over(alloc, out, wanted, &mut session, entries),
-        None => wrong(out, wanted.name),
-    }
-}
+const ROWS: [(&str, Tool); 4] = [
+    ("setenv", Tool::Set),
+    ("set_script", Tool::Script),
+    ("import", Tool::Import),
+    ("export", Tool::Export),
+];
 
 /// Each tool over a session of its own.
 pub fn sweep<W: Write>(alloc: Global, out: &mut W) -> io::Result<()> {
-    let mut entries = parse_import(alloc, TEXT);
-    if matches!(&entries, Err(TextFault::Memory)) {
-        refused(out, "parse_import for the tools")?;
-        entries = parse_import(alloc, TEXT);
-    }
-    let Ok(entries) = entries else {
-        return wrong(out, "parse_import for the tools");
+    let Ok(entries) = parse_import(alloc, TEXT) else {
+        return out.write_all(b"no memory\n");
     };
-    for wanted in [SET, SCRIPT, IMPORT, EXPORT] {
-        sweep_one(alloc, out, wanted, &entries)?;
+    for (said, tool) in ROWS {
+        sweep_tool(alloc, out, said, tool, bad_copy(alloc, SIZE), &entries)?;
     }
     Ok(())
 }

@@ -1,177 +1,180 @@
-//! Variables: `load`, `copy`, and `write` of a plain variable and of `.flags`.
-use crate::keeping::sweep_all_kept;
-use crate::lines::{refused, row, wrong};
-use envvars_core::{Access, Attr, Kind, Refusal, Vars};
+//! Variables: a copy, writes of each kind, and kept writes with their way back.
+ghost use Rattle.std.specs.Prelude.{◌≡◌, ◌≤◌};
+ghost use Rattle.envvars_core.specs.Olds.{restored, RestoredFits};
+
+use crate::harness::{self, Call, Outcome, outcome_of};
+use crate::pages::Page;
+use crate::states::{put_vars, sum_of_vars};
+use envvars_core::laws::nothing_restored;
+use envvars_core::{Olds, Refusal, Vars};
 use std::alloc::Global;
 use std::io::{self, Write};
 
+/// Room for what is written.
+const ROOM: u32 = 60;
+
 const AREA: &[u8] = b".flags=n:d\0a=1\0n=5\0\0the rest of the area is room for more variables";
 
-/// What variables have to be: their lines, what they use, and the attributes of `n`.
+/// What is asked of the variables.
 #[derive(Clone, Copy)]
-pub struct VarsState {
-    pub lines: &'static [u8],
-    pub used: u32,
-    pub attr: Attr,
+enum Asked {
+    Copy,
+    Write,
+    /// A write that a check refuses whatever memory there is.
+    Refused(Refusal),
+    /// A write whose old value is kept and goes back; whether that may take memory.
+    Kept(bool),
 }
 
-/// A decimal variable, of any access.
-pub const DECIMAL: Attr = Attr {
-    kind: Kind::Decimal,
-    access: Access::Any,
-};
-
-/// A hexadecimal variable that is written once.
-pub const ONCE: Attr = Attr {
-    kind: Kind::Hexadecimal,
-    access: Access::WriteOnce,
-};
-
-/// What a load of the area leaves.
-pub const LOADED: VarsState = VarsState {
-    lines: b".flags=n:d;a=1;n=5;",
-    used: 20,
-    attr: DECIMAL,
-};
-
-/// The same with one variable more.
-pub const WITH_B: VarsState = VarsState {
-    lines: b".flags=n:d;a=1;b=a value with more bytes;n=5;",
-    used: 46,
-    attr: DECIMAL,
-};
-
-const WITH_FLAGS: VarsState = VarsState {
-    lines: b".flags=n:xo;a=1;b=a value with more bytes;n=5;",
-    used: 47,
-    attr: ONCE,
-};
-
-/// What is left of `text` behind `line` and a semicolon, if it begins so.
-pub fn begins_with<'a>(text: &'a [u8], line: &[u8]) -> Option<&'a [u8]> {
-    match text.strip_prefix(line)? {
-        [b';', rest @ ..] => Some(rest),
-        _ => None,
-    }
+/// A request, and the variables.
+#[derive(Drop)]
+struct Request<'a> {
+    asked: Asked,
+    name: &'a [u8],
+    value: Option<&'a [u8]>,
+    vars: Vars,
+    defaults: Vars,
 }
 
-/// Whether the variables are these.
-pub fn is_vars_state(vars: &Vars, state: &VarsState) -> bool {
-    let mut text = state.lines;
-    for line in vars.lines() {
-        match begins_with(text, line) {
-            Some(rest) => text = rest,
-            None => return false,
+impl<'a> Call for Request<'a> {
+    fn make(&mut self, alloc: Global) -> Outcome {
+        match self.asked {
+            Asked::Copy => self.copy(alloc),
+            Asked::Write => match self
+                .vars
+                .write(self.name, self.value, false, &self.defaults)
+            {
+                Ok(_was) => Outcome::Done,
+                Err(refusal) => outcome_of(false, refusal == Refusal::Memory),
+            },
+            Asked::Refused(wanted) => {
+                match self
+                    .vars
+                    .write(self.name, self.value, false, &self.defaults)
+                {
+                    Ok(_was) => Outcome::Wrong,
+                    Err(refusal) => outcome_of(refusal == wanted, false),
+                }
+            }
+            Asked::Kept(may_take) => self.keep(alloc, may_take),
         }
     }
-    text.is_empty() && vars.used() == state.used && vars.attributes(b"n") == state.attr
-}
 
-/// A row: the name of the call, and the variables that it left.
-pub fn vars_row<W: Write>(
-    out: &mut W,
-    call: &str,
-    vars: &Vars,
-    state: &VarsState,
-) -> io::Result<()> {
-    if !is_vars_state(vars, state) {
-        return wrong(out, call);
+    fn state(&self) -> u32 {
+        sum_of_vars(&self.vars)
     }
-    row(out, call, state.lines)
-}
 
-/// A write that no check refuses. Refused for memory, it has changed nothing, and made again it writes.
-fn write<W: Write>(
-    out: &mut W,
-    vars: &mut Vars,
-    defaults: &Vars,
-    name: &[u8],
-    value: &[u8],
-    before: &VarsState,
-) -> io::Result<()> {
-    match vars.write(name, Some(value), false, defaults) {
-        Ok(_was) => return Ok(()),
-        Err(Refusal::Memory) if is_vars_state(vars, before) => refused(out, "write")?,
-        Err(_) => wrong(out, "write")?,
-    }
-    match vars.write(name, Some(value), false, defaults) {
-        Ok(_was) => Ok(()),
-        Err(_) => wrong(out, "write, made again"),
+    fn tell(&self, page: &mut Page) {
+        put_vars(&self.vars, page);
     }
 }
 
-/// A write that a check refuses has this refusal whatever memory there is.
-fn refused_write<W: Write>(
-    out: &mut W,
-    vars: &mut Vars,
-    defaults: &Vars,
-    value: &[u8],
-    refusal: Refusal,
-    state: &VarsState,
-) -> io::Result<()> {
-    match vars.write(b"n", Some(value), false, defaults) {
-        Err(found) if found == refusal && is_vars_state(vars, state) => row(
-            out,
-            "refused write",
-            value,
-        ),
-        _ => wrong(out, "refused write"),
+impl<'a> Request<'a> {
+    /// The variables are a copy of themselves.
+    fn copy(&mut self, alloc: Global) -> Outcome {
+        if self.vars.used() > ROOM {
+            return Outcome::Wrong;
+        }
+        match self.vars.copy(alloc, ROOM) {
+            Ok(copy) => {
+                self.vars = copy;
+                Outcome::Done
+            }
+            Err(_) => Outcome::Refused,
+        }
+    }
+
+    /// A kept write, and its old value back.
+    fn keep(&mut self, alloc: Global, may_take: bool) -> Outcome {
+        let before = sum_of_vars(&self.vars);
+        let mut olds = Olds::new(alloc);
+        let _fits = self.vars.used();
+        nothing_restored();
+        let written = self
+            .vars
+            .write_kept(self.name, self.value, false, &self.defaults, &mut olds);
+        match written {
+            Ok(()) => restored_once(&mut self.vars, &mut olds, may_take, before),
+            Err(refusal) => outcome_of(false, refusal == Refusal::Memory && olds.len() == 0),
+        }
     }
 }
 
-fn sweep_writes<W: Write>(out: &mut W, vars: &mut Vars, defaults: &Vars) -> io::Result<()> {
-    let value = b"a value with more bytes";
-    refused_write(out, vars, defaults, b"zz", Refusal::BadType, &LOADED)?;
-    write(out, vars, defaults, b"b", value, &LOADED)?;
-    vars_row(out, "write", vars, &WITH_B)?;
-    write(out, vars, defaults, b".flags", b"n:xo", &WITH_B)?;
-    vars_row(out, "write of .flags", vars, &WITH_FLAGS)?;
-    refused_write(
-        out,
-        vars,
-        defaults,
-        b"1f",
-        Refusal::NoOverwrite,
-        &WITH_FLAGS,
-    )
+/// What is kept goes back. Refused, nothing has changed and all is still kept; made again it goes back.
+fn restored_once(vars: &mut Vars, olds: &mut Olds, may_take: bool, before: u32) -> Outcome
+    requires { RestoredFits vars.old olds.old }
+{
+    let (written, kept) = (sum_of_vars(vars), olds.len());
+    if vars.restore(olds).is_ok() {
+        return outcome_of(olds.len() == 0 && sum_of_vars(vars) == before, false);
+    }
+    let is_as_written = sum_of_vars(vars) == written && olds.len() == kept;
+    let is_back = vars.restore(olds).is_ok() && olds.len() == 0;
+    outcome_of(false, may_take && is_as_written && is_back)
 }
 
-/// The variables of an area, a copy of them, and writes into the copy, kept ones first.
+/// A request by its name, a variable's name and a value.
+type Row = (&'static str, Asked, &'static [u8], Option<&'static [u8]>);
+
+const ROWS: [Row; 9] = [
+    ("copy", Asked::Copy, b"", None),
+    (
+        "write_kept of a new name",
+        Asked::Kept(false),
+        b"b",
+        Some(b"a value with more bytes"),
+    ),
+    (
+        "write_kept over a value",
+        Asked::Kept(false),
+        b"a",
+        Some(b"another value"),
+    ),
+    ("write_kept of no value", Asked::Kept(true), b"a", None),
+    (
+        "write_kept of .flags",
+        Asked::Kept(true),
+        b".flags",
+        Some(b"n:xo"),
+    ),
+    (
+        "write of another type",
+        Asked::Refused(Refusal::BadType),
+        b"n",
+        Some(b"zz"),
+    ),
+    (
+        "write",
+        Asked::Write,
+        b"b",
+        Some(b"a value with more bytes"),
+    ),
+    ("write of .flags", Asked::Write, b".flags", Some(b"n:xo")),
+    (
+        "second write",
+        Asked::Refused(Refusal::NoOverwrite),
+        b"n",
+        Some(b"1f"),
+    ),
+];
+
+/// The variables of an area, and each request of them, one after the other.
 pub fn sweep<W: Write>(alloc: Global, out: &mut W) -> io::Result<()> {
-    let defaults = Vars::empty(alloc, 1);
-    let mut loaded = Vars::load(alloc, AREA);
-    if loaded.is_err() {
-        refused(out, "load")?;
-        loaded = Vars::load(alloc, AREA);
-    }
-    let Ok(vars) = loaded else {
-        return wrong(out, "load, made again");
+    let Ok(vars) = Vars::load(alloc, AREA) else {
+        return out.write_all(b"no memory\n");
     };
-    vars_row(out, "load", &vars, &LOADED)?;
-    sweep_copy(alloc, out, &vars, &defaults)
-}
-
-fn sweep_copy<W: Write>(
-    alloc: Global,
-    out: &mut W,
-    vars: &Vars,
-    defaults: &Vars,
-) -> io::Result<()> {
-    if vars.used() > 60 {
-        return wrong(out, "load");
-    }
-    let mut copied = vars.copy(alloc, 60);
-    if copied.is_err() {
-        if !is_vars_state(vars, &LOADED) {
-            return wrong(out, "copy");
-        }
-        refused(out, "copy")?;
-        copied = vars.copy(alloc, 60);
-    }
-    let Ok(mut vars) = copied else {
-        return wrong(out, "copy, made again");
+    let mut request = Request {
+        asked: Asked::Copy,
+        name: b"",
+        value: None,
+        vars,
+        defaults: Vars::empty(alloc, 1),
     };
-    vars_row(out, "copy", &vars, &LOADED)?;
-    sweep_all_kept(alloc, out, &mut vars, defaults)?;
-    sweep_writes(out, &mut vars, defaults)
+    for (said, asked, name, value) in ROWS {
+        request.asked = asked;
+        request.name = name;
+        request.value = value;
+        harness::sweep(alloc, out, said, &mut request)?;
+    }
+    Ok(())
 }

@@ -1,152 +1,108 @@
-//! What is printed and copied of 40,000 variables.
+//! A session over an image of 40,000 variables, which takes `.flags` of 1,000 items; what is printed and copied of it.
 
-use crate::large::{COUNT, SIZE, image, start};
-use crate::lines::{refused, row, wrong};
+use crate::courses::{Act, Course};
+use crate::harness;
+use crate::many::Copied;
 use crate::pages::Page;
-use crate::states::sum_of_lines;
+use crate::readers::{Reader, read};
+use crate::sessions::{begun, full_copy};
+use crate::tools::{Tool, ToolCall};
 use bench_parts::name;
 use env_session::{Session, Side};
-use envimg_core::Order;
-use envvars_core::Vars;
-use fw_engines::{StreamFault, ToolEnd, export, show};
-use std::alloc::Global;
+use envvars_core::{Refusal, Vars};
+use std::alloc::{AllocError, Global};
 use std::io::{self, Write};
 
-/// A writer that takes no memory: it sees whether what is written are the lines of all variables in their order.
-#[derive(Drop)]
-struct Listing {
-    count: u32,
-    is_right: bool,
-}
+/// The image's size in bytes.
+const SIZE: u32 = 524_288;
 
-impl Listing {
-    fn new() -> Listing {
-        Listing {
-            count: 0,
-            is_right: true,
+/// How many variables it has, each of ten bytes.
+const COUNT: u32 = 40_000;
+
+/// How many items `.flags` gets, each of nine bytes, with commas between them.
+const ITEMS: u32 = 1_000;
+
+/// Decimal digits for the variables of the first numbers.
+fn flags(alloc: Global) -> Result<Vec<u8>, AllocError> {
+    let mut flags = Vec::with_capacity(alloc, 10_000)?;
+    for i in 0..ITEMS {
+        if i != 0 {
+            flags.push(b',')?;
         }
+        flags.extend_from_slice(&name(i))?;
+        flags.extend_from_slice(b":d")?;
     }
+    Ok(flags)
+}
 
-    /// Whether these are so many whole lines.
-    fn has_lines(&self, lines: u32) -> bool {
-        self.is_right && self.count == lines.wrapping_mul(10)
+/// The variables in the same room.
+fn copy_of(alloc: Global, vars: &Vars) -> Option<Vars> {
+    if vars.used() <= SIZE {
+        vars.copy(alloc, SIZE).ok()
+    } else {
+        None
     }
 }
 
-/// The byte of the lines `v000000=1`, `v000001=1` and so on at this place.
-fn byte_at(place: u32) -> u8 {
-    let at = (place % 10) as usize;
-    match name(place / 10).get(at) {
-        Some(byte) => *byte,
-        None => b"=1\n".get(at.saturating_sub(7)).copied().unwrap_or(0),
-    }
+/// What is printed and copied of the variables.
+fn sweep_copies<W: Write>(alloc: Global, out: &mut W, session: Session) -> io::Result<()> {
+    read(
+        alloc,
+        out,
+        "wide show",
+        Reader::Show,
+        session.copy(Side::First).unwrap_or(b""),
+    )?;
+    let Some(vars) = copy_of(alloc, session.vars()) else {
+        return out.write_all(b"no memory\n");
+    };
+    let mut copied = Copied {
+        vars,
+        room: SIZE,
+        copy: None,
+    };
+    harness::sweep(alloc, out, "wide copy", &mut copied)?;
+    let mut call = ToolCall {
+        tool: Tool::Export,
+        session,
+        entries: &[],
+        output: Page::new(),
+    };
+    harness::sweep(alloc, out, "wide export", &mut call)
 }
 
-impl Write for Listing {
-    fn write(&mut self, text: &[u8]) -> io::Result<usize> {
-        for byte in text {
-            self.is_right = self.is_right && *byte == byte_at(self.count);
-            self.count = self.count.wrapping_add(1);
-        }
-        Ok(text.len())
-    }
-
-    fn flush(&mut self) -> io::Result<()> {
-        Ok(())
-    }
+/// A session over the image, changed, saved and brought back.
+fn sweep_changes<W: Write>(alloc: Global, out: &mut W, session: Session) -> io::Result<()> {
+    let Ok(flags) = flags(alloc) else {
+        return out.write_all(b"no memory\n");
+    };
+    let (first, typed, last) = (name(0), name(500), name(39_999));
+    let mut course = Course::new(session);
+    let acts = [
+        ("large .flags", Act::Write(b".flags", Some(&flags))),
+        (
+            "large write of another type",
+            Act::Refused(&typed, b"x", Refusal::BadType),
+        ),
+        ("large write", Act::Write(&typed, Some(b"7"))),
+        ("large write of a new name", Act::Write(b"w", Some(b"1"))),
+        ("large removal", Act::Write(&last, None)),
+        ("large removal of the first", Act::Write(&first, None)),
+        ("large save", Act::Save(Side::First, true)),
+        ("large undo", Act::Undo(0)),
+    ];
+    course.follow(alloc, out, &acts)
 }
 
-/// What prints all variables.
-#[derive(Clone, Copy)]
-enum Printer {
-    Show,
-    Export,
-}
-
-const PRINTERS: [(Printer, &str); 2] = [
-    (Printer::Show, "wide show"),
-    (Printer::Export, "wide export"),
-];
-
-/// One call over fresh streams: what it prints of the image that the session was started over, or of its variables.
-fn call(
-    alloc: Global,
-    printer: Printer,
-    session: &Session,
-    output: &mut Listing,
-    errors: &mut Page,
-) -> ToolEnd {
-    match printer {
-        Printer::Show => {
-            let mut input = session.copy(Side::First).unwrap_or(b"");
-            show(alloc, Order::Little, &mut input, output, errors)
-        }
-        Printer::Export => export(alloc, session, output, errors),
-    }
-}
-
-/// A call. Refused for memory it has printed nothing, and made again over fresh streams it prints every line.
-fn sweep_printer<W: Write>(
-    alloc: Global,
-    out: &mut W,
-    printer: Printer,
-    said: &str,
-    session: &Session,
-) -> io::Result<()> {
-    let mut output = Listing::new();
-    let mut errors = Page::new();
-    let mut end = call(alloc, printer, session, &mut output, &mut errors);
-    if end.fault == Some(StreamFault::Memory) {
-        if end.status != 1 || !output.has_lines(0) || !errors.text().is_empty() {
-            return wrong(out, said);
-        }
-        refused(out, said)?;
-        end = call(alloc, printer, session, &mut output, &mut errors);
-    }
-    if end.status != 0 || end.fault.is_some() || !errors.text().is_empty() {
-        return wrong(out, said);
-    }
-    if !output.has_lines(COUNT) {
-        return wrong(out, said);
-    }
-    row(out, said, b"40000 lines")
-}
-
-/// A copy in the same room. Refused for memory the variables stay, and made again it has all of them.
-fn sweep_copy<W: Write>(alloc: Global, out: &mut W, vars: &Vars) -> io::Result<()> {
-    if vars.used() > SIZE {
-        return wrong(out, "wide copy");
-    }
-    let before = sum_of_lines(vars);
-    let mut copied = vars.copy(alloc, SIZE);
-    if copied.is_err() {
-        if sum_of_lines(vars) != before {
-            return wrong(out, "wide copy");
-        }
-        refused(out, "wide copy")?;
-        copied = vars.copy(alloc, SIZE);
-    }
-    match copied {
-        Ok(copy) if sum_of_lines(&copy) == before => row(out, "wide copy", b"40000 variables"),
-        _ => wrong(out, "wide copy, made again"),
-    }
-}
-
-/// The image, the session over it, and what is printed and copied of it.
+/// Both sessions.
 pub fn sweep<W: Write>(alloc: Global, out: &mut W) -> io::Result<()> {
-    let mut first = image(alloc);
-    if first.is_none() {
-        refused(out, "wide image")?;
-        first = image(alloc);
+    let stored = full_copy(alloc, SIZE, COUNT);
+    if let Some(session) = begun(alloc, out, "large start", stored, false)? {
+        sweep_changes(alloc, out, session)?;
     }
-    let Some(first) = first else {
-        return wrong(out, "wide image, made again");
-    };
-    let Some(session) = start(alloc, out, first)? else {
-        return wrong(out, "wide start, made again");
-    };
-    for (printer, said) in PRINTERS {
-        sweep_printer(alloc, out, printer, said, &session)?;
+    let stored = full_copy(alloc, SIZE, COUNT);
+    if let Some(session) = begun(alloc, out, "wide start", stored, false)? {
+        sweep_copies(alloc, out, session)?;
     }
-    sweep_copy(alloc, out, session.vars())
+    Ok(())
 }

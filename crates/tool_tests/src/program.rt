@@ -1,9 +1,12 @@
 //! The program over words, and over streams that fail.
 
+mod clients;
 mod disk;
 mod file_faults;
 mod files;
+mod locks;
 mod running;
+mod upkeep;
 
 use std::io::{self, Read};
 

@@ -1,118 +1,106 @@
 //! Texts made to cost much.
 
 use hush_syntax::{FaultKind, Script, SyntaxFault};
-use std::alloc::{AllocError, Global};
+use std::process::Abort;
 use std::test::Fail;
 
-/// So many times the same bytes.
-fn times(count: usize, bytes: &[u8], text: &mut Vec<u8>) -> Result<(), AllocError> {
-    for _ in 0..count {
-        text.extend_from_slice(bytes)?;
+/// Bytes so many times, the bytes after them, others so many times, and the fault of the text.
+type Hostile = (
+    &'static [u8],
+    usize,
+    &'static [u8],
+    &'static [u8],
+    Option<(FaultKind, usize)>,
+);
+
+/// Quotes and openings, and forms that are 64 times inside one another and once more.
+const NESTS: [Hostile; 10] = [
+    (b"\"", 65_535, b"", b"", Some((FaultKind::Quote, 65_534))),
+    (
+        b"if true; then ",
+        100_000,
+        b"",
+        b"",
+        Some((FaultKind::Nest, 64 * 14)),
+    ),
+    (b"if true; then ", 64, b"true", b"; fi", None),
+    (
+        b"if true; then ",
+        65,
+        b"true",
+        b"; fi",
+        Some((FaultKind::Nest, 64 * 14)),
+    ),
+    (b"for i in a; do ", 64, b"true", b"; done", None),
+    (
+        b"for i in a; do ",
+        65,
+        b"true",
+        b"; done",
+        Some((FaultKind::Nest, 64 * 15)),
+    ),
+    (b"while true; do ", 64, b"true", b"; done", None),
+    (
+        b"while true; do ",
+        65,
+        b"true",
+        b"; done",
+        Some((FaultKind::Nest, 64 * 15)),
+    ),
+    (b"until ", 64, b"true", b"; do true; done", None),
+    (
+        b"until ",
+        65,
+        b"true",
+        b"; do true; done",
+        Some((FaultKind::Nest, 64 * 6)),
+    ),
+];
+
+/// Separators, and long chains and branches.
+const LONG: [Hostile; 3] = [
+    (b";", 1_000_000, b"", b"", None),
+    (b"a && ", 200_000, b"a", b"", None),
+    (
+        b"",
+        100_000,
+        b"if a; then b; ",
+        b"elif a; then b; ",
+        Some((FaultKind::Missing, 1_600_014)),
+    ),
+];
+
+fn are_read(rt: &(impl Abort + AllocGlobal), rows: &[Hostile]) -> Result<(), Fail> {
+    for (opening, count, middle, closing, fault) in rows {
+        let mut text = opening.repeat(rt.alloc(), *count)?;
+        text.extend_from_slice(middle)?;
+        text.extend_from_slice(&closing.repeat(rt.alloc(), *count)?)?;
+        let found = Script::parse(rt.alloc(), text).err();
+        let wanted = match *fault {
+            Some((kind, place)) => Some(SyntaxFault { place, kind }),
+            None => None,
+        };
+        assert_eq!(rt; found, wanted, "of {count} times {opening:?}");
     }
     Ok(())
 }
 
-/// So many of one inside another.
-fn nested(
-    alloc: Global,
-    count: usize,
-    opening: &[u8],
-    closing: &[u8],
-) -> Result<Vec<u8>, AllocError> {
-    let mut text = Vec::new(alloc);
-    times(count, opening, &mut text)?;
-    text.extend_from_slice(b"true")?;
-    times(count, closing, &mut text)?;
-    Ok(text)
+#[test]
+fn nests_are_scripts_or_have_their_fault(rt: HostRuntime) -> Result<(), Fail> {
+    are_read(&rt, &NESTS)
 }
 
 #[test]
-fn sixty_five_thousand_quotes_are_a_quote_that_is_open(rt: HostRuntime) -> Result<(), Fail> {
-    let mut text = Vec::new(rt.alloc());
-    times(65535, b"\"", &mut text)?;
-    match Script::parse(rt.alloc(), text) {
-        Ok(_) => assert!(rt; false),
-        Err(fault) => assert_eq!(rt;
-            fault,
-            SyntaxFault {
-                place: 65534,
-                kind: FaultKind::Quote
-            }
-        ),
-    }
-    Ok(())
+fn separators_are_a_script(rt: HostRuntime) -> Result<(), Fail> {
+    are_read(&rt, &LONG[..1])
 }
 
 #[test]
-fn a_hundred_thousand_openings_nest_too_deep(rt: HostRuntime) -> Result<(), Fail> {
-    let mut text = Vec::new(rt.alloc());
-    times(100000, b"if true; then ", &mut text)?;
-    match Script::parse(rt.alloc(), text) {
-        Ok(_) => assert!(rt; false),
-        Err(fault) => assert_eq!(rt;
-            fault,
-            SyntaxFault {
-                place: 64 * 14,
-                kind: FaultKind::Nest
-            }
-        ),
-    }
-    Ok(())
+fn a_long_chain_is_a_script(rt: HostRuntime) -> Result<(), Fail> {
+    are_read(&rt, &LONG[1..2])
 }
 
 #[test]
-fn a_million_separators_are_a_script_without_a_tree(rt: HostRuntime) -> Result<(), Fail> {
-    let mut text = Vec::new(rt.alloc());
-    times(1000000, b";", &mut text)?;
-    let script = Script::parse(rt.alloc(), text)?;
-    assert!(rt; script.root().is_none());
-    Ok(())
-}
-
-#[test]
-fn a_hundred_thousand_elifs_are_one_command(rt: HostRuntime) -> Result<(), Fail> {
-    let mut text = Vec::new(rt.alloc());
-    text.extend_from_slice(b"if a; then b; ")?;
-    times(100000, b"elif a; then b; ", &mut text)?;
-    text.extend_from_slice(b"fi")?;
-    let script = Script::parse(rt.alloc(), text)?;
-    assert!(rt; script.root().is_some());
-    Ok(())
-}
-
-#[test]
-fn two_hundred_thousand_links_are_one_chain(rt: HostRuntime) -> Result<(), Fail> {
-    let mut text = Vec::new(rt.alloc());
-    times(200000, b"a && ", &mut text)?;
-    text.extend_from_slice(b"a")?;
-    let script = Script::parse(rt.alloc(), text)?;
-    assert!(rt; script.root().is_some());
-    Ok(())
-}
-
-#[test]
-fn sixty_four_may_stand_inside_one_another(rt: HostRuntime) -> Result<(), Fail> {
-    let forms: [(&[u8], &[u8], usize); 4] = [
-        (b"if true; then ", b"; fi", 64 * 14),
-        (b"for i in a; do ", b"; done", 64 * 15),
-        (b"while true; do ", b"; done", 64 * 15),
-        (b"until ", b"; do true; done", 64 * 6),
-    ];
-    for (opening, closing, place) in forms.iter() {
-        let text = nested(rt.alloc(), 64, opening, closing)?;
-        let script = Script::parse(rt.alloc(), text)?;
-        assert!(rt; script.root().is_some());
-        let deeper = nested(rt.alloc(), 65, opening, closing)?;
-        match Script::parse(rt.alloc(), deeper) {
-            Ok(_) => assert!(rt; false),
-            Err(fault) => assert_eq!(rt;
-                fault,
-                SyntaxFault {
-                    place: *place,
-                    kind: FaultKind::Nest
-                }
-            ),
-        }
-    }
-    Ok(())
+fn a_hundred_thousand_branches_miss_their_end(rt: HostRuntime) -> Result<(), Fail> {
+    are_read(&rt, &LONG[2..])
 }

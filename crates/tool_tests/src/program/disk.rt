@@ -1,5 +1,6 @@
 //! Files in memory for the program, of which each call can be made to fail.
 
+use fw_tools::{Hold, System};
 use std::alloc::{Allocator, Global};
 use std::cell::RefCell;
 use std::fs::{Metadata, OpenFile, OpenOptions};
@@ -15,6 +16,11 @@ pub(super) struct Contents {
     pub(super) calls: usize,
     /// The call that fails, from 0.
     pub(super) fails: usize,
+    /// What happened to locks and bytes, a letter each: `s` and `a` for a lock that is shared or held alone, `u` where it is
+    /// let go, `r` for a read and `w` for a write.
+    pub(super) events: Vec<u8>,
+    /// Before the call of this number another program writes this byte at the start of the file of this number.
+    pub(super) meddles: Option<(usize, usize, u8)>,
 }
 
 impl Contents {
@@ -22,10 +28,29 @@ impl Contents {
     fn call(&mut self) -> io::Result<()> {
         let call = self.calls;
         self.calls = call.wrapping_add(1);
+        if let Some((at, index, byte)) = self.meddles {
+            if at == call {
+                self.meddle(index, byte);
+            }
+        }
         if call == self.fails {
             return Err(io::Error::from(io::ErrorKind::Other));
         }
         Ok(())
+    }
+
+    /// Writes a byte at the start of a file.
+    fn meddle(&mut self, index: usize, byte: u8) {
+        if let Some(file) = self.files.get_mut(index) {
+            if let Some(first) = file.1.get_mut(0) {
+                *first = byte;
+            }
+        }
+    }
+
+    /// Keeps what happened.
+    fn happened(&mut self, event: u8) -> bool {
+        self.events.push(event).is_ok()
     }
 
     /// The bytes of a file.
@@ -45,11 +70,27 @@ pub(super) struct Disk<'a> {
 }
 
 /// A file that is open.
-#[derive(Drop)]
 pub(super) struct Opened<'a> {
     contents: &'a RefCell<Contents>,
     index: usize,
     at: usize,
+    locked: RefCell<bool>,
+}
+
+impl Drop for Opened<'_> {
+    fn drop(self) {
+        let Opened {
+            contents,
+            index: _,
+            at: _,
+            locked,
+        } = self;
+        if matches!(locked.try_borrow(), Ok(held) if *held) {
+            if let Ok(mut contents) = contents.try_borrow_mut() {
+                let _ = contents.happened(b'u');
+            }
+        }
+    }
 }
 
 /// A folder, of which there is none.
@@ -83,9 +124,10 @@ impl Opened<'_> {
 impl Read for Opened<'_> {
     fn read(&mut self, buf: &mut [u8]) -> io::Result<usize> {
         self.len()?;
-        let Ok(contents) = self.contents.try_borrow() else {
+        let Ok(mut contents) = self.contents.try_borrow_mut() else {
             return Err(refused());
         };
+        contents.happened(b'r');
         let Some(file) = contents.files.get(self.index) else {
             return Err(refused());
         };
@@ -108,6 +150,7 @@ impl Write for Opened<'_> {
         let at = self.at.min(file.1.len());
         let (_, mut rest) = file.1.split_at_mut(at);
         let count = rest.write(buf)?;
+        contents.happened(b'w');
         self.at = self.at.saturating_add(count);
         Ok(count)
     }
@@ -156,6 +199,22 @@ impl Alloc for Disk<'_> {
     }
 }
 
+impl System for Disk<'_> {
+    fn lock(&self, file: &Opened<'_>, hold: Hold) -> bool {
+        let Ok(mut contents) = self.contents.try_borrow_mut() else {
+            return false;
+        };
+        let Ok(mut locked) = file.locked.try_borrow_mut() else {
+            return false;
+        };
+        *locked = true;
+        contents.happened(match hold {
+            Hold::Shared => b's',
+            Hold::Alone => b'a',
+        })
+    }
+}
+
 impl<'a> Files for Disk<'a> {
     type File = Opened<'a>;
 
@@ -171,6 +230,7 @@ impl<'a> Files for Disk<'a> {
                 contents: self.contents,
                 index,
                 at: 0,
+                locked: RefCell::new(false),
             }),
             None => Err(io::Error::from(io::ErrorKind::NotFound)),
         }

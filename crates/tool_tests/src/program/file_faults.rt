@@ -22,6 +22,8 @@ fn disk_of(
         files,
         calls: 0,
         fails,
+        events: Vec::new(rt.alloc()),
+        meddles: None,
     }))
 }
 
@@ -126,8 +128,9 @@ fn a_copy_is_read_and_written_at_its_place_alone(rt: HostRuntime) -> Result<(), 
     Ok(())
 }
 
-/// A session that saves twice has changed both copies. The configuration takes three calls and each copy four; after them the
-/// first copy is opened, measured, sought, written and flushed, and then the second.
+/// A session that saves twice has changed both copies. The configuration takes three calls, the lock one and each copy four;
+/// the lock and the copies are then taken and read again, and after that the first copy is opened, measured, sought, written
+/// and flushed, and then the second.
 #[test]
 fn the_first_copy_is_written_and_flushed_before_the_second(rt: HostRuntime) -> Result<(), Fail> {
     let words = ["fwenv", "session", "-c", "config", "--write"];
@@ -136,9 +139,9 @@ fn the_first_copy_is_written_and_flushed_before_the_second(rt: HostRuntime) -> R
     let mut three = two;
     three[4] = 3;
     let rows: [(usize, &[u8], [u8; 32], [u8; 32]); 4] = [
-        (14, b"fwenv: cannot write first\n", one, never),
-        (15, b"fwenv: cannot write first\n", three, never),
-        (19, b"fwenv: cannot write second\n", three, never),
+        (24, b"fwenv: cannot write first\n", one, never),
+        (25, b"fwenv: cannot write first\n", three, never),
+        (29, b"fwenv: cannot write second\n", three, never),
         (usize::MAX, b"", three, two),
     ];
     for (fails, said, first, second) in rows {

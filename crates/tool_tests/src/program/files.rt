@@ -25,7 +25,7 @@ pub(super) fn copy_of(front: [u8; 8]) -> [u8; 32] {
 }
 
 /// A disk with the configuration, a good first copy and a second one that was never written; the call `fails` fails.
-fn disk(rt: &HostRuntime, fails: usize) -> Result<RefCell<Contents>, AllocError> {
+pub(super) fn disk(rt: &HostRuntime, fails: usize) -> Result<RefCell<Contents>, AllocError> {
     let mut files = Vec::new(rt.alloc());
     files.push(("config", Vec::from_slice(rt.alloc(), CONFIG)?))?;
     files.push(("first", Vec::from_slice(rt.alloc(), &copy_of(ONE))?))?;
@@ -34,6 +34,8 @@ fn disk(rt: &HostRuntime, fails: usize) -> Result<RefCell<Contents>, AllocError>
         files,
         calls: 0,
         fails,
+        events: Vec::new(rt.alloc()),
+        meddles: None,
     }))
 }
 
@@ -86,20 +88,22 @@ fn a_variable_is_set_in_the_copy_that_is_not_current(rt: HostRuntime) -> Result<
     Ok(())
 }
 
-/// What is said where this call fails: the configuration is opened and read to its end by two reads; each copy is opened,
-/// measured, sought and read; the second one is opened again, measured, sought, written and flushed.
+/// What is said where this call fails: the configuration is opened and read to its end by two reads; the device of the first
+/// copy is opened to be locked; each copy is opened, measured, sought and read, and so it is again before anything is written;
+/// the second one is opened, measured, sought, written and flushed.
 fn said_where(call: usize) -> &'static [u8] {
     match call {
         0..=2 => b"fwenv: cannot read config\n",
-        3..=6 => b"fwenv: cannot read first\n",
-        7..=10 => b"fwenv: cannot read second\n",
+        4..=7 => b"fwenv: cannot read first\n",
+        8..=11 => b"fwenv: cannot read second\n",
+        12..=15 => b"fwenv: cannot write first\n",
         _ => b"fwenv: cannot write second\n",
     }
 }
 
 #[test]
 fn each_call_of_a_file_fails_in_turn(rt: HostRuntime) -> Result<(), Fail> {
-    for call in 0..16 {
+    for call in (0..25).filter(|call| *call != 3) {
         let contents = disk(&rt, call)?;
         let (status, output, errors) = run(&rt, &contents, &SET);
         assert_eq!(rt; status, 1);
@@ -110,14 +114,17 @@ fn each_call_of_a_file_fails_in_turn(rt: HostRuntime) -> Result<(), Fail> {
         assert!(rt; stands.bytes("config") == CONFIG);
         assert!(rt; stands.bytes("first") == copy_of(ONE).as_slice());
         // the last call is the one that flushes what was written
-        let second = if call < 15 { [0xFF; 32] } else { copy_of(TWO) };
+        let second = if call < 24 { [0xFF; 32] } else { copy_of(TWO) };
         assert!(rt; stands.bytes("second") == second.as_slice());
     }
-    let contents = disk(&rt, 16)?;
-    let (status, _, _) = run(&rt, &contents, &SET);
-    assert_eq!(rt; status, 0);
-    let stands = contents.try_borrow().ok().ok_or("lent")?;
-    assert_eq!(rt; stands.calls, 16);
+    // a device that can't be locked is used without
+    for call in [3, 25] {
+        let contents = disk(&rt, call)?;
+        let (status, _, _) = run(&rt, &contents, &SET);
+        assert_eq!(rt; status, 0);
+        let stands = contents.try_borrow().ok().ok_or("lent")?;
+        assert_eq!(rt; stands.calls, 25);
+    }
     Ok(())
 }
 

@@ -81,7 +81,7 @@ fn the_program_asked_for_its_version(rt: HostRuntime) {
     for word in ["--version", "-V"] {
         let (output, errors, status) = answered(&rt, &["fwenv", word], &ONE_VARIABLE);
         assert_eq!(rt; status, 0);
-        assert!(rt; output.as_slice() == b"fwenv 0.1.0\n".as_slice());
+        assert!(rt; output.as_slice() == b"fwenv 0.2.0\n".as_slice());
         assert!(rt; errors.is_empty());
     }
 }

@@ -1,5 +1,5 @@
 use Rattle.std.proofs.Common.{ap, ◌∙◌}
-use Rattle.fw_session.proofs.RequestLemmas.{lines_init, lines_cut_short, lines_more}
+use Rattle.fw_session.proofs.LineLemmas.{lines_init, lines_cut_short, lines_more}
 use Rattle.fw_session.proofs.answers.write_lines.Goals as goal
 
 pub loop-line-init : goal.loop-line-init

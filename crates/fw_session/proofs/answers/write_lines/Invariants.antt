@@ -1,7 +1,7 @@
 use Rattle.std.proofs.Common.{◌≡◌, ◌++◌, ◌∷◌, [], ℕ, List, true}
 use Rattle.std.specs.List.{flat_map}
 use Rattle.fw_session.specs.Streams.{Writes}
-use Rattle.fw_session.specs.Replies.{listing}
+use Rattle.env_requests.specs.Requests.{listing}
 use Rattle.fw_session.proofs.answers.write_lines.Given as goal
 
 abbrev pub invariant-loop-line : goal.invariant-loop-line

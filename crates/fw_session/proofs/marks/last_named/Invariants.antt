@@ -1,6 +1,6 @@
 use Rattle.std.proofs.Common.{◌≡◌, take}
 use Rattle.std.specs.Prelude.{map, option_map}
-use Rattle.fw_session.specs.Replies.{last_named}
+use Rattle.fw_session.specs.Turns.{last_named}
 use Rattle.fw_session.proofs.marks.last_named.Given as goal
 
 abbrev pub invariant-loop-index : goal.invariant-loop-index

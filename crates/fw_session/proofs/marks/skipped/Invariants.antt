@@ -1,5 +1,5 @@
 use Rattle.std.proofs.Common.{◌≡◌, length}
-use Rattle.fw_session.specs.Replies.{skipped}
+use Rattle.fw_session.specs.Asked.{skipped}
 use Rattle.fw_session.proofs.marks.skipped.Given as goal
 
 abbrev pub invariant-loop-rest : goal.invariant-loop-rest

@@ -1,8 +1,8 @@
 use Rattle.std.proofs.Common.{Bor, List, Option, option_map, subst, sym, ℕ}
 use Rattle.std.specs.Prelude.{IfOk}
 use Rattle.std.proofs.lemmas.Result.{IfOk-weaker}
-use Rattle.fw_tools.specs.Talking.{AreStubsOf}
-use Rattle.fw_tools.proofs.TalkLemmas.{no_stand_ins}
+use Rattle.fw_tools.specs.SessionRun.{AreStubsOf}
+use Rattle.fw_tools.proofs.SessionRunLemmas.{no_stand_ins}
 use Rattle.fw_tools.proofs.files.read_stand_ins.Goals as goal
 
 pub returns-in-None : goal.returns-in-None

@@ -1,4 +1,4 @@
-use Rattle.fw_tools.proofs.SayLemmas.{front_said, part_said, said_then}
+use Rattle.fw_tools.proofs.SaidLemmas.{front_said, part_said, said_then}
 use Rattle.fw_tools.proofs.files.say_line.Goals as goal
 
 pub returns-then-not-write_two : goal.returns-then-not-write_two

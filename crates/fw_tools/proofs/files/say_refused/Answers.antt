@@ -1,4 +1,4 @@
-use Rattle.fw_tools.proofs.SayLemmas.{said_then, whole_or_part_said}
+use Rattle.fw_tools.proofs.SaidLemmas.{said_then, whole_or_part_said}
 use Rattle.fw_tools.proofs.files.say_refused.Goals as goal
 
 pub returns : goal.returns

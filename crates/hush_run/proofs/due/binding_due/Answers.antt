@@ -7,6 +7,7 @@ use Rattle.hush_run.specs.declared.due.Due.TheVariants as due
 use Rattle.hush_run.specs.Meaning.{Rules, Goes, ◌then◌, bindings, chains}
 use Rattle.hush_run.specs.Resume.{behind}
 use Rattle.hush_run.specs.Advances.{Advances, IsReady}
+use Rattle.hush_run.specs.Runs.{reason_of}
 use Rattle.hush_run.specs.Steps.{Did, state_of, rules_of}
 use Rattle.hush_run.proofs.AdvanceLemmas.{bound_goes, bound_not, bound_stops}
 use Rattle.hush_run.proofs.due.binding_due.Goals as goal
@@ -19,11 +20,11 @@ returns-else-not-bound c =
     let s = state_of c.args.session.now c.args.progress.now in
     let t = state_of c.args.session.now c.bind_step.new.progress in
     let split : c.args.fields ≡ c.in-Some.field.now ∷ c.advance.new.self = search allowed in
-    let ready = subst (λ (cs : List Parsed). IsReady r cs c.args.frames.now.frames c.args.frames.now.depth (due.Binding c.args.node c.args.fields)) c.top-script.ensures c.requires.ready in
+    let ready = subst (λ (cs : List Parsed). IsReady r cs c.args.frames.now.frames c.args.frames.now.capacity (due.Binding c.args.node c.args.fields)) c.top-script.ensures c.requires.ready in
     let isbound : c.in-Ok.bound ≡ true = search allowed in
     let did = subst (λ (text : Written). Did r (λ (q : Rules) begin. bindings q (name_in text c.in-For.name) (chains q begin h.0) (c.in-Some.field.now ∷ c.advance.new.self)) (λ bound q begin. if bound then (chains q begin h.0 then bindings q (name_in text c.in-For.name) (chains q begin h.0) c.advance.new.self) else Goes) s t (Ok true)) c.text.ensures (subst (λ (b : Bool). Did r (λ (q : Rules) begin. bindings q (name_in c.text.result.now c.in-For.name) (chains q begin h.0) (c.in-Some.field.now ∷ c.advance.new.self)) (λ bound q begin. if bound then (chains q begin h.0 then bindings q (name_in c.text.result.now c.in-For.name) (chains q begin h.0) c.advance.new.self) else Goes) s t (Ok b)) isbound (c.in-Ok.ensures c.advance.new.self (λ q begin. chains q begin h.0))) in
-    rw c.push.ensures (subst (λ (cs : List Parsed). Advances r cs c.args.frames.now.frames (due.Binding c.args.node c.args.fields) s cs (frame.Bindings c.args.node c.advance.new.self ∷ c.args.frames.now.frames) c.args.frames.now.depth t (Ok (due.Node c.in-For.body))) (sym c.top-script.ensures)
-    (bound_goes r top (behind c.args.calls.now) c.args.frames.now.frames c.args.frames.now.depth c.args.node c.in-For.body (name_in top.text c.in-For.name) c.in-Some.field.now c.args.fields c.args.fields c.advance.new.self _ h.0 s t h.1 h.2 split ready did))
+    rw c.push.ensures (subst (λ (cs : List Parsed). Advances r cs c.args.frames.now.frames (due.Binding c.args.node c.args.fields) s cs (frame.Bindings c.args.node c.advance.new.self ∷ c.args.frames.now.frames) c.args.frames.now.capacity t (Ok (due.Node c.in-For.body))) (sym c.top-script.ensures)
+    (bound_goes r top (behind c.args.calls.now) c.args.frames.now.frames c.args.frames.now.capacity c.args.node c.in-For.body (name_in top.text c.in-For.name) c.in-Some.field.now c.args.fields c.args.fields c.advance.new.self _ h.0 s t h.1 h.2 split ready did))
 
 pub returns-then-not-bound : goal.returns-then-not-bound
 returns-then-not-bound c =
@@ -34,11 +35,11 @@ returns-then-not-bound c =
     let t = state_of c.args.session.now c.bind_step.new.progress in
     let left = drop 1 c.args.fields in
     let split : c.args.fields ≡ c.in-Some.field.now ∷ drop 1 c.args.fields = search allowed in
-    let ready = subst (λ (cs : List Parsed). IsReady r cs c.args.frames.now.frames c.args.frames.now.depth (due.Binding c.args.node c.args.fields)) c.top-script.ensures c.requires.ready in
+    let ready = subst (λ (cs : List Parsed). IsReady r cs c.args.frames.now.frames c.args.frames.now.capacity (due.Binding c.args.node c.args.fields)) c.top-script.ensures c.requires.ready in
     let isnot : c.in-Ok.bound ≡ false = search allowed in
     let did = subst (λ (text : Written). Did r (λ (q : Rules) begin. bindings q (name_in text c.in-For.name) (chains q begin h.0) (c.in-Some.field.now ∷ left)) (λ bound q begin. if bound then (chains q begin h.0 then bindings q (name_in text c.in-For.name) (chains q begin h.0) left) else Goes) s t (Ok false)) c.text.ensures (subst (λ (b : Bool). Did r (λ (q : Rules) begin. bindings q (name_in c.text.result.now c.in-For.name) (chains q begin h.0) (c.in-Some.field.now ∷ left)) (λ bound q begin. if bound then (chains q begin h.0 then bindings q (name_in c.text.result.now c.in-For.name) (chains q begin h.0) left) else Goes) s t (Ok b)) isnot (c.in-Ok.ensures left (λ q begin. chains q begin h.0))) in
-    subst (λ (cs : List Parsed). Advances r cs c.args.frames.now.frames (due.Binding c.args.node c.args.fields) s cs c.args.frames.now.frames c.args.frames.now.depth t (Ok due.Over)) (sym c.top-script.ensures)
-    (bound_not r top (behind c.args.calls.now) c.args.frames.now.frames c.args.frames.now.depth c.args.node c.in-For.body (name_in top.text c.in-For.name) c.in-Some.field.now c.args.fields c.args.fields left _ h.0 s t h.1 h.2 split ready did)
+    subst (λ (cs : List Parsed). Advances r cs c.args.frames.now.frames (due.Binding c.args.node c.args.fields) s cs c.args.frames.now.frames c.args.frames.now.capacity t (Ok due.Over)) (sym c.top-script.ensures)
+    (bound_not r top (behind c.args.calls.now) c.args.frames.now.frames c.args.frames.now.capacity c.args.node c.in-For.body (name_in top.text c.in-For.name) c.in-Some.field.now c.args.fields c.args.fields left _ h.0 s t h.1 h.2 split ready did)
 
 pub returns-in-Err : goal.returns-in-Err
 returns-in-Err c =
@@ -49,7 +50,7 @@ returns-in-Err c =
     let t = state_of c.args.session.now c.bind_step.new.progress in
     let left = drop 1 c.args.fields in
     let split : c.args.fields ≡ c.in-Some.field.now ∷ drop 1 c.args.fields = search allowed in
-    let ready = subst (λ (cs : List Parsed). IsReady r cs c.args.frames.now.frames c.args.frames.now.depth (due.Binding c.args.node c.args.fields)) c.top-script.ensures c.requires.ready in
-    let did = subst (λ (text : Written). Did r (λ (q : Rules) begin. bindings q (name_in text c.in-For.name) (chains q begin h.0) (c.in-Some.field.now ∷ left)) (λ bound q begin. if bound then (chains q begin h.0 then bindings q (name_in text c.in-For.name) (chains q begin h.0) left) else Goes) s t (Err c.in-Err.stop)) c.text.ensures (c.in-Err.ensures left (λ q begin. chains q begin h.0)) in
-    subst (λ (cs : List Parsed). Advances r cs c.args.frames.now.frames (due.Binding c.args.node c.args.fields) s cs c.args.frames.now.frames c.args.frames.now.depth t (Err c.in-Err.stop)) (sym c.top-script.ensures)
-    (bound_stops r top (behind c.args.calls.now) c.args.frames.now.frames c.args.frames.now.depth c.args.node c.in-For.body (name_in top.text c.in-For.name) c.in-Some.field.now c.args.fields c.args.fields left _ h.0 s t h.1 h.2 split ready c.in-Err.stop did)
+    let ready = subst (λ (cs : List Parsed). IsReady r cs c.args.frames.now.frames c.args.frames.now.capacity (due.Binding c.args.node c.args.fields)) c.top-script.ensures c.requires.ready in
+    let did = subst (λ (text : Written). Did r (λ (q : Rules) begin. bindings q (name_in text c.in-For.name) (chains q begin h.0) (c.in-Some.field.now ∷ left)) (λ bound q begin. if bound then (chains q begin h.0 then bindings q (name_in text c.in-For.name) (chains q begin h.0) left) else Goes) s t (Err c.in-Err.ending)) c.text.ensures (c.in-Err.ensures left (λ q begin. chains q begin h.0)) in
+    subst (λ (cs : List Parsed). Advances r cs c.args.frames.now.frames (due.Binding c.args.node c.args.fields) s cs c.args.frames.now.frames c.args.frames.now.capacity t (Err c.in-Err.ending)) (sym c.top-script.ensures)
+    (bound_stops r top (behind c.args.calls.now) c.args.frames.now.frames c.args.frames.now.capacity c.args.node c.in-For.body (name_in top.text c.in-For.name) c.in-Some.field.now c.args.fields c.args.fields left _ h.0 s t h.1 h.2 split ready (reason_of c.in-Err.ending) did)

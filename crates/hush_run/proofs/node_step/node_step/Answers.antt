@@ -6,6 +6,7 @@ use Rattle.hush_syntax.specs.Trees.{name_in, words_in}
 use Rattle.hush_run.specs.declared.due.Due.TheVariants as due
 use Rattle.hush_run.specs.Meaning.{Rules, Goes, step, assigned, for, fields_of, bindings, chains}
 use Rattle.hush_run.specs.Resume.{room}
+use Rattle.hush_run.specs.Runs.{reason_of}
 use Rattle.hush_run.specs.Steps.{Did, state_of, rules_of}
 use Rattle.hush_run.proofs.NodeLemmas.{node_did, node_stopped}
 use Rattle.hush_run.proofs.node_step.node_step.Goals as goal
@@ -32,8 +33,8 @@ returns-in-Err-assign_step-clause-step c =
     let h = rw c.in-Assign.is at c.node.ensures in
     let s = state_of c.args.session.now c.args.progress.now in
     let t = state_of c.args.session.now c.assign_step.new.progress in
-    let did = subst (λ (text : Written). Did r (λ (q : Rules) begin. step q (assigned q (name_in text c.in-Assign.name) (word_atoms text c.in-Assign.value))) (λ (u : Unit {0}) q begin. Goes) s t (Err c.in-Err-assign_step.stop)) c.text-in-Assign.ensures c.in-Err-assign_step.ensures in
-    node_stopped r (subtree_at c.args.script.now) c.args.node (Assign (name_in c.args.script.now.text c.in-Assign.name) (word_atoms c.args.script.now.text c.in-Assign.value)) s t h (λ (u : Unit {0}) q begin. Goes) c.in-Err-assign_step.stop did
+    let did = subst (λ (text : Written). Did r (λ (q : Rules) begin. step q (assigned q (name_in text c.in-Assign.name) (word_atoms text c.in-Assign.value))) (λ (u : Unit {0}) q begin. Goes) s t (Err c.in-Err-assign_step.ending)) c.text-in-Assign.ensures c.in-Err-assign_step.ensures in
+    node_stopped r (subtree_at c.args.script.now) c.args.node (Assign (name_in c.args.script.now.text c.in-Assign.name) (word_atoms c.args.script.now.text c.in-Assign.value)) s t h (reason_of c.in-Err-assign_step.ending) did
 
 pub returns-in-Ok-head_step-clause-step : goal.returns-in-Ok-head_step-clause-step
 returns-in-Ok-head_step-clause-step c =
@@ -60,5 +61,5 @@ returns-in-Err-head_step-clause-step c =
     let t = state_of c.args.session.now c.head_step.new.progress in
     let name = name_in c.args.script.now.text c.in-For.name in
     let words = words_in c.args.script.now.text c.in-For.words.now in
-    let did = subst (λ (text : Written). Did r (λ (q : Rules) begin u. for q name (fields_of q (map (word_atoms text) c.in-For.words.now) u) (chains q begin h.0) u) (λ fields q begin. bindings q name (chains q begin h.0) fields) s t (Err c.in-Err-head_step.stop)) c.text-in-For.ensures (c.in-Err-head_step.ensures name (λ q begin. chains q begin h.0)) in
-    node_stopped r (subtree_at c.args.script.now) c.args.node (For name words h.0) s t h.1 (λ fields q begin. bindings q name (chains q begin h.0) fields) c.in-Err-head_step.stop did
+    let did = subst (λ (text : Written). Did r (λ (q : Rules) begin u. for q name (fields_of q (map (word_atoms text) c.in-For.words.now) u) (chains q begin h.0) u) (λ fields q begin. bindings q name (chains q begin h.0) fields) s t (Err c.in-Err-head_step.ending)) c.text-in-For.ensures (c.in-Err-head_step.ensures name (λ q begin. chains q begin h.0)) in
+    node_stopped r (subtree_at c.args.script.now) c.args.node (For name words h.0) s t h.1 (reason_of c.in-Err-head_step.ending) did

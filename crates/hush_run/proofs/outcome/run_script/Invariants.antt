@@ -7,7 +7,7 @@ use Rattle.hush_run.proofs.outcome.run_script.Given as goal
 
 abbrev pub invariant-loop-next : goal.invariant-loop-next
 invariant-loop-next l = record {
-  ready : IsReady (rules_of l.given) l.calls l.frames.frames l.frames.depth l.due;
+  ready : IsReady (rules_of l.given) l.calls l.frames.frames l.frames.capacity l.due;
   same : Same (rules_of l.given) (tree_of l.script) (state_of l.initial.session l.initial.progress) l.calls l.frames.frames l.due (state_of l.session l.progress);
   steps : l.progress.steps ≤ l.given.limits.steps;
 }

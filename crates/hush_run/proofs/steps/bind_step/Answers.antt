@@ -3,6 +3,7 @@ use Rattle.std.specs.FinMap as locals
 use Rattle.envimg_core.specs.Environment.{Environment}
 use Rattle.hush_syntax.specs.Trees.{name_in}
 use Rattle.hush_run.specs.Meaning.{Rules, Goes, ◌then◌, bindings, has_variable}
+use Rattle.hush_run.specs.Runs.{reason_of}
 use Rattle.hush_run.specs.Steps.{Did, state_of, rules_of}
 use Rattle.hush_run.proofs.StepLemmas.{no_step, bind_halts, bind_refused, bind_stopped, bind_done}
 use Rattle.hush_run.proofs.steps.bind_step.Goals as goal
@@ -24,7 +25,7 @@ returns-in_err-refuse_name c =
     let taken : has_variable s c.read_name.new.name.items ≡ true = search allowed in
     let same : c.from_residual-in_err-refuse_name.result ≡ Err c.in_err-refuse_name.field-0.0 = search allowed in
     rw same (λ rest body. subst (λ (m : List ℕ). Did r (λ (q : Rules) begin. bindings q m (body q begin) (c.args.field.now ∷ rest)) (λ bound q begin. if bound then (body q begin then bindings q m (body q begin) rest) else Goes) s (state_of c.args.session.now c.refuse_name.new.self) (Err c.in_err-refuse_name.field-0.0)) c.in_ok-read_name.ensures
-    (bind_stopped r c.read_name.new.name.items c.args.field.now rest body s (state_of c.args.session.now c.refuse_name.new.self) c.in_err-refuse_name.field-0.0 taken (c.in_err-refuse_name.ensures r c.args.session.now c.in_ok-may_step.ensures.may)))
+    (bind_stopped r c.read_name.new.name.items c.args.field.now rest body s (state_of c.args.session.now c.refuse_name.new.self) (reason_of c.in_err-refuse_name.field-0.0) taken (c.in_err-refuse_name.ensures r c.args.session.now c.in_ok-may_step.ensures.may)))
 
 pub returns-then-is_some : goal.returns-then-is_some
 returns-then-is_some c =

@@ -1,8 +1,8 @@
 use Rattle.std.proofs.Common.{rules as allowed, ◌≡◌, ◌+◌, map, subst, sym, ◌∙◌, Err, Ok, add-one}
 use Rattle.hush_words.specs.Parts.{word_atoms}
-use Rattle.hush_run.specs.Stops.{print_stop}
+use Rattle.hush_run.specs.Steps.{ending_of_print}
 use Rattle.hush_run.specs.Meaning.{Rules, Begin, State, simple, follows, fields_of, Ends}
-use Rattle.hush_run.specs.declared.ending.Reason.TheVariants.{Exited}
+use Rattle.hush_run.specs.Meaning.Reason.{Exited}
 use Rattle.hush_run.specs.Steps.{Did, FieldsAre, state_of, rules_of}
 use Rattle.hush_run.proofs.StepLemmas.{made_fields, no_fields, simple_halts, simple_large, simple_done, simple_left, simple_unprinted}
 use Rattle.hush_run.proofs.steps.simple_step.Goals as goal
@@ -26,9 +26,9 @@ returns-in_err-carried c =
     let t = state_of c.args.session.now c.expand.new.self in
     let back : t ≡ s = c.in_ok-expand.ensures.same c.args.session.now in
     let are = subst (λ (u : State). FieldsAre r (fields_of r words u) u c.expand.new.self.fields (Ok tt)) (sym back) c.in_ok-expand.ensures.fields in
-    let same : c.from_residual-in_err-carried.result ≡ Err (print_stop c.in_err-carried.field-0.0) = search allowed in
+    let same : c.from_residual-in_err-carried.result ≡ Err (ending_of_print c.in_err-carried.field-0.0) = search allowed in
     let new : State = record { held = c.carry_out.new.session; locals = c.expand.new.self.locals; status = c.expand.new.self.status; printed = c.carry_out.new.output; steps = c.expand.new.self.steps } in
-    rw same (subst (λ (u : State). Did r (λ (q : Rules) begin v. simple q begin (fields_of q words v) v) (λ follow q begin. follows q begin follow) u new (Err (print_stop c.in_err-carried.field-0.0))) back
+    rw same (subst (λ (u : State). Did r (λ (q : Rules) begin v. simple q begin (fields_of q words v) v) (λ follow q begin. follows q begin follow) u new (Err (ending_of_print c.in_err-carried.field-0.0))) back
     (simple_unprinted r words t c.expand.new.self.fields.done are.0 (made_fields (fields_of r words t) c.expand.new.self.fields are.1) c.carry_out.new.session c.carry_out.new.output c.in_err-carried.field-0.0 c.in_err-carried.ensures.carries))
 
 pub returns-in-End : goal.returns-in-End

@@ -1,8 +1,9 @@
-use Rattle.std.proofs.Common.{rules as allowed, ◌≡◌, ◌+◌, ℕ, List, subst, ◌∙◌, Err, Some, None, add-one}
+use Rattle.std.proofs.Common.{rules as allowed, ◌≡◌, ◌+◌, ℕ, List, subst, sym, ap, arith, ◌∙◌, Err, Some, None, Option, is_some, true, false, add-one}
 use Rattle.std.specs.FinMap as map
 use Rattle.hush_syntax.specs.Reading.{read}
 use Rattle.hush_syntax.specs.Scripts.{tree_of}
 use Rattle.hush_commands.specs.declared.messages.Message.TheVariants.{NotDefined, NoScript}
+use Rattle.hush_run.specs.Runs.{reason_of}
 use Rattle.hush_run.specs.Steps.{state_of, rules_of}
 use Rattle.hush_run.proofs.StepLemmas.{start_unstarted, start_stopped, start_failed, start_deep, start_done, is_absent, is_no_script}
 use Rattle.hush_run.proofs.steps.start_step.Goals as goal
@@ -17,7 +18,7 @@ returns-in_err-fail c =
     let s = state_of c.args.session.now c.args.progress.now in
     let absent : map.get s.held.now.env c.args.name.now ≡ None = search allowed in
     let same : c.from_residual-in_err-fail.result ≡ Err c.in_err-fail.field-0.0 = search allowed in
-    rw same (start_stopped (rules_of c.args.given.now) NotDefined c.args.levels c.args.name.now s (state_of c.args.session.now c.fail.new.self) c.in_err-fail.field-0.0 (is_absent c.args.levels c.args.name.now s absent) (c.in_err-fail.ensures.told (rules_of c.args.given.now) c.args.session.now c.in_ok-may_step.ensures.may))
+    rw same (start_stopped (rules_of c.args.given.now) NotDefined c.args.levels c.args.name.now s (state_of c.args.session.now c.fail.new.self) (reason_of c.in_err-fail.field-0.0) (λ e. absurd (let f : false ≡ true = ap (λ (o : Option (List ℕ)). is_some o) (sym absent) ∙ e in cc)) (is_absent c.args.levels c.args.name.now s absent) (c.in_err-fail.ensures.told (rules_of c.args.given.now) c.args.session.now c.in_ok-may_step.ensures.may))
 
 pub returns-in_default : goal.returns-in_default
 returns-in_default c =
@@ -37,7 +38,7 @@ returns-in_err-fail-in_default-kind c =
     let there : map.get s.held.now.env c.args.name.now ≡ Some c.in-Some.value.now = search allowed in
     let none : read c.in-Some.value.now ≡ None = subst (λ (text : List ℕ). read text ≡ None) c.in_ok-from_slice.ensures.items (c.in-Err.ensures.unread c.in_default-kind.not-Memory) in
     let same : c.from_residual-in_err-fail-in_default-kind.result ≡ Err c.in_err-fail-in_default-kind.field-0.0 = search allowed in
-    rw same (start_stopped (rules_of c.args.given.now) NoScript c.args.levels c.args.name.now s (state_of c.args.session.now c.fail-in_default-kind.new.self) c.in_err-fail-in_default-kind.field-0.0 (is_no_script c.args.levels c.args.name.now c.in-Some.value.now s c.if-levels-eq0.false there none) (c.in_err-fail-in_default-kind.ensures.told (rules_of c.args.given.now) c.args.session.now c.in_ok-may_step.ensures.may))
+    rw same (start_stopped (rules_of c.args.given.now) NoScript c.args.levels c.args.name.now s (state_of c.args.session.now c.fail-in_default-kind.new.self) (reason_of c.in_err-fail-in_default-kind.field-0.0) (λ e. omega (arith, c.if-levels-eq0.false)) (is_no_script c.args.levels c.args.name.now c.in-Some.value.now s c.if-levels-eq0.false there none) (c.in_err-fail-in_default-kind.ensures.told (rules_of c.args.given.now) c.args.session.now c.in_ok-may_step.ensures.may))
 
 pub returns-in-Ok : goal.returns-in-Ok
 returns-in-Ok c =

@@ -3,7 +3,7 @@ use Rattle.hush_run.proofs.Descends.{leads_here, leads_on}
 use Rattle.hush_run.proofs.walk.descend.Goals as goal
 
 pub loop-frame-init : goal.loop-frame-init
-loop-frame-init c = record { leads = leads_here _ _ _ c.requires.known; height = omega arith; room = c.requires.room; depth = refl }
+loop-frame-init c = record { leads = leads_here _ _ _ c.requires.known; height = omega arith; room = c.requires.room; capacity = refl }
 
 pub first_part-requires : goal.first_part-requires
 first_part-requires c = c.loop-frame.invariant.leads.0
@@ -19,14 +19,14 @@ loop-frame-preserved c =
       leads = leads_on c.args.script.now c.args.frames.now.frames c.loop-frame.frames.frames c.args.id c.loop-frame.node c.in-Some.part c.in-Some.frame i.leads h;
       height = omega (arith, h.3, i.height);
       room = omega (arith, h.3, i.room);
-      depth = i.depth;
+      capacity = i.capacity;
     })
 
 pub returns-clause-descends : goal.returns-clause-descends
 returns-clause-descends c = (c.in_default.ensures, c.loop-frame.invariant.leads)
 
-pub returns-clause-depth : goal.returns-clause-depth
-returns-clause-depth c = c.loop-frame.invariant.depth
+pub returns-clause-capacity : goal.returns-clause-capacity
+returns-clause-capacity c = c.loop-frame.invariant.capacity
 
 pub returns-clause-height : goal.returns-clause-height
 returns-clause-height c = c.loop-frame.invariant.height

@@ -6,7 +6,7 @@ use Rattle.hush_run.proofs.walk.rise_up.Given as goal
 abbrev pub invariant-loop-frame : goal.invariant-loop-frame
 invariant-loop-frame l = record {
   leaves : IsLeft l.initial.calls l.initial.frames.frames l.initial.status l.calls l.frames.frames l.status due.Over;
-  depth : l.frames.depth ≡ l.initial.frames.depth;
+  capacity : l.frames.capacity ≡ l.initial.frames.capacity;
 }
 
 abbrev pub decreases-loop-frame : goal.decreases-loop-frame

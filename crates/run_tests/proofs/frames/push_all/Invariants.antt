@@ -4,7 +4,7 @@ use Rattle.run_tests.proofs.frames.push_all.Given as goal
 abbrev pub invariant-loop-pushed : goal.invariant-loop-pushed
 invariant-loop-pushed l = record {
   height : length l.frames.frames ≡ length l.initial.frames.frames + l.pushed;
-  depth : l.frames.depth ≡ l.initial.frames.depth;
+  capacity : l.frames.capacity ≡ l.initial.frames.capacity;
 }
 
 abbrev pub decreases-loop-pushed : goal.decreases-loop-pushed

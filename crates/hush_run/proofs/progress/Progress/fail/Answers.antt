@@ -1,16 +1,16 @@
 use Rattle.std.proofs.Common.{rules as allowed, ◌≡◌, ◌+◌, Err, add-one}
-use Rattle.hush_run.specs.Stops.{print_stop}
+use Rattle.hush_run.specs.Steps.{ending_of_print}
 use Rattle.hush_run.specs.Meaning.{Rules, step, fails, Goes}
-use Rattle.hush_run.specs.declared.ending.Reason.TheVariants.{Output}
+use Rattle.hush_run.specs.Meaning.Reason.{Output}
 use Rattle.hush_run.specs.Steps.{state_of}
 use Rattle.hush_run.proofs.StepLemmas.{told, untold, step_stopped}
 use Rattle.hush_run.proofs.progress.Progress.fail.Goals as goal
 
 pub returns-in_err-tell-clause-told : goal.returns-in_err-tell-clause-told
 returns-in_err-tell-clause-told c =
-    let same : c.from_residual.result ≡ Err (print_stop c.in_err-tell.field-0.0) = search allowed in
-    rw same (λ rules held lt. untold rules (λ (r : Rules) begin. step r (fails c.args.message c.args.name.now)) (λ (u : Unit {0}) (r : Rules) begin. Goes) c.args.message c.args.name.now (state_of held c.args.self.now) c.tell.new.output c.in_err-tell.field-0.0 c.in_err-tell.ensures
+    let same : c.from_residual.result ≡ Err (ending_of_print c.in_err-tell.field-0.0) = search allowed in
+    rw same (λ rules held lt. untold rules (λ (r : Rules) begin. step r (fails c.args.message c.args.name.now)) (λ (u : Unit {0}) (r : Rules) begin. Goes) c.args.message c.args.name.now (state_of held c.args.self.now) c.tell.new.output c.in_err-tell.field-0.0 c.in_err-tell.ensures.whole
     (λ begin stops. step_stopped rules (fails c.args.message c.args.name.now) (state_of held c.args.self.now) Output lt stops))
 
 pub returns-clause-told : goal.returns-clause-told
-returns-clause-told c = λ rules held lt. told rules c.args.message c.args.name.now (state_of held c.args.self.now) c.tell.new.output (c.args.self.now.steps + 1) lt c.in_ok-tell.ensures (add-one _)
+returns-clause-told c = λ rules held lt. told rules c.args.message c.args.name.now (state_of held c.args.self.now) c.tell.new.output (c.args.self.now.steps + 1) lt c.in_ok-tell.ensures.whole (add-one _)

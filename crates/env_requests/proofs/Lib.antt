@@ -1,0 +1,5 @@
+pub mod RunRequests
+pub mod KeepLemmas
+pub mod ReturnLemmas
+pub mod ObeyLemmas
+pub mod ListLemmas

@@ -1,0 +1,142 @@
+-- How the tools that change a session end.
+use Rattle.std.proofs.Common.{◌≡◌, ℕ, zero, suc, ◌+◌, ◌<◌, ◌≤◌, List, [], ◌∷◌, Option, Some, None, false, length, take, drop, map, get_or, arith, refl, sym, ap, ◌∙◌, subst, cond, inr}
+use Rattle.std.specs.Prelude.{IsSomeAnd, MatchOption, is_some, slice_get}
+use Rattle.std.proofs.lemmas.List.{append-nil}
+use Rattle.std.proofs.KnownBytes.{Appends-nil, Keeps-refl}
+use Rattle.std.specs.Io.KnownBytes.{Appends}
+use Rattle.env_session.specs.Session.{Held, last_saved, side_of, written, saved}
+use Rattle.env_session.specs.Requests.{IsChange, refusal_in, write_done, imported, tally}
+use Rattle.envimg_core.specs.Pieces.{Entry}
+use Rattle.envvars_core.specs.declared.refusals.Refusal.{Refusal}
+use Rattle.fw_engines.specs.Streams.{AppendsPart}
+use Rattle.fw_engines.specs.Tool.{PrintsText}
+use Rattle.fw_engines.specs.Changes.{Changing, Effect, Ends, Changes, LacksMemory, LacksMemoryToSet, NeedsMemory, silent, refused_by, unless_refused, set_effect, script_effect}
+use Rattle.text_parts.specs.Words.{spaced}
+use Rattle.fw_engines.specs.declared.tool_end.ToolEnd.{ToolEnd}
+use Rattle.fw_engines.specs.declared.tool_end.StreamFault.{StreamFault}
+use Rattle.fw_engines.specs.declared.tool_end.StreamFault.TheVariants.{Read, Write, Memory}
+
+-- ---- where memory ran out
+
+pub at_write : (old now new : Held) (n : ℕ) (es : List Entry) (k : ℕ) (e : Entry) (rest : List Entry) → ◌≡◌ {A = Held × ℕ} (now, n) (imported old (take k es)) →
+    drop k es ≡ e ∷ rest → IsChange now e → new ≡ now → LacksMemory old es n new
+at_write old now new n es k e rest so_far cut change is =
+    (k, ap (λ (h : Held). (h, n)) is ∙ so_far, subst (λ h. NeedsMemory h (drop k es)) (sym is) (subst (NeedsMemory now) (sym cut) change))
+
+pub at_save : (old now new : Held) (n : ℕ) (es : List Entry) (k : ℕ) → ◌≡◌ {A = Held × ℕ} (now, n) (imported old (take k es)) →
+    drop k es ≡ [] → last_saved (side_of now) now.marks ≡ false → new ≡ now → LacksMemory old es n new
+at_save old now new n es k so_far none unsaved is =
+    (k, ap (λ (h : Held). (h, n)) is ∙ so_far, subst (λ h. NeedsMemory h (drop k es)) (sym is) (subst (NeedsMemory now) (sym none) unsaved))
+
+some_left : (es : List Entry) (k : ℕ) (P : Entry → Type 0) → IsSomeAnd (slice_get es k) P → (e : Entry) × (rest : List Entry) × (drop k es ≡ e ∷ rest) × P e
+some_left [] k P p = absurd p
+some_left (e ∷ es) zero P p = (e, es, refl, p)
+some_left (e ∷ es) (suc k) P p = some_left es k P p
+
+pub in_import : (old new : Held) (n : ℕ) (es : List Entry) (k : ℕ) → ◌≡◌ {A = Held × ℕ} (new, n) (imported old (take k es)) →
+    IsSomeAnd (slice_get es k) (IsChange (imported old (take k es)).0) → LacksMemory old es n new
+in_import old new n es k so_far change =
+    let left = some_left es k (IsChange (imported old (take k es)).0) change in
+    at_write old new new n es k left.0 left.1 so_far left.2 (subst (λ h. IsChange h left.0) (sym (ap (λ p. p.0) so_far)) left.3) refl
+
+pub ran_out : (end : ToolEnd) (a : Option (List ℕ)) (old new : Held) (effect : Effect) (lacks : Held → Type 0) → (end.status ≡ 1) × (end.fault ≡ Some Memory) → lacks new →
+    Changes (record { session = old; errors = a }) (record { session = new; errors = a }) effect lacks end
+ran_out end a old new effect lacks is out =
+    subst (λ f. Ends f (record { session = old; errors = a }) (record { session = new; errors = a }) effect lacks end.status) (sym is.1) (Keeps-refl a, is.0, out)
+
+-- ---- a text was printed
+
+pub text_ends : (end : ToolEnd) (a b : Option (List ℕ)) (old new : Held) (effect : Effect) (lacks : Held → Type 0) → new ≡ effect.session → PrintsText a b effect.text effect.status end →
+    Changes (record { session = old; errors = a }) (record { session = new; errors = b }) effect lacks end
+text_ends end a b old new effect lacks is p = by_fault end.fault p
+  where
+    by_fault : (f : Option StreamFault) → MatchOption f (Appends a b effect.text × (end.status ≡ effect.status)) (λ fault. (fault ≡ Write) × AppendsPart a b effect.text × (end.status ≡ 1)) →
+        Ends f (record { session = old; errors = a }) (record { session = new; errors = b }) effect lacks end.status
+    by_fault None h = (h.0, h.1, is)
+    by_fault (Some f) h = subst (λ x. Ends (Some x) (record { session = old; errors = a }) (record { session = new; errors = b }) effect lacks end.status) (sym h.0) (h.1, h.2, is)
+
+-- a save without a text
+pub silent_ends : (end : ToolEnd) (a : Option (List ℕ)) (old mid new : Held) (effect : Effect) (es : List Entry) (k : ℕ) → ◌≡◌ {A = Held × ℕ} (mid, 0) (imported old (take k es)) →
+    drop k es ≡ [] → effect ≡ silent (saved mid) →
+    MatchOption end.fault ((new ≡ saved mid) × (end.status ≡ 0)) (λ fault. (fault ≡ Memory) × (new ≡ mid) × (last_saved (side_of mid) mid.marks ≡ false) × (end.status ≡ 1)) →
+    Changes (record { session = old; errors = a }) (record { session = new; errors = a }) effect (LacksMemory old es 0) end
+silent_ends end a old mid new effect es k so_far none is p =
+    subst (λ d. Ends end.fault (record { session = old; errors = a }) (record { session = new; errors = a }) d (LacksMemory old es 0) end.status) (sym is) (by_fault end.fault p)
+  where
+    by_fault : (f : Option StreamFault) → MatchOption f ((new ≡ saved mid) × (end.status ≡ 0)) (λ fault. (fault ≡ Memory) × (new ≡ mid) × (last_saved (side_of mid) mid.marks ≡ false) × (end.status ≡ 1)) →
+        Ends f (record { session = old; errors = a }) (record { session = new; errors = a }) (silent (saved mid)) (LacksMemory old es 0) end.status
+    by_fault None h = (Appends-nil a, h.1, h.0)
+    by_fault (Some f) h =
+        subst (λ x. Ends (Some x) (record { session = old; errors = a }) (record { session = new; errors = a }) (silent (saved mid)) (LacksMemory old es 0) end.status) (sym h.0)
+        (Keeps-refl a, h.3, at_save old mid new 0 es k so_far none h.2 h.1)
+
+-- ---- one write
+
+pub set_refused : (h : Held) (name value : List ℕ) (r : Refusal) → Some r ≡ refusal_in h name (Some value) false → set_effect h name value ≡ refused_by r name h
+set_refused h name value r is = ap (λ o. unless_refused o name h (silent (saved (written h name (Some value))))) (sym is)
+
+pub set_accepted : (h : Held) (name value : List ℕ) → None ≡ refusal_in h name (Some value) false → set_effect h name value ≡ silent (saved (written h name (Some value)))
+set_accepted h name value is = ap (λ o. unless_refused o name h (silent (saved (written h name (Some value))))) (sym is)
+
+pub done_accepted : (h : Held) (name : List ℕ) (new : Option (List ℕ)) → None ≡ refusal_in h name new false → write_done h name new false ≡ written h name new
+done_accepted h name new is = ap (λ o. cond (is_some o) h (written h name new)) (sym is)
+
+pub done_refused : (h : Held) (name : List ℕ) (new : Option (List ℕ)) (r : Refusal) → Some r ≡ refusal_in h name new false → write_done h name new false ≡ h
+done_refused h name new r is = ap (λ o. cond (is_some o) h (written h name new)) (sym is)
+
+pub change_of_entry : (h : Held) (n m : List ℕ) (v w : Option (List ℕ)) → n ≡ m → v ≡ w → IsChange h (n, v) → IsChange h (m, w)
+change_of_entry h n m v w p q change = subst (IsChange h) (λ i. (p i, q i)) change
+
+-- no word joined is empty
+pub none_spaced : {X : Type 0} (g : X → List ℕ) (ws : List X) → length ws ≡ 0 → [] ≡ spaced (map g ws)
+none_spaced g [] h = refl
+none_spaced g (w ∷ ws) h = absurd (omega (arith, h))
+
+-- one word is the value that words joined are
+pub one_spaced : {X : Type 0} (g : X → List ℕ) (ws : List X) (d : X) → length ws ≡ 1 → g (get_or ws 0 d) ≡ spaced (map g ws)
+one_spaced g [] d h = absurd (omega (arith, h))
+one_spaced g (w ∷ []) d h = sym (append-nil (g w))
+one_spaced g (w ∷ v ∷ ws) d h = absurd (omega (arith, h))
+
+-- setenv ends as the write of its value does
+pub set_ends : (end : ToolEnd) (old new : Changing) (name value : List ℕ) (words : List (List ℕ)) → value ≡ spaced words →
+    Changes old new (set_effect old.session name value) (LacksMemory old.session ((name, Some value) ∷ []) 0) end →
+    Changes old new (set_effect old.session name (spaced words)) (LacksMemoryToSet old.session name words) end
+set_ends end old new name value words is ends =
+    by_fault end.fault (subst (λ v. Ends end.fault old new (set_effect old.session name v) (LacksMemory old.session ((name, Some v) ∷ []) 0) end.status) is ends)
+  where
+    by_fault : (f : Option StreamFault) → Ends f old new (set_effect old.session name (spaced words)) (LacksMemory old.session ((name, Some (spaced words)) ∷ []) 0) end.status →
+        Ends f old new (set_effect old.session name (spaced words)) (LacksMemoryToSet old.session name words) end.status
+    by_fault None h = h
+    by_fault (Some Write) h = h
+    by_fault (Some Read) h = h
+    by_fault (Some Memory) h = (h.0, h.1, inr h.2)
+
+-- ---- a set script
+
+pub drop_at : {X Y : Type 0} (g : X → Y) (xs : List X) (i : ℕ) (x : X) → i < length xs → x ≡ get_or xs i x → drop i (map g xs) ≡ g x ∷ drop (i + 1) (map g xs)
+drop_at g [] i x h is = absurd (omega arith)
+drop_at g (y ∷ xs) zero x h is = ap (λ z. g z ∷ map g xs) (sym is)
+drop_at g (y ∷ xs) (suc i) x h is =
+    drop_at g xs i x (omega arith) is ∙ ap (λ (n : ℕ). g x ∷ drop n (g y ∷ map g xs)) (let k : suc (i + 1) ≡ suc i + 1 = omega arith in k)
+
+-- what is left of a set script after one line
+pub script_more : (now new : Held) (e : Entry) (es : List Entry) → None ≡ refusal_in now e.0 e.1 false → new ≡ write_done now e.0 e.1 false → script_effect now (e ∷ es) ≡ script_effect new es
+script_more now new e es none is =
+    ap (λ o. unless_refused o e.0 now (script_effect (written now e.0 e.1) es)) (sym none) ∙ ap (λ h. script_effect h es) (sym (is ∙ done_accepted now e.0 e.1 none))
+
+pub script_refused : (now : Held) (e : Entry) (es : List Entry) (r : Refusal) → Some r ≡ refusal_in now e.0 e.1 false → script_effect now (e ∷ es) ≡ refused_by r e.0 now
+script_refused now e es r some = ap (λ o. unless_refused o e.0 now (script_effect (written now e.0 e.1) es)) (sym some)
+
+pub tally_more : (now new : Held) (e : Entry) → None ≡ refusal_in now e.0 e.1 false → new ≡ write_done now e.0 e.1 false → ◌≡◌ {A = Held × ℕ} (new, 0) (tally (now, 0) e)
+tally_more now new e none is = λ i. (is i, 0 + cond (is_some (none i)) 1 0)
+
+pub drop_none : {X Y : Type 0} (g : X → Y) (xs : List X) (i : ℕ) → length xs ≤ i → drop i (map g xs) ≡ []
+drop_none g [] zero h = refl
+drop_none g [] (suc i) h = refl
+drop_none g (x ∷ xs) zero h = absurd (omega arith)
+drop_none g (x ∷ xs) (suc i) h = drop_none g xs i (omega arith)
+
+pub one_written : (h now : Held) (e : Entry) → None ≡ refusal_in h e.0 e.1 false → now ≡ write_done h e.0 e.1 false → ◌≡◌ {A = Held × ℕ} (now, 0) (imported h (e ∷ []))
+unfolding imported
+one_written h now e none is = tally_more h now e none is

@@ -1,0 +1,34 @@
+//! The texts that the tools print besides variables, each once.
+
+/// Standard error where the bytes read are no image: their length is none that an image has.
+pub(crate) const BAD_LENGTH: &[u8] = b"## Error: bad image: BadLength\n";
+
+/// The checksum is another.
+pub(crate) const BAD_CHECKSUM: &[u8] = b"## Error: bad image: BadCrc\n";
+
+/// The list of entries is not ended.
+pub(crate) const UNTERMINATED: &[u8] = b"## Error: bad image: Unterminated\n";
+
+/// Before and behind the name of a variable that is not there.
+pub(crate) const ERROR_QUOTE: &[u8] = b"## Error: \"";
+
+pub(crate) const NOT_DEFINED: &[u8] = b"\" not defined\n";
+
+/// Standard error where `-n` has no name, or several.
+pub(crate) const ONE_NAME: &[u8] = b"## Error: -n takes exactly one name\n";
+
+/// Before a name that can not be exported.
+pub(crate) const CANNOT_EXPORT: &[u8] = b"## Error: can't export \"";
+
+/// After that name.
+pub(crate) const QUOTE: &[u8] = b"\"\n";
+
+/// Before and behind the number of entries that an import refused.
+pub(crate) const ERROR: &[u8] = b"## Error: ";
+
+pub(crate) const ENTRIES_REFUSED: &[u8] = b" entries refused\n";
+
+/// Between the name of an entry that a restore refuses and the number of its line.
+pub(crate) const QUOTE_IN_LINE: &[u8] = b"\" in line ";
+
+pub(crate) const NEWLINE: &[u8] = b"\n";

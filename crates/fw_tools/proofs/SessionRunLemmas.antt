@@ -1,0 +1,43 @@
+-- How a dry run is left, put together.
+use Rattle.std.proofs.Common.{◌≡◌, ℕ, Bool, true, false, List, [], Option, Some, None, inl, inr, sym, ap, subst}
+use Rattle.std.specs.Prelude.{Result, Ok, Err, IfOk, unwrap_or}
+use Rattle.std.specs.FinMap as names
+use Rattle.std.specs.Result.{result_ok}
+use Rattle.env_session.specs.Session.{Held}
+use Rattle.hush_commands.specs.Stubs.{Statuses, stand_ins_of}
+use Rattle.fw_session.specs.declared.session_end.SessionEnding.{SessionEnding}
+use Rattle.fw_tools.specs.DryRuns.{DryRun}
+use Rattle.fw_tools.specs.Said.{SaysSome}
+use Rattle.fw_tools.specs.SessionRun.{ClosesDryRun, Reports, AreStubsOf, TriesOver, TriesWith, text_for}
+use Rattle.fw_engines.specs.Streams.{AppendsFront, Streams}
+
+pub tried_over : {E : Type 0} (run : DryRun) (session : Held) (old : Streams) (outcome : Result Statuses E) (stand_ins : Statuses) (errors : Option (List ℕ)) (new : Streams) (status : ℕ) →
+    Some stand_ins ≡ result_ok outcome → IfOk outcome (AreStubsOf run.stand_ins) → errors ≡ old.errors →
+    TriesWith run stand_ins session (record { input = old.input; output = old.output; errors = errors }) new status → TriesOver run session old new status
+tried_over run session old (Ok s) stand_ins errors new status is stands same tries =
+    inr (
+      stand_ins,
+      subst (AreStubsOf run.stand_ins) (sym (ap (λ o. unwrap_or o stand_ins) is)) stands,
+      subst (λ e. TriesWith run stand_ins session (record { input = old.input; output = old.output; errors = e }) new status) same tries,
+    )
+tried_over run session old (Err e) stand_ins errors new status is stands same tries = absurd (no is)
+  where
+    no : Some stand_ins ≡ None → ⊥
+    no e = cc
+
+pub reported : (kept : Bool) (end : SessionEnding) (old new : Option (List ℕ)) (status : ℕ) → Reports (text_for end) old new status → ClosesDryRun kept end old new status
+reported true end old new status reports = inr reports
+reported false end old new status reports = reports
+
+pub not_written : (kept : Bool) (end : SessionEnding) (old new : Option (List ℕ)) (status : ℕ) → kept ≡ true → SaysSome old new → status ≡ 1 → ClosesDryRun kept end old new status
+not_written true end old new status is says one = inl (says, one)
+not_written false end old new status is says one = absurd cc
+
+pub no_stand_ins : (stand_ins : Statuses) → stand_ins_of [] ≡ Ok stand_ins → stand_ins ≡ names.empty
+no_stand_ins stand_ins is = sym (ap (λ r. unwrap_or (result_ok r) names.empty) is)
+
+pub nothing_told : (told : Option (List ℕ)) (old new : Option (List ℕ)) (status : ℕ) → None ≡ told → new ≡ old → status ≡ 0 → Reports told old new status
+nothing_told told old new status none same zero = subst (λ t. Reports t old new status) none (same, zero)
+
+pub text_told : (text : List ℕ) (told : Option (List ℕ)) (old new : Option (List ℕ)) (status : ℕ) → Some text ≡ told → AppendsFront old new text → status ≡ 1 → Reports told old new status
+text_told text told old new status is said one = subst (λ t. Reports t old new status) is (said, one)

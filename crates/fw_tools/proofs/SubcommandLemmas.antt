@@ -1,0 +1,161 @@
+-- What a subcommand does, put together, and its status.
+use Rattle.std.proofs.Common.{◌≡◌, ◌≤◌, ℕ, zero, suc, Bool, true, false, List, [], ◌∷◌, ◌++◌, Option, Some, None, inl, inr, refl, sym, ap, ◌∙◌, subst, arith}
+use Rattle.std.specs.Prelude.{◌==◌, MatchOption, if◌then◌else◌, length}
+use Rattle.env_session.specs.Requests.{refusal_in}
+use Rattle.env_session.specs.Session.{Held, written}
+use Rattle.envcfg_core.specs.Entries as text_entries
+use Rattle.envimg_core.specs.Environment.{Environment}
+use Rattle.envimg_core.specs.Pieces.{Entry}
+use Rattle.envimg_core.specs.declared.geometry.Order.{Order}
+use Rattle.fw_tools.specs.Said.{SaysSome}
+use Rattle.envvars_core.specs.declared.refusals.Refusal.{Refusal}
+use Rattle.fw_tools.specs.Subcommands.{Acts, Closes, DoesJob, IsAccepted, IsOpening, Scene, Uses, UsesTool, printed_so}
+use Rattle.fw_tools.specs.Calls.{Call, Defaults, Job, Task, Tool, Tries}
+use Rattle.fw_tools.specs.Source.{IsFound}
+use Rattle.fw_tools.specs.declared.call.Printing.{Printing}
+use Rattle.fw_tools.specs.declared.call.Printing.TheVariants.{Lines, OneValue, Values}
+use Rattle.fw_engines.specs.TextForm.{export_texts, status_for}
+use Rattle.fw_engines.specs.VariableLines.{complaint, named, one_name, printed, status_of}
+use Rattle.fw_engines.specs.Changes.{Changing, Effect, Ends, count_status, script_effect, unless_refused}
+use Rattle.fw_engines.specs.Restoration.{forced_effect, restoring, unless_refused_in}
+use Rattle.fw_tools.specs.SessionRun.{ClosesDryRun, Reports, is_kept, text_for}
+use Rattle.fw_session.specs.declared.session_end.SessionEnding.{SessionEnding}
+use Rattle.fw_engines.specs.Streams.{Streams, Writers}
+use Rattle.fw_engines.specs.Tool.{Printed, Prints, Texts, Writes, WritesPart}
+use Rattle.fw_engines.specs.declared.tool_end.StreamFault.{StreamFault}
+use Rattle.fw_engines.specs.declared.tool_end.StreamFault.TheVariants.{Read, Write, Memory}
+use Rattle.fw_engines.specs.declared.tool_end.ToolEnd.{ToolEnd}
+
+-- the session that was accepted is the one that was opened
+pub accepted_is : (o : Option Held) (order : Order) (asked : Defaults) (session : Held) (a b : Option (List ℕ)) → IsOpening order asked session →
+    MatchOption o (SaysSome a b) (λ s. (s ≡ session) × IsAccepted asked session a b) → MatchOption o (SaysSome a b) (λ s. IsOpening order asked s × IsAccepted asked s a b)
+accepted_is None order asked session a b opening p = p
+accepted_is (Some s) order asked session a b opening p =
+    (subst (IsOpening order asked) (sym p.0) opening, subst (λ (h : Held). IsAccepted asked h a b) (sym p.0) p.1)
+
+-- a session was opened, with a warning or none, and worked on
+pub opened_session : (call : Call) (asked : Defaults) (old : Streams) (session : Held) (warned : Option (List ℕ)) (new : Streams) (status : ℕ) →
+    IsFound call.defaults asked → IsOpening call.order asked session → IsAccepted asked session old.errors warned →
+    DoesJob call.job session (record { input = old.input; output = old.output; errors = warned }) new status → Uses call old new status
+opened_session call asked old session warned new status found opening accepted does = inr (asked, session, warned, found, opening, accepted, does)
+
+-- what was done with nothing said before
+pub uses_after : (call : Call) (input output errors errors' : Option (List ℕ)) (new : Streams) (status status' : ℕ) → errors' ≡ errors → status' ≡ status →
+    Uses call (record { input = input; output = output; errors = errors' }) new status → Uses call (record { input = input; output = output; errors = errors }) new status'
+uses_after call input output errors errors' new status status' same is uses =
+    subst (λ s. Uses call (record { input = input; output = output; errors = errors }) new s) (sym is)
+    (subst (λ e. Uses call (record { input = input; output = output; errors = e }) new status) same uses)
+
+-- a tool's task was done, and the session closed
+pub used_tool : (task : Task) (session : Held) (old : Writers) (after : Scene) (end : ToolEnd) (errors : Option (List ℕ)) (status : ℕ) →
+    Acts task (record { session = session; writers = old }) after end → Closes end after.writers.errors errors status →
+    UsesTool task session old (record { output = after.writers.output; errors = errors }) status
+used_tool task session old after end errors status acts closes = inr (after, end, acts, refl, closes)
+
+-- each status is 0 or 1
+printed_small : (fault : Option StreamFault) (old new : Writers) (texts : Texts) (status : ℕ) → texts.status ≤ 1 → Printed fault old new texts status → status ≤ 1
+printed_small None old new texts status small p = omega (arith, p.1, small)
+printed_small (Some Read) old new texts status small p = omega (arith, p.1)
+printed_small (Some Write) old new texts status small p = omega (arith, p.1)
+printed_small (Some Memory) old new texts status small p = omega (arith, p.1)
+
+ends_small : (fault : Option StreamFault) (old new : Changing) (effect : Effect) (lacks : Held → Type 0) (status : ℕ) → effect.status ≤ 1 → Ends fault old new effect lacks status → status ≤ 1
+ends_small None old new effect lacks status small p = omega (arith, p.1, small)
+ends_small (Some Read) old new effect lacks status small p = absurd p
+ends_small (Some Write) old new effect lacks status small p = omega (arith, p.1)
+ends_small (Some Memory) old new effect lacks status small p = omega (arith, p.1)
+
+status_small : (failed : Bool) → status_of failed ≤ 1
+status_small true = omega arith
+status_small false = omega arith
+
+for_small : (text : List ℕ) → status_for text ≤ 1
+for_small [] = omega arith
+for_small (b ∷ bs) = omega arith
+
+printenv_small : (env : Environment) (names : List (List ℕ)) (value_only : Bool) → (printed env names value_only).status ≤ 1
+printenv_small env [] false = omega arith
+printenv_small env (n ∷ names) false = status_small _
+printenv_small env names true = one (length names == 1)
+  where
+    one : (b : Bool) → (if b then named true env names else complaint one_name).status ≤ 1
+    one true = status_small _
+    one false = omega arith
+
+so_small : (printing : Printing) (env : Environment) (names : List (List ℕ)) → (printed_so printing env names).status ≤ 1
+so_small Lines env names = printenv_small env names false
+so_small OneValue env names = printenv_small env names true
+so_small Values env names = status_small _
+
+unless_small : (r : Option Refusal) (name : List ℕ) (h : Held) (rest : Effect) → rest.status ≤ 1 → (unless_refused r name h rest).status ≤ 1
+unless_small None name h rest small = small
+unless_small (Some r) name h rest small = omega arith
+
+script_small : (h : Held) (entries : List Entry) → (script_effect h entries).status ≤ 1
+script_small h [] = omega arith
+script_small h (e ∷ es) = unless_small (refusal_in h e.0 e.1 false) e.0 h _ (script_small (written h e.0 e.1) es)
+
+unless_in_small : (r : Option Refusal) (e : text_entries.Entry) (h : Held) (rest : Effect) → rest.status ≤ 1 → (unless_refused_in r e h rest).status ≤ 1
+unless_in_small None e h rest small = small
+unless_in_small (Some r) e h rest small = omega arith
+
+forced_small : (h : Held) (entries : List text_entries.Entry) → (forced_effect h entries).status ≤ 1
+forced_small h [] = omega arith
+forced_small h (e ∷ es) = unless_in_small (refusal_in h e.name e.value true) e h _ (forced_small (written h e.name e.value) es)
+
+count_small : (n : ℕ) → count_status n ≤ 1
+count_small zero = omega arith
+count_small (suc n) = omega arith
+
+acts_small : (task : Task) (old new : Scene) (end : ToolEnd) → Acts task old new end → end.status ≤ 1
+acts_small (Task.Print names printing) old new end acts = printed_small end.fault _ _ _ end.status (so_small printing old.session.now.env names) acts.1
+acts_small (Task.Set name words) old new end acts = ends_small end.fault _ _ _ _ end.status (unless_small (refusal_in old.session name _ false) name old.session _ (omega arith)) acts.1
+acts_small (Task.SetScript path) old new end acts = ends_small end.fault _ _ _ _ end.status (script_small old.session acts.0) acts.1.1
+acts_small (Task.Import path) old new end acts = ends_small end.fault _ _ _ _ end.status (count_small _) acts.1.1
+acts_small Task.Export old new end acts = printed_small end.fault _ _ _ end.status (for_small (export_texts old.session.now.env).errors) acts.1
+acts_small (Task.Restore path) old new end acts = ends_small end.fault _ _ _ _ end.status (forced_small old.session (restoring old.session.now.env acts.1)) acts.2.1.1
+
+closes_small : (end : ToolEnd) (old new : Option (List ℕ)) (status : ℕ) → end.status ≤ 1 → Closes end old new status → status ≤ 1
+closes_small end old new status small (inl failed) = omega (arith, failed.1)
+closes_small end old new status small (inr closed) = omega (arith, closed.1, small)
+
+tool_small : (task : Task) (session : Held) (old new : Writers) (status : ℕ) → UsesTool task session old new status → status ≤ 1
+tool_small task session old new status (inl stopped) = omega (arith, stopped.1)
+tool_small task session old new status (inr (after, end, acts, same, closes)) = closes_small end _ _ status (acts_small task _ after end acts) closes
+
+reports_small : (text : Option (List ℕ)) (old new : Option (List ℕ)) (status : ℕ) → Reports text old new status → status ≤ 1
+reports_small None old new status (same, is) = omega (arith, is)
+reports_small (Some text) old new status (said, is) = omega (arith, is)
+
+leaves_small : (kept : Bool) (end : SessionEnding) (old new : Option (List ℕ)) (status : ℕ) → ClosesDryRun kept end old new status → status ≤ 1
+leaves_small true end old new status (inl (said, is)) = omega (arith, is)
+leaves_small true end old new status (inr reports) = reports_small (text_for end) old new status reports
+leaves_small false end old new status reports = reports_small (text_for end) old new status reports
+
+job_small : (job : Job) (session : Held) (old new : Streams) (status : ℕ) → DoesJob job session old new status → status ≤ 1
+job_small (Tool task) session old new status (unread, uses) = tool_small task session _ _ status uses
+job_small (Tries run) session old new status (inl stopped) = omega (arith, stopped.1.1)
+job_small (Tries run) session old new status (inr (stand_ins, stand, tries)) = leaves_small (is_kept run.write tries.0) tries.0 _ _ status tries.5
+
+pub uses_small : (call : Call) (old new : Streams) (status : ℕ) → Uses call old new status → status ≤ 1
+uses_small call old new status (inl stopped) = omega (arith, stopped.1.1)
+uses_small call old new status (inr (asked, session, warned, found, opening, accepted, does)) = job_small call.job session _ new status does
+
+-- ---- texts that are made first and then written
+
+written_then : (fault : Option StreamFault) (status : ℕ) (old new : Writers) (texts : Texts) →
+    MatchOption fault (Writes old new texts × (status ≡ texts.status)) (λ f. (f ≡ Write) × WritesPart old new texts × (status ≡ 1)) → Printed fault old new texts status
+written_then None status old new texts p = p
+written_then (Some f) status old new texts p = subst (λ x. Printed (Some x) old new texts status) (sym p.0) (p.1, p.2)
+
+pub made_first : (end made : ToolEnd) (old new : Writers) (texts : Texts) (x y text messages text' messages' : List ℕ) →
+    made.fault ≡ None → Prints (record { output = Some x; errors = Some y }) (record { output = Some text; errors = Some messages }) texts made →
+    x ≡ [] → y ≡ [] → text' ≡ text → messages' ≡ messages →
+    Prints old new (record { output = text'; errors = messages'; status = made.status }) end → Printed end.fault old new texts end.status
+made_first end made old new texts x y text messages text' messages' is p ex ey et em q =
+    let w = subst (λ m. MatchOption m (Writes (record { output = Some x; errors = Some y }) (record { output = Some text; errors = Some messages }) texts × (made.status ≡ texts.status))
+    (λ f. (f ≡ Write) × WritesPart (record { output = Some x; errors = Some y }) (record { output = Some text; errors = Some messages }) texts × (made.status ≡ 1))) is p in
+    let o : text' ≡ texts.output = et ∙ w.0.0 ∙ ap (λ z. z ++ texts.output) ex in
+    let e : messages' ≡ texts.errors = em ∙ w.0.1 ∙ ap (λ z. z ++ texts.errors) ey in
+    let same : ◌≡◌ {A = Texts} (record { output = text'; errors = messages'; status = made.status }) texts = λ i. record { output = o i; errors = e i; status = w.1 i } in
+    written_then end.fault end.status old new texts (subst (λ t. Prints old new t end) same q)

@@ -1,0 +1,8 @@
+use Rattle.std.proofs.Common.{ap, sym, ◌∙◌}
+use Rattle.fw_tools.specs.ProgramNames.{called_in}
+use Rattle.fw_tools.proofs.WordLemmas.{called_found}
+use Rattle.fw_tools.proofs.entry_point.called.Goals as goal
+
+pub returns-in-Fwenv : goal.returns-in-Fwenv
+returns-in-Fwenv c =
+    called_found c.args.matches.now c.subcommand.result c.subcommand.ensures.name c.subcommand.ensures.rows ∙ ap (λ u. called_in u c.args.matches.now) (sym c.in-Fwenv.is)

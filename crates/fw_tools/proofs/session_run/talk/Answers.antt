@@ -1,0 +1,13 @@
+use Rattle.std.proofs.Common.{refl, ap, inl}
+use Rattle.std.specs.Prelude.{unwrap_or}
+use Rattle.fw_tools.specs.DryRuns.{dry_run_view}
+use Rattle.fw_tools.proofs.SessionRunLemmas.{tried_over}
+use Rattle.fw_tools.proofs.session_run.talk.Goals as goal
+
+pub returns-in_err-stand_ins : goal.returns-in_err-stand_ins
+returns-in_err-stand_ins g c = inl (refl, ((refl, c.in_err-stand_ins.ensures.said), ap (λ o. unwrap_or o 1) c.from_residual.ensures))
+
+pub returns : goal.returns
+returns g c =
+    tried_over (dry_run_view c.args.run.now) c.args.opened _ c.read_stand_ins.result c.in_ok-stand_ins.stand_ins _ _ _ c.in_ok-stand_ins.ensures.value c.read_stand_ins.ensures c.in_ok-stand_ins.ensures.said
+    (c.session-end.result.ending, c.session-end.result.read, c.session-end.result.written, _, c.session-end.ensures.ends.1, c.leave.ensures)

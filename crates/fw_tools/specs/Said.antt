@@ -1,0 +1,29 @@
+-- What the program says on standard error (docs/tools.md, "Ends").
+use Rattle.std.specs.Prelude.{◌≡◌, ℕ, List, [], ◌∷◌, ◌++◌, Option, Some, None, codes}
+use Rattle.std.specs.Io.KnownBytes.{Appends}
+use Rattle.fw_engines.specs.Streams.{AppendsFront, Writers}
+use Rattle.fw_engines.specs.declared.tool_end.StreamFault.{StreamFault}
+use Rattle.fw_engines.specs.declared.tool_end.StreamFault.TheVariants.{Read, Write, Memory}
+
+-- the text on standard error for what stopped a tool
+abbrev pub message_of : StreamFault → List ℕ
+message_of Read = codes "fwenv: cannot read standard input" ++ 10 ∷ []
+message_of Write = codes "fwenv: cannot write standard output" ++ 10 ∷ []
+message_of Memory = codes "## Error: out of memory" ++ 10 ∷ []
+
+-- it is said as far as standard error takes it
+abbrev pub Says : Option StreamFault → Option (List ℕ) → Option (List ℕ) → Type 0
+Says None err err' = err' ≡ err
+Says (Some fault) err err' = AppendsFront err err' (message_of fault)
+
+-- some text is said, or nothing: a contract knows nothing of the file that it is about
+abbrev pub SaysSome : Option (List ℕ) → Option (List ℕ) → Type 0
+SaysSome old new = (text : List ℕ) × Appends old new text
+
+-- nothing on standard output
+abbrev pub SaysOnly : Writers → Writers → Type 0
+SaysOnly old new = (new.output ≡ old.output) × SaysSome old.errors new.errors
+
+-- a file can't be used, or memory runs out: some text may say so, status 1
+abbrev pub Stops : Writers → Writers → ℕ → Type 0
+Stops old new status = SaysOnly old new × (status ≡ 1)

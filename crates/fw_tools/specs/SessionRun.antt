@@ -1,0 +1,57 @@
+-- What a dry run over standard input and output does (docs/dry-runs.md).
+use Rattle.std.specs.Prelude.{◌≡◌, ◌⊎◌, ℕ, Bool, true, false, List, [], ◌∷◌, ◌++◌, Option, Some, None, Ok, codes}
+use Rattle.std.specs.FinMap as names
+use Rattle.clap.specs.Words.{Text}
+use Rattle.env_session.specs.Session.{Held}
+use Rattle.hush_commands.specs.Stubs.{Statuses, stand_ins_of}
+use Rattle.hush_run.specs.Runs.{rules}
+use Rattle.fw_session.specs.Ends.{Ends}
+use Rattle.fw_session.specs.Turns.{NamedSession}
+use Rattle.fw_session.specs.NamedSessions.{unnamed}
+use Rattle.fw_session.specs.declared.session_end.SessionEnding.{SessionEnding}
+use Rattle.fw_session.specs.declared.session_end.SessionEnding.TheVariants as ending
+use Rattle.fw_tools.specs.DryRuns.{DryRun}
+use Rattle.fw_tools.specs.Said.{SaysSome, Stops, message_of}
+use Rattle.fw_engines.specs.Streams.{AppendsFront, Streams, writers_of}
+use Rattle.fw_engines.specs.declared.tool_end.StreamFault.TheVariants.{Read, Write, Memory}
+
+-- the stand-ins are those of some text, or there are none
+abbrev pub AreStubsOf : Option Text → Statuses → Type 0
+AreStubsOf None stand_ins = stand_ins ≡ names.empty
+AreStubsOf (Some path) stand_ins = (text : List ℕ) × (stand_ins_of text ≡ Ok stand_ins)
+
+-- the copies are written back where that was asked for and the whole input was handled
+abbrev pub is_kept : Bool → SessionEnding → Bool
+is_kept write ending.Done = write
+is_kept write other = false
+
+-- what is said at an ending
+abbrev pub text_for : SessionEnding → Option Text
+text_for ending.Done = None
+text_for ending.ReadFault = Some (message_of Read)
+text_for ending.TooLong = Some (codes "fwenv: input too long" ++ 10 ∷ [])
+text_for ending.WriteFault = Some (message_of Write)
+text_for ending.Memory = Some (message_of Memory)
+
+-- it is said as far as standard error takes it, and the status is 1; or there is nothing to be said
+abbrev pub Reports : Option Text → Option (List ℕ) → Option (List ℕ) → ℕ → Type 0
+Reports None old new status = (new ≡ old) × (status ≡ 0)
+Reports (Some text) old new status = AppendsFront old new text × (status ≡ 1)
+
+-- where copies are written back, one of them may be one that can't be
+abbrev pub ClosesDryRun : Bool → SessionEnding → Option (List ℕ) → Option (List ℕ) → ℕ → Type 0
+ClosesDryRun true end old new status = (SaysSome old new × (status ≡ 1)) ⊎ Reports (text_for end) old new status
+ClosesDryRun false end old new status = Reports (text_for end) old new status
+
+-- standard input is answered over a session, with these stand-ins
+abbrev pub TriesWith : DryRun → Statuses → Held → Streams → Streams → ℕ → Type 0
+TriesWith run stand_ins session old new status =
+    (end : SessionEnding) × (read : ℕ) × (written : ℕ) × (after : NamedSession)
+    × Ends end (rules stand_ins run.limits) (unnamed session) old.input new.input old.output new.output read written after
+    × ClosesDryRun (is_kept run.write end) end old.errors new.errors status
+
+-- or before that the stand-ins' file can't be used, or memory runs out
+abbrev pub TriesOver : DryRun → Held → Streams → Streams → ℕ → Type 0
+TriesOver run session old new status =
+    ((new.input ≡ old.input) × Stops (writers_of old) (writers_of new) status)
+    ⊎ ((stand_ins : Statuses) × AreStubsOf run.stand_ins stand_ins × TriesWith run stand_ins session old new status)

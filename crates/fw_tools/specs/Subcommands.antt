@@ -1,0 +1,113 @@
+-- What a subcommand does over a session, and what it prints (docs/tools.md, "Subcommands over files").
+use Rattle.std.specs.Prelude.{◌≡◌, ◌⊎◌, ℕ, ◌==◌, ◌&&◌, Bool, true, false, List, Option, Result, Ok, Err}
+use Rattle.env_session.specs.Session.{Held, opened}
+use Rattle.envimg_core.specs.Geometry.{Shape, room_of}
+use Rattle.envimg_core.specs.Pieces.{Entry}
+use Rattle.envimg_core.specs.declared.choice.Choice.{Choice}
+use Rattle.envimg_core.specs.declared.choice.Choice.TheVariants.{Neither}
+use Rattle.envimg_core.specs.declared.geometry.Order.{Order}
+use Rattle.envcfg_core.specs.Entries as text_entries
+use Rattle.envcfg_core.specs.Import.{import_of}
+use Rattle.envvars_core.specs.Variables.{Contents}
+use Rattle.clap.specs.Words.{Text}
+use Rattle.fw_tools.specs.Calls.{Call, Defaults, Job, Tool, Tries, Task}
+use Rattle.fw_tools.specs.CopyReport.{ReportsOn}
+use Rattle.fw_tools.specs.Report.{Asked, Look, Work}
+use Rattle.fw_tools.specs.Source.{AreDefaultsOf, IsFound, lacks_copy, warning}
+use Rattle.fw_tools.specs.Said.{Says, SaysSome, Stops}
+use Rattle.fw_engines.specs.TextForm.{export_texts}
+use Rattle.fw_engines.specs.VariableLines.{named, printed}
+use Rattle.envimg_core.specs.Environment.{Environment}
+use Rattle.fw_tools.specs.declared.call.Printing.{Printing}
+use Rattle.fw_tools.specs.declared.call.Printing.TheVariants.{Lines, OneValue, Values}
+use Rattle.fw_engines.specs.Changes.{Changes, Changing, Effect, LacksMemory, LacksMemoryToImport, LacksMemoryToSet, import_effect, script_effect, set_effect}
+use Rattle.fw_engines.specs.Restoration.{LacksMemoryToRestore, restore_effect}
+use Rattle.text_parts.specs.Words.{spaced}
+use Rattle.fw_tools.specs.SessionRun.{TriesOver}
+use Rattle.fw_engines.specs.Streams.{AppendsFront, Streams, Writers, writers_of}
+use Rattle.fw_engines.specs.Tool.{Printed, Texts}
+use Rattle.fw_engines.specs.declared.tool_end.ToolEnd.{ToolEnd}
+
+-- a session, and what two writers hold
+pub record Scene : Type 0 where
+  pub session : Held
+  pub writers : Writers
+
+-- a tool that prints and changes nothing
+abbrev pub PrintsAll : Scene → Scene → Texts → ToolEnd → Type 0
+PrintsAll old new texts end = (new.session ≡ old.session) × Printed end.fault old.writers new.writers texts end.status
+
+-- a tool that changes the session, and prints on standard error alone
+abbrev pub changing : Scene → Changing
+changing s = record { session = s.session; errors = s.writers.errors }
+
+abbrev pub ChangesAll : Scene → Scene → Effect → (Held → Type 0) → ToolEnd → Type 0
+ChangesAll old new effect lacks end = (new.writers.output ≡ old.writers.output) × Changes (changing old) (changing new) effect lacks end
+
+-- the entries of some text for import
+abbrev pub RestoresFrom : Scene → Scene → (text : List ℕ) → (entries : List text_entries.Entry) → ToolEnd → Type 0
+RestoresFrom old new text entries end =
+    (import_of text ≡ Ok entries) × ChangesAll old new (restore_effect old.session entries) (LacksMemoryToRestore old.session entries) end
+
+-- names printed in a way
+abbrev pub printed_so : Printing → Environment → List Text → Texts
+printed_so Lines env names = printed env names false
+printed_so OneValue env names = printed env names true
+printed_so Values env names = named true env names
+
+-- a task done; a file that it reads has some entries
+abbrev pub Acts : Task → Scene → Scene → ToolEnd → Type 0
+Acts (Task.Print names printing) old new end = PrintsAll old new (printed_so printing old.session.now.env names) end
+Acts (Task.Set name words) old new end = ChangesAll old new (set_effect old.session name (spaced words)) (LacksMemoryToSet old.session name words) end
+Acts (Task.SetScript path) old new end = (entries : List Entry) × ChangesAll old new (script_effect old.session entries) (LacksMemory old.session entries 0) end
+Acts (Task.Import path) old new end = (entries : List Entry) × ChangesAll old new (import_effect old.session entries) (LacksMemoryToImport old.session entries) end
+Acts Task.Export old new end = PrintsAll old new (export_texts old.session.now.env) end
+Acts (Task.Restore path) old new end = (text : List ℕ) × (entries : List text_entries.Entry) × RestoresFrom old new text entries end
+
+-- what stopped a tool is said, if anything did; or some text, which may be empty, of a file that can't be written
+abbrev pub Closes : ToolEnd → Option (List ℕ) → Option (List ℕ) → ℕ → Type 0
+Closes end old new status = (SaysSome old new × (status ≡ 1)) ⊎ (Says end.fault old new × (status ≡ end.status))
+
+-- the copies are left as they are by a job that saves only changes, where no name was changed and a copy was good
+abbrev pub is_left : Bool → Choice → ℕ → Bool
+is_left only_changes Neither changed = false
+is_left only_changes choice changed = only_changes && changed == 0
+
+-- a session just opened over some copies in this byte order, with the defaults of some text where its path is given, else none
+abbrev pub IsOpening : Order → Defaults → Held → Type 0
+IsOpening order asked session =
+    (shape : Shape) × (first : List ℕ) × (second : Option (List ℕ)) × (defaults : Contents)
+    × (shape.order ≡ order) × AreDefaultsOf (room_of shape) asked defaults × (session ≡ opened shape first second defaults)
+
+-- a task is done over a session, and the copies are written back; or its file can't be used
+abbrev pub UsesTool : Task → Held → Writers → Writers → ℕ → Type 0
+UsesTool task session old new status =
+    Stops old new status
+    ⊎ ((after : Scene) × (end : ToolEnd) × Acts task (record { session = session; writers = old }) after end
+    × (new.output ≡ after.writers.output) × Closes end after.writers.errors new.errors status)
+
+-- what is done over a session; a tool doesn't read standard input
+abbrev pub DoesJob : Job → Held → Streams → Streams → ℕ → Type 0
+DoesJob (Tool task) session old new status = (new.input ≡ old.input) × UsesTool task session (writers_of old) (writers_of new) status
+DoesJob (Tries run) session old new status = TriesOver run session old new status
+
+-- a copy is good, or none has to be: then there is a warning
+abbrev pub IsAccepted : Defaults → Held → Option (List ℕ) → Option (List ℕ) → Type 0
+IsAccepted asked session old warned = (lacks_copy asked session.now.current ≡ false) × AppendsFront old warned (warning session.now.current)
+
+-- a session is opened, with a warning where no copy is good, and worked on
+abbrev pub UsesSession : Call → Streams → Streams → ℕ → Type 0
+UsesSession call old new status =
+    (asked : Defaults) × (session : Held) × (warned : Option (List ℕ))
+    × IsFound call.defaults asked × IsOpening call.order asked session × IsAccepted asked session old.errors warned
+    × DoesJob call.job session (record { input = old.input; output = old.output; errors = warned }) new status
+
+-- or before that a file can't be used, or memory runs out
+abbrev pub Uses : Call → Streams → Streams → ℕ → Type 0
+Uses call old new status = ((new.input ≡ old.input) × Stops (writers_of old) (writers_of new) status) ⊎ UsesSession call old new status
+
+-- words of which clap's rules don't see what is wrong are answered with a text, and nothing is read
+abbrev pub Called : Result Asked Text → Streams → Streams → ℕ → Type 0
+Called (Ok (Work call)) old new status = Uses call old new status
+Called (Ok (Look report)) old new status = (new.input ≡ old.input) × ReportsOn report (writers_of old) (writers_of new) status
+Called (Err text) old new status = (new.input ≡ old.input) × (new.output ≡ old.output) × AppendsFront old.errors new.errors text × (status ≡ 1)

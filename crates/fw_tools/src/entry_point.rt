@@ -1,0 +1,229 @@
+//! The program over its words and streams.
+ghost use Rattle.std.specs.Prelude.{◌≡◌, ◌⊎◌, ◌≤◌, Ok, Some, map, option_map};
+ghost use Rattle.clap.specs.Words.{found_of, kind_of, rows_of};
+ghost use Rattle.fw_tools.specs.EntryPoint.{RepliesTo, Does, is_shown, LacksMemory, Runs, ShowsAndSays, message_without_words};
+ghost use Rattle.fw_tools.specs.Report.{asked_view};
+ghost use Rattle.fw_tools.specs.Said.{Says};
+ghost use Rattle.fw_tools.specs.Subcommands.{Called};
+ghost use Rattle.fw_engines.specs.Streams.{AppendsFront};
+ghost use Rattle.fw_tools.specs.ProgramNames.{called_in};
+ghost use Rattle.fw_tools.specs.Words.{order_in};
+ghost use Rattle.std.specs.IoError.{error_kind};
+
+use crate::command_line::{chosen_order, read_words};
+use crate::copy_report::run_report;
+use crate::program_name::ProgramName;
+use crate::program_texts::{CANNOT_READ, CANNOT_WRITE, NO_WORDS, NOT_UTF8, OUT_OF_MEMORY};
+use crate::report::{Asked, read_asked};
+use crate::subcommands::run_call;
+use crate::system::System;
+use clap::error::ErrorKind;
+use clap::{ArgMatches, Error};
+use envimg_core::Order;
+use fw_engines::streams::{say, write_text};
+use fw_engines::{StreamFault, ToolEnd, show};
+use std::alloc::Global;
+use std::convert::AsStr;
+use std::io::{self, Read, Write};
+
+/// Runs the program and answers its exit status, 0 or 1. `words` begin with the program's own name.
+///
+/// Without a subcommand the variables of the image on `input` are printed ([`show`]), and with `--big-endian` those of an
+/// image of a big-endian board. A subcommand works on the copies that a configuration names ([`printenv`], [`setenv`],
+/// [`set_script`], [`import`], [`export`], [`restore`], [`session`]), and writes back those that it changed, or says what they
+/// are good for ([`status`], or [`file_status`] of a whole file). Help goes to `output`, status 0; a fault of the command line
+/// to `errors`, status 1. docs/tools.md has each text.
+///
+/// [`printenv`]: fw_engines::printenv
+/// [`setenv`]: fw_engines::setenv
+/// [`set_script`]: fw_engines::set_script
+/// [`import`]: fw_engines::import
+/// [`export`]: fw_engines::export
+/// [`restore`]: fw_engines::restore
+/// [`status`]: fw_engines::status
+/// [`file_status`]: fw_engines::file_status
+/// [`session`]: fw_session::session
+pub fn program<X: System + AllocGlobal, S: AsStr, R: Read, W: Write, E: Write>(
+    rt: &X,
+    words: &[S],
+    input: &mut R,
+    output: &mut W,
+    errors: &mut E,
+) -> u8
+    ensures status { result ≤ 1 }
+    ensures runs { Runs (map S.text words.entry.now)
+        (record { input = R.remaining input.old; output = W.contents output.old; errors = E.contents errors.old })
+        (record { input = R.remaining input.new; output = W.contents output.new; errors = E.contents errors.new })
+        result }
+{
+    let alloc = rt.alloc();
+    let name = ProgramName::of(words);
+    if is_shown(name, words.len()) {
+        // what clap says of no word is known, and to ask it takes as long as to show a small image
+        return show_input(alloc, Order::Little, input, output, errors);
+    }
+    match read_words(alloc, name, words) {
+        Err(error) => print_error(alloc, &error, output, errors),
+        Ok(matches) => act_on(rt, name, &matches, input, output, errors),
+    }
+}
+
+/// Says on `errors` why the words of the command line could not be had, and answers the exit status, 1.
+pub fn words_failed<E: Write>(error: &io::Error, errors: &mut E) -> u8
+    ensures status { result ≡ 1 }
+    ensures said { AppendsFront (E.contents errors.old) (E.contents errors.new) (message_without_words (error_kind error.now)) }
+{
+    let text = match error.kind() {
+        io::ErrorKind::OutOfMemory => OUT_OF_MEMORY,
+        io::ErrorKind::InvalidData => NOT_UTF8,
+        _ => NO_WORDS,
+    };
+    say(errors, text);
+    1
+}
+
+/// Says on `errors` which fault stopped a tool, if one did, and answers the exit status.
+pub(crate) fn report<E: Write>(end: ToolEnd, errors: &mut E) -> u8
+    ensures status { result ≡ end.status }
+    ensures said { Says end.fault (E.contents errors.old) (E.contents errors.new) }
+{
+    if let Some(fault) = end.fault {
+        let text = match fault {
+            StreamFault::Read => CANNOT_READ,
+            StreamFault::Write => CANNOT_WRITE,
+            StreamFault::Memory => OUT_OF_MEMORY,
+        };
+        say(errors, text);
+    }
+    end.status
+}
+
+/// The end of a tool by a fault.
+pub(crate) fn stopped(fault: StreamFault) -> ToolEnd
+    ensures { (result.status ≡ 1) × (result.fault ≡ Some fault) }
+{
+    ToolEnd {
+        status: 1,
+        fault: Some(fault),
+    }
+}
+
+/// Does what words with nothing wrong ask for.
+fn act_on<X: System + AllocGlobal, R: Read, W: Write, E: Write>(
+    rt: &X,
+    under: ProgramName,
+    matches: &ArgMatches<'_>,
+    input: &mut R,
+    output: &mut W,
+    errors: &mut E,
+) -> u8
+    ensures status { result ≤ 1 }
+    ensures does { Does (order_in matches.now) (called_in under matches.now)
+        (record { input = R.remaining input.old; output = W.contents output.old; errors = E.contents errors.old })
+        (record { input = R.remaining input.new; output = W.contents output.new; errors = E.contents errors.new })
+        result }
+{
+    let alloc = rt.alloc();
+    let order = chosen_order(matches);
+    match called(under, matches) {
+        None => show_input(alloc, order, input, output, errors),
+        Some((name, found)) => match read_asked(order, name, found) {
+            Err(fault) => {
+                fault.say(errors);
+                1
+            }
+            Ok(asked) => run_asked(rt, &asked, input, output, errors),
+        },
+    }
+}
+
+/// Does what a subcommand asks for.
+fn run_asked<X: System + AllocGlobal, R: Read, W: Write, E: Write>(
+    rt: &X,
+    asked: &Asked<'_, '_>,
+    input: &mut R,
+    output: &mut W,
+    errors: &mut E,
+) -> u8
+    ensures status { result ≤ 1 }
+    ensures called { Called (Ok (asked_view asked.now))
+        (record { input = R.remaining input.old; output = W.contents output.old; errors = E.contents errors.old })
+        (record { input = R.remaining input.new; output = W.contents output.new; errors = E.contents errors.new })
+        result }
+{
+    match asked {
+        Asked::Work(call) => run_call(rt, call, input, output, errors),
+        Asked::Look(report) => run_report(rt, report, output, errors),
+    }
+}
+
+/// Whether the image on standard input is shown by words of this number under this name, whatever the words are.
+fn is_shown(name: ProgramName, count: usize) -> bool
+    ensures { result ≡ is_shown name count }
+{
+    match name {
+        ProgramName::Fwenv => count <= 1,
+        _ => false,
+    }
+}
+
+/// The subcommand that the words call, and what was found of its words; under another name than `fwenv` all of them are.
+fn called<'m, 'w>(
+    under: ProgramName,
+    matches: &'m ArgMatches<'w>,
+) -> Option<(&'w str, &'m ArgMatches<'w>)>
+    ensures { option_map (λ c. (c.0.now, rows_of (found_of c.1.now))) result ≡ called_in under matches.now }
+{
+    match under {
+        ProgramName::Fwenv => matches.subcommand(),
+        ProgramName::Printenv => Some(("fw_printenv", matches)),
+        ProgramName::Setenv => Some(("fw_setenv", matches)),
+    }
+}
+
+/// Shows the image on `input`, says what stopped that, and answers the exit status.
+fn show_input<R: Read, W: Write, E: Write>(
+    alloc: Global,
+    order: Order,
+    input: &mut R,
+    output: &mut W,
+    errors: &mut E,
+) -> u8
+    ensures status { result ≤ 1 }
+    ensures shows { ShowsAndSays order
+        (record { input = R.remaining input.old; output = W.contents output.old; errors = E.contents errors.old })
+        (record { input = R.remaining input.new; output = W.contents output.new; errors = E.contents errors.new })
+        result }
+{
+    let end = show(alloc, order, input, output, errors);
+    report(end, errors)
+}
+
+/// Prints the help on `output`, or what is wrong with the words on `errors`.
+fn print_error<W: Write, E: Write>(
+    alloc: Global,
+    error: &Error,
+    output: &mut W,
+    errors: &mut E,
+) -> u8
+    ensures status { result ≤ 1 }
+    ensures answers { LacksMemory (record { output = W.contents output.old; errors = E.contents errors.old })
+        (record { output = W.contents output.new; errors = E.contents errors.new }) result ⊎ RepliesTo (kind_of error.now)
+        (record { output = W.contents output.old; errors = E.contents errors.old })
+        (record { output = W.contents output.new; errors = E.contents errors.new }) result }
+{
+    let Ok(text) = error.to_string(alloc) else {
+        return report(stopped(StreamFault::Memory), errors);
+    };
+    if error.kind() == ErrorKind::OutOfMemory {
+        return report(stopped(StreamFault::Memory), errors);
+    }
+    if error.use_stderr() {
+        say(errors, text.as_bytes());
+        return 1;
+    }
+    if !write_text(output, text.as_bytes()) {
+        return report(stopped(StreamFault::Write), errors);
+    }
+    0
+}

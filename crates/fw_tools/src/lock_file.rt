@@ -1,0 +1,51 @@
+//! The lock file of the tools whose names the program answers to, which keeps their runs apart.
+ghost use Rattle.std.specs.Prelude.{◌≡◌, MatchOption};
+ghost use Rattle.fw_tools.specs.Said.{SaysSome};
+
+use crate::program_texts::{CANNOT_LOCK, LOCK_FILE, OUT_OF_MEMORY};
+use crate::system::{Hold, System};
+use fw_engines::streams::{say, write_three};
+use std::fs::OpenOptions;
+use std::io::Write;
+use std::string::String;
+
+/// The lock file in this folder, locked alone until what is answered is dropped; it is made if need be. Nothing is locked
+/// without a folder. Where it can't be had that is said on `errors`.
+pub(crate) fn lock_or_say<X: System + AllocGlobal, E: Write>(
+    rt: &X,
+    folder: Option<&str>,
+    errors: &mut E,
+) -> Option<Option<X::File>>
+    ensures { MatchOption result (SaysSome (E.contents errors.old) (E.contents errors.new)) (λ _. E.contents errors.new ≡ E.contents errors.old) }
+{
+    let Some(folder) = folder else {
+        return Some(None);
+    };
+    let Ok(path) = format!(in rt.alloc(); "{folder}/fw_printenv.lock") else {
+        say(errors, OUT_OF_MEMORY);
+        return None;
+    };
+    match locked_file(rt, path.as_str()) {
+        Some(file) => Some(Some(file)),
+        None => {
+            let _ = write_three(errors, CANNOT_LOCK, folder.as_bytes(), LOCK_FILE);
+            None
+        }
+    }
+}
+
+/// A file that is open and locked.
+fn locked_file<X: System>(rt: &X, path: &str) -> Option<X::File> {
+    let file = match OpenOptions::new().read(true).open(rt, path) {
+        Ok(file) => file,
+        Err(_) => match OpenOptions::new().write(true).create(true).open(rt, path) {
+            Ok(file) => file,
+            Err(_) => return None,
+        },
+    };
+    if rt.lock(&file, Hold::Alone) {
+        Some(file)
+    } else {
+        None
+    }
+}

@@ -1,0 +1,125 @@
+//! What the words of `status` ask for, and what those of any subcommand do.
+ghost use Rattle.std.specs.Prelude.{◌≡◌, option_copied};
+ghost use Rattle.clap.specs.Words.{found_of, rows_of};
+ghost use Rattle.fw_tools.specs.Calls.{call_of};
+ghost use Rattle.fw_tools.specs.Report.{asked_of, asked_view, looked, report_of, report_view, subject_by, subject_of, subject_view, worked};
+ghost use Rattle.fw_tools.specs.WordFaults.{word_seen};
+
+use crate::call::{Call, WordFault, either_order, first, first_or, read_call};
+use crate::command_line::{CONFIG, chosen_order, is_given};
+use crate::program_texts::CONFIG_AND_FILE;
+use clap::ArgMatches;
+use envimg_core::Order;
+
+/// What a subcommand asks for.
+#[derive(Clone, Copy, Debug)]
+pub(crate) enum Asked<'m, 'w> {
+    /// Work over a session.
+    Work(Call<'m, 'w>),
+    /// A look at what is stored.
+    Look(Report<'w>),
+}
+
+/// A report: `status [-c FILE] [--big-endian] [FILE]`.
+#[derive(Clone, Copy, Debug)]
+pub(crate) struct Report<'w> {
+    /// The byte order of what it looks at.
+    pub(crate) order: Order,
+    /// What it looks at.
+    pub(crate) subject: Subject<'w>,
+}
+
+/// What a report looks at.
+#[derive(Clone, Copy, Debug)]
+pub(crate) enum Subject<'w> {
+    /// The copies that the configuration at this path names.
+    Copies(&'w str),
+    /// The whole file at this path.
+    File(&'w str),
+}
+
+/// What the words of the subcommand `name` ask for, where `order` is the byte order that the words before it chose; or
+/// what is wrong with them, which clap's rules don't see.
+pub(crate) fn read_asked<'m, 'w>(
+    order: Order,
+    name: &str,
+    found: &'m ArgMatches<'w>,
+) -> Result<Asked<'m, 'w>, WordFault<'w>>
+    ensures { word_seen asked_view result ≡ asked_of order name.now (rows_of (found_of found.now)) }
+{
+    if name == "status" {
+        return ask_to_look(order, found);
+    }
+    ask_to_work(order, name, found)
+}
+
+/// The report that the words of `status` ask for.
+fn ask_to_look<'m, 'w>(
+    order: Order,
+    found: &'m ArgMatches<'w>,
+) -> Result<Asked<'m, 'w>, WordFault<'w>>
+    ensures { word_seen asked_view result ≡ looked (report_of order (rows_of (found_of found.now))) }
+{
+    match read_report(order, found) {
+        Ok(report) => Ok(Asked::Look(report)),
+        Err(fault) => Err(fault),
+    }
+}
+
+/// The work that the words of another subcommand ask for.
+fn ask_to_work<'m, 'w>(
+    order: Order,
+    name: &str,
+    found: &'m ArgMatches<'w>,
+) -> Result<Asked<'m, 'w>, WordFault<'w>>
+    ensures { word_seen asked_view result ≡ worked (call_of order name.now (rows_of (found_of found.now))) }
+{
+    match read_call(order, name, found) {
+        Ok(call) => Ok(Asked::Work(call)),
+        Err(fault) => Err(fault),
+    }
+}
+
+/// A report with its byte order.
+fn read_report<'w>(order: Order, found: &ArgMatches<'w>) -> Result<Report<'w>, WordFault<'w>>
+    ensures { word_seen report_view result ≡ report_of order (rows_of (found_of found.now)) }
+{
+    match read_subject(found) {
+        Ok(subject) => Ok(Report {
+            order: either_order(order, chosen_order(found)),
+            subject,
+        }),
+        Err(fault) => Err(fault),
+    }
+}
+
+/// What a report looks at.
+fn read_subject<'w>(found: &ArgMatches<'w>) -> Result<Subject<'w>, WordFault<'w>>
+    ensures { word_seen subject_view result ≡ subject_of (rows_of (found_of found.now)) }
+{
+    subject_by(
+        is_given(found, "config"),
+        first_or(found, "config", CONFIG),
+        first(found, "file"),
+    )
+}
+
+/// What a report looks at: a configuration's copies or a file, and not both.
+fn subject_by<'w>(
+    given: bool,
+    config: &'w str,
+    file: Option<&'w str>,
+) -> Result<Subject<'w>, WordFault<'w>>
+    ensures { word_seen subject_view result ≡ subject_by given config.now (option_copied file.entry) }
+{
+    match file {
+        None => Ok(Subject::Copies(config)),
+        Some(path) => {
+            if given {
+                Err(WordFault::of(CONFIG_AND_FILE))
+            } else {
+                Ok(Subject::File(path))
+            }
+        }
+    }
+}

@@ -1,0 +1,53 @@
+# Completion of fwenv's command line for bash: commands, options, files, and the names of variables after printenv and setenv.
+# shellcheck shell=bash
+
+# The names of the variables in the configuration that the command line names.
+_fwenv_names() {
+    local at words=(printenv)
+    for ((at = 1; at < COMP_CWORD; at++)); do
+        case ${COMP_WORDS[at]} in
+            -c) words+=(-c "${COMP_WORDS[at + 1]}") ;;
+            --big-endian) words+=(--big-endian) ;;
+        esac
+    done
+    "${COMP_WORDS[0]}" "${words[@]}" 2>/dev/null | sed -n 's/^\([^=]*\)=.*/\1/p'
+}
+
+_fwenv() {
+    local word=${COMP_WORDS[COMP_CWORD]} before=${COMP_WORDS[COMP_CWORD - 1]} command='' at
+    local commands='printenv setenv import export restore status session help'
+    local options='-c --default --big-endian -h --help'
+    for ((at = 1; at < COMP_CWORD; at++)); do
+        case " $commands " in *" ${COMP_WORDS[at]} "*)
+            command=${COMP_WORDS[at]}
+            break
+            ;;
+        esac
+    done
+    compopt +o default
+    COMPREPLY=()
+    case $before in
+        -c | --default | --stubs | -s)
+            compopt -o default
+            return
+            ;;
+        --steps | --depth | --word | --output) return ;;
+    esac
+    case $command in
+        '') options="$commands --big-endian -h --help -V --version" ;;
+        printenv) options+=' -n' ;;
+        setenv) options+=' -s' ;;
+        status) options='-c --big-endian -h --help' ;;
+        session) options+=' --write --stubs --steps --depth --word --output' ;;
+        help) options=$commands ;;
+    esac
+    case $command:$word in
+        printenv:[^-]* | printenv: | setenv:[^-]* | setenv:)
+            mapfile -t COMPREPLY < <(compgen -W "$(_fwenv_names)" -- "$word")
+            ;;
+        import:[^-]* | import: | restore:[^-]* | restore: | status:[^-]* | status:) compopt -o default ;;
+        *) mapfile -t COMPREPLY < <(compgen -W "$options" -- "$word") ;;
+    esac
+}
+
+complete -o default -F _fwenv fwenv

@@ -1,0 +1,127 @@
+"""fw_printenv and fw_setenv by hand: the program called through links, what each call prints, and what it leaves."""
+
+import os
+import subprocess
+
+from differential.boards import CONFIG, board
+from differential.running import Case
+from differential.tool_rows import BLANK, EMPTIED, FIRST, NO_ROOM_A, PAIR, SAVED, SECOND
+from model.image import Geometry
+from model.program import WARNING
+
+LOOK_AT = b"; look at the size and the number of lines in the configuration, and at the byte order (--big-endian)\n"
+NO_COPY = b"fwenv: no good copy: "
+WRONG = b"checksum is wrong"
+NO_NAMES = b"""error: the following required arguments were not provided:
+  <NAMES>...
+
+Usage: fw_printenv [OPTIONS] [NAMES]...
+
+For more information, try '--help'.
+"""
+# Name and arguments, status, output, errors; the second copy afterwards (SECOND), and what is in the file `text`
+OVER_GOOD_COPIES = [
+    (b"fw_printenv", [], 0, b"a=b\n", b""),
+    (b"fw_printenv", [b"a", b"a"], 0, b"a=b\na=b\n", b""),
+    (b"fw_printenv", [b"-n", b"a"], 0, b"b\n", b""),
+    (b"fw_printenv", [b"a", b"--noheader", b"a"], 0, b"b\nb\n", b""),
+    (b"fw_printenv", [b"--no-header", b"q", b"a"], 1, b"b\n", b'## Error: "q" not defined\n'),
+    (b"fw_printenv", [b"-n"], 1, b"", NO_NAMES),
+    (b"fw_printenv", [b"-f", b"text"], 0, b"a=b\n", b"", SECOND, b"p=1\n"),
+    (b"fw_printenv", [b"--defenv", b"absent"], 1, b"", b"fwenv: cannot read absent\n"),
+    (b"fw_setenv", [b"a"], 0, b"", b"", EMPTIED),
+    (b"fw_setenv", [b"a", b""], 0, b"", b"", EMPTIED),
+    (b"fw_setenv", [b"a", b"b"], 0, b"", b""),
+    (b"fw_setenv", [b"q"], 0, b"", b""),
+    (b"fw_setenv", [b"a", b"bc"], 1, b"", NO_ROOM_A),
+    (b"fw_setenv", [b"-s", b"text"], 0, b"", b"", EMPTIED, b"a c\na\n"),
+    (b"fw_setenv", [b"--script=text"], 0, b"", b"", SECOND, b"# nothing\n"),
+    (b"fw_setenv", [b"-s", b"-"], 0, b"", b"", EMPTIED, b"a=\n"),
+    (b"fw_setenv", [b"a", b"-x"], 1, b"", None),
+    (b"fw_setenv", [], 1, b"", None),
+    (b"fw_setenv", [b"-s", b"text", b"a"], 1, b"", None, SECOND, b"a c\n"),
+    (b"fw_printenv", [b"-a", b"key"], 1, b"", None),
+]
+# The same where no copy is good; the first copy afterwards
+OVER_BLANK_COPIES = [
+    (b"fw_printenv", [], 1, b"", NO_COPY + WRONG + b" in the first copy, " + WRONG + b" in the second" + LOOK_AT),
+    (b"fw_setenv", [b"a", b"b"], 1, b"", NO_COPY + WRONG + b" in the first copy, " + WRONG + b" in the second" + LOOK_AT),
+    (b"fw_printenv", [b"-f", b"text"], 0, b"p=\\\n", WARNING, BLANK, b"p=\\\n"),
+    (b"fw_setenv", [b"-f", b"text", b"a", b"b"], 0, b"", WARNING, PAIR.image(1, b"a=b\0"), b"# nothing\n"),
+    (b"fw_setenv", [b"-f", b"text", b"a", b"b"], 0, b"", WARNING, PAIR.image(1, b"a=b\0"), b"a=b\n"),
+]
+# A single image: its bytes, and the line that says what is wrong with it
+SINGLE = Geometry(1, 9)
+BAD_SINGLES = [
+    (b"\xff" * 9, WRONG),
+    (b"\x26\x39\xf4\xcb" + b"12345", WRONG),
+    (SINGLE.image(0, b"a=b\0\0")[:4] + b"a=c\0\0", WRONG),
+]
+
+
+def left_by(runner, name, words, given):
+    """Status, output and errors of a call through a link of this name, with the files that it leaves."""
+    link = b"../" + name
+    if not os.path.lexists(link):
+        os.symlink(runner.program, link)
+    found = subprocess.run([link, *words], input=given, capture_output=True)
+    return found.returncode, found.stdout, found.stderr, runner.left()
+
+
+def row(name, words, files, wanted, given=b""):
+    """A call, and what is wrong with what it leaves, if anything is; errors that are none are some of the library that reads arguments."""
+
+    def check(runner):
+        runner.put(files)
+        found = left_by(runner, name, words, given)
+        is_said = found[2].startswith(b"error: ") if wanted[2] is None else found[2] == wanted[2]
+        is_right = is_said and (found[:2], found[3]) == (wanted[:2], wanted[3])
+        return None if is_right else f"{name} {words}: {found} in place of {wanted}"
+
+    return Case("a name of another tool", [], check=check, is_modelled=False)
+
+
+def over_pair(copies, side, name, words, status, output, errors, left=None, text=None):
+    files = board(PAIR, copies) | ({} if text is None else {b"text": text})
+    after = list(copies)
+    after[side] = left or copies[side]
+    wanted = status, output, errors, files | board(PAIR, after)
+    given = text if b"-" in words else b""
+    return row(name, [b"-c", CONFIG, b"-l", b"", *words], files, wanted, given)
+
+
+def over_pairs():
+    for each in OVER_GOOD_COPIES:
+        yield over_pair([FIRST, SECOND], 1, *each)
+    for each in OVER_BLANK_COPIES:
+        yield over_pair([BLANK, BLANK], 0, *each)
+
+
+def over_singles():
+    for image, fault in BAD_SINGLES:
+        files = board(SINGLE, [image])
+        wanted = 1, b"", NO_COPY + fault + LOOK_AT, files
+        yield row(b"fw_printenv", [b"--config", CONFIG, b"--lock", b""], files, wanted)
+
+
+def locks():
+    """The lock file is made if need be, one that is there is used, and one that can't be had ends the run."""
+    files = board(PAIR, [FIRST, SECOND])
+    words = [b"-c", CONFIG, b"-l", b".", b"a"]
+    for there in (files, files | {b"fw_printenv.lock": b"x"}):
+        wanted = 0, b"a=b\n", b"", {b"fw_printenv.lock": b""} | there
+        yield row(b"fw_printenv", words, there, wanted)
+    wanted = 1, b"", b"fwenv: cannot lock absent/fw_printenv.lock\n", files
+    yield row(b"fw_setenv", [b"-c", CONFIG, b"--lock", b"absent", b"a", b"c"], files, wanted)
+
+
+def names():
+    """Help and version are those of the name; a name that isn't the whole last part is fwenv's."""
+    for name in (b"fw_printenv", b"fw_setenv"):
+        for word in (b"-V", b"-v", b"--version"):
+            yield row(name, [word], {}, (0, name + b" 0.2.0\n", b"", {}))
+    yield row(b"my_fw_printenv", [b"-c", CONFIG], {}, (1, b"", None, {}))
+
+
+def chunks():
+    return [over_pairs, over_singles, locks, names]

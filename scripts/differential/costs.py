@@ -1,0 +1,117 @@
+"""Inputs that are made to cost much, and those that are as long as they may be, each in bounded time and memory."""
+
+from differential.running import Case
+from model.image import ERASED, LARGEST, Geometry, entries
+from model.program import TOO_LONG, WARNING, Answer
+
+SMALL, LARGE = Geometry(1, 16), Geometry(1, LARGEST)
+# Blocks and dot lines of a session over a board that was never written, and what is printed
+BLOCKS = [
+    ("65,535 quotes", b'"' * 65_535, b"[Syntax]\n"),
+    ("65,536 quotes", b"echo " + b'"' * 65_536, b"\n[Finished 0 1]\n"),
+    ("100,000 openings", b"if " * 100_000, b"[Syntax]\n"),
+    ("100,000 openings of loops", b"while " * 100_000, b"[Syntax]\n"),
+    ("a million separators", b";" * 1_000_000, b"[Finished 0 0]\n"),
+    ("a million separators and a step", b";" * 1_000_000 + b"echo a\n", b"a\n[Finished 0 1]\n"),
+    ("a substitution of a million bytes", b"echo ${" + b"a" * 1_000_000 + b"}\n", b"\n[Finished 0 1]\n"),
+    ("a word of a million bytes", b"setenv " + b"a" * 1_000_000 + b" 1\n", b"[Word 0 0]\n"),
+    ("a mark of a million bytes", b".mark " + b"a" * 1_000_000 + b"\n", b"[Unknown]\n"),
+    ("a million blanks after a dot line", b".mark a" + b" " * 1_000_000 + b"\n", b"[Marked]\n"),
+]
+LINE, DOTS = b"#".ljust(2**24, b"x"), b".".ljust(2**24, b"x")
+# Inputs as large as they may be: the name, the most KiB, the input, what is printed, and the message
+INPUTS = [
+    ("100,000 blocks", 16_384, b"echo a\n.x\n" * 100_000, b"a\n[Finished 0 1]\n[Unknown]\n" * 100_000, b""),
+    ("a line of 16 MiB", 131_072, LINE, b"[Finished 0 0]\n", b""),
+    ("a line of 16 MiB and a byte", 131_072, LINE + b"x", b"", TOO_LONG),
+    ("a dot line of 16 MiB", 131_072, DOTS, b"[Unknown]\n", b""),
+    ("a dot line of 16 MiB and a newline", 131_072, DOTS + b"\n", b"", TOO_LONG),
+    ("16 MiB of blocks", 16_384, b"echo 1234567\n.x\n" * 2**20, b"1234567\n[Finished 0 1]\n[Unknown]\n" * 2**20, b""),
+]
+LONG = {b"a" * 1_000_000: b"1"}
+FLAGS = {b".flags": b",".join(b"%05x:d" % item for item in range(130_000))}
+
+
+def bounded(case, seconds, kibibytes):
+    """The case in so many seconds of a processor and so much memory."""
+    case.prefix = ("bash", "-c", 'ulimit -t "$0" -v "$1" && exec "${@:2}"', str(seconds), str(kibibytes))
+    case.seconds, case.is_modelled = seconds, False
+    return case
+
+
+def over(form, variables):
+    image = form.image(0, entries(variables)) if variables else ERASED * form.size
+    return {b"device": image, b"fw.config": b"device 0 %x\n" % form.size}
+
+
+def session(name, given, output, errors=b""):
+    files = over(SMALL, {})
+    wanted = Answer(int(errors != b""), output, WARNING + errors, files)
+    return Case(name, [b"session", b"-c", b"fw.config"], files, given, wanted=wanted)
+
+
+def blocks():
+    for row in BLOCKS:
+        yield bounded(session(*row), 2, 262_144)
+
+
+def inputs():
+    """Memory doesn't grow with the number of blocks."""
+    for name, most, *row in INPUTS:
+        yield bounded(session(name, *row), 20, most)
+
+
+def tool(name, words, before, after, output=b"", errors=b"", text=b""):
+    """A tool over a large image, and the variables afterwards."""
+    files = over(LARGE, before) | {b"text": text}
+    status = int(errors.startswith(b"##"))
+    wanted = Answer(status, output, errors or (b"" if before else WARNING), files | over(LARGE, after))
+    word, *rest = words
+    return Case(name, [word, b"-c", b"fw.config", *rest], files, wanted=wanted)
+
+
+def lines_of(variables):
+    return b"".join(name + b"=" + value + b"\n" for name, value in sorted(variables.items()))
+
+
+def variables():
+    """A name of a million bytes, and `.flags` of 130,000 items."""
+    last, other = b"1fbcf", b"1fbd0"
+    failure = b'## Error: type check failure for "%s"\n'
+    more = FLAGS | {last: b"7", other: b"x"}
+    for case in (
+        tool("an import of a name of a million bytes", [b"import", b"text"], {}, LONG, text=lines_of(LONG)),
+        tool("a name of a million bytes", [b"printenv"], LONG, LONG, lines_of(LONG)),
+        tool("an import of 130,000 items", [b"import", b"text"], {}, FLAGS, text=lines_of(FLAGS)),
+        tool("a value of the type of the last item", [b"setenv", last, b"7"], FLAGS, FLAGS | {last: b"7"}),
+        tool("a value of another type than the last item", [b"setenv", last, b"x"], FLAGS, FLAGS, errors=failure % last),
+        tool("a value of another type than the first item", [b"setenv", b"00000", b"x"], FLAGS, FLAGS, errors=failure % b"00000"),
+        tool("a name without an item", [b"setenv", other, b"x"], FLAGS, FLAGS | {other: b"x"}),
+        tool("all variables next to 130,000 items", [b"printenv"], more, more, lines_of(more)),
+    ):
+        yield bounded(case, 2, 262_144)
+
+
+def texts():
+    """The longest texts, of shortest lines: they are read, and what they leave stays."""
+    text, script = b"a=1\n" * (2**22 - 1) + b"b=2\n", b"a 3\n" * (2**22 - 1) + b"b 4\n"
+    read, set_again = {b"a": b"1", b"b": b"2"}, {b"a": b"3", b"b": b"4"}
+    for case in (
+        tool("a default text of 16 MiB", [b"printenv", b"--default", b"text"], {}, {}, lines_of(read), text=text),
+        tool("an import of 16 MiB", [b"import", b"text"], {}, read, text=text),
+        tool("a set script of 16 MiB", [b"setenv", b"-s", b"text"], read, set_again, text=script),
+    ):
+        case.seconds, case.is_modelled = 10, False
+        yield case
+
+
+def orders():
+    """80,000 variables whose names first rise and then fall, in an image of 1 MiB: shown in order."""
+    names = [b"v%05d" % number for number in range(80_000)]
+    area = b"".join(name + b"=1\0" for name in names[:512] + names[:511:-1])
+    wanted = Answer(0, b"".join(name + b"=1\n" for name in names), b"", {})
+    yield bounded(Case("names that rise and then fall", [], given=LARGE.image(0, area), wanted=wanted), 2, 65_536)
+
+
+def chunks():
+    return [blocks, inputs, variables, texts, orders]

@@ -1,0 +1,181 @@
+"""Files that are none or empty, pipes, raw flash, and files that change under the program. Each row looks at every byte of the device
+afterwards."""
+
+import contextlib
+import os
+
+from differential.files import IMPORT, PRINTENV, SETENV, as_it_is, cut_to, through_pipe
+from differential.running import Case
+from differential.streams import EMPTIED, SAVED, SECOND, SESSION, device, over_copies, row
+from model.image import ERASED
+from model.program import CANNOT_READ, CANNOT_WRITE, WARNING
+
+# Each option and argument that names a text
+TEXTS = [
+    [b"printenv", b"-c"],
+    [b"import", b"-c", b"fw.config"],
+    [b"setenv", b"-c", b"fw.config", b"-s"],
+    [b"session", b"-c", b"fw.config", b"--write", b"--stubs"],
+    [b"export", b"-c", b"fw.config", b"--default"],
+    [b"session", b"-c", b"fw.config", b"--write", b"--default"],
+]
+BLANK = ERASED * 10
+
+
+@contextlib.contextmanager
+def with_odd_files(_runner):
+    """A folder, and a link that leads to itself."""
+    os.mkdir("../folder")
+    os.symlink("loop", "../loop")
+    yield {}
+    os.rmdir("../folder")
+    os.unlink("../loop")
+
+
+def refused(name, words, errors, files=()):
+    """Nothing is printed, and no byte changes."""
+    return row(name, words, b".save\n", 1, b"", errors, with_odd_files, over_copies() | dict(files))
+
+
+def none():
+    """Files that are none, in the place of each text and device."""
+    for path in (b"/dev/zero", b"/dev/full", b"../folder", b"absent", b"../loop", b"device/inside"):
+        for words in TEXTS:
+            yield refused(f"{path} after {words}", [*words, path], CANNOT_READ % path)
+        errors = b"fwenv: %s is too short\n" % path if path.startswith(b"/dev") else CANNOT_READ % path
+        for config in (b"%s 0 a\ndevice 20 a\n" % path, b"device 7 a\n%s 0 a\n" % path):
+            yield refused(f"{path} as a device", PRINTENV, errors, {b"fw.config": config})
+    for words in TEXTS:
+        yield refused("16,777,217 newlines", [*words, b"large"], CANNOT_READ % b"large", {b"large": b"\n" * (2**24 + 1)})
+
+
+def left(case, **copies):
+    """The device has other copies afterwards."""
+    case.wanted.files = case.files | {b"device": device(**copies)}
+    return case
+
+
+def empty():
+    """An empty file, which says nothing, in the place of each."""
+    for path, files in ((b"/dev/null", {}), (b"empty", {b"empty": b""})):
+        files = over_copies() | files
+        yield row("an empty configuration", [b"printenv", b"-c", path], b"", 1, b"", b"fwenv: %s: NoCopy\n" % path, as_it_is, files)
+        config = files | {b"fw.config": b"%s 0 a\n" % path}
+        yield row("an empty device", PRINTENV, b"", 1, b"", b"fwenv: %s is too short\n" % path, as_it_is, config)
+        yield row("an empty default text", [*TEXTS[4], path], b"", 0, b"a=b\n", b"", as_it_is, files)
+        output = b"Unknown command 'mmc' - try 'help'\n[Finished 1 1]\n"
+        yield row("empty stand-ins", [*TEXTS[3], path], b"mmc\n", 0, output, b"", as_it_is, files)
+        for words in TEXTS[1:3]:
+            yield left(row("an empty text", [*words, path], b"", 0, b"", b"", as_it_is, files), second=SAVED)
+
+
+def forever(text):
+    """The text again and again, until nobody reads it."""
+    return text * 4096, lambda runner: write_on(text * 4096)
+
+
+def write_on(text):
+    with open("../pipe", "wb", 0) as pipe:
+        while pipe.write(text):
+            pass
+
+
+# Pipes in the place of texts, which may end at once, or never: what is written, the call, its input, and what comes
+PIPED = [
+    ("the configuration", [b"device 7 a\ndevice 20 a\n"], TEXTS[0], b"", (0, b"a=b\n", b"")),
+    ("an empty configuration", [], TEXTS[0], b"", (1, b"", b"fwenv: ../pipe: NoCopy\n")),
+    ("a configuration that never ends", forever(b"#\n"), TEXTS[0], b"", (1, b"", CANNOT_READ % b"../pipe")),
+    ("a text for import that never ends", forever(b"a=b\n"), TEXTS[1], b"", (1, b"", CANNOT_READ % b"../pipe")),
+    ("stand-ins", [b"mmc 7\n"], TEXTS[3], b"mmc\n", (0, b"+ mmc\n[Finished 7 1]\n", b"")),
+]
+
+
+def pipes():
+    for name, steps, words, given, (status, output, errors) in PIPED:
+        yield row(f"a pipe: {name}", [*words, b"../pipe"], given, status, output, errors, through_pipe(*steps), over_copies())
+    slow = through_pipe(b"a", b"=", b"b", b"\n", b"q", b"\n")
+    yield left(row("a pipe that gives little at a time", IMPORT, b"", 0, b"", b"", slow, over_copies()), second=SAVED)
+    script = row("a pipe as a set script", [*TEXTS[2], b"../pipe"], b"", 0, b"", b"", through_pipe(b"a\n"), over_copies())
+    yield left(script, second=EMPTIED)
+    words = [*PRINTENV, b"--default", b"../pipe"]
+    yield row("a pipe as the default text", words, b"", 0, b"p=1\n", WARNING, through_pipe(b"p=1\n"), over_copies(BLANK, BLANK))
+
+
+def raw_flash():
+    """Raw flash, which would have to be erased first: it is read, and no byte of it is written."""
+    cannot = CANNOT_WRITE % b"device"
+    for name, words, status, output, errors in (
+        ("raw flash that is read", PRINTENV, 0, b"a=b\n", b""),
+        ("raw flash that would be written", [*SETENV, b"c"], 1, b"", cannot),
+        ("raw flash that a session would write", SESSION, 1, b"Saved copy 2\n", cannot),
+    ):
+        case = row(name, words, b".save\n", status, output, errors, as_it_is, over_copies())
+        case.preload, case.variables = "raw", {"RAW_PATH": "device"}
+        yield case
+
+
+def replaced(make=None, *words):
+    """The device is gone, or something else is in its place."""
+
+    def step(_runner):
+        os.unlink("device")
+        if make:
+            make(*words, "device")
+
+    return step
+
+
+def appended(_runner):
+    with open("device", "ab") as it:
+        it.write(b"more-bytes")
+
+
+def overwritten(_runner):
+    with open("device", "r+b") as it:
+        it.seek(7)
+        it.write(b"0123456789")
+
+
+# What is done to the device between what is read and what is written: whether it can be written then, and its bytes afterwards
+ENDING = device(second=EMPTIED)
+CHANGES = [
+    ("is emptied", cut_to(0), False, b""),
+    ("lacks a byte of a copy", cut_to(29), False, device()[:29]),
+    ("ends with a copy", cut_to(30), True, ENDING[:30]),
+    ("was written by another", overwritten, False, device(b"0123456789")),
+    ("is a folder now", replaced(os.mkdir), False, None),
+    ("is a pipe now", replaced(os.mkfifo), False, None),
+    ("is /dev/full now", replaced(os.symlink, "/dev/full"), False, None),
+    ("is /dev/zero now", replaced(os.symlink, "/dev/zero"), False, None),
+    ("is /dev/null now", replaced(os.symlink, "/dev/null"), False, None),
+]
+
+
+def changed(name, step, is_written, after, config=None):
+    errors = b"" if is_written else CANNOT_WRITE % b"device"
+    files = over_copies() | (config or {})
+    case = row(name, IMPORT, b"", int(not is_written), b"", errors, through_pipe(step, b"a=\n"), files)
+    case.wanted.files = files | {b"device": after}
+    return case
+
+
+def changes():
+    for name, step, is_written, after in CHANGES:
+        yield changed(f"a device that {name}", step, is_written, after)
+    gone = changed("a device that is gone", replaced(), False, None)
+    del gone.wanted.files[b"device"]
+    yield gone
+    grown = {b"fw.config": b"device -26 a\ndevice -13 a\n"}
+    # (its copies, which count from its end, are elsewhere then)
+    yield changed("a device that has grown", appended, False, device() + b"more-bytes", grown)
+    without = changed("a configuration that is gone", lambda _runner: os.unlink("fw.config"), True, ENDING)
+    del without.wanted.files[b"fw.config"]
+    yield without
+    cut = through_pipe(cut_to(25), b"device 7 a\ndevice 20 a\n")
+    case = row("a device that is cut before it is read", [*TEXTS[0], b"../pipe"], b"", 1, b"", b"fwenv: device is too short\n", cut, over_copies())
+    case.wanted.files = case.files | {b"device": device()[:25]}
+    yield case
+
+
+def chunks():
+    return [none, empty, pipes, raw_flash, changes]

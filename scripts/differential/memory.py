@@ -1,0 +1,241 @@
+"""Each allocation of the program refused in turn (scripts/refuse_nth.c): nothing is printed but the message, status 1, and no byte of
+a file changes; a session goes on if one of its items could be refused or stopped."""
+
+import copy
+import functools
+import re
+from dataclasses import replace
+
+from differential.boards import arguments
+from differential.running import Case
+from differential.streams import ONE_VARIABLE, SESSION, WRONG_OPTION, over_copies
+from differential.tool_rows import BLANK
+from model.arguments import read_arguments
+from model.dry_run import DryRun, items_of
+from model.grammar import parse
+from model.image import ERASED, Geometry
+from model.program import WARNING, Answer, Program
+from model.script import run
+from model.texts import stand_ins
+from model.words import Fault
+
+NO_MEMORY = b"## Error: out of memory\n"
+MANY = b"".join(b"variable%05d=xxxxxxxxxx\0" % i for i in range(2_500))
+OVER_MANY = {b"device": Geometry(1, 65_536).image(0, MANY), b"fw.config": b"device 0 10000\n"}
+# The program without files: its words, and standard input
+WITHOUT_FILES = [
+    ([], ONE_VARIABLE),
+    ([], OVER_MANY[b"device"]),
+    ([], b""),
+    ([b"--help"], b""),
+    ([b"session", b"--help"], b""),
+    ([b"--version"], b""),
+    ([b"session", b"--depth", b"17"], b""),
+]
+# Tools over two copies: their words, and perhaps the file `text`
+TOOLS = [
+    ([b"printenv"], b""),
+    ([b"printenv", b"a"], b""),
+    ([b"printenv", b"q", b"a"], b""),
+    ([b"setenv", b"a", b"b"], b""),
+    ([b"setenv", b"a", b"bc"], b""),
+    ([b"setenv", b"a=b", b"c"], b""),
+    ([b"setenv", b"-s", b"text"], b"a c\na b\n"),
+    ([b"setenv", b"-s", b"text"], b"a c\nb c\na d\n"),
+    ([b"import", b"text"], b"a=c\na=b\n"),
+    ([b"import", b"text"], b"a=bc\nq=1\na=\n"),
+    ([b"export"], b""),
+    ([b"restore", b"text"], b"a=c\n"),
+    ([b"restore", b"text"], b"a=bcd\n"),
+    ([b"status"], b""),
+]
+EVERY_FORM = b"""x='a b'; for i in $x "$x" ''; do echo "[$i]"; done
+if test -z "$x"; then echo no; elif true && false; then echo no; else setenv n 1; fi
+while test $n -lt 3; do setexpr n $n + 1; done
+until test $n = 3; do false; done
+env set v 'run w; env delete v'; setenv w 'mmc $y'
+y=1; run v none; echo $?
+printenv n; env exists w && saveenv; nosuch; env delete -f w; exit 4; echo no
+.print
+"""
+DOT_LINES = b"""setenv p; echo $q; setenv a 1
+.mark m
+setenv q; setenv b 2
+.save
+.mark n
+setenv .flags a:d; setenv r
+.mark o
+exit 3
+.print
+.undo n
+.print
+.undo m
+.undo o
+.x
+.undo
+.undo
+echo "
+.print
+.save
+setenv z 9"""
+COUNTING = b"setenv n 0; while true; do setexpr n $n + 1; done\n.print\n.undo\n.print\n"
+LONG = b"setexpr n 0$n + 1; true; true; true; true; true; true; true; true; true\n" * 100 + b".print\n"
+COMMANDS = b"setexpr n 0$n + 1\n" * 500 + b".print\n"
+LIMITS = [b"--depth=2", b"--word=64", b"--output=256"]
+# Sessions over one copy that was never written, with three default variables: a name, the input, and limits
+SESSIONS = [
+    ("every form of a script", EVERY_FORM, [*LIMITS, b"--steps=2000"]),
+    ("a long run", LONG, [*LIMITS, b"--steps=2000"]),
+    ("a loop that counts", COUNTING, [b"--steps=10", b"--depth=4"]),
+    ("every dot line", DOT_LINES, [*LIMITS, b"--steps=1000"]),
+    ("a block of 500 commands", COMMANDS, [*LIMITS, b"--steps=1000"]),
+]
+OVER_PAIR = b"setenv a bc; mmc\n.save\n.mark p\nsetenv a\n.undo p\n.print\n.undo\n"
+
+
+def swept(case, accepts, met, runner):
+    """What is wrong with a call if each of its allocations is refused: each answer has to be accepted, and at least one of them is
+    met, the answer that says so. With ample memory the call is what is wanted."""
+    ample = runner.run(replace(case, preload="refuse", variables={"REFUSE_COUNT": runner.moved}))
+    with open(runner.moved) as file:
+        count = int(file.read())
+    wanted = case.answer() if case.is_modelled else case.wanted
+    if wanted and not ample.is_as(wanted) or NO_MEMORY in ample.errors or count == 0:
+        return f"{case.name}, with ample memory: {ample} and {count} allocations"
+    answers = []
+    for number in range(1, count + 1):
+        found = runner.run(replace(case, preload="refuse", variables={"REFUSE_NTH": str(number)}))
+        if not accepts(found) and not (case.accepts and case.accepts(found, ample)):
+            return f"{case.name}, allocation {number} of {count} refused: {found}"
+        answers.append(found)
+    case.weight = count + 1
+    return None if any(map(met, answers)) else f"{case.name}: no allocation was met"
+
+
+def is_not_written(files, found, ample):
+    """What the tool prints is out when the copies are read again, before they are written."""
+    return (found.status, found.errors, found.files) == (1, ample.errors + NO_MEMORY, files) and found.output == ample.output
+
+
+def refusing(case, warning=b"", accepts=None):
+    """Each allocation of a call refused: the message, with or without the warning before it, and no byte changes."""
+    ended = [Answer(1, b"", said + NO_MEMORY, case.files) for said in {b"", warning}]
+    is_ended = lambda found: any(map(found.is_as, ended))
+    if case.accepts is None:
+        case.accepts = functools.partial(is_not_written, case.files)
+    case.check = functools.partial(swept, case, accepts or is_ended, is_ended)
+    return case
+
+
+def without_files():
+    for words, given in WITHOUT_FILES:
+        yield refusing(Case(f"{words} without memory", words, given=given, is_modelled=b"--help" not in words))
+    # clap may do without some of its allocations, which look for an option like it
+    wrong = Case("a wrong option without memory", [b"--frobnicate"], is_modelled=False, wanted=Answer(1, b"", WRONG_OPTION, {}))
+    wrong.accepts = lambda found, ample: replace(found, seconds=0) == replace(ample, seconds=0)
+    yield refusing(wrong)
+
+
+def tools():
+    for (tool, *rest), text in TOOLS:
+        yield refusing(Case(f"{tool.decode()} {rest} without memory", arguments(tool, *rest), over_copies() | {b"text": text}))
+    yield refusing(Case("status of a file without memory", [b"status", b"device"], over_copies()))
+    for tool in (b"printenv", b"export", b"status"):
+        yield refusing(Case(f"{tool.decode()} of 2,500 variables without memory", arguments(tool), OVER_MANY))
+    files = over_copies(BLANK, BLANK) | {b"default": b"p=1\n"}
+    yield refusing(Case("a default environment without memory", arguments(b"printenv", b"--default", b"default"), files), WARNING)
+
+
+class Sessions:
+    """What a session may answer of which memory refuses or stops one item, or which it ends."""
+
+    def __init__(self, case):
+        self.case = case
+        self.call = read_arguments(case.arguments)
+        self.items = items_of(case.given, True)
+        self.known = {}
+
+    def begun(self):
+        """The program, with its session open."""
+        program = Program(self.case.files, self.case.given)
+        session = program.opened(self.call)
+        path = self.call.options.get("--stubs")
+        names = {} if path is None else stand_ins(self.case.files[path])
+        return program, DryRun(session, names, self.call.limits())
+
+    def left(self, program, dry, output):
+        """The answer of a program whose session came to its end so."""
+        program = copy.deepcopy(program)
+        if "--write" in self.call.options:
+            program.write_back(dry.session)
+        return Answer(0, output, program.errors, program.files)
+
+    def outcomes(self, steps):
+        """Every answer, if a run is stopped after one of these numbers of steps."""
+        program, dry = self.begun()
+        output = b""
+        for said in {b"", program.errors}:
+            yield Answer(1, b"", said + NO_MEMORY, self.case.files)
+        for at, item in enumerate(self.items):
+            for other, text in stopped(dry, item, steps):
+                rest = b"".join(map(other.answer_item, self.items[at + 1 :]))
+                yield self.left(program, other, output + text + rest)
+            output += dry.answer_item(item)
+            yield Answer(1, output, program.errors + NO_MEMORY, self.case.files)
+        yield self.left(program, dry, output)
+
+    def accepts(self, found):
+        key = (found.status, found.output, found.errors, tuple(sorted(found.files.items())))
+        if key not in self.known:
+            steps = {int(number) for number in re.findall(rb"\[Memory \d+ (\d+)\]", found.output)}
+            self.known[key] = any(map(found.is_as, self.outcomes(steps)))
+        return self.known[key]
+
+
+def stopped(dry, item, steps):
+    """What memory leaves of an item that it refuses or stops, and the text: nothing of a block that isn't read, or what the run leaves
+    that may take no more steps than these; nothing of a save; of an undo what is undone down to the end of a span."""
+    line = item.strip()
+    if line.startswith(b".undo"):
+        yield copy.deepcopy(dry), b"[Memory]\n"
+        for number in range(len(dry.names), 0, -1):
+            other = copy.deepcopy(dry)
+            other.undo_to(number)
+            del other.session.marks[number:], other.names[number - 1 :]
+            yield other, b"[Memory]\n"
+    elif line == b".save":
+        yield copy.deepcopy(dry), b"[Memory]\n"
+    elif not line.startswith(b"."):
+        yield copy.deepcopy(dry), b"[Memory]\n"
+        for number in steps:
+            other = copy.deepcopy(dry)
+            try:
+                outcome = run(other.session, parse(item), other.stand_ins, (number, *other.limits[1:]))
+            except Fault:
+                continue
+            if outcome.steps == number:
+                yield other, outcome.text + b"[Memory %d %d]\n" % (outcome.status, number)
+
+
+def session(name, words, files, given):
+    """A session with each allocation refused."""
+    case = Case(f"{name} without memory", words, files, given)
+    return refusing(case, WARNING, Sessions(case).accepts)
+
+
+def one_session(row):
+    name, given, limits = row
+    files = {b"device": ERASED * 64, b"fw.config": b"device 0 40\n", b"default": b"p=1\nq=2\nr=3\n", b"stand-ins": b"mmc 3\n"}
+    words = arguments(b"session", b"--write", b"--default", b"default", b"--stubs", b"stand-ins", *limits)
+    yield session(name, words, files, given)
+
+
+def over_pair():
+    """All is undone in the end, so that no copy is written; and a save that is written back."""
+    files = over_copies() | {b"stand-ins": b"mmc 3\na_stand_in_of_a_long_name 4\n"}
+    yield session("a session over a pair", [*SESSION, b"--stubs", b"stand-ins"], files, OVER_PAIR)
+    yield session("a save", SESSION, over_copies(), b".save\n")
+
+
+def chunks():
+    return [without_files, tools, over_pair, *(functools.partial(one_session, row) for row in SESSIONS)]

@@ -1,0 +1,219 @@
+"""The program over streams as a shell gives them: closed, full, endless or reset, and a session at a pipe, line by line. No row
+writes a byte of the device."""
+
+import contextlib
+import functools
+import os
+import re
+import select
+import socket
+import struct
+import subprocess
+import threading
+
+from differential.running import Case
+from model.image import Geometry
+from model.program import CANNOT_READ_INPUT, CANNOT_WRITE_OUTPUT, TOO_LONG, Answer
+
+ONE_VARIABLE = Geometry(1, 9).image(0, b"a=b\0")
+MILLION = Geometry(1, 2**20).image(0, b"".join(b"variable%05d=xxxxxxxxxx\0" % i for i in range(40_000)))
+# Two copies of 10 bytes in the middle of a file; the first is current. After a save the second has flag 8
+PAIR = Geometry(2, 10)
+FIRST, SECOND = PAIR.image(7, b"a=b\0"), PAIR.image(7, b"\0")
+SAVED, EMPTIED = PAIR.image(8, b"a=b\0"), PAIR.image(8, b"\0")
+TWO_COPIES = b"device 7 a\ndevice 20 a 0x1000 1\n"
+BAD_LENGTH = b"## Error: bad image: BadLength\n"
+WRONG_OPTION = b"error: unexpected argument '--frobnicate' found\n\nUsage: fwenv [OPTIONS] [COMMAND]\n\nFor more information, try '--help'.\n"
+SESSION = [b"session", b"-c", b"fw.config", b"--write"]
+
+
+def device(first=FIRST, second=SECOND):
+    """Two copies, with bytes before, between and after them."""
+    return b"XXXXXXX" + first + b"YYY" + second + b"ZZZ"
+
+
+def over_copies(first=FIRST, second=SECOND):
+    return {b"device": device(first, second), b"fw.config": TWO_COPIES}
+
+
+# What is done around a run; each gives the streams that are others
+
+
+@contextlib.contextmanager
+def stream(at, path, _runner=None):
+    """A stream that is this file, or that is closed."""
+    opened = None if path is None else os.open(path, os.O_RDONLY if os.path.isdir(path) else os.O_RDWR)
+    yield {at: opened}
+    if opened is not None:
+        os.close(opened)
+
+
+@contextlib.contextmanager
+def piped(command, _runner=None):
+    """Standard input is what a command writes, perhaps without an end."""
+    process = subprocess.Popen(["sh", "-c", command], stdout=subprocess.PIPE)
+    yield {0: process.stdout.fileno()}
+    process.kill()
+    process.stdout.close()
+    process.wait()
+
+
+@contextlib.contextmanager
+def reset(text, _runner=None):
+    """Standard input is a connection that gives a text, and that the other side resets then."""
+    listener = socket.create_server(("127.0.0.1", 0))
+    sender = socket.create_connection(listener.getsockname())
+    receiver, _ = listener.accept()
+    sender.sendall(text)
+    while len(receiver.recv(len(text), socket.MSG_PEEK)) < len(text):
+        pass
+    sender.setsockopt(socket.SOL_SOCKET, socket.SO_LINGER, struct.pack("ii", 1, 0))
+    sender.close()
+    yield {0: receiver.fileno()}
+    receiver.close()
+    listener.close()
+
+
+@contextlib.contextmanager
+def read_by(count, runner):
+    """Standard output is a pipe of which so many bytes are read, and which is closed then."""
+    reader, writer = os.pipe()
+    if count == 0:
+        os.close(reader)
+
+    def read():
+        os.pwrite(runner.streams[1], os.read(reader, count), 0)
+        os.close(reader)
+
+    thread = threading.Thread(target=read) if count else None
+    if thread:
+        thread.start()
+    yield {1: writer}
+    os.close(writer)
+    if thread:
+        thread.join()
+
+
+@contextlib.contextmanager
+def said_without_end(text, count, runner):
+    """Standard input is a text again and again, and standard output a pipe of which so many bytes are read."""
+    with piped(f"exec yes '{text}'") as given, read_by(count, runner) as taken:
+        yield given | taken
+
+
+def at(number, path):
+    return functools.partial(stream, number, path)
+
+
+def row(name, arguments, given, status, output, errors, around=None, files=()):
+    """A call whose answer is given by hand."""
+    files = dict(files)
+    return Case(name, arguments, files, given, wanted=Answer(status, output, errors, files), around=around, is_modelled=around is None, seconds=5)
+
+
+def images():
+    yield row("one variable", [], ONE_VARIABLE, 0, b"a=b\n", b"")
+    yield row("no bytes", [], b"", 1, b"", BAD_LENGTH)
+    yield row("too many bytes", [], bytes(2**20 + 1), 1, b"", BAD_LENGTH)
+    yield row("a reader that never ends", [], b"", 1, b"", BAD_LENGTH, functools.partial(piped, "exec yes ''"))
+    yield row("standard input closed", [], b"", 1, b"", CANNOT_READ_INPUT, at(0, None))
+    yield row("a folder as standard input", [], b"", 1, b"", CANNOT_READ_INPUT, at(0, "/"))
+    yield row("a word that is not UTF-8", [b"\xff"], ONE_VARIABLE, 1, b"", b"fwenv: a word of the command line is not UTF-8\n")
+    yield row("a wrong option", [b"--frobnicate"], ONE_VARIABLE, 1, b"", WRONG_OPTION)
+    yield row("a full disk", [], ONE_VARIABLE, 1, b"", CANNOT_WRITE_OUTPUT, at(1, "/dev/full"))
+    yield row("standard output closed", [], ONE_VARIABLE, 1, b"", CANNOT_WRITE_OUTPUT, at(1, None))
+    yield row("help on a full disk", [b"--help"], b"", 1, b"", CANNOT_WRITE_OUTPUT, at(1, "/dev/full"))
+    yield row("a pipe that nobody reads", [], MILLION, 1, b"", CANNOT_WRITE_OUTPUT, functools.partial(read_by, 0))
+    yield row("standard error closed", [], ONE_VARIABLE, 0, b"a=b\n", b"", at(2, None))
+    yield row("standard error on a full disk", [], b"", 1, b"", b"", at(2, "/dev/full"))
+    yield row("a big-endian image", [b"--big-endian"], b"\x2b\x62\x96\xd2a=b\0\0", 0, b"a=b\n", b"")
+    yield row("a big-endian image read as little-endian", [], b"\x2b\x62\x96\xd2a=b\0\0", 1, b"", b"## Error: bad image: BadCrc\n")
+    yield row("a little-endian image read as big-endian", [b"--big-endian"], ONE_VARIABLE, 1, b"", b"## Error: bad image: BadCrc\n")
+
+
+def helps():
+    """The help of each subcommand says how it is called, with an example, and `help` prints the same."""
+    texts = {}
+    for word in (b"printenv", b"setenv", b"import", b"export", b"restore", b"status", b"session"):
+
+        def is_help(found, word=word):
+            texts[word] = found.output
+            usage = re.search(rb"^Usage: fwenv %s " % word, found.output, re.M) and re.search(rb"^Example:$", found.output, re.M)
+            return bool(usage) and (found.status, found.errors) == (0, b"")
+
+        def is_same(found, word=word):
+            return (found.status, found.output, found.errors) == (0, texts[word], b"")
+
+        for words, accepts in (([word, b"--help"], is_help), ([b"help", word], is_same)):
+            yield Case(f"the help of {word.decode()}", words, wanted=Answer(0, b"", b"", {}), accepts=accepts, is_modelled=False)
+
+
+def session(name, given, status, output, errors, around):
+    """A session whose streams are others: no byte is written, though --write is given."""
+    return row(name, SESSION, given, status, output, errors, around, over_copies())
+
+
+def sessions():
+    full, dots = at(1, "/dev/full"), b"Saved copy 2\n" + b"a=b\n" * ((2**24 - 6) // 7)
+    cut_off = functools.partial(reset, b".save\necho a\n.x\necho b\n.print")
+    yield session("standard input closed", b"", 1, b"", CANNOT_READ_INPUT, at(0, None))
+    yield session("a folder as standard input", b"", 1, b"", CANNOT_READ_INPUT, at(0, "/"))
+    yield session("an input that is cut off", b"", 1, b"Saved copy 2\na\n[Finished 0 1]\n[Unknown]\n", CANNOT_READ_INPUT, cut_off)
+    for name, text, output in (("newlines", "", b"Saved copy 2\n"), ("dot lines", ".print", dots)):
+        around = functools.partial(piped, f"echo .save; exec yes '{text}'")
+        yield session(f"an input of {name} that never ends", b"", 1, output, TOO_LONG, around)
+    yield session("a session on a full disk", b".save\n", 1, b"", CANNOT_WRITE_OUTPUT, full)
+    yield session("a session with standard output closed", b".save\n", 1, b"", CANNOT_WRITE_OUTPUT, at(1, None))
+    closed = functools.partial(said_without_end, ".x", len(b"[Unknown]\n"))
+    yield session("a session into a pipe that is closed", b"", 1, b"[Unknown]\n", CANNOT_WRITE_OUTPUT, closed)
+    yield session("the last block on a full disk", b"setenv a c\n", 1, b"", CANNOT_WRITE_OUTPUT, full)
+    yield session("standard error closed", b"setenv a c\n", 0, b"[Finished 0 1]\n", b"", at(2, None))
+
+
+# A session at a pipe, as a person would type: what is written, and the line that comes before the next is written, or none
+TYPED = [
+    ("the first line", b".x\n", b"[Unknown]\n"),
+    ("a save", b".save\n", b"Saved copy 2\n"),
+    ("a line in two parts", b".ma", None),
+    ("the other part", b"rk a\n", b"[Marked]\n"),
+    ("a block after which nothing comes", b"echo a\n", None),
+    ("a dot line after it", b".x\n", b"a\n[Finished 0 1]\n[Unknown]\n"),
+]
+
+
+def answered(output, wanted, most):
+    """What comes of an answer within so many seconds."""
+    text = b""
+    while len(text) < wanted and select.select([output], [], [], most)[0]:
+        text += os.read(output.fileno(), wanted - len(text)) or b"the end"
+    return text
+
+
+def line_by_line(runner):
+    """Each answer comes before the next line is written, and the device is written at the end."""
+    runner.put(over_copies())
+    pipes = {"stdin": subprocess.PIPE, "stdout": subprocess.PIPE, "stderr": subprocess.PIPE}
+    with subprocess.Popen([runner.program, *SESSION], **pipes) as process:
+        for name, text, wanted in TYPED:
+            process.stdin.write(text)
+            process.stdin.flush()
+            answer = answered(process.stdout, len(wanted or b"x"), 20 if wanted else 1)
+            if answer != (wanted or b"") or process.poll() is not None:
+                process.kill()
+                return f"{name}: {answer!r} came in place of {wanted!r}"
+            if runner.left() != over_copies():
+                process.kill()
+                return f"{name}: the device was written"
+        process.stdin.close()
+        left = process.stdout.read(), process.stderr.read(), process.wait()
+    if left != (b"", b"", 0) or runner.left() != over_copies(second=SAVED):
+        return f"the end of a session: {left}, {runner.left()}"
+    return None
+
+
+def typed():
+    yield Case("a session line by line", [], check=line_by_line, is_modelled=False, weight=len(TYPED) + 1)
+
+
+def chunks():
+    return [images, helps, sessions, typed]

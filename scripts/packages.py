@@ -1,0 +1,267 @@
+"""Tries the packages, the manual pages and the completions, as a user has them: scripts/packages.py FOLDER.
+
+What needs a tool that isn't installed is told as not tried. The last line is 'N passed, M failed'."""
+
+import filecmp
+import os
+import pathlib
+import pty
+import re
+import select
+import shutil
+import subprocess
+import sys
+import time
+
+TOP = pathlib.Path(__file__).resolve().parent.parent
+IMAGE = b"\xd2\x96\x62\x2ba=b\0\0"
+PAGES = ("fwenv.1", "fwenv-session.1", "fw_env.config.5")
+passed = failed = 0
+
+
+def check(name, is_right, said=""):
+    global passed, failed
+    if is_right:
+        passed += 1
+    else:
+        failed += 1
+        print(f"FAILED: {name}: {said}")
+
+
+def same(name, found, wanted):
+    check(name, found == wanted, f"{found!r} and not {wanted!r}")
+
+
+def run(*words, given=b"", **more):
+    return subprocess.run([*map(str, words)], input=given, capture_output=True, **more)
+
+
+def has(tool):
+    if shutil.which(tool):
+        return True
+    print(f"NOT TRIED: what needs {tool}: it is not installed")
+    return False
+
+
+def made(folder):
+    """The packages in a folder, by the kind of each."""
+    found = run(TOP / "scripts/package", folder)
+    check("scripts/package", found.returncode == 0, found.stderr[-500:])
+    return [pathlib.Path(line) for line in found.stdout.decode().splitlines()]
+
+
+def unpacked(package, folder):
+    run("dpkg-deb", "-x", package, folder, check=True)
+    return folder
+
+
+def packages(folder):
+    first, again = made(folder / "first"), made(folder / "again")
+    same("the packages", [re.sub(r"\d+\.\d+\.\d+", "N", it.name) for it in first],
+         ["fwenv_N_amd64.deb", "fwenv-fw-tools_N_all.deb", "fwenv-N-x86_64-linux.tar.gz"])
+    for one, other in zip(first, again):
+        check(f"{one.name} made again", filecmp.cmp(one, other, shallow=False), "other bytes")
+    program, links, archive = first
+    root = unpacked(program, folder / "root")
+    same("the program unpacked", run(root / "usr/bin/fwenv", given=IMAGE).stdout, b"a=b\n")
+    run("tar", "-xzf", archive, "-C", folder, check=True)
+    same("the program of the archive", run(folder / archive.name.removesuffix(".tar.gz") / "bin/fwenv", given=IMAGE).stdout, b"a=b\n")
+    installed(program, links, folder)
+    if has("lintian"):
+        found = run("lintian", "--fail-on", "error", program, links)
+        check("lintian", found.returncode == 0, found.stdout[-800:])
+
+
+def older(package, folder):
+    """The package as an older version."""
+    run("dpkg-deb", "-R", package, folder, check=True)
+    control = folder / "DEBIAN/control"
+    control.write_text(re.sub(r"(?m)^Version: .*", "Version: 0.1.0", control.read_text()))
+    run("dpkg-deb", "--root-owner-group", "--build", folder, f"{folder}.deb", check=True)
+    return f"{folder}.deb"
+
+
+def installed(program, links, folder):
+    """Installs the packages over an older one below a folder, and removes them."""
+    if not has("dpkg"):
+        return
+    root = folder / "installed"
+    for each in ("info", "updates"):
+        (root / "var/lib/dpkg" / each).mkdir(parents=True)
+    for each in ("status", "available"):
+        (root / "var/lib/dpkg" / each).touch()
+    # (the C library, on which the program's package depends, isn't there)
+    dpkg = ("dpkg", f"--root={root}", "--force-not-root", "--force-bad-path", "--force-depends", f"--log={folder}/dpkg.log")
+    for package in (older(program, folder / "old"), program, links):
+        found = run(*dpkg, "-i", package)
+        check("dpkg -i", found.returncode == 0, found.stderr)
+    version = re.search(r"fwenv_(.*)_", program.name)[1]
+    versions = run("dpkg-query", f"--root={root}", "-W", "-f=${Package} ${Version}\n").stdout.decode()
+    same("the versions after an upgrade", versions, f"fwenv {version}\nfwenv-fw-tools {version}\n")
+    same("the program installed", run(root / "usr/bin/fwenv", given=IMAGE).stdout, b"a=b\n")
+    for name in ("fw_printenv", "fw_setenv"):
+        found = run(root / "usr/bin" / name, "-V").stdout.decode()
+        same(f"{name} installed", found, f"{name} {version}\n")
+    found = run(*dpkg, "--purge", "fwenv-fw-tools", "fwenv")
+    check("dpkg --purge", found.returncode == 0, found.stderr)
+    left = [str(it) for it in (root / "usr").rglob("*")] if (root / "usr").exists() else []
+    same("what is left once they are removed", left, [])
+
+
+def rows(folder):
+    """The rows of the tools, of sessions and of the documents over the program as it is packaged."""
+    for part in ("tool_rows", "report_rows", "session_rows", "documents"):
+        words = (sys.executable, "-B", "-m", "differential", folder / "root/usr/bin/fwenv", folder, part)
+        lines = run(*words, env=os.environ | {"PYTHONPATH": str(TOP / "scripts")}).stdout.decode().splitlines()
+        check(f"{part} over the program of the package", lines[-1:] and lines[-1].endswith(", 0 failed"), "\n".join(lines[-6:]))
+
+
+def words_of(options):
+    """The options that a text names."""
+    return set(re.findall(r"(?<![\w-])--?[A-Za-z][\w-]*", options))
+
+
+def pages(folder):
+    if not has("groff"):
+        return
+    for page in (TOP / "packaging/man").iterdir():
+        found = run("groff", "-ww", "-man", "-Tutf8", "-z", page)
+        same(f"the page {page.name}", found.stderr, b"")
+    calls = {"fwenv": [], **{f"fwenv {name}": [name] for name in ("printenv", "setenv", "import", "export", "restore", "status", "session")}}
+    listed = page_options("fwenv.1") | {"fwenv session": page_options("fwenv-session.1")[""]}
+    common = listed[""] - {"-V", "--version"}
+    for name, words in calls.items():
+        helped = options_of_help(run(folder / "root/usr/bin/fwenv", *words, "--help").stdout.decode())
+        own = {"--big-endian"} | listed[""] - {"-c", "--default"} if name == "fwenv" else common | listed[name]
+        own -= {"--default"} if name == "fwenv status" else set()
+        same(f"the options of {name}, in its page and in its help", sorted(own), sorted(helped))
+
+
+def client_pages(folder):
+    """The options of fw_printenv and fw_setenv, in their pages and in their help."""
+    for name in ("fw_printenv", "fw_setenv"):
+        link = folder / name
+        link.symlink_to(folder / "root/usr/bin/fwenv")
+        helped = options_of_help(run(link, "--help").stdout.decode())
+        # (the help has the second long name of -n among the words that describe it)
+        listed = page_options(f"{name}.1")[""] - {"--no-header"}
+        same(f"the options of {name}", sorted(listed), sorted(helped))
+
+
+def options_of_help(text):
+    return set().union(*(words_of(line.split("  ")[0]) for line in re.findall(r"(?m)^ +(-.*)$", text)))
+
+
+def page_options(page):
+    """The options in the headings of a page, by the command under which they are; those of all commands have no name."""
+    options, at, is_heading = {"": set()}, "", False
+    for line in (TOP / "packaging/man" / page).read_text().replace("\\-", "-").splitlines():
+        if line.startswith(".SH"):
+            at = ""
+        elif line.startswith(".SS fwenv"):
+            at = line.removeprefix(".SS ")
+            options[at] = set()
+        elif is_heading:
+            options[at] |= words_of(line)
+        is_heading = line == ".TP"
+    return options
+
+
+def completed_by_bash(script, board, line):
+    """What bash offers for a line whose last word is being typed."""
+    program = f"""source {script}; COMP_WORDS=({line}); [ '{line[-1]}' != ' ' ] || COMP_WORDS+=('')
+    COMP_CWORD=$((${{#COMP_WORDS[@]}} - 1)); compopt() {{ echo "$@" >>options; }}; _fwenv; printf '%s\\n' "${{COMPREPLY[@]}}"; complete -p fwenv >&2"""
+    found = run("bash", "-c", program, cwd=board)
+    return set(found.stdout.decode().split()), found.stderr.decode()
+
+
+def completed_by_fish(script, board, line):
+    found = run("fish", "--no-config", "-c", f"source {script}; complete -C '{line}'", cwd=board)
+    return {it.split("\t")[0] for it in found.stdout.decode().splitlines()}
+
+
+def completed_by_zsh(folder, board, line):
+    """What stands on the line once the tabulator was pressed, at a real prompt."""
+    child, screen = pty.fork()
+    if child == 0:
+        os.chdir(board)
+        os.execvp("zsh", ["zsh", "-f", "-i"])
+    said = b""
+
+    def wait(text, seconds=20):
+        nonlocal said
+        until = time.monotonic() + seconds
+        while text not in said and time.monotonic() < until:
+            if select.select([screen], [], [], 0.2)[0]:
+                said += os.read(screen, 65536)
+        return text in said
+
+    try:
+        os.write(screen, f"PROMPT='>'; fpath=({folder} $fpath); autoload -Uz compinit; compinit -u -D; print rea''dy\n".encode())
+        wait(b"ready")
+        said = b""
+        os.write(screen, line.encode() + b"\t\x01print -r -- '<\x05>'\n")
+        wait(b">\r\n")
+        wait(b"<fwenv")
+    finally:
+        os.close(screen)
+        os.waitpid(child, 0)
+    found = re.findall(rb"<(fwenv[^<>]*)>", said)
+    return found[-1].decode() if found else repr(said)
+
+
+def completions(folder):
+    root, board = folder / "root/usr", folder / "board"
+    board.mkdir()
+    (board / "copy").write_bytes(b"\xff" * 0x1000)
+    (board / "config").write_text("copy 0 1000\n")
+    (board / "text").write_text("bootcmd=run x\nbootdelay=2\nbaudrate=115200\n")
+    env = os.environ | {"PATH": f"{root}/bin:{os.environ['PATH']}"}
+    os.environ.update(env)
+    check("the board", run("fwenv", "import", "-c", "config", "text", cwd=board).returncode == 0)
+    names = {"bootcmd", "bootdelay"}
+    rows = [
+        ("fwenv pri", {"printenv"}),
+        ("fwenv export --de", {"--default"}),
+        ("fwenv session --st", {"--stubs", "--steps"}),
+        ("fwenv re", {"restore"}),
+        ("fwenv status --b", {"--big-endian"}),
+        ("fwenv status --de", set()),
+        ("fwenv printenv -c config boot", names),
+        ("fwenv setenv -c config boot", names),
+    ]
+    script = root / "share/bash-completion/completions/fwenv"
+    for line, wanted in rows:
+        found, told = completed_by_bash(script, board, line)
+        same(f"bash: {line}", found, wanted)
+        check("bash: complete -p", "complete -o default -F _fwenv fwenv" in told, told)
+    found, _ = completed_by_bash(script, board, "fwenv printenv -c co")
+    check("bash: files after -c", found == set() and "-o default" in (board / "options").read_text(), found)
+    if has("fish"):
+        for line, wanted in rows:
+            same(f"fish: {line}", completed_by_fish(root / "share/fish/vendor_completions.d/fwenv.fish", board, line), wanted)
+        check("fish: files after -c", "config" in completed_by_fish(root / "share/fish/vendor_completions.d/fwenv.fish", board, "fwenv printenv -c co"))
+    if has("zsh"):
+        for line, wanted in (
+            ("fwenv pri", "fwenv printenv"),
+            ("fwenv export --de", "fwenv export --default"),
+            ("fwenv printenv -c conf", "fwenv printenv -c config"),
+            ("fwenv printenv -c config bootc", "fwenv printenv -c config bootcmd"),
+            ("fwenv setenv -c config bootd", "fwenv setenv -c config bootdelay"),
+        ):
+            same(f"zsh: {line}", completed_by_zsh(root / "share/zsh/site-functions", board, line).strip(), wanted)
+
+
+def main():
+    folder = pathlib.Path(sys.argv[1]).resolve()
+    if has("dpkg-deb"):
+        packages(folder)
+        rows(folder)
+        pages(folder)
+        client_pages(folder)
+        completions(folder)
+    print(f"{passed} passed, {failed} failed")
+    sys.exit(failed != 0)
+
+
+main()
