@@ -39,10 +39,19 @@ fn erase(contents: &RefCell<Contents>) {
 fn the_last_part_of_its_own_name_decides(rt: HostRuntime) -> Result<(), Fail> {
     let rows: [(&[&str], &[u8]); 7] = [
         (&["fw_printenv", "-c", "config"], b"a=1\n"),
-        (&["/usr/bin/fw_printenv", "--config", "config", "a"], b"a=1\n"),
+        (
+            &["/usr/bin/fw_printenv", "--config", "config", "a"],
+            b"a=1\n",
+        ),
         (&["./fw_printenv", "-c", "config", "-n", "a"], b"1\n"),
-        (&["fw_printenv", "-cconfig", "--noheader", "a", "a"], b"1\n1\n"),
-        (&["fw_printenv", "a", "--no-header", "--config=config"], b"1\n"),
+        (
+            &["fw_printenv", "-cconfig", "--noheader", "a", "a"],
+            b"1\n1\n",
+        ),
+        (
+            &["fw_printenv", "a", "--no-header", "--config=config"],
+            b"1\n",
+        ),
         (&["x/fw_printenv", "--version"], b"fw_printenv 0.2.0\n"),
         (&["fw_setenv", "-v"], b"fw_setenv 0.2.0\n"),
     ];
@@ -68,7 +77,10 @@ fn a_change_is_saved_and_nothing_else(rt: HostRuntime) -> Result<(), Fail> {
     let rows: [(&[&str], bool); 5] = [
         (&["fw_setenv", "-c", "config", "a", "2"], true),
         (&["fw_setenv", "-c", "config", "-s", "-"], true),
-        (&["fw_setenv", "--config", "config", "--script", "script"], true),
+        (
+            &["fw_setenv", "--config", "config", "--script", "script"],
+            true,
+        ),
         (&["fw_setenv", "-c", "config", "a", "1"], false),
         (&["fw_setenv", "-c", "config", "b"], false),
     ];
@@ -91,7 +103,8 @@ fn a_change_is_saved_and_nothing_else(rt: HostRuntime) -> Result<(), Fail> {
 
 #[test]
 fn a_copy_is_good_or_a_default_environment_is_there(rt: HostRuntime) -> Result<(), Fail> {
-    let no_copy = b"fwenv: no good copy: checksum is wrong in the first copy, checksum is wrong in the second; look at \
+    let no_copy =
+        b"fwenv: no good copy: checksum is wrong in the first copy, checksum is wrong in the second; look at \
         the size and the number of lines in the configuration, and at the byte order (--big-endian)\n";
     for words in [
         ["fw_printenv", "-c", "config", "a"].as_slice(),
@@ -123,7 +136,9 @@ fn a_copy_is_good_or_a_default_environment_is_there(rt: HostRuntime) -> Result<(
         erase(&contents);
         let (status, output, errors) = run_on(&rt, &contents, words, b"");
         assert!(rt; output.as_slice() == text);
-        assert!(rt; errors.as_slice() == b"Warning: Bad CRC, using default environment\n".as_slice());
+        assert!(rt;
+            errors.as_slice() == b"Warning: Bad CRC, using default environment\n".as_slice()
+        );
         assert_eq!(rt; status, 0);
     }
     Ok(())
