@@ -1,7 +1,7 @@
 //! What follows a simple command, and one name of `env delete` (docs/runs.md, "Commands").
 
 use crate::fixtures::{carried_and_followed, fields, session};
-use hush_commands::{FieldQueue, Follow, Message, Output, PrintFault, delete};
+use hush_commands::{FieldQueue, Follow, Message, Output, PrintFault, Stubs, carry_out, delete};
 use std::alloc::{AllocError, Global};
 use std::test::Fail;
 
@@ -73,6 +73,49 @@ fn steps_after_commands(rt: HostRuntime) -> Result<(), Fail> {
             }
             Err(fault) => assert!(rt; false, "{fault:?} of {text:?}"),
         }
+    }
+    Ok(())
+}
+
+#[test]
+fn a_stand_in_that_boots_ends_the_run_where_its_status_is_zero(
+    rt: HostRuntime,
+) -> Result<(), Fail> {
+    let mut stand_ins = Stubs::parse(rt.alloc(), b"booti\nbootm 1\nmmc\n").map_err(|_| "stubs")?;
+    for name in [b"booti".as_slice(), b"bootm", b"reset", b"exit"] {
+        stand_ins.boot(rt.alloc(), name)?;
+    }
+    let table: [(&[u8], u8, &[u8], &[u8]); 5] = [
+        (b"booti a b", 0, b"end", b"+ booti a b\n"),
+        (b"bootm", 1, b"next", b"+ bootm\n"),
+        (b"mmc", 0, b"next", b"+ mmc\n"),
+        (
+            b"reset",
+            1,
+            b"next",
+            b"Unknown command 'reset' - try 'help'\n",
+        ),
+        (b"echo", 0, b"next", b"\n"),
+    ];
+    let mut session = session(rt.alloc(), 64)?;
+    for (text, status, follows, printed) in table {
+        let mut output = Output::new(rt.alloc(), 64);
+        let command = fields(rt.alloc(), text)?;
+        let carried = carry_out(
+            rt.alloc(),
+            &mut session,
+            &stand_ins,
+            &command,
+            7,
+            &mut output,
+        );
+        let (answered, follow) = carried.map_err(|_| "carried")?;
+        let found = shown(rt.alloc(), follow)?;
+        assert_eq!(rt;
+            (answered, found.as_slice(), output.text()),
+            (status, follows, printed),
+            "of {text:?}"
+        );
     }
     Ok(())
 }

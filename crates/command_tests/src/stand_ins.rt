@@ -43,6 +43,23 @@ fn stand_ins_are_read(rt: HostRuntime) -> Result<(), Fail> {
 }
 
 #[test]
+fn stand_ins_that_boot_keep_their_status(rt: HostRuntime) -> Result<(), Fail> {
+    let mut stand_ins = Stubs::parse(rt.alloc(), b"booti 1\nmmc 2\n").map_err(|_| "stubs")?;
+    for name in [b"booti".as_slice(), b"booti", b"reset", b""] {
+        stand_ins.boot(rt.alloc(), name)?;
+    }
+    assert_eq!(rt;
+        (stand_ins.status(b"booti"), stand_ins.status(b"mmc")),
+        (Some(1), Some(2))
+    );
+    assert_eq!(rt;
+        (stand_ins.status(b"reset"), stand_ins.status(b"")),
+        (None, None)
+    );
+    Ok(())
+}
+
+#[test]
 fn faults_of_stand_ins_have_their_line(rt: HostRuntime) -> Result<(), Fail> {
     let table: [(&[u8], StubFault); 22] = [
         (b"echo 0", StubFault::Builtin(1)),

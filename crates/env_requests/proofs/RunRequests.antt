@@ -114,7 +114,7 @@ exiting_acts h (follow.Deletes force names) e a = a
 
 effect_acts : (stand_ins : Statuses) (fields : List (List ℕ)) (s : State) → Acts s.held (effect stand_ins fields s)
 unfolding effect
-effect_acts stand_ins fields s = exiting_acts s.held (follow_of fields) _ (carries_acts (done_of stand_ins fields s.status s.held) s (done_leads stand_ins fields s.status s.held))
+effect_acts stand_ins fields s = exiting_acts s.held (follow_of stand_ins fields) _ (carries_acts (done_of stand_ins fields s.status s.held) s (done_leads stand_ins fields s.status s.held))
 
 assigned_acts : (name : List ℕ) (o : Option (List ℕ)) (s : State) → Acts s.held (assigned_to name o s)
 assigned_acts name None s = tt
@@ -164,9 +164,9 @@ module _ (rules : Rules) (begin : Begin) (starts : (name : List ℕ) → Changes
   simple_changes : (fields : Option (List (List ℕ))) → Changes (simple rules begin fields)
   simple_changes None s = step_changes rules _ (λ t. tt) s
   simple_changes (Some fields) s =
-      bind_comes s.held _ (follows rules begin (follow_of fields))
+      bind_comes s.held _ (follows rules begin (follow_of rules.stand_ins fields))
       (step_changes rules (effect rules.stand_ins fields) (effect_acts rules.stand_ins fields) s)
-      (follows_change (follow_of fields))
+      (follows_change (follow_of rules.stand_ins fields))
 
   mutual
     command_changes : (c : Command) → Changes (command rules begin c)

@@ -6,8 +6,8 @@ use Rattle.env_session.specs.Session.{Held}
 use Rattle.env_session.specs.declared.undo.UndoFault.TheVariants as undo
 use Rattle.hush_commands.specs.Saving.{saved_line}
 use Rattle.hush_run.specs.declared.ending.Ending.{Ending}
-use Rattle.hush_run.specs.declared.ending.Ending.TheVariants as ending
 use Rattle.hush_run.specs.Meaning.{Rules}
+use Rattle.hush_run.specs.Runs.{ending_name}
 use Rattle.env_requests.specs.Requests.{UndoTo, Note, Reply, Ran, Wrote, Imported, Saved, Printed, Marked, Undone, Answer, answer_to, MayBe, listing}
 use Rattle.fw_session.specs.Input.{Item}
 use Rattle.fw_session.specs.Asked.{Asked, Says, Asks, Seeks, with_newline, no_memory, asked_by}
@@ -21,15 +21,6 @@ pub record NamedSession : Type 0 where
 pub record Turn : Type 0 where
   pub text : List ℕ
   pub session : NamedSession
-
-abbrev pub ending_name : Ending → List ℕ
-ending_name ending.Finished = codes "Finished"
-ending_name ending.Exited = codes "Exited"
-ending_name ending.Steps = codes "Steps"
-ending_name ending.Depth = codes "Depth"
-ending_name ending.Word = codes "Word"
-ending_name ending.Output = codes "Output"
-ending_name ending.Memory = codes "Memory"
 
 -- `[ENDING STATUS STEPS]` and a newline
 abbrev pub ending_line : Ending → (status steps : ℕ) → List ℕ

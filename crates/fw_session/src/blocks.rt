@@ -2,14 +2,14 @@
 ghost use Rattle.std.specs.Prelude.{◌≡◌, ◌+◌, ◌≤◌, ◌++◌, length};
 ghost use Rattle.fw_session.specs.Handling.{IsAskedByBlock};
 ghost use Rattle.fw_session.specs.Streams.{Writes};
-ghost use Rattle.fw_session.specs.Turns.{ending_name, ending_line};
+ghost use Rattle.fw_session.specs.Turns.{ending_line};
 ghost use Rattle.fw_session.specs.Views.{asked_view};
 
 use crate::answers::{write_both, write_text};
 use crate::dot_lines::Asked;
 use arrayvec::ArrayVec;
 use env_requests::Request;
-use hush_run::{Ending, Outcome};
+use hush_run::Outcome;
 use hush_syntax::{FaultKind, Script};
 use itoa::Buffer;
 use std::alloc::Global;
@@ -50,7 +50,7 @@ fn ending_line(outcome: &Outcome) -> ArrayVec<u8, 64>
 {
     let mut line = ArrayVec::new();
     put(&mut line, b"[");
-    put(&mut line, name_of(outcome.ending));
+    put(&mut line, outcome.ending.name());
     put(&mut line, b" ");
     put(&mut line, Buffer::new().format(outcome.status).as_bytes());
     put(&mut line, b" ");
@@ -67,20 +67,4 @@ fn put(line: &mut ArrayVec<u8, 64>, text: &[u8])
     let appended = line.try_extend_from_slice(text);
     // It tells the prover that the text fits, so this isn't refused.
     prove!(appended.is_ok());
-}
-
-/// The name of an ending.
-fn name_of(ending: Ending) -> &'static [u8]
-    ensures name { result.now ≡ ending_name ending }
-    ensures short { length result.now ≤ 8 }
-{
-    match ending {
-        Ending::Finished => b"Finished",
-        Ending::Exited => b"Exited",
-        Ending::Steps => b"Steps",
-        Ending::Depth => b"Depth",
-        Ending::Word => b"Word",
-        Ending::Output => b"Output",
-        Ending::Memory => b"Memory",
-    }
 }

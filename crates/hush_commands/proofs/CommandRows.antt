@@ -1,13 +1,16 @@
 -- Worked examples of docs/runs.md, "Commands", which the checker computes from the definitions.
-use Rattle.std.proofs.Common.{◌≡◌, ℕ, true, List, [], ◌∷◌, None, Some, refl}
-use Rattle.std.specs.Prelude.{codes}
-use Rattle.std.specs.FinMap.{empty}
+use Rattle.std.proofs.Common.{◌≡◌, ℕ, true, false, List, [], ◌∷◌, None, Some, refl}
+use Rattle.std.specs.Prelude.{codes, map}
+use Rattle.std.specs.Cmp.Lexicographic.{nat_list_cmp_total}
+use Rattle.std.specs.FinMap.{empty, insert, get-insert, get-empty}
 use Rattle.env_session.specs.Session.{Held}
+use Rattle.hush_commands.specs.declared.stand_ins.Role.{Role}
 use Rattle.hush_commands.specs.declared.command.Command.TheVariants.{Set, Delete, Calculate, WrongUse, Other}
+use Rattle.hush_commands.specs.declared.follow.Follow.{Follow}
 use Rattle.hush_commands.specs.declared.follow.Follow.TheVariants.{Next, End, Starts}
 use Rattle.hush_commands.specs.Builtins.{builtin_of}
 use Rattle.hush_commands.specs.Commands.{command_of}
-use Rattle.hush_commands.specs.Stubs.{Statuses}
+use Rattle.hush_commands.specs.Stubs.{Statuses, is_end, with_boot}
 use Rattle.hush_commands.specs.Output.{answer}
 use Rattle.hush_commands.specs.Carrying.{Done, done_of, other_of}
 use Rattle.hush_commands.specs.Following.{follow_of}
@@ -32,17 +35,20 @@ no_builtin : command_of (codes "envs" ∷ codes "set" ∷ []) ≡ Other (codes "
 unfolding builtin_of
 no_builtin = refl
 
--- what follows
-run_starts : follow_of (codes "run" ∷ codes "a" ∷ codes "b" ∷ []) ≡ Starts (codes "a" ∷ codes "b" ∷ [])
-unfolding builtin_of
+-- what follows where nothing has a stand-in
+follow_after : List (List ℕ) → Follow
+follow_after fields = let none : Statuses = empty in follow_of none fields
+
+run_starts : follow_after (codes "run" ∷ codes "a" ∷ codes "b" ∷ []) ≡ Starts (codes "a" ∷ codes "b" ∷ [])
+unfolding follow_after builtin_of
 run_starts = refl
 
-exit_ends : follow_of (codes "exit" ∷ codes "3" ∷ []) ≡ End
-unfolding builtin_of
+exit_ends : follow_after (codes "exit" ∷ codes "3" ∷ []) ≡ End
+unfolding follow_after builtin_of
 exit_ends = refl
 
-wrong_exit_goes_on : follow_of (codes "exit" ∷ codes "256" ∷ []) ≡ Next
-unfolding builtin_of
+wrong_exit_goes_on : follow_after (codes "exit" ∷ codes "256" ∷ []) ≡ Next
+unfolding follow_after builtin_of
 wrong_exit_goes_on = refl
 
 -- what fields do after status 7 where nothing has a stand-in
@@ -82,3 +88,23 @@ unknown_command = refl
 
 stand_in_command : other_of (Some 3) (codes "mmc") (codes "mmc" ∷ codes "dev" ∷ []) ≡ answer 3 (codes "+ mmc dev\n")
 stand_in_command = refl
+
+-- a stand-in that boots ends the run where its status is 0
+boots_with_zero : map is_end (None ∷ Some (record { status = 0; boots = true }) ∷ Some (record { status = 1; boots = true }) ∷ Some (record { status = 0; boots = false }) ∷ []) ≡ false ∷ true ∷ false ∷ false ∷ []
+boots_with_zero = refl
+
+-- stand-ins where `booti` alone has one, with this status, and boots
+booti : ℕ → Statuses
+booti status = let none : Statuses = empty in insert none (codes "booti") (record { status = status; boots = true })
+
+boot_ends : follow_of (booti 0) (codes "booti" ∷ codes "0" ∷ []) ≡ End
+unfolding booti builtin_of
+boot_ends = simp (get-insert {X = Role} nat_list_cmp_total)
+
+failed_boot_goes_on : follow_of (booti 1) (codes "booti" ∷ []) ≡ Next
+unfolding booti builtin_of
+failed_boot_goes_on = simp (get-insert {X = Role} nat_list_cmp_total)
+
+-- what is told of a stand-in with status 3 beside the file
+told : with_boot (insert (let none : Statuses = empty in none) (codes "x") (record { status = 3; boots = false })) (codes "y") ≡ insert (let none : Statuses = empty in none) (codes "x") (record { status = 3; boots = false })
+told = simp (get-insert {X = Role} nat_list_cmp_total, get-empty)

@@ -12,7 +12,7 @@ use Rattle.hush_commands.specs.declared.messages.Message.TheVariants as message
 use Rattle.hush_commands.specs.declared.output.PrintFault.{PrintFault}
 use Rattle.hush_commands.specs.declared.output.PrintFault.TheVariants as fault
 use Rattle.hush_commands.specs.declared.writes.Complaint.{Complaint}
-use Rattle.hush_commands.specs.Stubs.{Statuses}
+use Rattle.hush_commands.specs.Stubs.{Statuses, status_of_name}
 use Rattle.hush_commands.specs.Messages.{text_of}
 use Rattle.hush_commands.specs.Output.{Printed, printed, Answer, answer, Answers, LacksRoom, OnMemory, status_if}
 use Rattle.hush_commands.specs.Commands.{command_of}
@@ -67,7 +67,7 @@ done_by stand_ins (command.Test words) status held = quiet (status_if (test_of w
 done_by stand_ins (command.Calculate called words) status held = told (calculated_of held called words)
 done_by stand_ins (command.Exit own) status held = quiet (unwrap_or own status) held
 done_by stand_ins (command.WrongUse called) status held = (answer 1 (text_of message.WrongUse called), held)
-done_by stand_ins (command.Other called fields) status held = (other_of (names.get stand_ins called) called fields, held)
+done_by stand_ins (command.Other called fields) status held = (other_of (status_of_name stand_ins called) called fields, held)
 
 -- what the command of these fields does
 abbrev pub done_of : Statuses → List (List ℕ) → (status : ℕ) → Held → Done

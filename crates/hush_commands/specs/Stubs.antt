@@ -1,13 +1,14 @@
 -- Stand-in files (docs/runs.md, "Stand-ins").
-use Rattle.std.specs.Prelude.{◌≡◌, ℕ, List, [], ◌∷◌, Some, None, Result, Ok, Err, if◌then◌else◌}
+use Rattle.std.specs.Prelude.{◌≡◌, refl, ℕ, ◌==◌, Bool, true, false, ◌&&◌, List, [], ◌∷◌, Option, Some, None, option_map, Result, Ok, Err, if◌then◌else◌}
 use Rattle.std.specs.Ordering.{nat_cmp}
 use Rattle.std.specs.Cmp.Lexicographic.{slice_cmp}
 use Rattle.std.specs.declared.cmp.Ordering.{Ordering}
 use Rattle.std.specs.FinMap as names
 use Rattle.std.specs.FinMap.{FinMap}
-use Rattle.std.specs.Coded.{Coded, coded_list, coded_ℕ}
+use Rattle.std.specs.Coded.{Coded, code_by, coded×, coded_bool, coded_list, coded_ℕ}
 use Rattle.std.specs.Str.Lines.{strip_carriage_return}
 use Rattle.text_parts.specs.Lines.{Line as NumberedLine, numbered_lines}
+use Rattle.hush_commands.specs.declared.stand_ins.Role.{Role}
 use Rattle.hush_commands.specs.declared.stand_in_line.StubFault.{StubFault}
 use Rattle.hush_commands.specs.declared.stand_in_line.StubFault.TheVariants.{Line, Builtin, Twice, Memory}
 use Rattle.hush_commands.specs.StandInLines.{StandInLine, read_line}
@@ -16,23 +17,47 @@ use Rattle.hush_commands.specs.StandInLines.{StandInLine, read_line}
 abbrev pub name_order : List ℕ → List ℕ → Ordering
 name_order = slice_cmp nat_cmp
 
--- the status of each name that has a stand-in
+-- what each name that has a stand-in does: the status that it answers, and whether it boots
 abbrev pub Statuses : Type 0
-Statuses = FinMap name_order ℕ
+Statuses = FinMap name_order Role
+
+abbrev role_code : Coded Role
+role_code =
+    code_by (ℕ × Bool) (coded× coded_ℕ coded_bool) (λ r. (r.status, r.boots)) (λ p. record { status = p.0; boots = p.1 }) (λ _. refl)
 
 abbrev pub statuses_code : Coded Statuses
-statuses_code = names.code (coded_list coded_ℕ) coded_ℕ
+statuses_code = names.code (coded_list coded_ℕ) role_code
+
+-- the status of a name, if it has a stand-in
+abbrev pub status_of_name : Statuses → List ℕ → Option ℕ
+status_of_name stand_ins name = option_map (λ role. role.status) (names.get stand_ins name)
+
+-- whether a stand-in ends the run: it boots, and its status is 0
+abbrev pub is_end : Option Role → Bool
+is_end None = false
+is_end (Some role) = role.boots && role.status == 0
+
+abbrev pub ends_run : Statuses → List ℕ → Bool
+ends_run stand_ins name = is_end (names.get stand_ins name)
+
+-- the same where a stand-in of this name boots; a name without one changes nothing
+abbrev pub booting : Statuses → List ℕ → Option ℕ → Statuses
+booting stand_ins name None = stand_ins
+booting stand_ins name (Some status) = names.insert stand_ins name (record { status = status; boots = true })
+
+abbrev pub with_boot : Statuses → List ℕ → Statuses
+with_boot stand_ins name = booting stand_ins name (status_of_name stand_ins name)
 
 -- what a stand-in file is read as
 abbrev pub StubsOrFault : Type 0
 StubsOrFault = Result Statuses StubFault
 
--- the statuses with one more, unless the name has one already
+-- the stand-ins with one more, which doesn't boot, unless the name has one already
 abbrev pub with_stand_in : ℕ → Statuses → List ℕ → ℕ → StubsOrFault
 with_stand_in number statuses name status =
-    if names.contains_key statuses name then Err (Twice number) else Ok (names.insert statuses name status)
+    if names.contains_key statuses name then Err (Twice number) else Ok (names.insert statuses name (record { status = status; boots = false }))
 
--- the statuses with what a line holds
+-- the stand-ins with what a line holds
 abbrev pub with_read : ℕ → Statuses → StandInLine → StubsOrFault
 with_read number statuses (Err fault) = Err fault
 with_read number statuses (Ok None) = Ok statuses

@@ -1,7 +1,7 @@
 //! What a simple command does (docs/runs.md, "Commands").
 ghost use Rattle.std.specs.Prelude.{◌≡◌, ◌++◌, IfOk};
-ghost use Rattle.std.specs.FinMap as names;
 ghost use Rattle.hush_commands.specs.Following.{follow_of};
+ghost use Rattle.hush_commands.specs.Stubs.{status_of_name};
 ghost use Rattle.text_parts.specs.Words.{spaced};
 ghost use Rattle.hush_commands.specs.Commands.{command_of};
 ghost use Rattle.hush_commands.specs.Output.{Prints, Answers, status_if};
@@ -39,10 +39,10 @@ pub fn carry_out(
         session.old session.new output.old output.new (status_in result) }
     ensures memory { IsRefused (command_of fields.now.done) (done_of stand_ins.now fields.now.done status session.old)
         output.old (status_in result) }
-    ensures follows { IfOk result (λ done. done.1 ≡ follow_of fields.now.done) }
+    ensures follows { IfOk result (λ done. done.1 ≡ follow_of stand_ins.now fields.now.done) }
 {
     let command = Command::of(fields.fields());
-    let follow = command.follow(alloc)?;
+    let follow = command.follow(alloc, stand_ins)?;
     let start = output.text().len();
     match attempt(alloc, session, stand_ins, command, status, output) {
         Ok(status) => {
@@ -134,7 +134,7 @@ fn other(
     fields: Fields<'_>,
     output: &mut Output,
 ) -> Result<u8, PrintFault>
-    ensures { Answers (other_of (names.get stand_ins.now called.now) called.now fields.entry)
+    ensures { Answers (other_of (status_of_name stand_ins.now called.now) called.now fields.entry)
         output.old output.new result }
 {
     match stand_ins.status(called) {

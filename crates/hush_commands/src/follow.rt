@@ -5,6 +5,7 @@ ghost use Rattle.hush_commands.specs.Following.{follow_by};
 
 use crate::command::Command;
 use crate::field_queue::FieldQueue;
+use crate::stand_ins::Stubs;
 use std::alloc::{AllocError, Global};
 
 /// What follows a simple command.
@@ -12,7 +13,7 @@ use std::alloc::{AllocError, Global};
 pub enum Follow {
     /// What comes next in the script.
     Next,
-    /// The end of the run: it is an `exit` with its words.
+    /// The end of the run: it is an `exit` with its words, or a stand-in that boots, with status 0.
     End,
     /// The starts of these names: it is a `run`.
     Starts(FieldQueue),
@@ -27,8 +28,8 @@ pub enum Follow {
 
 impl<'a> Command<'a> {
     /// What follows the command. Memory is taken for names alone.
-    pub(crate) fn follow(&self, alloc: Global) -> Result<Follow, AllocError>
-        ensures follow { IfOk result (λ follow. follow ≡ follow_by self.now) }
+    pub(crate) fn follow(&self, alloc: Global, stand_ins: &Stubs) -> Result<Follow, AllocError>
+        ensures follow { IfOk result (λ follow. follow ≡ follow_by stand_ins.now self.now) }
         ensures taken { OnErr result (takes_more self.now ≡ true) }
     {
         match self {
@@ -38,6 +39,7 @@ impl<'a> Command<'a> {
                 names: FieldQueue::of(alloc, names)?,
             }),
             Command::Exit { .. } => Ok(Follow::End),
+            Command::Other { called, .. } if stand_ins.ends(called.bytes()) => Ok(Follow::End),
             _ => Ok(Follow::Next),
         }
     }

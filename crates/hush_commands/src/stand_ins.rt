@@ -1,18 +1,37 @@
-//! Stand-ins: names of commands that need hardware, each with the status that it answers.
-ghost use Rattle.std.specs.Prelude.{◌≡◌, Ok, IfOk, IfErr};
+//! Stand-ins: names of commands that need hardware, each with the status that it answers and whether it boots.
+ghost use Rattle.std.specs.Prelude.{◌≡◌, Some, Ok, IfOk, IfErr, OnOk, OnErr};
 ghost use Rattle.std.specs.FinMap as names;
 ghost use Rattle.hush_commands.specs.Stubs.{stand_ins_of, with_line, with_stand_in, IsFaultOf};
+ghost use Rattle.hush_commands.specs.Stubs.{status_of_name, booting, with_boot, is_end, ends_run};
 
 use crate::stand_in_line::{StubFault, read_line};
-use std::alloc::Global;
+use std::alloc::{AllocError, Global};
 use std::collections::BTreeMap;
 use std::marker::Model;
 use text_parts::numbered_lines;
 
+/// What a stand-in does, beside its line.
+#[derive(Clone, Copy)]
+pub(crate) struct Role {
+    /// The status that it answers.
+    pub(crate) status: u8,
+    /// Whether the run ends with it where its status is 0, as at a command that doesn't come back.
+    pub(crate) boots: bool,
+}
+
+impl Role {
+    /// Whether the run ends with it.
+    fn is_end(&self) -> bool
+        ensures { result ≡ is_end (Some self.now) }
+    {
+        self.boots && self.status == 0
+    }
+}
+
 /// The stand-ins of a run: the commands that only hardware has, each with the status that it answers here.
 #[derive(Drop)]
 pub struct Stubs {
-    statuses: BTreeMap<Vec<u8>, u8>,
+    roles: BTreeMap<Vec<u8>, Role>,
 }
 
 impl Model for Stubs {
@@ -20,22 +39,22 @@ impl Model for Stubs {
     ghost use Rattle.std.specs.FinMap.Entries.{is_sorted};
     ghost use Rattle.std.specs.FinMap as names;
     ghost use Rattle.hush_commands.specs.Stubs.{Statuses, name_order, statuses_code};
-    ghost use Rattle.hush_commands.specs.Entries.{entries_view, status_view};
+    ghost use Rattle.hush_commands.specs.Entries.{entries_view, role_view};
 
     ghost Value = { Statuses };
 
     ghost coded = { statuses_code };
 
-    ghost view = { λ a. names.from_sorted (entries_view status_view a.statuses.entries) };
+    ghost view = { λ a. names.from_sorted (entries_view role_view a.roles.entries) };
 
-    ghost invariant = { λ a. T (is_sorted name_order (entries_view status_view a.statuses.entries)) };
+    ghost invariant = { λ a. T (is_sorted name_order (entries_view role_view a.roles.entries)) };
 }
 
 impl Stubs {
     /// Reads a stand-in file: in each line a name, and perhaps a status (docs/runs.md, "Stand-ins").
     ///
     /// The first line that is at fault decides: `Line` if it has another form or holds a 0 byte, else `Builtin` if the
-    /// name is a builtin's, else `Twice` if an earlier line has it. `Memory` when a growth was refused.
+    /// name is a builtin's, else `Twice` if an earlier line has it. `Memory` when a growth was refused. No stand-in boots.
     pub fn parse(alloc: Global, text: &[u8]) -> Result<Stubs, StubFault>
         ensures read { IfOk result (λ stand_ins. stand_ins_of text.now ≡ Ok stand_ins) }
         ensures refused { IfErr result (IsFaultOf (stand_ins_of text.now)) }
@@ -49,9 +68,48 @@ impl Stubs {
 
     /// The status of a name, if it has a stand-in.
     pub fn status(&self, name: &[u8]) -> Option<u8>
-        ensures { result ≡ names.get self.now name.now }
+        ensures { result ≡ status_of_name self.now name.now }
     {
-        self.statuses.get(name).copied()
+        match self.roles.get(name) {
+            Some(role) => Some(role.status),
+            None => None,
+        }
+    }
+
+    /// From now on a stand-in of this name boots: it ends a run where its status is 0. Where the name has no stand-in, or
+    /// a growth is refused, nothing has changed.
+    pub fn boot(&mut self, alloc: Global, name: &[u8]) -> Result<(), AllocError>
+        ensures ok { OnOk result (self.new ≡ with_boot self.old name.now) }
+        ensures err { OnErr result (self.new ≡ self.old) }
+    {
+        match self.status(name) {
+            Some(status) => self.set_boot(alloc, name, status),
+            None => Ok(()),
+        }
+    }
+
+    /// Gives a name a stand-in that boots. Where a growth is refused, nothing has changed.
+    fn set_boot(&mut self, alloc: Global, name: &[u8], status: u8) -> Result<(), AllocError>
+        ensures ok { OnOk result (self.new ≡ booting self.old name.now (Some status)) }
+        ensures err { OnErr result (self.new ≡ self.old) }
+    {
+        let name = Vec::from_slice(alloc, name)?;
+        let role = Role {
+            status,
+            boots: true,
+        };
+        self.roles.insert(name, role)?;
+        Ok(())
+    }
+
+    /// Whether a name has a stand-in that ends a run.
+    pub(crate) fn ends(&self, name: &[u8]) -> bool
+        ensures { result ≡ ends_run self.now name.now }
+    {
+        match self.roles.get(name) {
+            Some(role) => role.is_end(),
+            None => false,
+        }
     }
 
     /// No stand-ins. It takes no memory.
@@ -59,7 +117,7 @@ impl Stubs {
         ensures { result ≡ names.empty }
     {
         Stubs {
-            statuses: BTreeMap::new(alloc),
+            roles: BTreeMap::new(alloc),
         }
     }
 
@@ -87,7 +145,11 @@ impl Stubs {
         ensures refused { IfErr result (IsFaultOf (with_stand_in number self.old name.now status)) }
     {
         let name = Vec::from_slice(alloc, name)?;
-        match self.statuses.insert(name, status)? {
+        let role = Role {
+            status,
+            boots: false,
+        };
+        match self.roles.insert(name, role)? {
             Some(_old) => Err(StubFault::Twice(number)),
             None => Ok(()),
         }

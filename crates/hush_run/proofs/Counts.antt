@@ -131,8 +131,8 @@ module _ (rules : Rules) (begin : Begin) (counts : (name : List ℕ) → Counts 
   simple-counts : (fields : Option (List (List ℕ))) → Counts rules (simple rules begin fields)
   simple-counts None s le = step-counts rules _ s le
   simple-counts (Some fields) s le =
-      within_bind (suc s.steps) _ rules.limits.steps _ (follows rules begin (follow_of fields)) (step-counts rules (effect rules.stand_ins fields) s le)
-      (λ t lo hi. within_less t.steps _ _ (follows rules begin (follow_of fields) t) lo (follows-keep (follow_of fields) t hi))
+      within_bind (suc s.steps) _ rules.limits.steps _ (follows rules begin (follow_of rules.stand_ins fields)) (step-counts rules (effect rules.stand_ins fields) s le)
+      (λ t lo hi. within_less t.steps _ _ (follows rules begin (follow_of rules.stand_ins fields) t) lo (follows-keep (follow_of rules.stand_ins fields) t hi))
 
   mutual
     pub command-counts : (c : Command) → Counts rules (command rules begin c)

@@ -1,6 +1,6 @@
 -- Worked examples of docs/runs.md, "Meaning", which the checker computes from the definitions, from a script's bytes on.
-use Rattle.std.proofs.Common.{◌≡◌, ℕ, List, [], codes, refl, Option, Some, None, option_map}
-use Rattle.std.specs.FinMap.{empty, get, get-empty, get-insert}
+use Rattle.std.proofs.Common.{◌≡◌, ℕ, true, List, [], codes, refl, Option, Some, None, option_map}
+use Rattle.std.specs.FinMap.{empty, get, insert, get-empty, get-insert}
 use Rattle.std.specs.Cmp.Lexicographic.{nat_list_cmp_total}
 use Rattle.std.specs.Fmt.{digits}
 use Rattle.env_session.specs.Session.{Held}
@@ -12,6 +12,7 @@ use Rattle.hush_syntax.specs.Reading.{command, read}
 use Rattle.hush_commands.specs.Builtins.{builtin_of}
 use Rattle.hush_commands.specs.Expansion.{fields}
 use Rattle.hush_commands.specs.Limits.{bounds}
+use Rattle.hush_commands.specs.declared.stand_ins.Role.{Role}
 use Rattle.hush_commands.specs.Stubs.{Statuses}
 use Rattle.hush_run.specs.Meaning.Reason.{Finished, Exited, Steps, Depth, Word, Output}
 use Rattle.hush_run.specs.Meaning.{Reason, Rules, State, step, effect, turns, start, looked_up, meaning}
@@ -148,6 +149,26 @@ exit_from_a_start held h = simp (h, looked_up)
 unknown_command : (held : Held) → comes_to usual held (codes "ls") ≡ Some (Finished, 1, 1, codes "Unknown command 'ls' - try 'help'\n")
 unfolding read tokens_of lexeme_at passed_at piece_at is_bare ends_word is_special is_blank command keyword_of is_plain name_of assignment_of begins_name is_in_name meaning step builtin_of effect fields
 unknown_command held = simp get-empty
+
+-- at most 4 steps, and `booti` with this status, which boots
+abbrev booting : ℕ → Rules
+booting status =
+    record { stand_ins = (let none : Statuses = empty in insert none (codes "booti") (record { status = status; boots = true })); limits = bounds 4 4 256 4096 }
+
+-- a boot in a loop
+boot_from_a_loop : (held : Held) → comes_to (booting 0) held (codes "while true; do booti 0; echo a; done; echo b") ≡ Some (Exited, 0, 2, codes "+ booti 0\n")
+unfolding read tokens_of lexeme_at passed_at piece_at is_bare ends_word is_special is_blank command keyword_of is_plain name_of assignment_of begins_name is_in_name turns meaning step builtin_of effect fields
+boot_from_a_loop held = simp (get-insert {X = Role} nat_list_cmp_total)
+
+-- a boot that fails
+failed_boot : (held : Held) → comes_to (booting 1) held (codes "booti 0 || echo a") ≡ Some (Finished, 0, 2, codes "+ booti 0\na\n")
+unfolding read tokens_of lexeme_at passed_at piece_at is_bare ends_word is_special is_blank command keyword_of is_plain name_of assignment_of begins_name is_in_name meaning step builtin_of effect fields
+failed_boot held = simp (get-insert {X = Role} nat_list_cmp_total)
+
+-- a boot within a started value
+boot_from_a_start : (held : Held) → get held.now.env (codes "a") ≡ Some (codes "booti; echo x") → comes_to (booting 0) held (codes "run a || echo y; echo z") ≡ Some (Exited, 0, 3, codes "+ booti\n")
+unfolding read tokens_of lexeme_at passed_at piece_at is_bare ends_word is_special is_blank command keyword_of is_plain name_of assignment_of begins_name is_in_name start meaning step builtin_of effect fields
+boot_from_a_start held h = simp (h, looked_up, get-insert {X = Role} nat_list_cmp_total)
 
 -- a deletion of a name that isn't there
 deleted : (held : Held) → get held.now.env (codes "q") ≡ None → comes_to usual held (codes "env delete q; true") ≡ Some (Finished, 0, 3, codes "## Error: \"q\" not defined\n")

@@ -88,7 +88,7 @@ no_fields rules meant left wanted s made ending.Output are halts large = absurd 
 -- simple commands
 pub simple_halts : (rules : Rules) (begin : Begin) (fields : Option (List (List ℕ))) (s : State) → rules.limits.steps ≤ s.steps → simple rules begin fields s ≡ Ends Steps s
 simple_halts rules begin None s le = step_halts rules _ s le
-simple_halts rules begin (Some fields) s le = ap (λ (o : Out). o >>= follows rules begin (follow_of fields)) (step_halts rules (effect rules.stand_ins fields) s le)
+simple_halts rules begin (Some fields) s le = ap (λ (o : Out). o >>= follows rules begin (follow_of rules.stand_ins fields)) (step_halts rules (effect rules.stand_ins fields) s le)
 
 pub simple_large : (rules : Rules) (begin : Begin) (fields : Option (List (List ℕ))) (s : State) → s.steps < rules.limits.steps → fields ≡ None → simple rules begin fields s ≡ Ends Word s
 simple_large rules begin None s lt e = step_stopped rules _ s Word lt refl
@@ -110,36 +110,36 @@ module _ (rules : Rules) (words : List (List Atom)) (s : State) (fields : List (
   abbrev pub d : Done
   d = done_of rules.stand_ins fields s.status s.held
 
-  pub simple_done : (status k : ℕ) (f : Follow) → Carries d s.held after s.printed new (Ok status) → k ≡ suc s.steps → f ≡ follow_of fields → (f ≡ follow.End → ⊥) → Did rules (λ r begin t. simple r begin (fields_of r words t) t) (λ g r begin. follows r begin g) s (record { held = after; locals = s.locals; status = status; printed = new; steps = k }) (Ok f)
+  pub simple_done : (status k : ℕ) (f : Follow) → Carries d s.held after s.printed new (Ok status) → k ≡ suc s.steps → f ≡ follow_of rules.stand_ins fields → (f ≡ follow.End → ⊥) → Did rules (λ r begin t. simple r begin (fields_of r words t) t) (λ g r begin. follows r begin g) s (record { held = after; locals = s.locals; status = status; printed = new; steps = k }) (Ok f)
   unfolding effect
   simple_done status k f c is isf other =
       rw (c.1, c.2, c.3) (
-      let does : effect rules.stand_ins fields s ≡ Does (carried d s) = ap (exiting (follow_of fields)) (fits d s c.0) ∙ exiting-does (follow_of fields) (carried d s) (λ e. other (isf ∙ e)) in
+      let does : effect rules.stand_ins fields s ≡ Does (carried d s) = ap (exiting (follow_of rules.stand_ins fields)) (fits d s c.0) ∙ exiting-does (follow_of rules.stand_ins fields) (carried d s) (λ e. other (isf ∙ e)) in
       let did = step_done rules (effect rules.stand_ins fields) s (carried d s) k lt does is in (
         did.0,
         λ n begin le.
             ap (λ (o : Option (List (List ℕ))). simple (within n rules) begin o s) are
-            ∙ ap (λ (o : Out). o >>= follows (within n rules) begin (follow_of fields)) (did.1 n le)
+            ∙ ap (λ (o : Out). o >>= follows (within n rules) begin (follow_of rules.stand_ins fields)) (did.1 n le)
             ∙ ap (λ (g : Follow). follows (within n rules) begin g (record (carried d s) { steps = k })) (sym isf),
       )
       )
 
-  pub simple_left : (status k : ℕ) → Carries d s.held after s.printed new (Ok status) → k ≡ suc s.steps → follow_of fields ≡ follow.End → (begin : Begin) → simple rules begin (fields_of rules words s) s ≡ Ends Exited (record { held = after; locals = s.locals; status = status; printed = new; steps = k })
+  pub simple_left : (status k : ℕ) → Carries d s.held after s.printed new (Ok status) → k ≡ suc s.steps → follow_of rules.stand_ins fields ≡ follow.End → (begin : Begin) → simple rules begin (fields_of rules words s) s ≡ Ends Exited (record { held = after; locals = s.locals; status = status; printed = new; steps = k })
   unfolding effect
   simple_left status k c is end begin =
       rw (c.1, c.2, c.3) (
-      let leaves : effect rules.stand_ins fields s ≡ Exits (carried d s) = ap (exiting (follow_of fields)) (fits d s c.0) ∙ ap (λ (g : Follow). exiting g (Does (carried d s))) end in
+      let leaves : effect rules.stand_ins fields s ≡ Exits (carried d s) = ap (exiting (follow_of rules.stand_ins fields)) (fits d s c.0) ∙ ap (λ (g : Follow). exiting g (Does (carried d s))) end in
       ap (λ (o : Option (List (List ℕ))). simple rules begin o s) are
-      ∙ ap (λ (o : Out). o >>= follows rules begin (follow_of fields)) (step_left rules (effect rules.stand_ins fields) s (carried d s) k lt leaves is)
+      ∙ ap (λ (o : Out). o >>= follows rules begin (follow_of rules.stand_ins fields)) (step_left rules (effect rules.stand_ins fields) s (carried d s) k lt leaves is)
       )
 
   pub simple_unprinted : (fault : PrintFault) → Carries d s.held after s.printed new (Err fault) → Did rules (λ r begin t. simple r begin (fields_of r words t) t) (λ g r begin. follows r begin g) s (record { held = after; locals = s.locals; status = s.status; printed = new; steps = s.steps }) (Err (ending_of_print fault))
   unfolding effect
   simple_unprinted print.Output c =
       rw (c.1, c.2) (
-      let stops : effect rules.stand_ins fields s ≡ Stops Output = ap (exiting (follow_of fields)) (too_long d s c.0) ∙ exiting-stops (follow_of fields) Output in λ begin.
+      let stops : effect rules.stand_ins fields s ≡ Stops Output = ap (exiting (follow_of rules.stand_ins fields)) (too_long d s c.0) ∙ exiting-stops (follow_of rules.stand_ins fields) Output in λ begin.
       ap (λ (o : Option (List (List ℕ))). simple rules begin o s) are
-      ∙ ap (λ (o : Out). o >>= follows rules begin (follow_of fields)) (step_stopped rules (effect rules.stand_ins fields) s Output lt stops)
+      ∙ ap (λ (o : Out). o >>= follows rules begin (follow_of rules.stand_ins fields)) (step_stopped rules (effect rules.stand_ins fields) s Output lt stops)
       )
   simple_unprinted print.Memory c = rw (c.0, c.1) refl
 

@@ -33,7 +33,7 @@ pub record State : Type 0 where
   pub printed : Printed
   pub steps : ℕ
 
--- why a run ends, if memory isn't refused: at the end of its script, by an `exit`, or at a limit
+-- why a run ends, if memory isn't refused: at the end of its script, by an `exit` or a boot, or at a limit
 pub data Reason : Type 0 where
   Finished : Reason
   Exited : Reason
@@ -99,7 +99,7 @@ fields_of rules words s = expanded (known_in s) rules.limits.word words
 abbrev pub has_variable : State → List ℕ → Bool
 has_variable s name = is_some (map.get s.held.now.env name)
 
--- an `exit` with its words ends the run
+-- an `exit` with its words ends the run, and so does a stand-in that boots, with status 0
 abbrev pub exiting : Follow → Effect → Effect
 exiting follow.Next e = e
 exiting follow.End (Does t) = Exits t
@@ -110,7 +110,7 @@ exiting (follow.Deletes force names) e = e
 
 -- the step of a simple command with these fields
 unfoldable pub effect : Statuses → List (List ℕ) → State → Effect
-effect stand_ins fields s = exiting (follow_of fields) (carries (done_of stand_ins fields s.status s.held) s)
+effect stand_ins fields s = exiting (follow_of stand_ins fields) (carries (done_of stand_ins fields s.status s.held) s)
 
 -- the step of an assignment
 abbrev pub assigned_to : List ℕ → Option (List ℕ) → State → Effect
@@ -167,7 +167,7 @@ follows rules start (follow.Deletes force names) = deletions rules force false n
 -- a simple command with these fields, and what comes behind it
 abbrev pub simple : Rules → Begin → Option (List (List ℕ)) → State → Out
 simple rules start None s = step rules (λ t. Stops Word) s
-simple rules start (Some fields) s = step rules (effect rules.stand_ins fields) s >>= follows rules start (follow_of fields)
+simple rules start (Some fields) s = step rules (effect rules.stand_ins fields) s >>= follows rules start (follow_of rules.stand_ins fields)
 
 -- each field is bound to the name, and the body run
 abbrev pub bindings : Rules → List ℕ → (State → Out) → List (List ℕ) → State → Out

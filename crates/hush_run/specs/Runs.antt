@@ -1,5 +1,5 @@
 -- What a run leaves, and what its outcome tells (docs/runs.md, "Meaning").
-use Rattle.std.specs.Prelude.{◌≡◌, ◌≤◌, Option, Some, None}
+use Rattle.std.specs.Prelude.{◌≡◌, ◌≤◌, ℕ, List, codes, Option, Some, None}
 use Rattle.env_session.specs.Session.{Held}
 use Rattle.hush_syntax.specs.Grammar.{Chains}
 use Rattle.hush_commands.specs.Limits.{Bounds}
@@ -32,6 +32,16 @@ ending_of Steps = ending.Steps
 ending_of Depth = ending.Depth
 ending_of Word = ending.Word
 ending_of Output = ending.Output
+
+-- its name, as it is printed
+abbrev pub ending_name : Ending → List ℕ
+ending_name ending.Finished = codes "Finished"
+ending_name ending.Exited = codes "Exited"
+ending_name ending.Steps = codes "Steps"
+ending_name ending.Depth = codes "Depth"
+ending_name ending.Word = codes "Word"
+ending_name ending.Output = codes "Output"
+ending_name ending.Memory = codes "Memory"
 
 -- the session, the status, the steps that are counted and the text are those of a state
 pub record Shows (s : State) (now : Held) (outcome : Outcome) : Type 0 where

@@ -1,4 +1,7 @@
 //! How a run ends.
+ghost use Rattle.std.specs.Prelude.{◌≡◌, ◌≤◌, length};
+ghost use Rattle.hush_run.specs.Runs.{ending_name};
+
 use hush_commands::{ExpansionFault, PrintFault};
 use std::alloc::AllocError;
 
@@ -8,7 +11,7 @@ use std::alloc::AllocError;
 pub enum Ending {
     /// The script was run to its end.
     Finished,
-    /// A command `exit` ended it.
+    /// A command `exit` ended it, or a stand-in that boots.
     Exited,
     /// A step was due and as many were counted as the limit allows.
     Steps,
@@ -20,6 +23,24 @@ pub enum Ending {
     Output,
     /// A growth was refused; the step that was due isn't counted and has changed nothing.
     Memory,
+}
+
+impl Ending {
+    /// Its name, as it is printed: `Finished`, `Exited`, `Steps`, `Depth`, `Word`, `Output` or `Memory`.
+    pub fn name(self) -> &'static [u8]
+        ensures name { result.now ≡ ending_name self }
+        ensures short { length result.now ≤ 8 }
+    {
+        match self {
+            Ending::Finished => b"Finished",
+            Ending::Exited => b"Exited",
+            Ending::Steps => b"Steps",
+            Ending::Depth => b"Depth",
+            Ending::Word => b"Word",
+            Ending::Output => b"Output",
+            Ending::Memory => b"Memory",
+        }
+    }
 }
 
 impl From<ExpansionFault> for Ending {
