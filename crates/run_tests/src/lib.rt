@@ -1,11 +1,15 @@
-//! Tests of runs through the library (docs/runs.md). They stand apart from `hush_run`, so that it is proved once.
+//! Tests of runs and of lists of requests through the library (docs/runs.md, docs/undo.md). They stand apart from `hush_run`, so that it is proved once.
 //! Scripts with what they come to are data: scripts/runs.
 #![tactic(auto)]
 
 #[cfg(test)]
+mod booting;
+#[cfg(test)]
 mod fixtures;
 #[cfg(test)]
 mod frames;
+#[cfg(test)]
+mod request_lists;
 #[cfg(test)]
 mod running;
 #[cfg(test)]
