@@ -1,4 +1,4 @@
-//! Tests of the engines `status` and `restore` by their rules (docs/tools.md), over streams in memory. They are apart from
+//! Tests of the engines `status`, `restore` and `run` by their rules (docs/tools.md), over streams in memory. They are apart from
 //! `fw_engines`, so that it is proved once.
 #![tactic(auto)]
 
@@ -6,3 +6,5 @@
 mod copy_reports;
 #[cfg(test)]
 mod restorations;
+#[cfg(test)]
+mod script_runs;

@@ -3,6 +3,7 @@ pub mod CopyStatus
 pub mod Defaults
 pub mod Messages
 pub mod Restoration
+pub mod ScriptRun
 pub mod Shown
 pub mod SkippedLines
 pub mod Streams

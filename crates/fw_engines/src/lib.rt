@@ -1,9 +1,9 @@
 //! The tools over readers, writers and sessions: what `printenv`, `setenv`, a set script, `import`, `restore` and `export`
-//! do to a session and print, what the program shows of an image, what is reported of stored copies, and the default
-//! environment of a text. docs/tools.md states the rules.
+//! do to a session and print, a script's run with its own status, what the program shows of an image, what is reported of
+//! stored copies, and the default environment of a text. docs/tools.md states the rules.
 //!
 //! To read in this order: tool_end, streams, tool_texts; single_image; variable_lines, text_form; changes, restoration,
-//! default_environment; copy_status, with copy_words, ways, variable_count, skipped_lines and line_parts; whole_file.
+//! default_environment; script_run, script_fault; copy_status, with copy_words, ways, variable_count, skipped_lines and line_parts; whole_file.
 #![tactic(auto)]
 
 mod changes;
@@ -12,6 +12,8 @@ mod copy_words;
 mod default_environment;
 mod line_parts;
 mod restoration;
+mod script_fault;
+mod script_run;
 mod single_image;
 mod skipped_lines;
 pub mod streams;
@@ -27,6 +29,8 @@ pub use changes::{import, set_script, setenv};
 pub use copy_status::{FoundCopy, Survey, status};
 pub use default_environment::defaults;
 pub use restoration::restore;
+pub use script_fault::{Place, place_of, say_syntax_fault};
+pub use script_run::run;
 pub use single_image::show;
 pub use text_form::export;
 pub use tool_end::{StreamFault, ToolEnd};

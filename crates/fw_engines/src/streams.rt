@@ -1,5 +1,6 @@
 //! Reading to a limit, and writing whole texts.
-ghost use Rattle.std.specs.Prelude.{◌≡◌, ◌≤◌, ◌++◌, ℕ, List, MatchBool, MatchResult};
+ghost use Rattle.std.specs.Prelude.{◌≡◌, ◌≤◌, ◌++◌, ℕ, List, MatchBool, MatchResult, map};
+ghost use Rattle.std.specs.List.{concat};
 ghost use Rattle.std.specs.Fmt.{decimal};
 ghost use Rattle.std.specs.Io.KnownBytes.{Appends};
 ghost use Rattle.fw_engines.specs.Streams.{AppendsFront, AppendsPart, Gave, GaveAll};
@@ -76,6 +77,20 @@ pub fn write_three<W: Write>(writer: &mut W, first: &[u8], second: &[u8], third:
         return false;
     }
     write_text(writer, third)
+}
+
+/// Writes a text in parts.
+pub(crate) fn write_parts<W: Write>(writer: &mut W, parts: &[&[u8]]) -> bool
+    ensures { MatchBool result
+        (Appends (W.contents writer.old) (W.contents writer.new) (concat (map (λ p. p.now) parts.now)))
+        (AppendsPart (W.contents writer.old) (W.contents writer.new) (concat (map (λ p. p.now) parts.now))) }
+{
+    for part in parts {
+        if !write_text(writer, part) {
+            return false;
+        }
+    }
+    true
 }
 
 /// Writes a number in decimal digits. It takes no memory: the digits before the last are written first.

@@ -1,0 +1,87 @@
+-- What `run` prints of a script's run, and what it says of a text that is no script (docs/dry-runs.md, "A script's own status").
+use Rattle.std.specs.Prelude.{ℕ, suc, ◌==◌, Bool, false, List, [], ◌∷◌, take, codes, if◌then◌else◌, Option}
+use Rattle.std.specs.Fmt.{decimal}
+use Rattle.std.specs.List.{concat}
+use Rattle.env_session.specs.Session.{Held}
+use Rattle.hush_syntax.specs.Grammar.{Chains}
+use Rattle.hush_syntax.specs.declared.faults.FaultKind.{FaultKind}
+use Rattle.hush_syntax.specs.declared.faults.FaultKind.TheVariants as fault
+use Rattle.hush_run.specs.Meaning.{Rules}
+use Rattle.hush_run.specs.Runs.{Runs, ending_name}
+use Rattle.hush_run.specs.declared.ending.Ending.{Ending}
+use Rattle.hush_run.specs.declared.ending.Ending.TheVariants as ending
+use Rattle.hush_run.specs.declared.outcome.Outcome.{Outcome}
+use Rattle.fw_engines.specs.Streams.{Writers}
+use Rattle.fw_engines.specs.Tool.{Prints, Texts}
+use Rattle.fw_engines.specs.declared.script_fault.Place.{Place}
+use Rattle.fw_engines.specs.declared.tool_end.ToolEnd.{ToolEnd}
+
+-- a run came to its end or to an `exit`, with status 0
+abbrev pub is_well : Ending → (status : ℕ) → Bool
+is_well ending.Finished status = status == 0
+is_well ending.Exited status = status == 0
+is_well e status = false
+
+-- what is said of a run that ended otherwise: with its status, if no limit stopped it
+abbrev pub ended_by_itself : (name : List ℕ) → (status steps : ℕ) → List ℕ
+ended_by_itself name status steps =
+    concat (codes "fwenv: run ended as " ∷ name ∷ codes " with status " ∷ decimal status ∷ codes " after " ∷ decimal steps ∷ codes " steps\n" ∷ [])
+
+abbrev pub ended_by_limit : (name : List ℕ) → (steps : ℕ) → List ℕ
+ended_by_limit name steps = concat (codes "fwenv: run ended as " ∷ name ∷ codes " after " ∷ decimal steps ∷ codes " steps\n" ∷ [])
+
+abbrev pub ended_so : Ending → (status steps : ℕ) → List ℕ
+ended_so ending.Finished status steps = ended_by_itself (ending_name ending.Finished) status steps
+ended_so ending.Exited status steps = ended_by_itself (ending_name ending.Exited) status steps
+ended_so ending.Memory status steps = codes "## Error: out of memory\n"
+ended_so e status steps = ended_by_limit (ending_name e) steps
+
+-- the text of a run, and how it ended if it didn't end well
+abbrev pub run_texts : Ending → (status steps : ℕ) → (text : List ℕ) → Texts
+run_texts e status steps text =
+    if is_well e status
+    then record { output = text; errors = []; status = 0 }
+    else record { output = text; errors = ended_so e status steps; status = 1 }
+
+abbrev pub outcome_texts : Outcome → Texts
+outcome_texts outcome = run_texts outcome.ending outcome.status outcome.steps outcome.text.items
+
+-- a script with this tree was run, and its outcome printed
+abbrev pub RunsScript : Rules → Option Chains → (old new : Held) → (before after : Writers) → ToolEnd → Type 0
+RunsScript rules tree old new before after end =
+    (outcome : Outcome) × Runs rules tree old new outcome × Prints before after (outcome_texts outcome) end
+
+-- a line and a column of a text, each from 1; a column is a byte
+abbrev pub after_byte : Place → ℕ → Place
+after_byte p b =
+    if b == 10 then record { line = suc p.line; column = 1 } else record { line = p.line; column = suc p.column }
+
+-- the place after these bytes
+abbrev pub after_bytes : Place → List ℕ → Place
+after_bytes p [] = p
+after_bytes p (b ∷ bs) = after_bytes (after_byte p b) bs
+
+-- the place after so many bytes of a text
+abbrev pub place_of : (text : List ℕ) → (count : ℕ) → Place
+place_of text count = after_bytes (record { line = 1; column = 1 }) (take count text)
+
+-- what keeps a text from being a script, and a sentence on it
+abbrev pub fault_words : FaultKind → List ℕ
+fault_words fault.Quote = codes "Quote: a quote is not closed"
+fault_words fault.Backslash = codes "Backslash: the text ends with a backslash"
+fault_words fault.Substitution = codes "Substitution: not a substitution of this shell: ${NAME}, $NAME or $?"
+fault_words fault.Operator = codes "Operator: a single & or |, which this shell does not have"
+fault_words fault.Unexpected = codes "Unexpected: not expected here"
+fault_words fault.Missing = codes "Missing: the text ends where more has to follow"
+fault_words fault.Nest = codes "Nest: more than 64 commands inside one another"
+fault_words fault.Assignment = codes "Assignment: a word after an assignment"
+fault_words fault.Nul = codes "Nul: a byte 0"
+fault_words fault.Memory = codes "Memory: out of memory"
+
+-- where a text isn't a script, and why
+abbrev pub fault_at : (name : List ℕ) → Place → (words : List ℕ) → List ℕ
+fault_at name place words =
+    concat (codes "fwenv: " ∷ name ∷ codes ":" ∷ decimal place.line ∷ codes ":" ∷ decimal place.column ∷ codes ": " ∷ words ∷ codes "\n" ∷ [])
+
+abbrev pub fault_line : (name text : List ℕ) → (count : ℕ) → FaultKind → List ℕ
+fault_line name text count kind = fault_at name (place_of text count) (fault_words kind)
