@@ -2,12 +2,14 @@
 use Rattle.std.proofs.Common.{◌≡◌, ◌++◌, ℕ, Bool, List, [], ◌∷◌, map, ap, ◌∙◌, Option, Some, None, Bor, option_map, codes, refl}
 use Rattle.std.specs.Prelude.{Ok, unwrap_or}
 use Rattle.std.proofs.lemmas.List.{map-append}
-use Rattle.clap.specs.Words.{AddsAliases, Row, Rule, Text, rule_of}
+use Rattle.clap.specs.Words.{AddsAliases, Row, Rule, Text, all_of, rule_of}
 use Rattle.clap.specs.declared.builder.arg.Arg.{Arg}
 use Rattle.envimg_core.specs.declared.geometry.Order.{Order}
-use Rattle.fw_tools.specs.Calls.{Defaults, Job, defaults_of, is_client, lock_of, with_files}
-use Rattle.fw_tools.specs.Report.{Subject, in_order, report_of, subject_of}
+use Rattle.fw_tools.specs.Calls.{Defaults, Job, defaults_of, is_client, job_of, lock_of, with_image}
+use Rattle.fw_tools.specs.DryRuns.{DryRun, GivenScript, and_then, run_within, script_of, script_within}
 use Rattle.fw_tools.specs.Values.{first_or}
+use Rattle.hush_commands.specs.Limits.{Bounds}
+use Rattle.fw_tools.specs.Report.{Subject, in_order, report_of, subject_of}
 use Rattle.fw_tools.specs.Words.{big_endian, either_order, order_by, source_in}
 
 pub text_or : (o : Option (Bor (List ℕ))) (other : Bor (List ℕ)) → (unwrap_or o other).now ≡ unwrap_or (option_map (λ s. s.now) o) other.now
@@ -22,12 +24,18 @@ alias_rule old new alias shown rule (same, more) is =
     ∙ ap (λ xs. record (rule_of old) { aliases = xs }) (map-append (λ (a : Bor (List ℕ) × Bool). a.0.now) old.aliases.items ((alias, shown) ∷ []))
     ∙ ap (λ (r : Rule). record r { aliases = r.aliases ++ alias.now ∷ [] }) is
 
-pub with_files_is : (order : Order) (name : Text) (rows : List Row) (config : Text) (defaults : Defaults) (lock : Option Text) (chosen : Order) (only : Bool) (job : Job) →
+pub with_image_is : (order : Order) (name : Text) (rows : List Row) (image : Option ℕ) (config : Text) (defaults : Defaults) (lock : Option Text) (chosen : Order) (only : Bool) (job : Job) →
     config ≡ first_or (codes "/etc/fw_env.config") (codes "config") rows → defaults ≡ defaults_of name rows → lock ≡ lock_of name rows →
-    chosen ≡ either_order order (order_by (source_in big_endian.id rows)) → only ≡ is_client name →
-    Ok (record { config = config; defaults = defaults; lock = lock; order = chosen; only_changes = only; job = job }) ≡ with_files order name rows (Ok job)
-with_files_is order name rows config defaults lock chosen only job p q l r o =
-    λ i. Ok (record { config = p i; defaults = q i; lock = l i; order = r i; only_changes = o i; job = job })
+    chosen ≡ either_order order (order_by (source_in big_endian.id rows)) → only ≡ is_client name → Ok job ≡ job_of name rows →
+    Ok (record { config = config; image = image; defaults = defaults; lock = lock; order = chosen; only_changes = only; job = job }) ≡ with_image order name rows image
+with_image_is order name rows image config defaults lock chosen only job p q l r o j =
+    λ i. and_then (j i) (λ k. Ok (record { config = p i; image = image; defaults = q i; lock = l i; order = r i; only_changes = o i; job = k }))
+
+-- the run of a script with what was found for it
+pub script_is : (rows : List Row) (dry : DryRun) (limits : Bounds) (boots : Option (List Text)) (script : GivenScript) →
+    Ok script ≡ script_of rows → dry ≡ run_within rows limits → boots ≡ all_of (codes "boots") rows →
+    Ok (record { dry = dry; boots = unwrap_or boots []; script = script }) ≡ script_within rows limits
+script_is rows dry limits boots script p d b = λ i. and_then (p i) (λ k. Ok (record { dry = d i; boots = unwrap_or (b i) []; script = k }))
 
 pub report_is : (order chosen : Order) (rows : List Row) (subject : Subject) →
     chosen ≡ either_order order (order_by (source_in big_endian.id rows)) → Ok subject ≡ subject_of rows → Ok (record { order = chosen; subject = subject }) ≡ report_of order rows

@@ -1,10 +1,9 @@
 -- The numbers and options of a dry run, put together.
-use Rattle.std.proofs.Common.{◌≡◌, ℕ, Bool, List, Option, Some, None, ap, ◌∙◌, ◌++◌, codes}
+use Rattle.std.proofs.Common.{◌≡◌, ℕ, List, Some, None, ap, ◌∙◌, ◌++◌, codes}
 use Rattle.std.specs.Prelude.{Ok, Err}
-use Rattle.clap.specs.Words.{Row, Text, first_of}
-use Rattle.hush_commands.specs.Limits.{Bounds, bounds}
+use Rattle.clap.specs.Words.{Row, Text}
+use Rattle.hush_commands.specs.Limits.{bounds}
 use Rattle.fw_tools.specs.DryRuns.{and_then, depth_of, dry_run_of, limits_of, number_in, number_or, output_of, run_within, steps_of, word_of}
-use Rattle.fw_tools.specs.Values.{is_given}
 
 pub number_found : (why : Text) (most n : ℕ) (word word' : Text) → word ≡ word' → Some n ≡ number_in most word → Ok n ≡ number_or why word' (number_in most word')
 number_found why most n word word' is found = ap (number_or why word') (found ∙ ap (number_in most) is)
@@ -26,9 +25,6 @@ output_wrong rows steps depth word text p q r s = λ i. and_then (p i) (λ steps
 
 pub limits_found : (rows : List Row) (steps depth word output : ℕ) → Ok steps ≡ steps_of rows → Ok depth ≡ depth_of rows → Ok word ≡ word_of rows → Ok output ≡ output_of rows → Ok (bounds steps depth word output) ≡ limits_of rows
 limits_found rows steps depth word output p q r s = λ i. and_then (p i) (λ steps. and_then (q i) (λ depth. and_then (r i) (λ word. and_then (s i) (λ output. Ok (bounds steps depth word output)))))
-
-pub dry_run_found : (rows : List Row) (write : Bool) (stand_ins : Option Text) (limits : Bounds) → Ok limits ≡ limits_of rows → write ≡ is_given (codes "write") rows → stand_ins ≡ first_of (codes "stubs") rows → Ok (record { write = write; stand_ins = stand_ins; limits = limits }) ≡ dry_run_of rows
-dry_run_found rows write stand_ins limits p q r = λ i. and_then (p i) (λ l. Ok (record { write = q i; stand_ins = r i; limits = l }))
 
 pub dry_run_wrong : (rows : List Row) (text : Text) → Err text ≡ limits_of rows → Err text ≡ dry_run_of rows
 dry_run_wrong rows text p = λ i. and_then (p i) (λ limits. Ok (run_within rows limits))

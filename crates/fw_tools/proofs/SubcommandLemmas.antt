@@ -10,10 +10,15 @@ use Rattle.envimg_core.specs.declared.geometry.Order.{Order}
 use Rattle.fw_tools.specs.Said.{SaysSome}
 use Rattle.envvars_core.specs.declared.refusals.Refusal.{Refusal}
 use Rattle.fw_tools.specs.Subcommands.{Acts, Closes, DoesJob, IsAccepted, IsOpening, Scene, Uses, UsesTool, printed_so}
-use Rattle.fw_tools.specs.Calls.{Call, Defaults, Job, Task, Tool, Tries}
+use Rattle.fw_tools.specs.Calls.{Call, Defaults, Job, Runs, Task, Tool, Tries}
+use Rattle.fw_tools.specs.DryRuns.{ScriptRun}
+use Rattle.fw_tools.specs.ScriptRuns as ScriptRuns
+use Rattle.fw_tools.specs.ScriptRuns.{ClosesRun, RunsOver}
+use Rattle.fw_engines.specs.ScriptRun.{ended_so, is_well, outcome_texts, run_texts}
+use Rattle.hush_run.specs.declared.ending.Ending.{Ending}
 use Rattle.fw_tools.specs.Source.{IsFound}
-use Rattle.fw_tools.specs.declared.call.Printing.{Printing}
-use Rattle.fw_tools.specs.declared.call.Printing.TheVariants.{Lines, OneValue, Values}
+use Rattle.fw_tools.specs.declared.task.Printing.{Printing}
+use Rattle.fw_tools.specs.declared.task.Printing.TheVariants.{Lines, OneValue, Values}
 use Rattle.fw_engines.specs.TextForm.{export_texts, status_for}
 use Rattle.fw_engines.specs.VariableLines.{complaint, named, one_name, printed, status_of}
 use Rattle.fw_engines.specs.Changes.{Changing, Effect, Ends, count_status, script_effect, unless_refused}
@@ -132,10 +137,36 @@ leaves_small true end old new status (inl (said, is)) = omega (arith, is)
 leaves_small true end old new status (inr reports) = reports_small (text_for end) old new status reports
 leaves_small false end old new status reports = reports_small (text_for end) old new status reports
 
+run_small : (fault : Option StreamFault) (status : ℕ) (old new : Writers) (texts : Texts) → texts.status ≤ 1 →
+    MatchOption fault (Writes old new texts × (status ≡ texts.status)) (λ f. (f ≡ Write) × WritesPart old new texts × (status ≡ 1)) → status ≤ 1
+run_small None status old new texts small p = omega (arith, p.1, small)
+run_small (Some f) status old new texts small p = omega (arith, p.2)
+
+either_small : (b : Bool) (x y : Texts) → x.status ≤ 1 → y.status ≤ 1 → (λ (t : Texts). t.status ≤ 1) (if b then x else y)
+either_small true x y p q = p
+either_small false x y p q = q
+
+texts_small : (e : Ending) (status steps : ℕ) (text : List ℕ) → (run_texts e status steps text).status ≤ 1
+texts_small e status steps text =
+    either_small (is_well e status) (record { output = text; errors = []; status = 0 }) (record { output = text; errors = ended_so e status steps; status = 1 }) (omega arith) (omega arith)
+
+run_closes_small : (kept : Bool) (end : ToolEnd) (old new : Option (List ℕ)) (status : ℕ) → end.status ≤ 1 → ClosesRun kept end old new status → status ≤ 1
+run_closes_small true end old new status small (inl failed) = omega (arith, failed.1)
+run_closes_small true end old new status small (inr closed) = omega (arith, closed.1, small)
+run_closes_small false end old new status small closed = omega (arith, closed.1, small)
+
+script_run_small : (run : ScriptRun) (session : Held) (old new : Writers) (status : ℕ) → RunsOver run session old new status → status ≤ 1
+script_run_small run session old new status (inl stopped) = omega (arith, stopped.1)
+script_run_small run session old new status (inr (stand_ins, text, stand, is, inl refused)) = omega (arith, refused.2)
+script_run_small run session old new status (inr (stand_ins, text, stand, is, inr (tree, reads, r))) =
+    run_closes_small (ScriptRuns.is_kept run.dry.write r.2.status) r.2 r.1 new.errors status
+    (run_small r.2.fault r.2.status old (record { output = new.output; errors = r.1 }) (outcome_texts r.3.0) (texts_small r.3.0.ending r.3.0.status r.3.0.steps r.3.0.text.items) r.3.2) r.4
+
 job_small : (job : Job) (session : Held) (old new : Streams) (status : ℕ) → DoesJob job session old new status → status ≤ 1
 job_small (Tool task) session old new status (unread, uses) = tool_small task session _ _ status uses
 job_small (Tries run) session old new status (inl stopped) = omega (arith, stopped.1.1)
 job_small (Tries run) session old new status (inr (stand_ins, stand, tries)) = leaves_small (is_kept run.write tries.0) tries.0 _ _ status tries.5
+job_small (Runs run) session old new status (unread, runs) = script_run_small run session _ _ status runs
 
 pub uses_small : (call : Call) (old new : Streams) (status : ℕ) → Uses call old new status → status ≤ 1
 uses_small call old new status (inl stopped) = omega (arith, stopped.1.1)

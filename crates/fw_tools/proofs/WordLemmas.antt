@@ -1,5 +1,5 @@
 -- What the words choose, and what is answered where the help breaks off.
-use Rattle.std.proofs.Common.{arith, inl, inr, ◌≡◌, ◌⊎◌, ◌≤◌, ◌||◌, ℕ, Bool, Bor, List, [], ◌∷◌, length, Option, Some, None, option_map, true, false, refl, sym, ap, ◌∙◌, subst}
+use Rattle.std.proofs.Common.{arith, inl, inr, ◌≡◌, ◌⊎◌, ◌≤◌, ◌||◌, ℕ, Bool, Bor, List, [], ◌∷◌, length, Option, Some, None, option_map, true, false, refl, sym, ap, ap₂, ◌∙◌, subst}
 use Rattle.std.specs.Prelude.{Result, unwrap_or, codes, find, option_and_then}
 use Rattle.std.specs.Str.{bytes_eq}
 use Rattle.std.proofs.lemmas.Bool.{leb-true}
@@ -11,16 +11,18 @@ use Rattle.clap.specs.Simple.{subcommand_rows}
 use Rattle.clap.specs.declared.parser.matches.ArgMatches.TheViews.{out-ArgMatches, out-SubCommand}
 use Rattle.std.specs.Box.{box_value}
 use Rattle.clap.specs.Simple.{App, HasMatchesOf, is_simple}
-use Rattle.clap.specs.Walk.{Row, Text, row_of, rows_of}
+use Rattle.clap.specs.Walk.{Row, Rule, Text, row_of, rows_of, rule_of}
 use Rattle.clap.specs.declared.parser.matches.ArgMatches.{ArgMatches}
 use Rattle.clap.specs.declared.parser.matches.Found.{Found}
 use Rattle.envimg_core.specs.declared.geometry.Order.{Order}
 use Rattle.envimg_core.specs.declared.geometry.Order.TheVariants.{Little}
 use Rattle.fw_tools.specs.ProgramNames.{app_of_name, called_by, called_in, called_under, name_in, order_of, order_under}
-use Rattle.fw_tools.specs.Words.{big_endian, fwenv, order_by, order_in, source_in}
+use Rattle.fw_tools.specs.Words.{IsTool, big_endian, fwenv, order_by, order_in, source_in}
 use Rattle.fw_tools.specs.declared.program_name.ProgramName.{ProgramName}
 use Rattle.fw_tools.specs.declared.program_name.ProgramName.TheVariants.{Fwenv, Printenv, Setenv}
-use Rattle.clap.specs.Words.{HasKind, IsAmong, fault_of, is_simple_and_free, kind_of, matches_of, subcommand_of, subcommand_rows_of}
+use Rattle.clap.specs.declared.builder.arg.Arg.{Arg}
+use Rattle.clap.specs.declared.builder.command.Command.{Command}
+use Rattle.clap.specs.Words.{AddsArg, AddsSubcommand, HasKind, app_of, IsAmong, fault_of, is_simple_and_free, kind_of, matches_of, subcommand_of, subcommand_rows_of, with_rule, with_subcommand}
 use Rattle.clap.specs.declared.error.Error.{Error}
 use Rattle.fw_tools.specs.Subcommands.{Called}
 use Rattle.fw_tools.specs.Report.{Asked, asked_of}
@@ -77,6 +79,14 @@ done_by_words order order' tool tool' old new status does is calls =
 
 pub neither : (x y : Bool) → x ≡ false → y ≡ false → (x || y) ≡ false
 neither x y p q = λ i. p i || q i
+
+-- one argument more, and one subcommand more
+pub with_one_more : (app : App) (rule : Rule) (old new : Command) (a : Arg) → IsTool app old → AddsArg old a new → rule_of a ≡ rule → a.global ≡ false → IsTool (with_rule app rule) new
+with_one_more app rule old new a is adds same local =
+    (adds.shape local ∙ ap₂ with_rule is.0 same, adds.globals ∙ neither _ _ is.1 local)
+
+pub with_tool : (app tool : App) (old sub new : Command) → app_of old ≡ app → IsTool tool sub → AddsSubcommand old sub new → app_of new ≡ with_subcommand app tool.top
+with_tool app tool old sub new before is adds = adds.shape is.1 ∙ (λ i. with_subcommand (before i) (is.0 i).top)
 
 -- clap finds nothing wrong with the program's own name alone, or with no word at all; no subcommand is called, and no byte order chosen
 pub alone_is_right : (words : List Text) → length words ≤ 1 → fault_of fwenv words ≡ []

@@ -1,22 +1,24 @@
 -- What the words of a subcommand ask for (docs/tools.md, "Subcommands over files").
-use Rattle.std.specs.Prelude.{◌||◌, Bool, true, false, List, [], ◌∷◌, ◌++◌, Option, Some, None, Result, Ok, Err, unwrap_or, option_map, codes, map, if◌then◌else◌}
+use Rattle.std.specs.Prelude.{ℕ, ◌||◌, Bool, true, false, List, [], ◌∷◌, ◌++◌, Option, Some, None, Result, Ok, Err, option_map, codes, if◌then◌else◌}
 use Rattle.std.specs.Borrow.{Bor}
 use Rattle.std.specs.Str.{bytes_eq}
 use Rattle.clap.specs.Words.{Row, Text, first_of}
 use Rattle.envimg_core.specs.declared.geometry.Order.{Order}
-use Rattle.fw_tools.specs.DryRuns.{DryRun, dry_run_of, dry_run_view}
+use Rattle.fw_tools.specs.DryRuns.{DryRun, ScriptRun, and_then, dry_run_of, dry_run_view, script_run_of, script_run_view}
+pub use Rattle.fw_tools.specs.DryRuns.{texts}
+use Rattle.fw_tools.specs.ImageSizes.{image_of, whole_text}
 use Rattle.fw_tools.specs.Values.{all_values, first_or, is_given}
 use Rattle.fw_tools.specs.Words.{big_endian, either_order, order_by, source_in}
 use Rattle.fw_tools.specs.declared.system.Hold.{Hold}
 use Rattle.fw_tools.specs.declared.system.Hold.TheVariants.{Alone, Shared}
 use Rattle.fw_tools.specs.declared.call.Call as calls
-use Rattle.fw_tools.specs.declared.call.Printing.{Printing}
-use Rattle.fw_tools.specs.declared.call.Printing.TheVariants.{Lines, OneValue, Values}
+use Rattle.fw_tools.specs.declared.task.Printing.{Printing}
+use Rattle.fw_tools.specs.declared.task.Printing.TheVariants.{Lines, OneValue, Values}
 use Rattle.fw_tools.specs.declared.default_text.Defaults as defaults
 use Rattle.fw_tools.specs.declared.call.Job as jobs
 use Rattle.fw_tools.specs.declared.call.Job.TheVariants as job
-use Rattle.fw_tools.specs.declared.call.Task as tasks
-use Rattle.fw_tools.specs.declared.call.Task.TheVariants as code
+use Rattle.fw_tools.specs.declared.task.Task as tasks
+use Rattle.fw_tools.specs.declared.task.Task.TheVariants as code
 
 -- what a tool is to do: print these names in a way; set a name to words; set what a file says; import one; export; make the
 -- variables those of a file
@@ -28,22 +30,26 @@ pub data Task : Type 0 where
   Export : Task
   Restore : Text → Task
 
--- what a subcommand does over its session: a tool works on it, or blocks of script and dot lines are tried
+-- what a subcommand does over its session: a tool works on it; blocks of script and dot lines are tried; a script is run
 pub data Job : Type 0 where
   Tool : Task → Job
   Tries : DryRun → Job
+  Runs : ScriptRun → Job
 
 -- the default environment: its text's path, if there is one; whether that has plain lines, and is /etc/u-boot-initial-env if
--- none is given and it is there; and whether a copy has to be good where there is none
+-- none is given and it is there; whether a copy has to be good where there is none; and whether it is the whole environment,
+-- so that no copy is missed
 pub record Defaults : Type 0 where
   pub path : Option Text
   pub plain : Bool
   pub need_copy : Bool
+  pub whole : Bool
 
--- a subcommand with its files, the configuration, the default environment and the folder of the lock file, if there is one, its
--- byte order, whether copies are written back only where a variable changed, and what it does
+-- a subcommand with its files, the configuration, the default environment and the folder of the lock file, if there is one; the
+-- size of the erased image in memory that is in the place of the configuration's copies, if it is; its byte order, whether copies are written back only where a variable changed, and what it does
 pub record Call : Type 0 where
   pub config : Text
+  pub image : Option ℕ
   pub defaults : Defaults
   pub lock : Option Text
   pub order : Order
@@ -60,14 +66,16 @@ changes task = true
 abbrev pub writes : Job → Bool
 writes (Tool task) = changes task
 writes (Tries run) = run.write
+writes (Runs run) = run.dry.write
 
 abbrev pub hold_for : Job → Hold
 hold_for job = if writes job then Alone else Shared
 
--- it works under that lock; a dry run takes it again to write
+-- it works under that lock; a session takes it again to write
 abbrev pub keeps_lock : Job → Bool
 keeps_lock (Tool task) = changes task
 keeps_lock (Tries run) = false
+keeps_lock (Runs run) = run.dry.write
 
 -- the end of what is said of wrong words: how they are to be
 abbrev pub usage : Text → Text
@@ -136,20 +144,37 @@ abbrev pub tried : Result DryRun Text → Result Job Text
 tried (Ok run) = Ok (Tries run)
 tried (Err text) = Err text
 
+abbrev pub ran : Result ScriptRun Text → Result Job Text
+ran (Ok run) = Ok (Runs run)
+ran (Err text) = Err text
+
 abbrev pub called : Result Task Text → Result Job Text
 called (Ok task) = Ok (Tool task)
 called (Err text) = Err text
 
 -- what the subcommand of this name does, or the text for what is wrong with its words
 abbrev pub job_of : Text → List Row → Result Job Text
-job_of name rows = if bytes_eq name (codes "session") then tried (dry_run_of rows) else called (task_of name rows)
+job_of name rows =
+    if bytes_eq name (codes "session") then tried (dry_run_of rows)
+    else if bytes_eq name (codes "run") then ran (script_run_of rows)
+    else called (task_of name rows)
 
 -- the names of other tools, which have their own rules
 abbrev pub is_client : Text → Bool
 is_client name = bytes_eq name (codes "fw_printenv") || bytes_eq name (codes "fw_setenv")
 
+-- a text that is the whole environment is the default one over an erased image
+abbrev pub defaults_by : Option Text → Text → List Row → Defaults
+defaults_by (Some path) name rows = record { path = Some path; plain = false; need_copy = false; whole = true }
+defaults_by None name rows = record {
+  path = first_of (codes "default") rows;
+  plain = is_client name;
+  need_copy = is_client name || is_given (codes "need-copy") rows;
+  whole = false;
+}
+
 abbrev pub defaults_of : Text → List Row → Defaults
-defaults_of name rows = record { path = first_of (codes "default") rows; plain = is_client name; need_copy = is_client name }
+defaults_of name rows = defaults_by (whole_text name rows) name rows
 
 abbrev pub some_text : Text → Option Text
 some_text [] = None
@@ -158,26 +183,26 @@ some_text (b ∷ bs) = Some (b ∷ bs)
 abbrev pub lock_of : Text → List Row → Option Text
 lock_of name rows = if is_client name then some_text (first_or (codes "/var/lock") (codes "lock") rows) else None
 
--- with its files and its byte order
-abbrev pub with_files : Order → Text → List Row → Result Job Text → Result Call Text
-with_files order name rows (Ok job) = Ok (record {
+-- a job with its files and its byte order
+abbrev pub with_files : Order → Text → List Row → Option ℕ → Job → Call
+with_files order name rows image job = record {
   config = first_or (codes "/etc/fw_env.config") (codes "config") rows;
+  image = image;
   defaults = defaults_of name rows;
   lock = lock_of name rows;
   order = either_order order (order_by (source_in big_endian.id rows));
   only_changes = is_client name;
   job = job;
-})
-with_files order name rows (Err text) = Err text
+}
+
+abbrev pub with_image : Order → Text → List Row → Option ℕ → Result Call Text
+with_image order name rows image = and_then (job_of name rows) (λ job. Ok (with_files order name rows image job))
 
 -- what words ask for that choose a byte order before the subcommand
 abbrev pub call_of : Order → Text → List Row → Result Call Text
-call_of order name rows = with_files order name rows (job_of name rows)
+call_of order name rows = and_then (image_of name rows) (with_image order name rows)
 
 -- the code's answers, seen so
-abbrev pub texts : Option (Bor (List (Bor Text))) → List Text
-texts words = unwrap_or (option_map (λ w. map (λ x. x.now) w.now) words) []
-
 abbrev pub task_view : tasks.Task → Task
 task_view (code.Print names printing) = Print (texts names) printing
 task_view (code.Set name words) = Set name.now (texts words)
@@ -189,13 +214,15 @@ task_view (code.Restore path) = Restore path.now
 abbrev pub job_view : jobs.Job → Job
 job_view (job.Tool task) = Tool (task_view task)
 job_view (job.DryRun run) = Tries (dry_run_view run)
+job_view (job.Script run) = Runs (script_run_view run)
 
 abbrev pub defaults_view : defaults.Defaults → Defaults
-defaults_view d = record { path = option_map (λ p. p.now) d.path; plain = d.plain; need_copy = d.need_copy }
+defaults_view d = record { path = option_map (λ p. p.now) d.path; plain = d.plain; need_copy = d.need_copy; whole = d.whole }
 
 abbrev pub call_view : calls.Call → Call
 call_view c = record {
   config = c.config.now;
+  image = c.image;
   defaults = defaults_view c.defaults;
   lock = option_map (λ l. l.now) c.lock;
   order = c.order;

@@ -3,6 +3,8 @@ use Rattle.std.specs.Prelude.{ℕ, ◌+◌, ◌==◌, Bool, false, ◌&&◌, nat
 use Rattle.std.specs.Str.{bytes_eq}
 use Rattle.std.specs.declared.alloc.Global.{Global}
 use Rattle.env_session.specs.declared.session.Stored.{Stored}
+use Rattle.envimg_core.specs.declared.choice.Choice.{Choice}
+use Rattle.envimg_core.specs.declared.choice.Choice.TheVariants.{First}
 use Rattle.envcfg_core.specs.declared.config.Config.{Config}
 use Rattle.envcfg_core.specs.declared.place.Place.{Place}
 use Rattle.fw_tools.specs.declared.changed_copies.Change.{Change}
@@ -55,3 +57,8 @@ second_change _ _ _ = None
 -- what is written, the first copy before the second
 abbrev pub changes : Source → Stored → List (Option Written)
 changes source stored = change_in source.config.first source.first stored.first.items ∷ second_change source.config.second source.second stored.second ∷ []
+
+-- the copy that was current at the start is written after the other
+abbrev pub other_first : Choice → Option Change → Option Change → List (Option Change)
+other_first First first second = second ∷ first ∷ []
+other_first choice first second = first ∷ second ∷ []

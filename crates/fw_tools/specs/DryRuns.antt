@@ -1,12 +1,16 @@
--- What the words of `session` ask for (docs/dry-runs.md, "The subcommand").
-use Rattle.std.specs.Prelude.{ℕ, nat_le, Bool, List, [], ◌∷◌, ◌++◌, Option, Some, None, Result, Ok, Err, codes, if◌then◌else◌, option_map, option_and_then}
+-- What the words of `session` and `run` ask for (docs/dry-runs.md).
+use Rattle.std.specs.Prelude.{ℕ, ◌||◌, nat_le, Bool, List, [], ◌∷◌, ◌++◌, Option, Some, None, Result, Ok, Err, codes, if◌then◌else◌, map, option_map, option_and_then, unwrap_or, is_some}
+use Rattle.std.specs.Borrow.{Bor}
 use Rattle.clap.specs.Words.{Row, Text, first_of}
 use Rattle.text_parts.specs.declared.digits.Base.TheVariants.{Decimal}
 use Rattle.text_parts.specs.Numerals.{numeral}
 use Rattle.hush_commands.specs.Limits.{Bounds, bounds, most_steps, most_depth, most_word, most_output}
-use Rattle.fw_tools.specs.Values.{first_or, is_given}
+use Rattle.fw_tools.specs.Values.{all_values, first_or, is_given}
 use Rattle.fw_tools.specs.Words.{usual_steps, usual_depth, usual_word, usual_output}
 use Rattle.fw_tools.specs.declared.dry_runs.DryRun as dry_runs
+use Rattle.fw_tools.specs.declared.dry_runs.GivenScript as scripts
+use Rattle.fw_tools.specs.declared.dry_runs.GivenScript.TheVariants as code
+use Rattle.fw_tools.specs.declared.dry_runs.ScriptRun as script_runs
 
 -- whether the copies are written back, the stand-ins' file, if there is one, and how far each block may go
 pub record DryRun : Type 0 where
@@ -63,6 +67,60 @@ run_within rows limits = record { write = is_given (codes "write") rows; stand_i
 abbrev pub dry_run_of : List Row → Result DryRun Text
 dry_run_of rows = and_then (limits_of rows) (λ limits. Ok (run_within rows limits))
 
--- the code's answer, seen so
+-- a script to run: starts of these variables, one after the other; a text among the words; that of a file
+pub data GivenScript : Type 0 where
+  Names : List Text → GivenScript
+  Words : Text → GivenScript
+  File : Text → GivenScript
+
+-- the run of a script, and the names of commands that don't come back
+pub record ScriptRun : Type 0 where
+  pub dry : DryRun
+  pub boots : List Text
+  pub script : GivenScript
+
+-- what is wrong where there is no script, or more than one
+abbrev pub run_usage : Text
+run_usage = codes "Usage: fwenv run [OPTIONS] [NAMES]..." ++ 10 ∷ 10 ∷ codes "For more information, try '--help'." ++ 10 ∷ []
+
+abbrev pub no_script : Text
+no_script =
+    codes "error: the following required arguments were not provided:" ++ 10 ∷ codes "  <NAMES|-e <SCRIPT>|-f <FILE>>" ++ 10 ∷ 10 ∷ run_usage
+
+abbrev pub several_scripts : Text
+several_scripts = codes "error: only one of '[NAMES]...', '-e <SCRIPT>' and '-f <FILE>' can be given" ++ 10 ∷ 10 ∷ run_usage
+
+abbrev pub text_by : Option Text → Option Text → Result GivenScript Text
+text_by None None = Err no_script
+text_by (Some text) None = Ok (Words text)
+text_by None (Some path) = Ok (File path)
+text_by (Some text) (Some path) = Err several_scripts
+
+abbrev pub script_by : List Text → Option Text → Option Text → Result GivenScript Text
+script_by [] text path = text_by text path
+script_by (n ∷ names) text path = if is_some text || is_some path then Err several_scripts else Ok (Names (n ∷ names))
+
+abbrev pub script_of : List Row → Result GivenScript Text
+script_of rows = script_by (all_values (codes "names") rows) (first_of (codes "text") rows) (first_of (codes "script") rows)
+
+abbrev pub script_within : List Row → Bounds → Result ScriptRun Text
+script_within rows limits =
+    and_then (script_of rows) (λ script. Ok (record { dry = run_within rows limits; boots = all_values (codes "boots") rows; script = script }))
+
+abbrev pub script_run_of : List Row → Result ScriptRun Text
+script_run_of rows = and_then (limits_of rows) (script_within rows)
+
+-- the code's answers, seen so
+abbrev pub texts : Option (Bor (List (Bor Text))) → List Text
+texts words = unwrap_or (option_map (λ w. map (λ x. x.now) w.now) words) []
+
 abbrev pub dry_run_view : dry_runs.DryRun → DryRun
 dry_run_view r = record { write = r.write; stand_ins = option_map (λ path. path.now) r.stand_ins; limits = r.limits }
+
+abbrev pub script_view : scripts.GivenScript → GivenScript
+script_view (code.Names names) = Names (map (λ n. n.now) names.now)
+script_view (code.Words text) = Words text.now
+script_view (code.File path) = File path.now
+
+abbrev pub script_run_view : script_runs.ScriptRun → ScriptRun
+script_run_view r = record { dry = dry_run_view r.dry; boots = texts r.boots; script = script_view r.script }

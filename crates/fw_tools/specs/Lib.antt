@@ -5,9 +5,11 @@ pub mod CopyReport
 pub mod DryRuns
 pub mod EntryPoint
 pub mod Files
+pub mod ImageSizes
 pub mod ProgramNames
 pub mod Report
 pub mod Said
+pub mod ScriptRuns
 pub mod SessionRun
 pub mod Source
 pub mod Subcommands

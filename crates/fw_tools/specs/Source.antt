@@ -33,6 +33,11 @@ warning First = []
 warning Second = []
 warning Neither = codes "Warning: Bad CRC, using default environment" ++ 10 ∷ []
 
+-- nothing is said of copies that aren't missed
+abbrev pub warned : (whole : Bool) → Choice → List ℕ
+warned true choice = []
+warned false choice = warning choice
+
 -- the text of the board's build is taken where it is there
 abbrev pub takes_initial : Defaults → Bool
 takes_initial d = d.plain && is_none d.path

@@ -10,20 +10,21 @@ use Rattle.envcfg_core.specs.Entries as text_entries
 use Rattle.envcfg_core.specs.Import.{import_of}
 use Rattle.envvars_core.specs.Variables.{Contents}
 use Rattle.clap.specs.Words.{Text}
-use Rattle.fw_tools.specs.Calls.{Call, Defaults, Job, Tool, Tries, Task}
+use Rattle.fw_tools.specs.Calls.{Call, Defaults, Job, Tool, Tries, Runs, Task}
 use Rattle.fw_tools.specs.CopyReport.{ReportsOn}
 use Rattle.fw_tools.specs.Report.{Asked, Look, Work}
-use Rattle.fw_tools.specs.Source.{AreDefaultsOf, IsFound, lacks_copy, warning}
+use Rattle.fw_tools.specs.Source.{AreDefaultsOf, IsFound, lacks_copy, warned}
 use Rattle.fw_tools.specs.Said.{Says, SaysSome, Stops}
 use Rattle.fw_engines.specs.TextForm.{export_texts}
 use Rattle.fw_engines.specs.VariableLines.{named, printed}
 use Rattle.envimg_core.specs.Environment.{Environment}
-use Rattle.fw_tools.specs.declared.call.Printing.{Printing}
-use Rattle.fw_tools.specs.declared.call.Printing.TheVariants.{Lines, OneValue, Values}
+use Rattle.fw_tools.specs.declared.task.Printing.{Printing}
+use Rattle.fw_tools.specs.declared.task.Printing.TheVariants.{Lines, OneValue, Values}
 use Rattle.fw_engines.specs.Changes.{Changes, Changing, Effect, LacksMemory, LacksMemoryToImport, LacksMemoryToSet, import_effect, script_effect, set_effect}
 use Rattle.fw_engines.specs.Restoration.{LacksMemoryToRestore, restore_effect}
 use Rattle.text_parts.specs.Words.{spaced}
 use Rattle.fw_tools.specs.SessionRun.{TriesOver}
+use Rattle.fw_tools.specs.ScriptRuns.{RunsOver}
 use Rattle.fw_engines.specs.Streams.{AppendsFront, Streams, Writers, writers_of}
 use Rattle.fw_engines.specs.Tool.{Printed, Texts}
 use Rattle.fw_engines.specs.declared.tool_end.ToolEnd.{ToolEnd}
@@ -86,14 +87,15 @@ UsesTool task session old new status =
     ⊎ ((after : Scene) × (end : ToolEnd) × Acts task (record { session = session; writers = old }) after end
     × (new.output ≡ after.writers.output) × Closes end after.writers.errors new.errors status)
 
--- what is done over a session; a tool doesn't read standard input
+-- what is done over a session; a tool doesn't read standard input, and neither does the run of a script, but for its file
 abbrev pub DoesJob : Job → Held → Streams → Streams → ℕ → Type 0
 DoesJob (Tool task) session old new status = (new.input ≡ old.input) × UsesTool task session (writers_of old) (writers_of new) status
 DoesJob (Tries run) session old new status = TriesOver run session old new status
+DoesJob (Runs run) session old new status = (new.input ≡ old.input) × RunsOver run session (writers_of old) (writers_of new) status
 
--- a copy is good, or none has to be: then there is a warning
+-- a copy is good, or none has to be: then there is a warning, unless the default text is the whole environment
 abbrev pub IsAccepted : Defaults → Held → Option (List ℕ) → Option (List ℕ) → Type 0
-IsAccepted asked session old warned = (lacks_copy asked session.now.current ≡ false) × AppendsFront old warned (warning session.now.current)
+IsAccepted asked session old said = (lacks_copy asked session.now.current ≡ false) × AppendsFront old said (warned asked.whole session.now.current)
 
 -- a session is opened, with a warning where no copy is good, and worked on
 abbrev pub UsesSession : Call → Streams → Streams → ℕ → Type 0

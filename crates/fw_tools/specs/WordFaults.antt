@@ -1,7 +1,7 @@
 -- What is wrong with words where clap's rules don't see it.
 use Rattle.std.specs.Prelude.{◌++◌, Result, Ok, Err}
 use Rattle.clap.specs.Words.{Text}
-use Rattle.fw_tools.specs.declared.call.WordFault.{WordFault}
+use Rattle.fw_tools.specs.declared.word_fault.WordFault.{WordFault}
 
 -- the text of a fault
 abbrev pub fault_text : WordFault → Text

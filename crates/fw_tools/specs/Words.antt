@@ -1,12 +1,13 @@
 -- The words of the command line, as clap's rules see them (docs/tools.md, "The command line").
-use Rattle.std.specs.Prelude.{◌≡◌, true, List, [], ◌∷◌, Option, Some, codes, find}
+use Rattle.std.specs.Prelude.{◌≡◌, true, false, List, [], ◌∷◌, Option, Some, codes, find}
 use Rattle.std.specs.Option.{option_and_then}
 use Rattle.std.specs.Str.{bytes_eq}
 use Rattle.clap.specs.Lexer.{usize_max}
 use Rattle.clap.specs.Simple.{new_shape}
-use Rattle.clap.specs.Words.{AddsSubcommand, App, Row, Rule, Text, app_of, found_of, matched_of, new_app, new_rule, with_rule, with_subcommand}
+use Rattle.clap.specs.Words.{App, Row, Rule, Text, app_of, found_of, matched_of, new_app, new_rule, with_rule, with_subcommand}
 use Rattle.clap.specs.declared.builder.command.Command.{Command}
-use Rattle.clap.specs.declared.builder.action.ArgAction.TheVariants.{SetTrue}
+use Rattle.clap.specs.declared.builder.command.Command.TheViews.{out-Command}
+use Rattle.clap.specs.declared.builder.action.ArgAction.TheVariants.{Append, SetTrue}
 use Rattle.clap.specs.declared.parser.matches.ArgMatches.{ArgMatches}
 use Rattle.clap.specs.declared.parser.matches.ValueSource.{ValueSource}
 use Rattle.clap.specs.declared.parser.matches.ValueSource.TheVariants.{CommandLine}
@@ -32,8 +33,11 @@ config = record (new_rule (codes "config")) { short = Some 99; value_names = 1; 
 abbrev pub default : Rule
 default = record (new_rule (codes "default")) { long = Some (codes "default"); value_names = 1 }
 
+abbrev pub need_copy : Rule
+need_copy = record (flag (codes "need-copy")) { long = Some (codes "need-copy") }
+
 abbrev pub tool : Text → App
-tool name = with_rule (with_rule (with_rule (new_app name) config) default) big_endian
+tool name = with_rule (with_rule (with_rule (with_rule (new_app name) config) default) need_copy) big_endian
 
 -- an argument that may be given any number of times, or not at all
 abbrev pub any_number : Text → Rule
@@ -80,7 +84,7 @@ stand_ins = record (one (codes "stubs")) { long = Some (codes "stubs") }
 abbrev pub number : (id usual : Text) → Rule
 number id usual = record (one id) { long = Some id; defaults = usual ∷ [] }
 
--- the limits of a block where the words don't say: steps, starts inside one another, bytes of a word, bytes of the text
+-- the limits of a run where the words don't say: steps, starts inside one another, bytes of a word, bytes of the text
 abbrev pub usual_steps : Text
 usual_steps = codes "100000"
 
@@ -109,8 +113,35 @@ with_output app = with_rule app (number (codes "output") usual_output)
 abbrev pub limited : App → App
 limited app = with_output (with_word (with_depth (with_steps app)))
 
+-- a text that is the whole environment, and the size of its image
+abbrev pub env : Rule
+env = record (one (codes "env")) { long = Some (codes "env") }
+
+abbrev pub usual_size : Text
+usual_size = codes "0x4000"
+
+abbrev pub size : Rule
+size = number (codes "size") usual_size
+
+-- the options of a dry run
+abbrev pub dry_run : App → App
+dry_run app = with_rule (with_rule (limited (with_rule (with_rule app write) stand_ins)) env) size
+
 abbrev pub session : App
-session = limited (with_rule (with_rule (tool (codes "session")) write) stand_ins)
+session = dry_run (tool (codes "session"))
+
+-- those of a script's run: an option that may be given several times, and two others
+abbrev pub boots : Rule
+boots = record (one (codes "boots")) { long = Some (codes "boots"); action = Some Append }
+
+abbrev pub given_text : Rule
+given_text = record (one (codes "text")) { short = Some 101 }
+
+abbrev pub given_file : Rule
+given_file = record (one (codes "script")) { short = Some 102 }
+
+abbrev pub run : App
+run = with_rule (with_rule (with_rule (with_rule (dry_run (tool (codes "run"))) boots) given_text) given_file) (any_number (codes "names"))
 
 -- the command with the tools over a session
 abbrev pub with_tools : App → App
@@ -118,11 +149,11 @@ with_tools app = with_subcommand (with_subcommand (with_subcommand (with_subcomm
 
 -- the command
 abbrev pub fwenv : App
-fwenv = with_subcommand (with_subcommand (with_tools top) status.top) session.top
+fwenv = with_subcommand (with_subcommand (with_subcommand (with_tools top) status.top) run.top) session.top
 
--- a command that clap's rules see so, alone and as the subcommand of another
+-- a command that clap's rules see so, and that may be the subcommand of another
 abbrev pub IsTool : App → Command → Type 0
-IsTool app c = (app_of c ≡ app) × ((old new : Command) → AddsSubcommand old c new → app_of new ≡ with_subcommand (app_of old) app.top)
+IsTool app c = (app_of c ≡ app) × ((out-Command c).has_globals ≡ false)
 
 -- where the value of an argument comes from
 abbrev pub source_in : Text → List Row → Option ValueSource

@@ -1,32 +1,29 @@
 //! What the words of a subcommand ask for.
-ghost use Rattle.std.specs.Prelude.{◌≡◌, if◌then◌else◌, map, option_copied, option_map};
-ghost use Rattle.clap.specs.Words.{all_of, first_of, found_of, rows_of};
-ghost use Rattle.fw_tools.specs.Words.{either_order};
-ghost use Rattle.fw_tools.specs.Calls.{call_of, call_view, called, changes, defaults_of, defaults_view, hold_for, is_client, job_of, job_view, keeps_lock, lock_of, print_task, script_file, seen, set_task, some_text, task_of, task_view, texts, tool_task, tried, values_task, writes};
-ghost use Rattle.fw_tools.specs.declared.call.Printing.TheVariants.{Lines, OneValue};
-ghost use Rattle.fw_tools.specs.DryRuns.{dry_run_of};
-ghost use Rattle.fw_tools.specs.Values.{first_or, is_given};
-ghost use Rattle.fw_engines.specs.Streams.{AppendsFront};
-ghost use Rattle.fw_tools.specs.WordFaults.{fault_text, word_seen};
+ghost use Rattle.std.specs.Prelude.{◌≡◌, option_copied};
+ghost use Rattle.clap.specs.Words.{found_of, rows_of};
+ghost use Rattle.fw_tools.specs.Calls.{call_of, call_view, called, defaults_of, defaults_view, hold_for, is_client, job_of, job_view, keeps_lock, lock_of, ran, some_text, task_of, tried, with_image, writes};
+ghost use Rattle.fw_tools.specs.DryRuns.{dry_run_of, script_run_of};
+ghost use Rattle.fw_tools.specs.WordFaults.{word_seen};
 
+use crate::arguments::{chosen_order, either_order, first, first_or, is_given};
 use crate::client_words::LOCK_FOLDER;
-use crate::command_line::{CONFIG, chosen_order, is_given};
+use crate::command_line::CONFIG;
 use crate::default_text::Defaults;
-use crate::dry_runs::{DryRun, read_dry_run};
-use crate::program_texts::{
-    CLIENT_NAME_AND_SCRIPT, CLIENT_NO_NAME, NAME_AND_SCRIPT, NO_NAME, NO_NAMES, STANDARD_INPUT,
-};
+use crate::dry_runs::{DryRun, ScriptRun, read_dry_run, read_script_run};
+use crate::image_size::{read_image, whole_text};
 use crate::system::Hold;
+use crate::task::{Task, read_task};
+use crate::word_fault::WordFault;
 use clap::ArgMatches;
 use envimg_core::Order;
-use fw_engines::streams::write_three;
-use std::io::Write;
 
 /// A subcommand: its files, its byte order, and what it does over their session.
 #[derive(Clone, Copy, Debug)]
 pub(crate) struct Call<'m, 'w> {
     /// The path of the configuration.
     pub(crate) config: &'w str,
+    /// The size of the erased image in memory that is in the place of the configuration's copies, if it is.
+    pub(crate) image: Option<u32>,
     /// The default environment.
     pub(crate) defaults: Defaults<'w>,
     /// The folder of the lock file, if there is one.
@@ -46,46 +43,8 @@ pub(crate) enum Job<'m, 'w> {
     Tool(Task<'m, 'w>),
     /// Blocks of script and dot lines are tried on it.
     DryRun(DryRun<'w>),
-}
-
-/// How variables are printed.
-#[derive(Clone, Copy, Debug, PartialEq, Eq)]
-pub(crate) enum Printing {
-    /// A line NAME=VALUE each.
-    Lines,
-    /// The value of one name alone.
-    OneValue,
-    /// The values of names alone, a line each.
-    Values,
-}
-
-/// What a tool is to do.
-#[derive(Clone, Copy, Debug)]
-pub(crate) enum Task<'m, 'w> {
-    /// `printenv [-n] [NAMES]`
-    Print {
-        names: Option<&'m [&'w str]>,
-        printing: Printing,
-    },
-    /// `setenv NAME [WORDS]`
-    Set {
-        name: &'w str,
-        words: Option<&'m [&'w str]>,
-    },
-    /// `setenv -s FILE`
-    SetScript {
-        path: &'w str,
-    },
-    /// `import FILE`
-    Import {
-        path: &'w str,
-    },
-    /// `export`
-    Export,
-    /// `restore FILE`
-    Restore {
-        path: &'w str,
-    },
+    /// A script is run over it.
+    Script(ScriptRun<'m, 'w>),
 }
 
 impl Job<'_, '_> {
@@ -107,29 +66,18 @@ impl Job<'_, '_> {
         match self {
             Job::Tool(task) => task.changes(),
             Job::DryRun(run) => run.write,
+            Job::Script(run) => run.dry.write,
         }
     }
 
-    /// Whether it works under that lock; a dry run lets go of it once the copies are read, and takes it again to write.
+    /// Whether it works under that lock; a session lets go of it once the copies are read, and takes it again to write.
     pub(crate) fn keeps_lock(&self) -> bool
         ensures { result ≡ keeps_lock (job_view self.now) }
     {
         match self {
             Job::Tool(task) => task.changes(),
             Job::DryRun(_) => false,
-        }
-    }
-}
-
-impl Task<'_, '_> {
-    /// Whether it changes the session.
-    fn changes(&self) -> bool
-        ensures { result ≡ changes (task_view self.now) }
-    {
-        match self {
-            Task::Print { .. } | Task::Export => false,
-            Task::Set { .. } | Task::SetScript { .. } | Task::Import { .. } => true,
-            Task::Restore { .. } => true,
+            Job::Script(run) => run.dry.write,
         }
     }
 }
@@ -143,9 +91,25 @@ pub(crate) fn read_call<'m, 'w>(
 ) -> Result<Call<'m, 'w>, WordFault<'w>>
     ensures { word_seen call_view result ≡ call_of order name.now (rows_of (found_of found.now)) }
 {
+    match read_image(name, found) {
+        Ok(image) => with_image(order, name, found, image),
+        Err(fault) => Err(fault),
+    }
+}
+
+/// The same with an image in memory, or none.
+fn with_image<'m, 'w>(
+    order: Order,
+    name: &str,
+    found: &'m ArgMatches<'w>,
+    image: Option<u32>,
+) -> Result<Call<'m, 'w>, WordFault<'w>>
+    ensures { word_seen call_view result ≡ with_image order name.now (rows_of (found_of found.now)) image }
+{
     match read_job(name, found) {
         Ok(job) => Ok(Call {
             config: first_or(found, "config", CONFIG),
+            image,
             defaults: defaults_of(name, found),
             lock: lock_of(name, found),
             order: either_order(order, chosen_order(found)),
@@ -156,26 +120,15 @@ pub(crate) fn read_call<'m, 'w>(
     }
 }
 
-/// The first value of an argument.
-pub(crate) fn first<'w>(found: &ArgMatches<'w>, id: &str) -> Option<&'w str>
-    ensures { option_copied result ≡ first_of id.now (rows_of (found_of found.now)) }
-{
-    found.get_str(id)
-}
-
-/// The first value of an argument, or another text where it has none.
-pub(crate) fn first_or<'w>(found: &ArgMatches<'w>, id: &str, other: &'w str) -> &'w str
-    ensures { result.now ≡ first_or other.now id.now (rows_of (found_of found.now)) }
-{
-    found.get_str(id).unwrap_or(other)
-}
-
 /// What the words of the subcommand `name` ask to be done over its session.
 fn read_job<'m, 'w>(name: &str, found: &'m ArgMatches<'w>) -> Result<Job<'m, 'w>, WordFault<'w>>
     ensures { word_seen job_view result ≡ job_of name.now (rows_of (found_of found.now)) }
 {
     if name == "session" {
         return dry_job(found);
+    }
+    if name == "run" {
+        return script_job(found);
     }
     tool_job(name, found)
 }
@@ -190,6 +143,16 @@ fn dry_job<'m, 'w>(found: &'m ArgMatches<'w>) -> Result<Job<'m, 'w>, WordFault<'
     }
 }
 
+/// The run of a script that the words of `run` ask for.
+fn script_job<'m, 'w>(found: &'m ArgMatches<'w>) -> Result<Job<'m, 'w>, WordFault<'w>>
+    ensures { word_seen job_view result ≡ ran (script_run_of (rows_of (found_of found.now))) }
+{
+    match read_script_run(found) {
+        Ok(run) => Ok(Job::Script(run)),
+        Err(fault) => Err(fault),
+    }
+}
+
 /// The tool that the words of another subcommand call.
 fn tool_job<'m, 'w>(name: &str, found: &'m ArgMatches<'w>) -> Result<Job<'m, 'w>, WordFault<'w>>
     ensures { word_seen job_view result ≡ called (task_of name.now (rows_of (found_of found.now))) }
@@ -197,112 +160,6 @@ fn tool_job<'m, 'w>(name: &str, found: &'m ArgMatches<'w>) -> Result<Job<'m, 'w>
     match read_task(name, found) {
         Ok(task) => Ok(Job::Tool(task)),
         Err(text) => Err(WordFault::of(text)),
-    }
-}
-
-/// What the words of the subcommand `name` ask a tool to do.
-fn read_task<'m, 'w>(name: &str, found: &'m ArgMatches<'w>) -> Result<Task<'m, 'w>, &'static [u8]>
-    ensures { seen task_view result ≡ task_of name.now (rows_of (found_of found.now)) }
-{
-    if name == "fw_printenv" {
-        return print_task(values(found, "names"), is_given(found, "value-only"));
-    }
-    if name == "fw_setenv" {
-        return set_task(
-            CLIENT_NAME_AND_SCRIPT,
-            CLIENT_NO_NAME,
-            first(found, "name"),
-            script_file(first(found, "script")),
-            values(found, "words"),
-        );
-    }
-    tool_task(name, found)
-}
-
-/// What the words of a subcommand of `fwenv` ask a tool to do.
-fn tool_task<'m, 'w>(name: &str, found: &'m ArgMatches<'w>) -> Result<Task<'m, 'w>, &'static [u8]>
-    ensures { seen task_view result ≡ tool_task name.now (rows_of (found_of found.now)) }
-{
-    if name == "printenv" {
-        return Ok(Task::Print {
-            names: values(found, "names"),
-            printing: one_or_lines(is_given(found, "value-only")),
-        });
-    }
-    if name == "export" {
-        return Ok(Task::Export);
-    }
-    if name == "import" {
-        let path = first_or(found, "file", "");
-        return Ok(Task::Import { path });
-    }
-    if name == "restore" {
-        let path = first_or(found, "file", "");
-        return Ok(Task::Restore { path });
-    }
-    set_task(
-        NAME_AND_SCRIPT,
-        NO_NAME,
-        first(found, "name"),
-        first(found, "script"),
-        values(found, "words"),
-    )
-}
-
-/// The value of one name, or lines.
-fn one_or_lines(value_only: bool) -> Printing
-    ensures { result ≡ (if value_only then OneValue else Lines) }
-{
-    if value_only {
-        Printing::OneValue
-    } else {
-        Printing::Lines
-    }
-}
-
-/// `fw_printenv` prints lines, or the values of names.
-fn print_task<'m, 'w>(
-    names: Option<&'m [&'w str]>,
-    value_only: bool,
-) -> Result<Task<'m, 'w>, &'static [u8]>
-    ensures { seen task_view result ≡ print_task (texts names.entry) value_only }
-{
-    if value_only {
-        values_task(names)
-    } else {
-        Ok(Task::Print {
-            names,
-            printing: Printing::Lines,
-        })
-    }
-}
-
-/// It takes one name at least to print values.
-fn values_task<'m, 'w>(names: Option<&'m [&'w str]>) -> Result<Task<'m, 'w>, &'static [u8]>
-    ensures { seen task_view result ≡ values_task (texts names.entry) }
-{
-    match names {
-        None => Err(NO_NAMES),
-        Some(given) => {
-            if given.is_empty() {
-                Err(NO_NAMES)
-            } else {
-                Ok(Task::Print {
-                    names: Some(given),
-                    printing: Printing::Values,
-                })
-            }
-        }
-    }
-}
-
-/// The file of a script, which is standard input for `-`.
-fn script_file(path: Option<&str>) -> Option<&str>
-    ensures { option_copied result ≡ script_file (option_copied path.entry) }
-{
-    match path {
-        None => None,
-        Some(path) => Some(if path == "-" { STANDARD_INPUT } else { path }),
     }
 }
 
@@ -317,10 +174,19 @@ fn is_client(name: &str) -> bool
 fn defaults_of<'w>(name: &str, found: &ArgMatches<'w>) -> Defaults<'w>
     ensures { defaults_view result ≡ defaults_of name.now (rows_of (found_of found.now)) }
 {
-    Defaults {
-        path: first(found, "default"),
-        plain: is_client(name),
-        need_copy: is_client(name),
+    match whole_text(name, found) {
+        Some(path) => Defaults {
+            path: Some(path),
+            plain: false,
+            need_copy: false,
+            whole: true,
+        },
+        None => Defaults {
+            path: first(found, "default"),
+            plain: is_client(name),
+            need_copy: is_client(name) || is_given(found, "need-copy"),
+            whole: false,
+        },
     }
 }
 
@@ -340,67 +206,4 @@ fn some_text(text: &str) -> Option<&str>
     ensures { option_copied result ≡ some_text text.now }
 {
     if text.is_empty() { None } else { Some(text) }
-}
-
-/// `setenv` takes a name or a script; two texts say what is wrong with other words.
-fn set_task<'m, 'w>(
-    both: &'static [u8],
-    neither: &'static [u8],
-    name: Option<&'w str>,
-    script: Option<&'w str>,
-    words: Option<&'m [&'w str]>,
-) -> Result<Task<'m, 'w>, &'static [u8]>
-    ensures { seen task_view result ≡ set_task both.now neither.now (option_copied name.entry) (option_copied script.entry) (texts words.entry) }
-{
-    match (name, script) {
-        (Some(_), Some(_)) => Err(both),
-        (Some(name), None) => Ok(Task::Set { name, words }),
-        (None, Some(path)) => Ok(Task::SetScript { path }),
-        (None, None) => Err(neither),
-    }
-}
-
-/// The values of an argument.
-fn values<'m, 'w>(found: &'m ArgMatches<'w>, id: &str) -> Option<&'m [&'w str]>
-    ensures { option_map (λ s. map (λ v. v.now) s.now) result ≡ all_of id.now (rows_of (found_of found.now)) }
-{
-    found.get_strs(id)
-}
-
-/// Big-endian where one of two places chooses it.
-pub(crate) fn either_order(one: Order, other: Order) -> Order
-    ensures { result ≡ either_order one other }
-{
-    match one {
-        Order::Big => Order::Big,
-        Order::Little => other,
-    }
-}
-
-/// A text about wrong words, with the word that is at fault in its middle.
-#[derive(Clone, Copy, Debug)]
-pub(crate) struct WordFault<'w> {
-    pub(crate) front: &'w [u8],
-    pub(crate) word: &'w str,
-    pub(crate) back: &'w [u8],
-}
-
-impl<'w> WordFault<'w> {
-    /// A text alone.
-    pub(crate) fn of(text: &'static [u8]) -> WordFault<'w>
-        ensures { fault_text result ≡ text.now }
-    {
-        WordFault {
-            front: text,
-            word: "",
-            back: b"",
-        }
-    }
-
-    /// Says it on `errors`, as far as they take it.
-    pub(crate) fn say<E: Write>(&self, errors: &mut E)
-        ensures { AppendsFront (E.contents errors.old) (E.contents errors.new) (fault_text self.now) }
-    {
-        let _ = write_three(errors, self.front, self.word.as_bytes(), self.back);
-    }
 }

@@ -1,13 +1,14 @@
 //! The copies of a session, written back to their devices.
 ghost use Rattle.std.specs.Prelude.{◌≡◌, MatchOption, map, option_map};
 ghost use Rattle.fw_tools.specs.Said.{SaysSome};
-ghost use Rattle.fw_tools.specs.Copies.{change_in, change_view, changes};
+ghost use Rattle.fw_tools.specs.Copies.{change_in, change_view, changes, other_first};
 
 use crate::copies::{ReadCopy, change_since, to_write, write_copy};
 use crate::files::{say_fault, value_or_say};
 use crate::source::Source;
 use env_session::Stored;
 use envcfg_core::Place;
+use envimg_core::Choice;
 use std::io::Write;
 use std::rt::Files;
 
@@ -30,8 +31,48 @@ pub(crate) fn write_back<X: Files + AllocGlobal, E: Write>(
 ) -> Option<()>
     ensures { MatchOption result (SaysSome (E.contents errors.old) (E.contents errors.new)) (λ _. E.contents errors.new ≡ E.contents errors.old) }
 {
+    write_changes(rt, source, changes(source, stored), errors)
+}
+
+/// The same, but the copy that was current at the start is written after the other, so that one of them is whole at any time.
+pub(crate) fn write_other_first<X: Files + AllocGlobal, E: Write>(
+    rt: &X,
+    source: &Source,
+    current: Choice,
+    stored: &Stored,
+    errors: &mut E,
+) -> Option<()>
+    ensures { MatchOption result (SaysSome (E.contents errors.old) (E.contents errors.new)) (λ _. E.contents errors.new ≡ E.contents errors.old) }
+{
     let [first, second] = changes(source, stored);
-    if first.is_none() && second.is_none() {
+    write_changes(rt, source, other_first(current, first, second), errors)
+}
+
+/// Two changes, that of the copy which was current at the start after the other.
+fn other_first<'a>(
+    current: Choice,
+    first: Option<Change<'a>>,
+    second: Option<Change<'a>>,
+) -> [Option<Change<'a>>; 2]
+    ensures { result ≡ other_first current first.entry second.entry }
+{
+    match current {
+        Choice::First => [second, first],
+        _ => [first, second],
+    }
+}
+
+/// Makes these changes one after the other.
+fn write_changes<X: Files + AllocGlobal, E: Write>(
+    rt: &X,
+    source: &Source,
+    changes: [Option<Change<'_>>; 2],
+    errors: &mut E,
+) -> Option<()>
+    ensures { MatchOption result (SaysSome (E.contents errors.old) (E.contents errors.new)) (λ _. E.contents errors.new ≡ E.contents errors.old) }
+{
+    let [one, other] = changes;
+    if one.is_none() && other.is_none() {
         return Some(());
     }
     let size = source.config.size;
@@ -39,8 +80,8 @@ pub(crate) fn write_back<X: Files + AllocGlobal, E: Write>(
     if let (Some(place), Some(old)) = (&source.config.second, &source.second) {
         find_as_read(rt, place, size, old, errors)?;
     }
-    write_change(rt, first, errors)?;
-    write_change(rt, second, errors)
+    write_change(rt, one, errors)?;
+    write_change(rt, other, errors)
 }
 
 /// Sees that a copy still is what was read. A fault is said on `errors`.

@@ -1,18 +1,15 @@
 //! The words that the program is called with.
 ghost use Rattle.std.specs.Prelude.{◌≡◌, IfOk, codes, false, map};
-ghost use Rattle.clap.specs.Words.{FailsBy, app_of, fault_of, found_of, rows_of, rule_of};
-ghost use Rattle.fw_tools.specs.Values.{given_by, is_given};
+ghost use Rattle.clap.specs.Words.{FailsBy, app_of, fault_of, rule_of};
 ghost use Rattle.fw_tools.specs.ProgramNames.{app_of_name, called_in, called_under, order_under};
 ghost use Rattle.fw_tools.specs.Words.{IsTool, fwenv, order_in};
 ghost use Rattle.fw_tools.specs.Words as words;
 
 use crate::client_words::{fw_printenv, fw_setenv};
+use crate::dry_run_words::{run, session};
 use crate::program_name::ProgramName;
-use crate::session_words::session;
 use crate::upkeep_words::{restore, status, wanted_file};
-use clap::parser::ValueSource;
 use clap::{Arg, ArgAction, ArgMatches, Command, Error};
-use envimg_core::Order;
 use std::alloc::{AllocError, Global};
 use std::convert::AsStr;
 
@@ -29,7 +26,7 @@ const EXAMPLE: &str =
 pub(crate) const VERSION: &str = "0.2.0";
 
 /// The flag for images of big-endian boards, and what the help says of it.
-const BIG_ENDIAN: &str = "big-endian";
+pub(crate) const BIG_ENDIAN: &str = "big-endian";
 
 const BIG_ENDIAN_HELP: &str =
     "The image is a big-endian board's: its checksum has the highest byte first";
@@ -51,23 +48,6 @@ pub(crate) fn read_words<'a, S: AsStr>(
     let command = command_of_name(alloc, under)?;
     let matches = command.try_get_matches_from(words)?;
     Ok(matches)
-}
-
-/// The byte order that the words chose.
-pub(crate) fn chosen_order(matches: &ArgMatches<'_>) -> Order
-    ensures { result ≡ order_in matches.now }
-{
-    match matches.value_source(BIG_ENDIAN) {
-        Some(ValueSource::CommandLine) => Order::Big,
-        _ => Order::Little,
-    }
-}
-
-/// Whether a flag stands among the words.
-pub(crate) fn is_given(matches: &ArgMatches<'_>, id: &str) -> bool
-    ensures { result ≡ is_given id.now (rows_of (found_of matches.now)) }
-{
-    is_from_words(matches.value_source(id))
 }
 
 /// The flag for images of big-endian boards.
@@ -111,11 +91,33 @@ pub(crate) fn default<'a>(alloc: Global) -> Arg<'a>
         .help("The default environment, a text as for import; without it that is empty")
 }
 
-/// Whether a value comes from the words.
-fn is_from_words(source: Option<ValueSource>) -> bool
-    ensures { result ≡ given_by source }
+/// `--need-copy`
+fn need_copy<'a>(alloc: Global) -> Arg<'a>
+    ensures rule { rule_of result ≡ words.need_copy }
+    ensures local { result.global ≡ false }
 {
-    matches!(source, Some(ValueSource::CommandLine))
+    flag(alloc, "need-copy").long("need-copy").help(
+        "Does nothing if no copy is good and no default environment is given, and says why",
+    )
+}
+
+/// A subcommand over a session, with the options that all of them have.
+pub(crate) fn tool<'a>(
+    alloc: Global,
+    name: &'a str,
+    about: &'a str,
+    example: &'a str,
+) -> Result<Command<'a>, AllocError>
+    ensures { IfOk result (IsTool (words.tool name.entry.now)) }
+{
+    let command = Command::new(alloc, name)
+        .about(about)
+        .after_help(example)
+        .arg(config(alloc))?
+        .arg(default(alloc))?
+        .arg(need_copy(alloc))?
+        .arg(big_endian(alloc))?;
+    Ok(command)
 }
 
 /// The command of a name.
@@ -140,7 +142,8 @@ fn command<'a>(alloc: Global) -> Result<Command<'a>, AllocError>
     let exporting = importing.subcommand(export(alloc)?)?;
     let restoring = exporting.subcommand(restore(alloc)?)?;
     let reporting = restoring.subcommand(status(alloc)?)?;
-    let talking = reporting.subcommand(session(alloc)?)?;
+    let running = reporting.subcommand(run(alloc)?)?;
+    let talking = running.subcommand(session(alloc)?)?;
     Ok(talking)
 }
 
@@ -173,14 +176,13 @@ fn printenv<'a>(alloc: Global) -> Result<Command<'a>, AllocError>
     let names = any_number(alloc, "names", "NAMES").help(
         "The variables; without names all of them",
     );
-    let command = Command::new(alloc, "printenv")
-        .about("Prints variables, a line NAME=VALUE each")
-        .after_help("Example:\n  fwenv printenv bootcmd bootdelay")
-        .arg(config(alloc))?
-        .arg(default(alloc))?
-        .arg(big_endian(alloc))?
-        .arg(value_only)?
-        .arg(names)?;
+    let plain = tool(
+        alloc,
+        "printenv",
+        "Prints variables, a line NAME=VALUE each",
+        "Example:\n  fwenv printenv bootcmd bootdelay",
+    )?;
+    let command = plain.arg(value_only)?.arg(names)?;
     Ok(command)
 }
 
@@ -190,7 +192,7 @@ pub(crate) fn script<'a>(alloc: Global) -> Arg<'a>
     ensures local { result.global ≡ false }
 {
     Arg::new(alloc, "script").short('s').value_name("FILE").help(
-        "Takes names and values from the lines of a script, in the place of NAME",
+        "Takes names and values from the lines of a script, in place of NAME",
     )
 }
 
@@ -218,14 +220,13 @@ pub(crate) fn words<'a>(alloc: Global) -> Arg<'a>
 fn setenv<'a>(alloc: Global) -> Result<Command<'a>, AllocError>
     ensures { IfOk result (IsTool words.setenv) }
 {
-    let command = Command::new(alloc, "setenv")
-        .about("Sets or deletes a variable, or several by a script, and saves")
-        .after_help(
-            "Example:\n  fwenv setenv bootargs console=ttyS0,115200 quiet\n  fwenv setenv bootargs -- -x",
-        )
-        .arg(config(alloc))?
-        .arg(default(alloc))?
-        .arg(big_endian(alloc))?
+    let plain = tool(
+        alloc,
+        "setenv",
+        "Sets or deletes a variable, or several by a script, and saves",
+        "Example:\n  fwenv setenv bootargs console=ttyS0,115200 quiet\n  fwenv setenv bootargs -- -x",
+    )?;
+    let command = plain
         .arg(script(alloc))?
         .arg(name(alloc))?
         .arg(words(alloc))?;
@@ -236,13 +237,13 @@ fn setenv<'a>(alloc: Global) -> Result<Command<'a>, AllocError>
 fn import<'a>(alloc: Global) -> Result<Command<'a>, AllocError>
     ensures { IfOk result (IsTool words.import) }
 {
-    let command = Command::new(alloc, "import")
-        .about("Sets the variables of a text, and saves")
-        .after_help("Example:\n  fwenv import variables.txt")
-        .arg(config(alloc))?
-        .arg(default(alloc))?
-        .arg(big_endian(alloc))?
-        .arg(wanted_file(alloc))?;
+    let plain = tool(
+        alloc,
+        "import",
+        "Sets the variables of a text, and saves",
+        "Example:\n  fwenv import variables.txt",
+    )?;
+    let command = plain.arg(wanted_file(alloc))?;
     Ok(command)
 }
 
@@ -250,10 +251,10 @@ fn import<'a>(alloc: Global) -> Result<Command<'a>, AllocError>
 fn export<'a>(alloc: Global) -> Result<Command<'a>, AllocError>
     ensures { IfOk result (IsTool words.export) }
 {
-    Command::new(alloc, "export")
-        .about("Prints every variable as a text that import reads")
-        .after_help("Example:\n  fwenv export > variables.txt")
-        .arg(config(alloc))?
-        .arg(default(alloc))?
-        .arg(big_endian(alloc))
+    tool(
+        alloc,
+        "export",
+        "Prints every variable as a text that import reads",
+        "Example:\n  fwenv export > variables.txt",
+    )
 }

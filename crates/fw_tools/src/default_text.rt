@@ -24,6 +24,8 @@ pub(crate) struct Defaults<'w> {
     pub(crate) plain: bool,
     /// Whether a copy has to be good where there is no text.
     pub(crate) need_copy: bool,
+    /// Whether the text is the whole environment, so that no copy is missed.
+    pub(crate) whole: bool,
 }
 
 impl<'w> Defaults<'w> {
@@ -36,6 +38,7 @@ impl<'w> Defaults<'w> {
                 path: Some(INITIAL_ENVIRONMENT),
                 plain: true,
                 need_copy: self.need_copy,
+                whole: self.whole,
             };
         }
         self

@@ -1,43 +1,74 @@
-//! What the words of `session` ask for.
-ghost use Rattle.std.specs.Prelude.{◌≡◌, ◌≤◌, option_map, option_copied, codes, IfOk, IfSome};
+//! What the words of `session` and `run` ask for.
+ghost use Rattle.std.specs.Prelude.{◌≡◌, ◌≤◌, map, option_map, option_copied, codes, IfOk, IfSome};
 ghost use Rattle.clap.specs.Words.{found_of, rows_of};
-ghost use Rattle.fw_tools.specs.DryRuns.{dry_run_of, dry_run_view, limits_of, number_in, number_of};
+ghost use Rattle.fw_tools.specs.DryRuns.{dry_run_of, dry_run_view, limits_of, number_in, number_of, run_within, script_by, script_of, script_run_of, script_run_view, script_view, script_within, text_by, texts};
 ghost use Rattle.fw_tools.specs.WordFaults.{word_seen};
 
-use crate::call::{WordFault, first, first_or};
-use crate::command_line::is_given;
-use crate::program_texts::{BAD_DEPTH, BAD_OUTPUT, BAD_STEPS, BAD_WORD, INVALID_VALUE};
-use crate::session_words::{DEPTH, OUTPUT, STEPS, WORD};
+use crate::arguments::{first, first_or, is_given, values};
+use crate::dry_run_words::{DEPTH, OUTPUT, STEPS, WORD};
+use crate::program_texts::{
+    BAD_DEPTH, BAD_OUTPUT, BAD_STEPS, BAD_WORD, INVALID_VALUE, NO_SCRIPT, SEVERAL_SCRIPTS,
+};
+use crate::word_fault::WordFault;
 use clap::ArgMatches;
 use hush_run::{Limits, MOST_DEPTH, MOST_OUTPUT, MOST_STEPS, MOST_WORD};
 use text_parts::{Base, numeral};
 
-/// A dry run: `session [--write] [--stubs FILE] [--steps N] [--depth N] [--word N] [--output N]`.
+/// What a session and the run of a script have: `[--write] [--stubs FILE] [--steps N] [--depth N] [--word N] [--output N]`.
 #[derive(Clone, Copy, Debug)]
 pub(crate) struct DryRun<'w> {
     /// Whether the copies are written back.
     pub(crate) write: bool,
     /// The path of the stand-ins, if there are any.
     pub(crate) stand_ins: Option<&'w str>,
-    /// How far each block may go.
+    /// How far each run may go.
     pub(crate) limits: Limits,
 }
 
-/// The dry run that the words of `session` ask for, or what is wrong with its numbers.
+/// The run of a script: `run [--boots NAME].. (NAMES | -e SCRIPT | -f FILE)`, with the options of a dry run.
+#[derive(Clone, Copy, Debug)]
+pub(crate) struct ScriptRun<'m, 'w> {
+    /// The options of a dry run.
+    pub(crate) dry: DryRun<'w>,
+    /// The names of commands that don't come back.
+    pub(crate) boots: Option<&'m [&'w str]>,
+    /// The script.
+    pub(crate) script: GivenScript<'m, 'w>,
+}
+
+/// A script to run.
+#[derive(Clone, Copy, Debug)]
+pub(crate) enum GivenScript<'m, 'w> {
+    /// Starts of the variables of these names, one after the other.
+    Names(&'m [&'w str]),
+    /// A text among the words.
+    Words(&'w str),
+    /// The text of the file at this path.
+    File(&'w str),
+}
+
+/// The dry run that the words of `session` or `run` ask for, or what is wrong with its numbers.
 pub(crate) fn read_dry_run<'w>(found: &ArgMatches<'w>) -> Result<DryRun<'w>, WordFault<'w>>
     ensures { word_seen dry_run_view result ≡ dry_run_of (rows_of (found_of found.now)) }
 {
     match read_limits(found) {
-        Ok(limits) => Ok(DryRun {
-            write: is_given(found, "write"),
-            stand_ins: first(found, "stubs"),
-            limits,
-        }),
+        Ok(limits) => Ok(dry_run_within(found, limits)),
         Err(fault) => Err(fault),
     }
 }
 
-/// The limits of each block. The first number that is wrong is answered.
+/// The dry run within these limits.
+fn dry_run_within<'w>(found: &ArgMatches<'w>, limits: Limits) -> DryRun<'w>
+    ensures { dry_run_view result ≡ run_within (rows_of (found_of found.now)) limits }
+{
+    DryRun {
+        write: is_given(found, "write"),
+        stand_ins: first(found, "stubs"),
+        limits,
+    }
+}
+
+/// The limits of each run. The first number that is wrong is answered.
 fn read_limits<'w>(found: &ArgMatches<'w>) -> Result<Limits, WordFault<'w>>
     ensures { word_seen (λ l. l) result ≡ limits_of (rows_of (found_of found.now)) }
 {
@@ -48,6 +79,83 @@ fn read_limits<'w>(found: &ArgMatches<'w>) -> Result<Limits, WordFault<'w>>
     match Limits::new(steps, depth, word, output) {
         Some(limits) => Ok(limits),
         None => unreachable!(),
+    }
+}
+
+/// The run of a script that the words of `run` ask for, or what is wrong with them.
+pub(crate) fn read_script_run<'m, 'w>(
+    found: &'m ArgMatches<'w>,
+) -> Result<ScriptRun<'m, 'w>, WordFault<'w>>
+    ensures { word_seen script_run_view result ≡ script_run_of (rows_of (found_of found.now)) }
+{
+    match read_limits(found) {
+        Ok(limits) => with_limits(found, limits),
+        Err(fault) => Err(fault),
+    }
+}
+
+/// The same within these limits.
+fn with_limits<'m, 'w>(
+    found: &'m ArgMatches<'w>,
+    limits: Limits,
+) -> Result<ScriptRun<'m, 'w>, WordFault<'w>>
+    ensures { word_seen script_run_view result ≡ script_within (rows_of (found_of found.now)) limits }
+{
+    match read_script(found) {
+        Ok(script) => Ok(ScriptRun {
+            dry: dry_run_within(found, limits),
+            boots: values(found, "boots"),
+            script,
+        }),
+        Err(fault) => Err(fault),
+    }
+}
+
+/// The script that the words of `run` give.
+fn read_script<'m, 'w>(found: &'m ArgMatches<'w>) -> Result<GivenScript<'m, 'w>, WordFault<'w>>
+    ensures { word_seen script_view result ≡ script_of (rows_of (found_of found.now)) }
+{
+    script_by(
+        values(found, "names"),
+        first(found, "text"),
+        first(found, "script"),
+    )
+}
+
+/// The one script that is given.
+fn script_by<'m, 'w>(
+    names: Option<&'m [&'w str]>,
+    text: Option<&'w str>,
+    path: Option<&'w str>,
+) -> Result<GivenScript<'m, 'w>, WordFault<'w>>
+    ensures { word_seen script_view result ≡ script_by (texts names.entry) (option_copied text.entry) (option_copied path.entry) }
+{
+    match names {
+        None => text_by(text, path),
+        Some(names) => {
+            if names.is_empty() {
+                text_by(text, path)
+            } else if text.is_some() || path.is_some() {
+                Err(WordFault::of(SEVERAL_SCRIPTS))
+            } else {
+                Ok(GivenScript::Names(names))
+            }
+        }
+    }
+}
+
+/// The one text that is given.
+fn text_by<'m, 'w>(
+    text: Option<&'w str>,
+    path: Option<&'w str>,
+) -> Result<GivenScript<'m, 'w>, WordFault<'w>>
+    ensures { word_seen script_view result ≡ text_by (option_copied text.entry) (option_copied path.entry) }
+{
+    match (text, path) {
+        (None, None) => Err(WordFault::of(NO_SCRIPT)),
+        (Some(text), None) => Ok(GivenScript::Words(text)),
+        (None, Some(path)) => Ok(GivenScript::File(path)),
+        (Some(_), Some(_)) => Err(WordFault::of(SEVERAL_SCRIPTS)),
     }
 }
 

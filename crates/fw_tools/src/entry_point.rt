@@ -10,7 +10,8 @@ ghost use Rattle.fw_tools.specs.ProgramNames.{called_in};
 ghost use Rattle.fw_tools.specs.Words.{order_in};
 ghost use Rattle.std.specs.IoError.{error_kind};
 
-use crate::command_line::{chosen_order, read_words};
+use crate::arguments::chosen_order;
+use crate::command_line::read_words;
 use crate::copy_report::run_report;
 use crate::program_name::ProgramName;
 use crate::program_texts::{CANNOT_READ, CANNOT_WRITE, NO_WORDS, NOT_UTF8, OUT_OF_MEMORY};

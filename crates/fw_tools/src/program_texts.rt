@@ -108,3 +108,38 @@ pub(crate) const BAD_WORD: &[u8] =
 
 pub(crate) const BAD_OUTPUT: &[u8] =
     b"' for '--output <N>': not a number from 0 to 16777216\n\nFor more information, try '--help'.\n";
+
+pub(crate) const BAD_SIZE: &[u8] =
+    b"' for '--size <N>': not the size of an image in hexadecimal, 0x8 to 0x100000\n\n\
+      For more information, try '--help'.\n";
+
+/// Standard error where an environment without a board is asked for, and what only a board has.
+pub(crate) const ENV_AND_CONFIG: &[u8] =
+    b"error: the argument '--env <FILE>' cannot be used with '-c <FILE>'\n\n\
+      For more information, try '--help'.\n";
+
+pub(crate) const ENV_AND_DEFAULT: &[u8] =
+    b"error: the argument '--env <FILE>' cannot be used with '--default <FILE>'\n\n\
+      For more information, try '--help'.\n";
+
+pub(crate) const ENV_AND_COPY: &[u8] =
+    b"error: the argument '--env <FILE>' cannot be used with '--need-copy'\n\n\
+      For more information, try '--help'.\n";
+
+pub(crate) const ENV_AND_WRITE: &[u8] =
+    b"error: the argument '--env <FILE>' cannot be used with '--write'\n\n\
+      For more information, try '--help'.\n";
+
+/// Standard error where a size is given without such an environment.
+pub(crate) const SIZE_ALONE: &[u8] =
+    b"error: the argument '--size <N>' is only for '--env <FILE>'\n\n\
+      For more information, try '--help'.\n";
+
+/// Standard error where `run` has no script, or more than one.
+pub(crate) const NO_SCRIPT: &[u8] =
+    b"error: the following required arguments were not provided:\n  <NAMES|-e <SCRIPT>|-f <FILE>>\n\n\
+      Usage: fwenv run [OPTIONS] [NAMES]...\n\nFor more information, try '--help'.\n";
+
+pub(crate) const SEVERAL_SCRIPTS: &[u8] =
+    b"error: only one of '[NAMES]...', '-e <SCRIPT>' and '-f <FILE>' can be given\n\n\
+      Usage: fwenv run [OPTIONS] [NAMES]...\n\nFor more information, try '--help'.\n";

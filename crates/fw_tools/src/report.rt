@@ -5,9 +5,11 @@ ghost use Rattle.fw_tools.specs.Calls.{call_of};
 ghost use Rattle.fw_tools.specs.Report.{asked_of, asked_view, looked, report_of, report_view, subject_by, subject_of, subject_view, worked};
 ghost use Rattle.fw_tools.specs.WordFaults.{word_seen};
 
-use crate::call::{Call, WordFault, either_order, first, first_or, read_call};
-use crate::command_line::{CONFIG, chosen_order, is_given};
+use crate::arguments::{chosen_order, either_order, first, first_or, is_given};
+use crate::call::{Call, read_call};
+use crate::command_line::CONFIG;
 use crate::program_texts::CONFIG_AND_FILE;
+use crate::word_fault::WordFault;
 use clap::ArgMatches;
 use envimg_core::Order;
 

@@ -6,23 +6,24 @@ ghost use Rattle.fw_tools.specs.Copies.{overlap};
 ghost use Rattle.fw_tools.specs.Said.{SaysSome};
 ghost use Rattle.env_session.specs.Session.{bytes_of, opened, opening_choice};
 ghost use Rattle.envcfg_core.specs.Config.{config_of, config_view};
-ghost use Rattle.fw_tools.specs.Source.{IsSourceOf, fault_of_copy, lacks_copy, second_bytes, warning};
+ghost use Rattle.fw_tools.specs.Source.{IsSourceOf, fault_of_copy, lacks_copy, second_bytes, warned};
 ghost use Rattle.fw_engines.specs.Streams.{AppendsFront};
 
 use crate::copies::{ReadCopy, read_copy, share_a_byte};
 use crate::default_text::{Defaults, given_defaults};
 use crate::files::{FileFault, read_file, say_fault, value_or_say};
 use crate::program_texts::{
-    BAD_CRC_DEFAULT, COPIES_OVERLAP, IN_FIRST, IN_SECOND, LOOK_AT, NO_GOOD_COPY,
+    BAD_CRC_DEFAULT, COPIES_OVERLAP, IN_FIRST, IN_SECOND, LOOK_AT, NO_GOOD_COPY, OUT_OF_MEMORY,
 };
 use env_session::{Session, Stored};
 use envcfg_core::{Config, ConfigFault, Place, parse_config};
-use envimg_core::{Choice, CopyState, Geometry, Order, check_copy, choose};
+use envimg_core::{Choice, CopyState, Geometry, Layout, Order, check_copy, choose};
 use envvars_core::Vars;
 use fw_engines::streams::{say, write_three, write_two};
 use std::alloc::{AllocError, Global};
 use std::io::Write;
 use std::rt::Files;
+use std::string::String;
 
 /// Where the copies of a session lie, and their bytes as they were read.
 #[derive(Drop)]
@@ -71,6 +72,53 @@ pub(crate) fn read_source<X: Files + AllocGlobal, E: Write>(
     })
 }
 
+/// A single image in memory, erased. Where there is no memory for it that is said on `errors`.
+pub(crate) fn erased_or_say<E: Write>(
+    alloc: Global,
+    order: Order,
+    size: u32,
+    errors: &mut E,
+) -> Option<Source>
+    ensures { MatchOption result (SaysSome (E.contents errors.old) (E.contents errors.new))
+        (λ source. (source.geometry.order ≡ order) × (E.contents errors.new ≡ E.contents errors.old)) }
+{
+    // there is one: the size is one that a single image may have
+    let geometry = Geometry::with_order(Layout::Single, size, order)?;
+    match erased(alloc, geometry) {
+        Ok(source) => Some(source),
+        Err(_) => {
+            say(errors, OUT_OF_MEMORY);
+            None
+        }
+    }
+}
+
+/// An erased image of this size, which is in no device.
+fn erased(alloc: Global, geometry: Geometry) -> Result<Source, AllocError>
+    ensures { IfOk result (λ source. source.geometry ≡ geometry) }
+{
+    let size = geometry.size();
+    let first = ReadCopy {
+        bytes: vec![in alloc; 0xFFu8; size as usize]?,
+        start: 0,
+    };
+    let place = Place {
+        device: String::new(alloc),
+        offset: 0,
+    };
+    Ok(Source {
+        config: Config {
+            layout: Layout::Single,
+            size,
+            first: place,
+            second: None,
+        },
+        geometry,
+        first,
+        second: None,
+    })
+}
+
 /// The session over these copies, with the default environment of a text, or an empty one. Where neither copy is good
 /// that is said on `errors`, before a fault of the text; none where one has to be, and then the copies' faults are said.
 pub(crate) fn open<X: Files + AllocGlobal, E: Write>(
@@ -86,7 +134,8 @@ pub(crate) fn open<X: Files + AllocGlobal, E: Write>(
     match session_over(rt, source, asked) {
         Ok(session) => accept(source, asked, session, errors),
         Err(fault) => {
-            warn(current_of(source), errors);
+            let current = current_of(source);
+            warn(asked.whole | lacks_copy(asked, current), current, errors);
             say_fault(rt.alloc(), errors, asked.path.unwrap_or(""), fault);
             None
         }
@@ -107,7 +156,7 @@ fn accept<E: Write>(
         say_faults(source, errors);
         return None;
     }
-    warn(session.current(), errors);
+    warn(asked.whole, session.current(), errors);
     Some(session)
 }
 
@@ -273,11 +322,11 @@ fn current_of(source: &Source) -> Choice
     choose(check_copy(&source.geometry, &source.first.bytes), second)
 }
 
-/// Says on `errors` where neither copy is good.
-fn warn<E: Write>(current: Choice, errors: &mut E)
-    ensures { AppendsFront (E.contents errors.old) (E.contents errors.new) (warning current) }
+/// Says on `errors` where neither copy is good, unless none has to be.
+fn warn<E: Write>(whole: bool, current: Choice, errors: &mut E)
+    ensures { AppendsFront (E.contents errors.old) (E.contents errors.new) (warned whole current) }
 {
-    if current == Choice::Neither {
+    if !whole && current == Choice::Neither {
         say(errors, BAD_CRC_DEFAULT);
     }
 }

@@ -11,16 +11,18 @@ ghost use Rattle.fw_engines.specs.Restoration.{LacksMemoryToRestore, restore_eff
 ghost use Rattle.text_parts.specs.Words.{spaced};
 ghost use Rattle.fw_engines.specs.Tool.{Printed, Prints};
 
-use crate::call::{Call, Job, Printing, Task};
+use crate::call::{Call, Job};
 use crate::changed_copies::write_back;
 use crate::copies::lock_device;
 use crate::entry_point::{report, stopped};
 use crate::files::{entries_or_say, read_file, script_from, value_or_say};
 use crate::lock_file::lock_or_say;
 use crate::program_texts::OUT_OF_MEMORY;
+use crate::script_work::run_given;
 use crate::session_run::talk;
-use crate::source::{Source, config_or_say, open, read_source};
+use crate::source::{Source, config_or_say, erased_or_say, open, read_source};
 use crate::system::System;
+use crate::task::{Printing, Task};
 use env_session::Session;
 use envimg_core::Choice;
 use fw_engines::streams::{say, write_text};
@@ -63,13 +65,68 @@ fn use_files<X: System + AllocGlobal, R: Read, W: Write, E: Write>(
         (record { input = R.remaining input.new; output = W.contents output.new; errors = E.contents errors.new })
         (unwrap_or result 1) }
 {
+    match call.image {
+        None => use_devices(rt, call, input, output, errors),
+        Some(size) => use_memory(rt, size, call, input, output, errors),
+    }
+}
+
+/// The same over the devices that the configuration names.
+fn use_devices<X: System + AllocGlobal, R: Read, W: Write, E: Write>(
+    rt: &X,
+    call: &Call<'_, '_>,
+    input: &mut R,
+    output: &mut W,
+    errors: &mut E,
+) -> Option<u8>
+    ensures { Uses (call_view call.now)
+        (record { input = R.remaining input.old; output = W.contents output.old; errors = E.contents errors.old })
+        (record { input = R.remaining input.new; output = W.contents output.new; errors = E.contents errors.new })
+        (unwrap_or result 1) }
+{
     let config = config_or_say(rt, call.config, errors)?;
     let lock = lock_device(rt, &config.first, call.job.hold());
     let source = read_source(rt, call.order, config, errors)?;
     let _lock = lock_for_work(lock, &call.job);
+    open_and_work(rt, &source, call, input, output, errors)
+}
+
+/// The same over an erased image in memory.
+fn use_memory<X: System + AllocGlobal, R: Read, W: Write, E: Write>(
+    rt: &X,
+    size: u32,
+    call: &Call<'_, '_>,
+    input: &mut R,
+    output: &mut W,
+    errors: &mut E,
+) -> Option<u8>
+    ensures { Uses (call_view call.now)
+        (record { input = R.remaining input.old; output = W.contents output.old; errors = E.contents errors.old })
+        (record { input = R.remaining input.new; output = W.contents output.new; errors = E.contents errors.new })
+        (unwrap_or result 1) }
+{
+    let source = erased_or_say(rt.alloc(), call.order, size, errors)?;
+    open_and_work(rt, &source, call, input, output, errors)
+}
+
+/// Opens the session over these copies and works on it; none where a file can't be used.
+fn open_and_work<X: System + AllocGlobal, R: Read, W: Write, E: Write>(
+    rt: &X,
+    source: &Source,
+    call: &Call<'_, '_>,
+    input: &mut R,
+    output: &mut W,
+    errors: &mut E,
+) -> Option<u8>
+    requires { source.now.geometry.order ≡ call.now.order }
+    ensures { Uses (call_view call.now)
+        (record { input = R.remaining input.old; output = W.contents output.old; errors = E.contents errors.old })
+        (record { input = R.remaining input.new; output = W.contents output.new; errors = E.contents errors.new })
+        (unwrap_or result 1) }
+{
     let defaults = call.defaults.found(rt);
-    let session = open(rt, &source, &defaults, errors)?;
-    work(rt, &source, session, call, input, output, errors)
+    let session = open(rt, source, &defaults, errors)?;
+    work(rt, source, session, call, input, output, errors)
 }
 
 /// The lock under which a job works, if it writes what it read: the other jobs let go of it here. A dry run takes it again to
@@ -100,6 +157,7 @@ fn work<X: System + AllocGlobal, R: Read, W: Write, E: Write>(
             use_tool(rt, source, opened, call.only_changes, *task, output, errors)
         }
         Job::DryRun(run) => talk(rt, source, opened, run, input, output, errors),
+        Job::Script(run) => run_given(rt, source, opened, run, output, errors),
     }
 }
 

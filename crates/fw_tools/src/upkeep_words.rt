@@ -4,7 +4,7 @@ ghost use Rattle.clap.specs.Words.{rule_of};
 ghost use Rattle.fw_tools.specs.Words.{IsTool};
 ghost use Rattle.fw_tools.specs.Words as words;
 
-use crate::command_line::{big_endian, config, default};
+use crate::command_line::{big_endian, config, tool};
 use clap::{Arg, Command};
 use std::alloc::{AllocError, Global};
 
@@ -12,13 +12,13 @@ use std::alloc::{AllocError, Global};
 pub(crate) fn restore<'a>(alloc: Global) -> Result<Command<'a>, AllocError>
     ensures { IfOk result (IsTool words.restore) }
 {
-    let command = Command::new(alloc, "restore")
-        .about("Makes the variables those of a text and no others, read-only ones too, and saves")
-        .after_help("Example:\n  fwenv export > variables.txt\n  fwenv restore variables.txt")
-        .arg(config(alloc))?
-        .arg(default(alloc))?
-        .arg(big_endian(alloc))?
-        .arg(wanted_file(alloc))?;
+    let plain = tool(
+        alloc,
+        "restore",
+        "Makes the variables those of a text and no others, read-only ones too, and saves",
+        "Example:\n  fwenv export > variables.txt\n  fwenv restore variables.txt",
+    )?;
+    let command = plain.arg(wanted_file(alloc))?;
     Ok(command)
 }
 
@@ -26,9 +26,7 @@ pub(crate) fn restore<'a>(alloc: Global) -> Result<Command<'a>, AllocError>
 pub(crate) fn status<'a>(alloc: Global) -> Result<Command<'a>, AllocError>
     ensures { IfOk result (IsTool words.status) }
 {
-    let image = file(alloc).help(
-        "A file that is looked at as one image, in the place of the copies",
-    );
+    let image = file(alloc).help("A file that is looked at as one image, in place of the copies");
     let command = Command::new(alloc, "status")
         .about("Says what each copy is good for, and which is current; writes nothing")
         .after_help("Example:\n  fwenv status -c fw_env.config\n  fwenv status board.img")

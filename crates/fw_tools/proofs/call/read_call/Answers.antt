@@ -1,17 +1,12 @@
 use Rattle.std.proofs.Common.{ap, ◌∙◌}
 use Rattle.clap.specs.Words.{found_of, rows_of}
-use Rattle.fw_tools.specs.Calls.{job_view, with_files}
-use Rattle.fw_tools.specs.Words.{either_order}
-use Rattle.fw_tools.proofs.CallLemmas.{with_files_is}
-use Rattle.fw_tools.proofs.WordLemmas.{order_by_rows}
+use Rattle.fw_tools.specs.Calls.{with_image}
+use Rattle.fw_tools.specs.DryRuns.{and_then}
 use Rattle.fw_tools.proofs.call.read_call.Goals as goal
 
 pub returns-in-Ok : goal.returns-in-Ok
 returns-in-Ok c =
-    let rows = rows_of (found_of c.args.found.now) in
-    with_files_is c.args.order c.args.name.now rows _ _ _ _ _ (job_view c.in-Ok.job) c.first_or.ensures c.defaults_of.ensures c.lock_of.ensures
-    (c.either_order.ensures ∙ ap (either_order c.args.order) (c.chosen_order.ensures ∙ order_by_rows c.args.found.now)) c.is_client.ensures
-    ∙ ap (with_files c.args.order c.args.name.now rows) c.in-Ok.ensures
+    c.with_image.ensures ∙ ap (λ image. and_then image (with_image c.args.order c.args.name.now (rows_of (found_of c.args.found.now)))) c.in-Ok.ensures
 
 pub returns-in-Err : goal.returns-in-Err
-returns-in-Err c = ap (with_files c.args.order c.args.name.now (rows_of (found_of c.args.found.now))) c.in-Err.ensures
+returns-in-Err c = ap (λ image. and_then image (with_image c.args.order c.args.name.now (rows_of (found_of c.args.found.now)))) c.in-Err.ensures

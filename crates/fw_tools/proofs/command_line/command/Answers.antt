@@ -1,14 +1,11 @@
-use Rattle.std.proofs.Common.{ap, ◌∙◌}
-use Rattle.clap.specs.Words.{with_subcommand}
-use Rattle.fw_tools.specs.Words as words
+use Rattle.fw_tools.proofs.WordLemmas.{with_tool}
 use Rattle.fw_tools.proofs.command_line.command.Goals as goal
 
 pub returns : goal.returns
 returns c =
-    c.in_ok-session.ensures.1 _ _ c.in_ok-talking.ensures ∙ ap (λ a. with_subcommand a words.session.top)
-    (c.in_ok-status.ensures.1 _ _ c.in_ok-reporting.ensures ∙ ap (λ a. with_subcommand a words.status.top)
-    (c.in_ok-restore.ensures.1 _ _ c.in_ok-restoring.ensures ∙ ap (λ a. with_subcommand a words.restore.top)
-    (c.in_ok-export.ensures.1 _ _ c.in_ok-exporting.ensures ∙ ap (λ a. with_subcommand a words.export.top)
-    (c.in_ok-import.ensures.1 _ _ c.in_ok-importing.ensures ∙ ap (λ a. with_subcommand a words.import.top)
-    (c.in_ok-setenv.ensures.1 _ _ c.in_ok-setting.ensures ∙ ap (λ a. with_subcommand a words.setenv.top)
-    (c.in_ok-printenv.ensures.1 _ _ c.in_ok-printing.ensures ∙ ap (λ a. with_subcommand a words.printenv.top) c.in_ok-top.ensures))))))
+    with_tool _ _ _ _ _ (with_tool _ _ _ _ _ (with_tool _ _ _ _ _ (with_tool _ _ _ _ _
+    (with_tool _ _ _ _ _ (with_tool _ _ _ _ _ (with_tool _ _ _ _ _ (with_tool _ _ _ _ _ c.in_ok-top.ensures
+    c.in_ok-printenv.ensures c.in_ok-printing.ensures) c.in_ok-setenv.ensures c.in_ok-setting.ensures)
+    c.in_ok-import.ensures c.in_ok-importing.ensures) c.in_ok-export.ensures c.in_ok-exporting.ensures)
+    c.in_ok-restore.ensures c.in_ok-restoring.ensures) c.in_ok-status.ensures c.in_ok-reporting.ensures)
+    c.in_ok-run.ensures c.in_ok-running.ensures) c.in_ok-session.ensures c.in_ok-talking.ensures

@@ -1,12 +1,11 @@
-use Rattle.std.proofs.Common.{rules, ap, ap₂, codes, ◌≡◌, ◌∙◌, Some}
-use Rattle.clap.specs.Words.{app_of, new_app, rule_of, with_rule, with_subcommand}
+use Rattle.std.proofs.Common.{rules, codes, ◌≡◌, Some}
+use Rattle.clap.specs.Words.{rule_of}
 use Rattle.fw_tools.specs.Words as words
+use Rattle.fw_tools.proofs.WordLemmas.{with_one_more}
 use Rattle.fw_tools.proofs.command_line.printenv.Goals as goal
 
 pub returns : goal.returns
 returns c =
-    let command_is : app_of c.after_help.result ≡ new_app (codes "printenv") = search rules in
     let value_is : rule_of c.help-value_only.result ≡ record (words.flag (codes "value-only")) { short = Some 110 } = search rules in
     let names_is : rule_of c.help-names.result ≡ words.any_number (codes "names") = search rules in
-    let is : app_of c.in_ok-command.command ≡ words.printenv = (c.in_ok-command.ensures.shape (search rules) ∙ ap₂ with_rule (c.in_ok-arg-4.ensures.shape (search rules) ∙ ap₂ with_rule (c.in_ok-arg-3.ensures.shape (search rules) ∙ ap₂ with_rule (c.in_ok-arg-2.ensures.shape (search rules) ∙ ap₂ with_rule (c.in_ok-arg.ensures.shape (search rules) ∙ ap₂ with_rule command_is c.config.ensures.rule) c.default.ensures.rule) c.big_endian.ensures.rule) value_is) names_is) in
-    (is, λ old new adds. adds.shape (search rules) ∙ ap (λ a. with_subcommand (app_of old) a.top) is)
+    with_one_more _ _ _ _ _ (with_one_more _ _ _ _ _ c.in_ok-plain.ensures c.in_ok-arg.ensures value_is (search rules)) c.in_ok-command.ensures names_is (search rules)

@@ -1,11 +1,15 @@
-use Rattle.std.proofs.Common.{rules, ap, ap₂, codes, ◌≡◌, ◌∙◌}
-use Rattle.clap.specs.Words.{app_of, new_app, rule_of, with_rule, with_subcommand}
+use Rattle.std.proofs.Common.{rules, codes, ◌≡◌}
+use Rattle.clap.specs.Words.{new_app, rule_of}
 use Rattle.fw_tools.specs.Words as words
+use Rattle.fw_tools.specs.Words.{IsTool}
+use Rattle.fw_tools.proofs.WordLemmas.{with_one_more}
 use Rattle.fw_tools.proofs.upkeep_words.status.Goals as goal
 
 pub returns : goal.returns
 returns c =
-    let command_is : app_of c.after_help.result ≡ new_app (codes "status") = search rules in
+    let start : IsTool (new_app (codes "status")) c.after_help.result = (search rules, search rules) in
     let image_is : rule_of c.help-image.result ≡ words.file = search rules in
-    let is : app_of c.in_ok-command.command ≡ words.status = (c.in_ok-command.ensures.shape (search rules) ∙ ap₂ with_rule (c.in_ok-arg-2.ensures.shape (search rules) ∙ ap₂ with_rule (c.in_ok-arg.ensures.shape (search rules) ∙ ap₂ with_rule command_is c.config.ensures.rule) c.big_endian.ensures.rule) image_is) in
-    (is, λ old new adds. adds.shape (search rules) ∙ ap (λ a. with_subcommand (app_of old) a.top) is)
+    with_one_more _ _ _ _ _ (with_one_more _ _ _ _ _ (with_one_more _ _ _ _ _ start
+    c.in_ok-arg.ensures c.config.ensures.rule c.config.ensures.local)
+    c.in_ok-arg-2.ensures c.big_endian.ensures.rule c.big_endian.ensures.local)
+    c.in_ok-command.ensures image_is (search rules)

@@ -1,0 +1,17 @@
+use Rattle.std.proofs.Common.{inr, subst}
+use Rattle.hush_syntax.specs.Scripts.{tree_of}
+use Rattle.fw_engines.specs.Streams.{Writers}
+use Rattle.fw_tools.specs.DryRuns.{script_run_view}
+use Rattle.fw_tools.specs.ScriptRuns.{RunsTree}
+use Rattle.fw_tools.proofs.script_work.run_text.Goals as goal
+
+pub returns-in-Some : goal.returns-in-Some
+returns-in-Some g c =
+    let tree = tree_of c.in-Some.script in
+    let new : Writers = record { output = g.W.Write.contents c.run_script.new.output; errors = g.E.Write.contents c.run_script.new.errors } in
+    inr (
+      tree,
+      c.in-Some.ensures.0,
+      subst (λ e. RunsTree (script_run_view c.args.asked.now) c.args.stand_ins.now tree c.args.opened (record { output = g.W.Write.contents c.args.output.now; errors = e }) new c.run_script.result)
+          c.in-Some.ensures.1 c.run_script.ensures,
+    )

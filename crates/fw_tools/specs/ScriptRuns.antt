@@ -1,0 +1,82 @@
+-- What `run` does over a session (docs/dry-runs.md, "A script's own status").
+use Rattle.std.specs.Prelude.{◌≡◌, ◌⊎◌, ℕ, ◌==◌, ◌&&◌, Bool, true, false, if◌then◌else◌, List, [], ◌∷◌, ◌++◌, Option, Some, None, codes}
+use Rattle.std.specs.List.{flat_map}
+use Rattle.clap.specs.Words.{Text}
+use Rattle.env_session.specs.Session.{Held}
+use Rattle.hush_syntax.specs.Grammar.{Chains}
+use Rattle.hush_syntax.specs.Reading.{read}
+use Rattle.hush_syntax.specs.declared.faults.FaultKind.{FaultKind}
+use Rattle.hush_commands.specs.Stubs.{Statuses, with_boot}
+use Rattle.hush_run.specs.Runs.{rules}
+use Rattle.fw_engines.specs.ScriptRun.{RunsScript, fault_line}
+use Rattle.fw_engines.specs.Streams.{AppendsFront, Writers}
+use Rattle.fw_engines.specs.declared.tool_end.ToolEnd.{ToolEnd}
+use Rattle.fw_engines.specs.declared.tool_end.StreamFault.TheVariants.{Memory}
+use Rattle.fw_tools.specs.DryRuns.{GivenScript, Names, Words, File, ScriptRun}
+use Rattle.fw_tools.specs.Said.{Says, SaysSome, Stops, message_of}
+use Rattle.fw_tools.specs.SessionRun.{AreStubsOf}
+
+-- a name in quotes, in which each quote is outside of them
+abbrev pub quoted : ℕ → List ℕ
+quoted b = if b == 39 then codes "'\\''" else b ∷ []
+
+abbrev pub quoted_name : Text → List ℕ
+quoted_name name = codes " '" ++ flat_map quoted name ++ codes "'"
+
+-- a `run` of these names
+abbrev pub starts : List Text → List ℕ
+starts names = codes "run" ++ flat_map quoted_name names
+
+-- the text that is run; of a file it is some text
+abbrev pub IsTextOf : GivenScript → List ℕ → Type 0
+IsTextOf (Names names) text = text ≡ starts names
+IsTextOf (Words given) text = text ≡ given
+IsTextOf (File path) text = Unit {0}
+
+-- its name where it is said to be no script
+abbrev pub name_of_script : GivenScript → Text
+name_of_script (Names names) = codes "run"
+name_of_script (Words given) = codes "-e"
+name_of_script (File path) = path
+
+-- it is said where a text isn't a script, or that memory ran out
+abbrev pub Refuses : (name text : List ℕ) → Option (List ℕ) → Option (List ℕ) → Type 0
+Refuses name text old new =
+    AppendsFront old new (message_of Memory)
+    ⊎ ((kind : FaultKind) × (count : ℕ) × (read text ≡ None) × AppendsFront old new (fault_line name text count kind))
+
+-- the copies are written back where that was asked for and the status is 0
+abbrev pub is_kept : Bool → (status : ℕ) → Bool
+is_kept write status = write && status == 0
+
+abbrev pub ClosesRun : Bool → ToolEnd → Option (List ℕ) → Option (List ℕ) → ℕ → Type 0
+ClosesRun true end old new status = (SaysSome old new × (status ≡ 1)) ⊎ (Says end.fault old new × (status ≡ end.status))
+ClosesRun false end old new status = Says end.fault old new × (status ≡ end.status)
+
+-- a script with this tree is run over a session, and that is left
+abbrev pub RunsTree : ScriptRun → Statuses → Option Chains → Held → Writers → Writers → ℕ → Type 0
+RunsTree run stand_ins tree session old new status =
+    (after : Held) × (between : Option (List ℕ)) × (end : ToolEnd)
+    × RunsScript (rules stand_ins run.dry.limits) tree session after old (record { output = new.output; errors = between }) end
+    × ClosesRun (is_kept run.dry.write end.status) end between new.errors status
+
+-- a text is run, if it is a script
+abbrev pub RunsText : ScriptRun → Statuses → List ℕ → Held → Writers → Writers → ℕ → Type 0
+RunsText run stand_ins text session old new status =
+    ((new.output ≡ old.output) × Refuses (name_of_script run.script) text old.errors new.errors × (status ≡ 1))
+    ⊎ ((tree : Option Chains) × (read text ≡ Some tree) × RunsTree run stand_ins tree session old new status)
+
+-- the stand-ins, of which those of these names boot
+abbrev pub with_boots : Statuses → List Text → Statuses
+with_boots stand_ins [] = stand_ins
+with_boots stand_ins (name ∷ names) = with_boots (with_boot stand_ins name) names
+
+abbrev pub AreStandInsOf : ScriptRun → Statuses → Type 0
+AreStandInsOf run stand_ins = (read : Statuses) × AreStubsOf run.dry.stand_ins read × (stand_ins ≡ with_boots read run.boots)
+
+-- or before that a file can't be used, or memory runs out
+abbrev pub RunsOver : ScriptRun → Held → Writers → Writers → ℕ → Type 0
+RunsOver run session old new status =
+    Stops old new status
+    ⊎ ((stand_ins : Statuses) × (text : List ℕ) × AreStandInsOf run stand_ins × IsTextOf run.script text
+    × RunsText run stand_ins text session old new status)

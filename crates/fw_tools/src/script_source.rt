@@ -1,0 +1,171 @@
+//! The script that `run` is given: its text, and the text read as a script.
+ghost use Rattle.std.specs.Prelude.{◌≡◌, ◌++◌, IfOk, MatchOption, Some, map};
+ghost use Rattle.std.specs.List.{flat_map};
+ghost use Rattle.hush_syntax.specs.Reading.{read};
+ghost use Rattle.hush_syntax.specs.Scripts.{tree_of};
+ghost use Rattle.fw_tools.specs.DryRuns.{script_view};
+ghost use Rattle.fw_tools.specs.Said.{SaysSome};
+ghost use Rattle.fw_tools.specs.ScriptRuns.{IsTextOf, Refuses, name_of_script, quoted, quoted_name, starts};
+
+use crate::dry_runs::GivenScript;
+use crate::files::{FileFault, read_file, value_or_say};
+use crate::program_texts::{OUT_OF_MEMORY, STANDARD_INPUT};
+use fw_engines::say_syntax_fault;
+use fw_engines::streams::say;
+use hush_syntax::{FaultKind, Script};
+use std::alloc::{AllocError, Global};
+use std::io::Write;
+use std::rt::Files;
+
+impl<'w> GivenScript<'_, 'w> {
+    /// Its name where it is said to be no script.
+    pub(crate) fn name(&self) -> &'w str
+        ensures { result.now ≡ name_of_script (script_view self.now) }
+    {
+        match *self {
+            GivenScript::Names(_) => "run",
+            GivenScript::Words(_) => "-e",
+            GivenScript::File(path) => path,
+        }
+    }
+
+    /// The path of its file, if there is one.
+    fn path(&self) -> &'w str {
+        match *self {
+            GivenScript::File(path) => path,
+            _ => "",
+        }
+    }
+}
+
+/// The text of a script; a fault is said on `errors`.
+pub(crate) fn text_or_say<X: Files + AllocGlobal, E: Write>(
+    rt: &X,
+    given: &GivenScript<'_, '_>,
+    errors: &mut E,
+) -> Option<Vec<u8>>
+    ensures { MatchOption result (SaysSome (E.contents errors.old) (E.contents errors.new))
+        (λ text. IsTextOf (script_view given.now) text.items × (E.contents errors.new ≡ E.contents errors.old)) }
+{
+    value_or_say(rt.alloc(), errors, given.path(), read_text(rt, given))
+}
+
+/// The text of a script.
+fn read_text<X: Files + AllocGlobal>(
+    rt: &X,
+    given: &GivenScript<'_, '_>,
+) -> Result<Vec<u8>, FileFault>
+    ensures { IfOk result (λ text. IsTextOf (script_view given.now) text.items) }
+{
+    match *given {
+        GivenScript::Names(names) => starts_of(rt.alloc(), names),
+        GivenScript::Words(text) => copy_of(rt.alloc(), text.as_bytes()),
+        GivenScript::File(path) => read_file(rt, if path == "-" { STANDARD_INPUT } else { path }),
+    }
+}
+
+/// A `run` of these names, if there is memory.
+fn starts_of(alloc: Global, names: &[&str]) -> Result<Vec<u8>, FileFault>
+    ensures { IfOk result (λ text. text.items ≡ starts (map (λ n. n.now) names.now)) }
+{
+    match starts(alloc, names) {
+        Ok(text) => Ok(text),
+        Err(_) => Err(FileFault::Memory),
+    }
+}
+
+/// A copy of a text, if there is memory.
+fn copy_of(alloc: Global, text: &[u8]) -> Result<Vec<u8>, FileFault>
+    ensures { IfOk result (λ copy. copy.items ≡ text.now) }
+{
+    match Vec::from_slice(alloc, text) {
+        Ok(copy) => Ok(copy),
+        Err(_) => Err(FileFault::Memory),
+    }
+}
+
+/// A `run` of these names, each in quotes.
+fn starts(alloc: Global, names: &[&str]) -> Result<Vec<u8>, AllocError>
+    ensures { IfOk result (λ text. text.items ≡ starts (map (λ n. n.now) names.now)) }
+{
+    let mut text = Vec::from_slice(alloc, b"run")?;
+    for name in names {
+        push_name(&mut text, name.as_bytes())?;
+    }
+    Ok(text)
+}
+
+/// Appends a name in quotes.
+fn push_name(text: &mut Vec<u8>, name: &[u8]) -> Result<(), AllocError>
+    ensures { IfOk result (λ _. text.new.items ≡ text.old.items ++ quoted_name name.now) }
+{
+    text.extend_from_slice(b" '")?;
+    push_inside(text, name)?;
+    text.extend_from_slice(b"'")?;
+    Ok(())
+}
+
+/// Appends what is in the quotes.
+fn push_inside(text: &mut Vec<u8>, name: &[u8]) -> Result<(), AllocError>
+    ensures { IfOk result (λ _. text.new.items ≡ text.old.items ++ flat_map quoted name.now) }
+{
+    for byte in name {
+        push_quoted(text, *byte)?;
+    }
+    Ok(())
+}
+
+/// Appends a byte that is in quotes; a quote is outside of them.
+fn push_quoted(text: &mut Vec<u8>, byte: u8) -> Result<(), AllocError>
+    ensures { IfOk result (λ _. text.new.items ≡ text.old.items ++ quoted byte) }
+{
+    if byte == b'\'' {
+        text.extend_from_slice(b"'\\''")?;
+    } else {
+        text.push(byte)?;
+    }
+    Ok(())
+}
+
+/// The script in a text. If it is none that is said on `errors`, with its place.
+pub(crate) fn script_or_say<E: Write>(
+    alloc: Global,
+    name: &str,
+    text: &[u8],
+    errors: &mut E,
+) -> Option<Script>
+    ensures { MatchOption result (Refuses name.now text.now (E.contents errors.old) (E.contents errors.new))
+        (λ script. (read text.now ≡ Some (tree_of script)) × (E.contents errors.new ≡ E.contents errors.old)) }
+{
+    match copy_of(alloc, text) {
+        Ok(copy) => parsed_or_say(alloc, name, text, copy, errors),
+        Err(_) => {
+            say(errors, OUT_OF_MEMORY);
+            None
+        }
+    }
+}
+
+/// The same of a text and its copy.
+fn parsed_or_say<E: Write>(
+    alloc: Global,
+    name: &str,
+    text: &[u8],
+    copy: Vec<u8>,
+    errors: &mut E,
+) -> Option<Script>
+    requires { copy.items ≡ text.now }
+    ensures { MatchOption result (Refuses name.now text.now (E.contents errors.old) (E.contents errors.new))
+        (λ script. (read text.now ≡ Some (tree_of script)) × (E.contents errors.new ≡ E.contents errors.old)) }
+{
+    match Script::parse(alloc, copy) {
+        Ok(script) => Some(script),
+        Err(fault) => {
+            match fault.kind {
+                FaultKind::Memory => say(errors, OUT_OF_MEMORY),
+                _ => say_syntax_fault(errors, name.as_bytes(), text, fault),
+            }
+            None
+        }
+    }
+}

@@ -1,0 +1,174 @@
+//! `run`: a script is run over a session for its own status.
+ghost use Rattle.std.specs.Prelude.{◌≡◌, IfOk, MatchOption, map, unwrap_or};
+ghost use Rattle.hush_run.specs.Runs.{rules};
+ghost use Rattle.hush_syntax.specs.Scripts.{tree_of};
+ghost use Rattle.fw_tools.specs.DryRuns.{script_run_view, texts};
+ghost use Rattle.fw_tools.specs.ScriptRuns.{AreStandInsOf, ClosesRun, RunsOver, RunsText, RunsTree, is_kept, with_boots};
+ghost use Rattle.fw_tools.specs.Said.{SaysSome};
+
+use crate::changed_copies::write_other_first;
+use crate::dry_runs::ScriptRun;
+use crate::entry_point::report;
+use crate::files::{FileFault, read_stand_ins, value_or_say};
+use crate::script_source::{script_or_say, text_or_say};
+use crate::source::Source;
+use crate::system::System;
+use env_session::Session;
+use envimg_core::Choice;
+use fw_engines::{ToolEnd, run};
+use hush_run::Stubs;
+use hush_syntax::Script;
+use std::alloc::{AllocError, Global};
+use std::io::Write;
+
+/// Runs the script that is asked for over a session, and leaves that; none where a file can't be used before.
+pub(crate) fn run_given<X: System + AllocGlobal, W: Write, E: Write>(
+    rt: &X,
+    source: &Source,
+    opened: Session,
+    asked: &ScriptRun<'_, '_>,
+    output: &mut W,
+    errors: &mut E,
+) -> Option<u8>
+    ensures { RunsOver (script_run_view asked.now) opened
+        (record { output = W.contents output.old; errors = E.contents errors.old })
+        (record { output = W.contents output.new; errors = E.contents errors.new }) (unwrap_or result 1) }
+{
+    let stand_ins = stand_ins_or_say(rt, asked, errors)?;
+    let text = text_or_say(rt, &asked.script, errors)?;
+    Some(run_text(rt, source, opened, asked, &stand_ins, &text, output, errors))
+}
+
+/// The stand-ins, of which some boot; a fault is said on `errors`.
+fn stand_ins_or_say<X: System + AllocGlobal, E: Write>(
+    rt: &X,
+    asked: &ScriptRun<'_, '_>,
+    errors: &mut E,
+) -> Option<Stubs>
+    ensures { MatchOption result (SaysSome (E.contents errors.old) (E.contents errors.new))
+        (λ stand_ins. AreStandInsOf (script_run_view asked.now) stand_ins × (E.contents errors.new ≡ E.contents errors.old)) }
+{
+    let path = asked.dry.stand_ins.unwrap_or("");
+    value_or_say(rt.alloc(), errors, path, stand_ins_of(rt, asked))
+}
+
+/// The stand-ins, of which some boot.
+fn stand_ins_of<X: System + AllocGlobal>(
+    rt: &X,
+    asked: &ScriptRun<'_, '_>,
+) -> Result<Stubs, FileFault>
+    ensures { IfOk result (AreStandInsOf (script_run_view asked.now)) }
+{
+    let mut stand_ins = read_stand_ins(rt, asked.dry.stand_ins)?;
+    match boot_given(rt.alloc(), &mut stand_ins, asked.boots) {
+        Ok(()) => Ok(stand_ins),
+        Err(_) => Err(FileFault::Memory),
+    }
+}
+
+/// Makes the stand-ins of these names boot.
+fn boot_given(
+    alloc: Global,
+    stand_ins: &mut Stubs,
+    names: Option<&[&str]>,
+) -> Result<(), AllocError>
+    ensures { IfOk result (λ _. stand_ins.new ≡ with_boots stand_ins.old (texts names.entry)) }
+{
+    match names {
+        None => Ok(()),
+        Some(names) => boot_all(alloc, stand_ins, names),
+    }
+}
+
+/// The same of names that are there.
+fn boot_all(alloc: Global, stand_ins: &mut Stubs, names: &[&str]) -> Result<(), AllocError>
+    ensures { IfOk result (λ _. stand_ins.new ≡ with_boots stand_ins.old (map (λ n. n.now) names.now)) }
+{
+    for name in names {
+        stand_ins.boot(alloc, name.as_bytes())?;
+    }
+    Ok(())
+}
+
+/// Runs a text, if it is a script.
+fn run_text<X: System + AllocGlobal, W: Write, E: Write>(
+    rt: &X,
+    source: &Source,
+    opened: Session,
+    asked: &ScriptRun<'_, '_>,
+    stand_ins: &Stubs,
+    text: &[u8],
+    output: &mut W,
+    errors: &mut E,
+) -> u8
+    ensures { RunsText (script_run_view asked.now) stand_ins.now text.now opened
+        (record { output = W.contents output.old; errors = E.contents errors.old })
+        (record { output = W.contents output.new; errors = E.contents errors.new }) result }
+{
+    match script_or_say(rt.alloc(), asked.script.name(), text, errors) {
+        None => 1,
+        Some(script) => {
+            run_script(
+                rt, source, opened, asked, stand_ins, &script, output, errors,
+            )
+        }
+    }
+}
+
+/// Runs a script over a session, and leaves that.
+fn run_script<X: System + AllocGlobal, W: Write, E: Write>(
+    rt: &X,
+    source: &Source,
+    opened: Session,
+    asked: &ScriptRun<'_, '_>,
+    stand_ins: &Stubs,
+    script: &Script,
+    output: &mut W,
+    errors: &mut E,
+) -> u8
+    ensures { RunsTree (script_run_view asked.now) stand_ins.now (tree_of script.now) opened
+        (record { output = W.contents output.old; errors = E.contents errors.old })
+        (record { output = W.contents output.new; errors = E.contents errors.new }) result }
+{
+    let mut session = opened;
+    let current = session.current();
+    let limits = &asked.dry.limits;
+    let end = run(
+        rt.alloc(),
+        &mut session,
+        script,
+        stand_ins,
+        limits,
+        output,
+        errors,
+    );
+    leave(rt, source, asked.dry.write, current, session, end, errors)
+}
+
+/// Writes the copies back where that was asked for and the status is 0, and answers the exit status.
+fn leave<X: System + AllocGlobal, E: Write>(
+    rt: &X,
+    source: &Source,
+    write: bool,
+    current: Choice,
+    session: Session,
+    end: ToolEnd,
+    errors: &mut E,
+) -> u8
+    ensures { ClosesRun (is_kept write end.status) end (E.contents errors.old) (E.contents errors.new) result }
+{
+    if !is_kept(write, end.status) {
+        return report(end, errors);
+    }
+    match write_other_first(rt, source, current, &session.close(), errors) {
+        None => 1,
+        Some(()) => report(end, errors),
+    }
+}
+
+/// Whether the copies are written back.
+fn is_kept(write: bool, status: u8) -> bool
+    ensures { result ≡ is_kept write status }
+{
+    write && status == 0
+}
