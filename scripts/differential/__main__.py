@@ -14,14 +14,15 @@ from differential.running import Runner
 
 PARTS = (
     "images", "texts", "scripts", "runs", "requests", "inputs", "calls", "largest", "documents", "mistakes", "session_rows", "tool_rows",
-    "report_rows", "client_rows", "cuts", "streams", "files", "hostile_files", "costs", "memory", "other_tools",
+    "report_rows", "client_rows", "script_rows", "cuts", "streams", "files", "hostile_files", "costs", "memory", "other_tools",
 )
 SHOWN = 5
 # What an answer tells: the ending of a block, a dot line's answer, a message, or that nothing is said
 TOLD = re.compile(
     rb"^\[(Finished|Exited|Steps|Depth|Word|Output|Syntax|Marked|Full|Undone|Gone|Unknown)"
     rb"|^(?:fwenv: .*|## Error: bad image): (\w+)(?: in line \d+)?\n"
-    rb"|(no room|bad name|type check|not defined|Can't \w+|too short|overlap|cannot read)",
+    rb"|^fwenv: run ended as (\w+)|^fwenv: .*:\d+:\d+: (\w+): "
+    rb"|(no room|bad name|type check|not defined|Can't \w+|too short|overlap|cannot read|no good copy)",
     re.M,
 )
 

@@ -6,6 +6,7 @@ import functools
 from differential.boards import CONFIG, text_of
 from differential.damage import at_random, mutant, numbers_of
 from differential.running import Case
+from differential.scripts import SCRIPTS, TOKENS
 from differential.texts import IMPORTS, IMPORT_TOKENS, SET_SCRIPTS, STAND_INS
 from model.image import ERASED, Geometry, entries
 
@@ -17,18 +18,38 @@ ENVIRONMENTS = [
     {b".flags": b"n:d,o:so,r:sr,c:bc", b"a": b"1 2", b"n": b"3", b"c": b"1"},
     {b"#c": b"1", b" d": b"2", b"m": b"x\\\ny", b"e\nf": b"3", b"\xff": b"\xfe"},
     {b"o": b"1", b".flags": b"o:so", b"long": b"0123456789" * 5},
+    {b"a": b"echo $q; saveenv", b"b": b"run a; exit 2", b"n": b"run n", b"q": b"mmc; usb", b"r": b"'", b" d": b"setenv a"},
 ]
-INPUTS = [b".print\n.save\n.print\n", b"setenv a 5; saveenv\necho $a $?\n.undo\n.print\n.save\n", b"printenv -a\nmmc\nexit 3\n", b""]
-WRONG = [[b"frob"], [b""], [b"--frob"], [b"-x"], [b"printenv", b"-z"], [b"\xff"], [b"export", b"a"], [b"import"], [b"session", b"a"]]
+INPUTS = [
+    b".print\n.save\n.print\n", b"setenv a 5; saveenv\necho $a $?\n.undo\n.print\n.save\n", b"printenv -a\nmmc\nexit 3\n", b"",
+    b"saveenv; echo a\nmmc && exit 0\nexit", b"echo a\n  if",
+]  # fmt: skip
+WRONG = [
+    [b"frob"], [b""], [b"--frob"], [b"-x"], [b"printenv", b"-z"], [b"\xff"], [b"export", b"a"], [b"import"], [b"session", b"a"],
+    [b"run"], [b"run", b"-e", b"true", b"a"], [b"run", b"-f", b"text", b"-e", b"a"], [b"run", b"-n", b"a"], [b"printenv", b"--env", b"a"],
+    [b"session", b"--size", b"9"], [b"session", b"-f", b"text"], [b"status", b"--need-copy"],
+]  # fmt: skip
 NUMBERS = {
     b"--steps": [b"0", b"1", b"3", b"007", b"1000000", b"1000001", b"-1", b"", b"1x", b"99999999999999999999"],
     b"--depth": [b"0", b"16", b"17", b"+1"],
     b"--word": [b"0", b"4", b"65536", b"65537"],
     b"--output": [b"0", b"9", b"16777216", b"16777217"],
 }
+# Of a run, whose loops have to end soon
+STEPS = [b"0", b"1", b"3", b"020", b"200", b"1000001", b"1x"]
+RUNS = [
+    b"true", b"false", b"exit", b"exit 3", b"exit 0", b"echo $a; false", b"setenv a 5; saveenv", b"saveenv; false", b"saveenv; saveenv",
+    b"mmc; echo $?; usb", b"usb || mmc", b"mmc; false", b"saveenv; mmc x; echo a", b"run q", b"run a b", b"printenv -a", b"setenv o 2; setenv n x; saveenv",
+    b"echo a\n  'b", b"true\n\nif false; then", b"a=1; fi", b"\xc3\xa9 ${a", b"a & b",
+]  # fmt: skip
+GIVEN_STAND_INS = [*STAND_INS, *[b"mmc\nusb 1\n"] * 4]
+BOOTS = [b"mmc", b"mmc", b"usb", b"mmcinfo", b"echo", b"", b"\xc3\xa9"]
+SIZES = [b"0x4000", b"1000", b"0X100", b"200", b"80", b"0d", b"8", b"100001", b"4k"]
+DRY = (b"session", b"run")
 OFTEN = {
     **{name: 0.003 for name in ("too short", "overlap", "cannot read", "no room", "bad name", "type check", "not defined")},
     **{name: 0.0002 for name in ("Can't create", "Can't delete", "Can't overwrite", "EmptyName", "Undone")},
+    **{name: 0.001 for name in ("Exited", "Finished", "Quote", "Missing", "Unexpected", "Substitution", "no good copy")},
     "status 0": 0.3,
 }
 
@@ -84,8 +105,9 @@ class Calls:
             self.files[name] = content
         return name
 
-    def entries_text(self):
-        if self.chance(40):
+    def entries_text(self, per_cent=40):
+        """A text for import, which is often one of an environment."""
+        if self.chance(per_cent):
             return text_of(self.numbers.choice(ENVIRONMENTS))
         return mutant(self.numbers.choice(IMPORTS), IMPORT_TOKENS, self.numbers)
 
@@ -96,16 +118,50 @@ class Calls:
             return forms[0] if value[:1] in (b"-", b"") or self.chance(50) else forms[1]
         return self.numbers.choice([[name, value], [name + value], [name + b"=" + value]])
 
-    def shared(self, tool, words):
-        """The options that each subcommand has, in any order; a report of a file mostly has none."""
-        if tool == b"status" and words and not self.chance(5):
+    def shared(self, tool, words, is_whole):
+        """The options that each subcommand has, in any order; a report of a file, and a text that is the whole environment, mostly
+        have none."""
+        if (is_whole or tool == b"status" and words) and not self.chance(5):
             return []
         options = [self.option(b"-c", CONFIG if not self.chance(3) else b"absent")]
         if tool != b"status" and self.chance(40):
             options.append(self.option(b"--default", self.text(b"default", self.entries_text())))
+        if tool != b"status" and self.chance(25):
+            options.append([b"--need-copy"])
         return options
 
-    def own(self, tool):
+    def script(self):
+        if self.chance(70):
+            return self.numbers.choice(RUNS)
+        return mutant(self.numbers.choice(SCRIPTS), TOKENS, self.numbers)
+
+    def given_script(self):
+        """The options and the other words that give a script."""
+        if self.chance(30):
+            return [], [self.numbers.choice(NAMES), *self.some(NAMES, 2)]
+        if self.chance(50):
+            return [self.option(b"-e", self.script().replace(b"\0", b""))], []
+        return [self.option(b"-f", b"-" if self.chance(25) else self.text(b"script", self.script()))], []
+
+    def dry_run(self, tool, is_whole):
+        """The options of a dry run, and the script of one."""
+        numbers, often = (NUMBERS, 20) if tool == b"session" else (NUMBERS | {b"--steps": STEPS}, 8)
+        options = [self.option(name, self.numbers.choice(values)) for name, values in numbers.items() if self.chance(often)]
+        if self.chance(50):
+            options.append(self.option(b"--stubs", self.text(b"stand-ins", self.numbers.choice(GIVEN_STAND_INS))))
+        if is_whole:
+            options.append(self.option(b"--env", self.text(b"env", self.entries_text(80))))
+        if self.chance(30 if is_whole else 2):
+            options.append(self.option(b"--size", self.numbers.choice(SIZES)))
+        options += [[b"--write"]] * self.chance(5 if is_whole else 60)
+        if tool == b"session":
+            return options, []
+        if not any(option[0].startswith(b"--steps") for option in options):
+            options.append([b"--steps=200"])
+        given, words = self.given_script()
+        return options + given + [self.option(b"--boots", name) for name in self.some(BOOTS, 2)], words
+
+    def own(self, tool, is_whole):
         """The options and the other words of a subcommand."""
         if tool == b"printenv":
             return [[b"-n"]] * self.chance(30), self.some(NAMES, 2)
@@ -117,18 +173,14 @@ class Calls:
             return [], [self.numbers.choice([b"one", b"two", CONFIG])] * self.chance(40)
         if tool in (b"import", b"restore"):
             return [], [self.text(b"text", self.entries_text())]
-        if tool == b"export":
-            return [], []
-        options = [self.option(name, self.numbers.choice(values)) for name, values in NUMBERS.items() if self.chance(20)]
-        if self.chance(40):
-            options.append(self.option(b"--stubs", self.text(b"stand-ins", self.numbers.choice(STAND_INS))))
-        return options + [[b"--write"]] * self.chance(60), []
+        return self.dry_run(tool, is_whole) if tool in DRY else ([], [])
 
     def subcommand(self):
-        tool = self.numbers.choice([b"printenv", b"setenv", b"setenv", b"import", b"export", b"restore", b"status", b"session"])
+        tool = self.numbers.choice([b"printenv", b"setenv", b"setenv", b"import", b"export", b"restore", b"status", b"session", b"run", b"run"])
+        is_whole = tool in DRY and self.chance(35)
         self.board()
-        own, words = self.own(tool)
-        options = self.shared(tool, words) + own
+        own, words = self.own(tool, is_whole)
+        options = self.shared(tool, words, is_whole) + own
         front = []
         if self.order == "big":
             (front if self.chance(30) else options).append([b"--big-endian"])

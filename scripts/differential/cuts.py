@@ -34,6 +34,11 @@ def call(words, files=(), given=b"", over=FILES):
     return Case(tool.decode(), arguments(tool, *rest), over | dict(files), given)
 
 
+def whole_environment(words):
+    """A run over a text alone."""
+    return Case("run", [b"run", b"--env", b"text", *words], FILES | {b"text": b"a=echo x; run m\nm=echo y\\\necho z\n#q=\nb=true\n"})
+
+
 # What prints one text on standard output alone
 PRINTING = [
     Case("an image", [], given=ONE),
@@ -44,9 +49,11 @@ PRINTING = [
     call([b"export"], over=board(FORM, [FORM.image(7, b"a=b\0"), ERASED * FORM.size])),
     call([b"status"]),
     call([b"status"], over=NEVER_WRITTEN),
+    call([b"run", b"--write", b"-e", b"echo a; setenv a 3; saveenv"]),
+    whole_environment([b"a", b"m"]),
 ]
 # What prints on both streams
-ON_BOTH = [call([b"printenv", b"q", b"a"]), call([b"export"])]
+ON_BOTH = [call([b"printenv", b"q", b"a"]), call([b"export"]), call([b"run", b"--write", b"-e", b"saveenv; false"])]
 # What says one text on standard error
 SAYING = [
     Case("no image", []),
@@ -62,6 +69,10 @@ SAYING = [
     call([b"import", b"text"], {b"text": b"=1\n"}),
     call([b"restore", b"text"], {b"text": b"a=1\nb=" + TOO_MUCH + b"\n"}),
     call([b"session", b"--write", b"--stubs", b"absent"], given=b".save\n"),
+    call([b"run", b"--write", b"-e", b"setenv a 3; false"]),
+    call([b"run", b"--write", b"-e", b"saveenv\n  'x"]),
+    whole_environment([b"--steps", b"0", b"a"]),
+    call([b"printenv", b"--need-copy"], over=NEVER_WRITTEN),
     call([b"printenv", b"--default", b"text"], {b"text": b"p=1\n"}, over=NEVER_WRITTEN),
 ]
 # What reads a file on whose bytes its answer depends
@@ -73,6 +84,8 @@ READING = [
     (b"image", Case("a whole file", [b"status", b"image"], FILES | {b"image": FORM.image(7, b"a=b\0")})),
     (b"text", call([b"setenv", b"--default", b"text", b"c", b"3"], {b"text": b"a=1\nb=2\n"}, over=NEVER_WRITTEN)),
     (b"text", call([b"session", b"--write", b"--stubs", b"text"], {b"text": STAND_INS}, ASKED)),
+    (b"text", call([b"run", b"--write", b"-f", b"text"], {b"text": b"setenv a $m; saveenv\nsaveenv; echo 'b\nc'\nfalse || exit 0\n"})),
+    (b"text", whole_environment([b"-e", b"run a || printenv"])),
 ]
 
 
@@ -214,6 +227,28 @@ def saves():
     yield replace(case, cut=Cut(DEVICE, "sync"), moved=(1, 0), wanted=not_flushed)
 
 
+def script_read():
+    """A script on standard input, which is opened by its path."""
+    case = call([b"run", b"--write", b"-f", b"-"], given=b"saveenv; echo\n")
+    for place in places(len(case.given) + 1, "fail", "none"):
+        answer = replace(case, given=case.given[: place[0]]).answer()
+        wanted = Answer(1, b"", CANNOT_READ % b"-", case.files) if place[2] == "fail" else answer
+        yield cut_case(case, b"/dev/stdin", "read", place, wanted)
+
+
+def saves_of_a_run():
+    """The copy that was current at the start is written after the other, of which it is seen that it is whole."""
+    case = call([b"run", b"--write", b"-e", b"saveenv; saveenv"])
+    second, first = [FORM.image(flag, b"#q=1\0a=one 2\0m=x\ny\0") for flag in (8, 9)]
+    for place in places(FORM.size, "fail", "none"):
+        cut_second = [STORED[0], second[: place[0]] + STORED[1][place[0] :]]
+        cut_first = [first[: place[0]] + STORED[0][place[0] :], second]
+        for opening, copies in ((1, cut_second), (2, cut_first)):
+            wanted = Answer(1, case.answer().output, CANNOT_WRITE % DEVICE, board(FORM, copies))
+            yield cut_case(case, DEVICE, "write", place, wanted, opening)
+    yield replace(case, cut=Cut(DEVICE, "write", step=1), wanted=case.answer())
+
+
 def saves_of_both():
     case = call([b"session", b"--write"], given=b".save\n.save\n")
     second, first = [FORM.image(flag, b"#q=1\0a=one 2\0m=x\ny\0") for flag in (8, 9)]
@@ -229,4 +264,4 @@ def chunks():
     each = [functools.partial(errors_cut, case) for case in SAYING] + [functools.partial(both_cut, case) for case in ON_BOTH]
     for name, case in READING:
         each += [functools.partial(read_failing, name, case), functools.partial(read_ending, name, case)]
-    return each + [helps, sessions, printed, image_read, copies_read, saves, saves_of_both]
+    return each + [helps, sessions, printed, image_read, copies_read, saves, saves_of_both, script_read, saves_of_a_run]

@@ -31,6 +31,9 @@ WITHOUT_FILES = [
     ([b"session", b"--help"], b""),
     ([b"--version"], b""),
     ([b"session", b"--depth", b"17"], b""),
+    ([b"run", b"--help"], b""),
+    ([b"run", b"--env", b"text", b"--size", b"7", b"a"], b""),
+    ([b"run", b"--env", b"text", b"-e", b"true", b"a"], b""),
 ]
 # Tools over two copies: their words, and perhaps the file `text`
 TOOLS = [
@@ -89,6 +92,22 @@ SESSIONS = [
     ("a loop that counts", COUNTING, [b"--steps=10", b"--depth=4"]),
     ("every dot line", DOT_LINES, [*LIMITS, b"--steps=1000"]),
     ("a block of 500 commands", COMMANDS, [*LIMITS, b"--steps=1000"]),
+]
+# Scripts that are run over two copies, and over the text `text` alone: the words, and perhaps standard input
+SAVED = b"for i in $a x; do echo $i; done\nsetenv a c; saveenv && run a || echo $?; mmc; saveenv; a_stand_in_of_a_long_name 1 2; false\n"
+BOOTS = [b"--stubs", b"stand-ins", b"--boots", b"a_stand_in_of_a_long_name", b"--boots", b"none"]
+WHOLE = [b"run", b"--env", b"text"]
+WHOLE_TEXT = b"""# names and quotes
+a=echo a; run it's
+it's=setenv b $a; setexpr n 0$n + 1; env delete a
+"""
+RUNS = [
+    ("a script that saves", [*arguments(b"run", b"--write"), *BOOTS, b"-e", SAVED]),
+    ("a script that boots", [*arguments(b"run", b"--write"), *BOOTS, b"-f", b"-"], b"saveenv\n" * 9 + b"a_stand_in_of_a_long_name"),
+    ("a script that fails", [*arguments(b"run", b"--write"), b"-e", b"saveenv; false"]),
+    ("no script", [*arguments(b"run", b"--write"), b"-e", b"saveenv\n'"]),
+    ("names", [*WHOLE, b"a", b"it's", b"a"]),
+    ("a text alone", [*WHOLE, b"--size=100", b"-f", b"text"]),
 ]
 OVER_PAIR = b"setenv a bc; mmc\n.save\n.mark p\nsetenv a\n.undo p\n.print\n.undo\n"
 
@@ -237,5 +256,35 @@ def over_pair():
     yield session("a save", SESSION, over_copies(), b".save\n")
 
 
+def texts_of(case):
+    """What a run may have printed before it is stopped: the text of its first steps."""
+    program, call = Program(case.files, case.given), read_arguments(case.arguments)
+    session, names, limits = program.opened(call), program.stand_ins(call), call.limits()
+    _, text = program.script(call)
+    try:
+        tree = parse(text)
+    except Fault:
+        return {b""}
+
+    def outcome(steps):
+        return run(copy.deepcopy(session), tree, names, (steps, *limits[1:]), call.options.get("--boots", ()))
+
+    return {outcome(steps).text for steps in range(outcome(limits[0]).steps + 1)}
+
+
+def is_stopped(case, texts, found):
+    return (found.status, found.errors, found.files) == (1, NO_MEMORY, case.files) and found.output in texts
+
+
+def runs():
+    """What a run printed before memory ran out went out, and no copy is written."""
+    for name, words, *given in RUNS:
+        files = over_copies() | {b"stand-ins": b"mmc 3\na_stand_in_of_a_long_name\n", b"text": WHOLE_TEXT}
+        case = Case(f"{name} without memory", words, files, *given)
+        yield refusing(case, accepts=functools.partial(is_stopped, case, texts_of(case)))
+    case = Case("no good copy without memory", arguments(b"printenv", b"--need-copy"), over_copies(BLANK, BLANK))
+    yield refusing(case, WARNING)
+
+
 def chunks():
-    return [without_files, tools, over_pair, *(functools.partial(one_session, row) for row in SESSIONS)]
+    return [without_files, tools, over_pair, runs, *(functools.partial(one_session, row) for row in SESSIONS)]

@@ -7,7 +7,10 @@ import itertools
 import re
 from dataclasses import replace
 
-# For each part the count and the seed, and of how many cases one is tried
+from differential.boards import DEVICE
+from model.program import WARNING
+
+# For each part the count and the seed, if it has some, and of how many cases one is tried
 PARTS = {
     "images": (400, 1, 60),
     "texts": (100, 1, 4),
@@ -16,6 +19,7 @@ PARTS = {
     "requests": (200, 1, 1),
     "inputs": (100, 1, 11),
     "calls": (400, 1, 1),
+    "script_rows": (2,),
 }
 
 
@@ -41,6 +45,34 @@ def written(change):
 
 def status(number):
     return lambda found, _: replace(found, status=number)
+
+
+def ends_well(pattern):
+    """The status is 0 where this is said."""
+    return lambda found, _: replace(found, status=0) if re.search(pattern, found.errors) else found
+
+
+def saved_anyway(found, _):
+    """A copy is written where a script saved and the status isn't 0."""
+    if found.status == 0 or b"Saved copy 2" not in found.output:
+        return found
+    return replace(found, files=found.files | {DEVICE: found.files[DEVICE][:15] + bytes(10) + found.files[DEVICE][25:]})
+
+
+def counted_from_0(which):
+    """The line or the column of a fault is one less."""
+
+    def less(match):
+        place = [int(match[1]), int(match[2])]
+        place[which] -= 1
+        return b":%d:%d: " % tuple(place)
+
+    return lambda found, _: replace(found, errors=re.sub(rb":(\d+):(\d+): ", less, found.errors))
+
+
+def warned(found, case):
+    """The text that is the whole environment is taken for a default one."""
+    return replace(found, errors=WARNING + found.errors) if b"--env" in case.arguments and found.status == 0 else found
 
 
 def turned(text, old, after):
@@ -107,13 +139,34 @@ MISTAKES = {
         "the text for another fault": errors(b"is too short", b"cannot be read"),
         "the value without its name": output(rb"\A\w+=([^\n]*\n)\Z", rb"\1"),
         "a file too many": lambda found, _: replace(found, files=found.files | {b"more": b""}),
+        "a run that a limit stopped ends well": ends_well(rb"ended as (?:Steps|Word|Output)"),
+        "a place without its line": errors(rb":\d+:(\d+: \w+: )", rb":\1"),
+        "copies that aren't good are taken": errors(rb"fwenv: no good copy.*\n", WARNING),
+    },
+    "script_rows": {
+        "a run that its depth stopped ends well": ends_well(b"ended as Depth"),
+        "a run with another status ends well": ends_well(b"ended as Finished with"),
+        "an exit with another status ends well": ends_well(b"ended as Exited with"),
+        "a copy is written though the status is 1": saved_anyway,
+        "the other copy isn't written": written(lambda old, new: old),
+        "a column counted from 0": counted_from_0(1),
+        "a line counted from 0": counted_from_0(0),
+        "the name of another script": errors(rb"fwenv: -e:", b"fwenv: run:"),
+        "another kind of fault": errors(b": Missing: the text ends.*\n", b": Unexpected: not expected here\n"),
+        "a step that isn't counted": errors(rb"after 2 steps", b"after 1 steps"),
+        "a status where a limit stopped the run": errors(rb"(ended as Steps)", rb"\1 with status 0"),
+        "a stand-in that boots comes back": output(rb"(\+ booti[^\n]*\n)\Z", rb"\1a\n"),
+        "the next name is started after a failure": output(rb"\Z", b"fine\n"),
+        "a warning over a whole environment": warned,
+        "a second copy that is passed over": errors(rb"( in the first copy, )checksum is wrong", rb"\1list of entries isn't ended"),
+        "a whole environment with a configuration": errors(rb"error: the argument '--env <FILE>' cannot.*", b"fwenv: cannot read absent\n"),
     },
 }
 
 
 def cases_of(name):
-    count, seed, every = PARTS[name]
-    made = importlib.import_module(f"differential.{name}").chunks(count, seed)
+    *numbers, every = PARTS[name]
+    made = importlib.import_module(f"differential.{name}").chunks(*numbers)
     return itertools.islice(itertools.chain.from_iterable(chunk() for chunk in made), 0, None, every)
 
 
@@ -121,7 +174,7 @@ def missed(runner, name):
     """The mistakes of a part that no case finds out, and how many there are."""
     left = dict(MISTAKES[name])
     for case in cases_of(name):
-        wanted, found = case.answer(), runner.run(case)
+        wanted, found = case.answer() if case.is_modelled else case.wanted, runner.run(case)
         assert found.is_as(wanted), case
         left = {title: mistake for title, mistake in left.items() if mistake(found, case).is_as(wanted)}
     return [f"the mistake '{title}' in an answer to {name}" for title in left], len(MISTAKES[name])

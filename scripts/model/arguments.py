@@ -6,19 +6,26 @@ import pathlib
 import re
 from dataclasses import dataclass, field
 
-FLAGS, VALUES = {"--big-endian"}, {"-c", "--default"}
+from model.image import LARGEST
+from model.texts import SIZE
+
+# The flags of each subcommand, which may be before it too, and the options of all that open an environment
+FLAGS, OPENING_FLAGS, OPENING_VALUES = {"--big-endian"}, {"--need-copy"}, {"-c", "--default"}
+DRY_VALUES = {"--stubs", "--steps", "--depth", "--word", "--output", "--env", "--size"}
 # Of each subcommand: its flags, its options with a value, and how many other words it takes
 FORMS = {
-    "printenv": ({"-n"}, set(), (0, None)),
-    "setenv": (set(), {"-s"}, (0, None)),
-    "import": (set(), set(), (1, 1)),
-    "export": (set(), set(), (0, 0)),
-    "restore": (set(), set(), (1, 1)),
-    "status": (set(), set(), (0, 1)),
-    "session": ({"--write"}, {"--stubs", "--steps", "--depth", "--word", "--output"}, (0, 0)),
+    "printenv": (OPENING_FLAGS | {"-n"}, OPENING_VALUES, (0, None)),
+    "setenv": (OPENING_FLAGS, OPENING_VALUES | {"-s"}, (0, None)),
+    "import": (OPENING_FLAGS, OPENING_VALUES, (1, 1)),
+    "export": (OPENING_FLAGS, OPENING_VALUES, (0, 0)),
+    "restore": (OPENING_FLAGS, OPENING_VALUES, (1, 1)),
+    "status": (set(), {"-c"}, (0, 1)),
+    "session": (OPENING_FLAGS | {"--write"}, OPENING_VALUES | DRY_VALUES, (0, 0)),
+    "run": (OPENING_FLAGS | {"--write"}, OPENING_VALUES | DRY_VALUES | {"--boots", "-e", "-f"}, (0, None)),
 }
-WITHOUT_DEFAULT = {"status"}
-# The limits of a session: the usual one, and the largest
+# Options that may be given more than once
+REPEATED = {"--boots"}
+# The limits of a dry run: the usual one, and the largest
 LIMITS = {
     "--steps": (100_000, 1_000_000),
     "--depth": (8, 16),
@@ -41,6 +48,34 @@ Usage: fwenv status [OPTIONS] [FILE]
 For more information, try '--help'.
 """
 NO_NUMBER = b"""error: invalid value '%s' for '%s <N>': not a number from 0 to %d
+
+For more information, try '--help'.
+"""
+NO_SIZE = b"""error: invalid value '%s' for '--size <N>': not the size of an image in hexadecimal, 0x8 to 0x100000
+
+For more information, try '--help'.
+"""
+USUAL_SIZE = b"0x4000"
+ENV_AND = b"""error: the argument '--env <FILE>' cannot be used with '%s'
+
+For more information, try '--help'.
+"""
+# What only a board has, in the order in which it is told
+NOT_WITH_ENV = {"-c": b"-c <FILE>", "--default": b"--default <FILE>", "--need-copy": b"--need-copy", "--write": b"--write"}
+SIZE_ALONE = b"""error: the argument '--size <N>' is only for '--env <FILE>'
+
+For more information, try '--help'.
+"""
+NO_SCRIPT = b"""error: the following required arguments were not provided:
+  <NAMES|-e <SCRIPT>|-f <FILE>>
+
+Usage: fwenv run [OPTIONS] [NAMES]...
+
+For more information, try '--help'.
+"""
+SEVERAL_SCRIPTS = b"""error: only one of '[NAMES]...', '-e <SCRIPT>' and '-f <FILE>' can be given
+
+Usage: fwenv run [OPTIONS] [NAMES]...
 
 For more information, try '--help'.
 """
@@ -76,6 +111,27 @@ class Call:
             found.append(int(text))
         return tuple(found)
 
+    def refuse_scripts(self):
+        """A run takes one script: names, a text or a file."""
+        given = bool(self.words) + ("-e" in self.options) + ("-f" in self.options)
+        if given != 1:
+            raise Wrong(SEVERAL_SCRIPTS if given else NO_SCRIPT)
+
+    def size_in_memory(self):
+        """The size of the image under an environment that is a text alone; None where the copies are a board's."""
+        if "--env" not in self.options:
+            if "--size" in self.options:
+                raise Wrong(SIZE_ALONE)
+            return None
+        for option, shown in NOT_WITH_ENV.items():
+            if option in self.options:
+                raise Wrong(ENV_AND % shown)
+        text = self.options.get("--size", USUAL_SIZE)
+        size = SIZE.fullmatch(text)
+        if not size or not 8 <= int(size[1], 16) <= LARGEST:
+            raise Wrong(NO_SIZE % text)
+        return int(size[1], 16)
+
 
 def option_of(word):
     """The option that a word names, and the value that stands in the same word."""
@@ -89,13 +145,14 @@ def option_of(word):
 def read_option(call, word, rest, flags, values):
     """Takes an option, and from the rest its value."""
     name, value = option_of(word)
-    if name not in flags | values or name in call.options or (name in flags and value is not None):
+    is_again = name in call.options and name not in REPEATED
+    if name not in flags | values or is_again or (name in flags and value is not None):
         raise Wrong
     if name in values and value is None:
-        if not rest or rest[0][:1] == b"-":
+        if not rest or (rest[0][:1] == b"-" and rest[0] != b"-"):
             raise Wrong
         value = rest.pop(0)
-    call.options[name] = value
+    call.options[name] = [*call.options.get(name, []), value] if name in REPEATED else value
 
 
 def read_subcommand(tool, options, rest):
@@ -107,8 +164,7 @@ def read_subcommand(tool, options, rest):
             call.words += rest
             break
         if word[:1] == b"-" and word != b"-":
-            shared = VALUES - {"--default"} if tool in WITHOUT_DEFAULT else VALUES
-            read_option(call, word, rest, FLAGS | flags, shared | values)
+            read_option(call, word, rest, FLAGS | flags, values)
         else:
             call.words.append(word)
     if len(call.words) < least or (most is not None and len(call.words) > most):

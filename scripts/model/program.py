@@ -3,13 +3,16 @@
 
 from dataclasses import dataclass
 
-from model import report, texts
+from model import report, script_run, texts
 from model.arguments import VERSION, Wrong, read_arguments
 from model.dry_run import LONGEST, DryRun
+from model.grammar import parse
 from model.image import LARGEST, Geometry
-from model.session import Session
+from model.script import run
+from model.session import Session, erased
 from model.texts import TextFault
 from model.variables import NOT_DEFINED, REFUSALS, Environment
+from model.words import Fault
 
 CONFIG = b"/etc/fw_env.config"
 WARNING = b"Warning: Bad CRC, using default environment\n"
@@ -19,6 +22,8 @@ CANNOT_WRITE_OUTPUT = b"fwenv: cannot write standard output\n"
 CANNOT_WRITE = b"fwenv: cannot write %s\n"
 TOO_SHORT = b"fwenv: %s is too short\n"
 OVERLAP = b"fwenv: copies overlap\n"
+NO_GOOD_COPY = b"fwenv: no good copy: "
+LOOK_AT = b"; look at the size and the number of lines in the configuration, and at the byte order (--big-endian)\n"
 REFUSED_TEXT = b"fwenv: %s: %s\n"
 TOO_LONG = b"fwenv: input too long\n"
 BAD_IMAGE = b"## Error: bad image: %s\n"
@@ -113,7 +118,7 @@ class Program:
 
     def defaults(self, call, geometry):
         """The values of the default environment."""
-        path = call.options.get("--default")
+        path = call.options.get("--env", call.options.get("--default"))
         environment = Environment(geometry.room)
         entries = [] if path is None else self.parsed(path, texts.import_entries)
         for line, name, value in entries:
@@ -133,10 +138,16 @@ class Program:
         return configuration.geometry(call.order()), read
 
     def opened(self, call):
-        """A session over those copies."""
+        """A session over those copies, or over an image in memory that holds nothing yet."""
+        size = call.size_in_memory()
+        if size is not None:
+            geometry = Geometry(1, size, call.order())
+            return erased(geometry, self.defaults(call, geometry))
         geometry, read = self.found(call)
         copies = [rest[: geometry.size] for _, rest in read]
         if geometry.choice(copies)[0] is None:
+            if "--need-copy" in call.options and "--default" not in call.options:
+                raise Ended(NO_GOOD_COPY + report.faults(geometry, copies) + LOOK_AT)
             self.errors += WARNING
         return Session(geometry, copies, self.defaults(call, geometry))
 
@@ -217,12 +228,47 @@ class Program:
         self.write_back(session)
         return 0
 
+    def stand_ins(self, call):
+        path = call.options.get("--stubs")
+        return {} if path is None else self.parsed(path, texts.stand_ins)
+
+    def script(self, call):
+        """The name by which a script is told, and its text."""
+        if "-e" in call.options:
+            return b"-e", call.options["-e"]
+        if "-f" not in call.options:
+            return b"run", script_run.starts(call.words)
+        path = call.options["-f"]
+        if path != b"-":
+            return path, self.text(path)
+        if len(self.given) > LONGEST:
+            raise Ended(CANNOT_READ % path)
+        return path, self.given
+
+    def call_run(self, call):
+        call.size_in_memory()
+        limits = call.limits()
+        call.refuse_scripts()
+        session = self.opened(call)
+        stand_ins = self.stand_ins(call)
+        name, text = self.script(call)
+        try:
+            tree = parse(text)
+        except Fault as fault:
+            raise Ended(script_run.fault_line(name, text, fault))
+        outcome = run(session, tree, stand_ins, limits, call.options.get("--boots", ()))
+        self.output = outcome.text
+        if not script_run.is_well(outcome):
+            return self.say(script_run.ended(outcome))
+        if "--write" in call.options:
+            self.write_back(session)
+        return 0
+
     def call_session(self, call):
+        call.size_in_memory()
         limits = call.limits()
         session = self.opened(call)
-        path = call.options.get("--stubs")
-        stand_ins = {} if path is None else self.parsed(path, texts.stand_ins)
-        self.output = DryRun(session, stand_ins, limits).answer(self.given, not self.fails)
+        self.output = DryRun(session, self.stand_ins(call), limits).answer(self.given, not self.fails)
         if len(self.given) > LONGEST:
             raise Ended(TOO_LONG)
         if self.fails:

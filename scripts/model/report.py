@@ -12,6 +12,12 @@ ORDERS = {"little": b" without --big-endian", "big": b" with --big-endian"}
 NO_VARIABLES = b"variables    none, no copy is good\n"
 
 
+def faults(geometry, copies):
+    """What is wrong with each of the copies, none of which is good."""
+    words = [FAULTS[geometry.read(copy)[0]] for copy in copies]
+    return words[0] if len(words) == 1 else b"%s in the first copy, %s in the second" % tuple(words)
+
+
 def good(found, copies, size, order):
     """The geometry of this kind of image, if the first bytes are a good one."""
     geometry = Geometry(copies, size, order)

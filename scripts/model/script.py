@@ -35,10 +35,11 @@ class Outcome:
 class Run:
     """A run of a script over a session."""
 
-    def __init__(self, session, stand_ins, limits):
+    def __init__(self, session, stand_ins, limits, boots=frozenset()):
         self.session = session
         self.environment = session.environment
         self.stand_ins = stand_ins
+        self.boots = boots
         self.max_steps, self.max_depth, self.max_word, self.max_output = limits
         self.locals = {}
         self.status = 0
@@ -180,6 +181,8 @@ class Run:
             getattr(self, name.partition(b".")[0].decode())(name, rest)
         elif name in self.stand_ins:
             self.done(self.stand_ins[name], b"+" + b"".join(b" " + each for each in fields) + b"\n")
+            if name in self.boots and self.status == 0:
+                raise Stop("Exited")
         else:
             self.done(1, UNKNOWN % name)
 
@@ -314,9 +317,9 @@ class Run:
         self.depth -= 1
 
 
-def run(session, tree, stand_ins, limits):
-    """Runs a tree, and answers its outcome."""
-    made = Run(session, stand_ins, limits)
+def run(session, tree, stand_ins, limits, boots=frozenset()):
+    """Runs a tree, and answers its outcome. A stand-in of `boots` ends the run where its status is 0."""
+    made = Run(session, stand_ins, limits, boots)
     ending = "Finished"
     try:
         made.chains(tree)

@@ -1,0 +1,525 @@
+"""Scripts that are run for their own status, by hand: `fwenv run`, an environment that is a text alone, and copies of which one has
+to be good. Each row is a call, what it prints, and what it leaves."""
+
+from differential.boards import CONFIG, arguments, board
+from differential.running import Case
+from differential.tool_rows import BLANK, EMPTIED, FIRST, PAIR, SAVED, SECOND
+from model.arguments import NO_NUMBER
+from model.image import ERASED, LARGEST, Geometry
+from model.program import WARNING, Answer
+
+LONGEST = 2**24
+HELP = b"\n\nFor more information, try '--help'.\n"
+USAGE = b"\n\nUsage: fwenv run [OPTIONS] [NAMES]...\n\nFor more information, try '--help'.\n"
+NO_SCRIPT = b"error: the following required arguments were not provided:\n  <NAMES|-e <SCRIPT>|-f <FILE>>" + USAGE
+SEVERAL = b"error: only one of '[NAMES]...', '-e <SCRIPT>' and '-f <FILE>' can be given" + USAGE
+ENV_AND = b"error: the argument '--env <FILE>' cannot be used with '%s'" + HELP
+SIZE_ALONE = b"error: the argument '--size <N>' is only for '--env <FILE>'" + HELP
+NO_SIZE = b"error: invalid value '%s' for '--size <N>': not the size of an image in hexadecimal, 0x8 to 0x100000" + HELP
+NOT_DEFINED = b'## Error: "%s" not defined\n'
+UNKNOWN = b"Unknown command '%s' - try 'help'\n"
+
+
+def finished(status, steps):
+    return b"fwenv: run ended as Finished with status %d after %d steps\n" % (status, steps)
+
+
+def exited(status, steps):
+    return b"fwenv: run ended as Exited with status %d after %d steps\n" % (status, steps)
+
+
+def stopped(limit, steps):
+    return b"fwenv: run ended as %s after %d steps\n" % (limit, steps)
+
+
+# Variables that hold scripts, as a text for import
+TEXT = b"""a=1
+ok=echo fine
+bad=false; true && false
+leaves=exit 3
+quits=echo a; exit 0; false
+loop=run loop
+broken=echo "x
+boot=while true; do usb || mmc dev 0 && booti $a; done
+two words=echo blank
+it's=echo quote
+'=echo a quote
+$a=echo dollar
+x"\\y=echo more
+-x=echo dash
+"""
+# Names that are started, the text, and what is said, if the status isn't 0
+NAMES = [
+    ([b"ok"], b"fine\n", b""),
+    ([b"bad"], b"", finished(1, 5)),
+    ([b"leaves"], b"", exited(3, 3)),
+    ([b"quits"], b"a\n", b""),
+    ([b"two words"], b"blank\n", b""),
+    ([b"two", b"words"], NOT_DEFINED % b"two", finished(1, 2)),
+    ([b"it's"], b"quote\n", b""),
+    ([b"its"], NOT_DEFINED % b"its", finished(1, 2)),
+    ([b"'"], b"a quote\n", b""),
+    ([b"''"], NOT_DEFINED % b"''", finished(1, 2)),
+    ([b"$a"], b"dollar\n", b""),
+    ([b"1"], NOT_DEFINED % b"1", finished(1, 2)),
+    ([b'x"\\y'], b"more\n", b""),
+    ([b"--", b"-x"], b"dash\n", b""),
+    ([b""], NOT_DEFINED % b"", finished(1, 2)),
+    ([b"b\nc"], NOT_DEFINED % b"b\nc", finished(1, 2)),
+    ([b"-"], NOT_DEFINED % b"-", finished(1, 2)),
+    ([b"broken"], b'## Error: syntax error in "broken"\n', finished(1, 2)),
+    ([b"ok", b"it's", b"ok"], b"fine\nquote\nfine\n", b""),
+    ([b"bad", b"ok"], b"", finished(1, 5)),
+    ([b"ok", b"bad"], b"fine\n", finished(1, 7)),
+    ([b"absent", b"ok"], NOT_DEFINED % b"absent", finished(1, 2)),
+    ([b"ok", b"absent"], b"fine\n" + NOT_DEFINED % b"absent", finished(1, 4)),
+    ([b"leaves", b"ok"], b"", exited(3, 3)),
+    ([b"quits", b"bad"], b"a\n", b""),
+    ([b"loop"], b"", stopped(b"Depth", 17)),
+    ([b"--depth", b"0", b"ok"], b"", stopped(b"Depth", 1)),
+    ([b"--depth", b"1", b"ok"], b"fine\n", b""),
+    ([b"--depth", b"1", b"loop"], b"", stopped(b"Depth", 3)),
+    ([b"--word", b"1", b"ok"], b"", stopped(b"Word", 0)),
+    ([b"ok", b"--steps", b"2"], b"", stopped(b"Steps", 2)),
+]
+# A script among the words, the text, and what is said, if the status isn't 0
+SCRIPTS = [
+    (b"", b"", b""),
+    (b"# a comment", b"", b""),
+    (b"\n\n", b"", b""),
+    (b"echo a", b"a\n", b""),
+    (b"echo -n a", b"a", b""),
+    (b"echo -n a; false", b"a", finished(1, 2)),
+    (b"echo $a; echo b", b"1\nb\n", b""),
+    (b"false; true", b"", b""),
+    (b"true; false", b"", finished(1, 2)),
+    (b"false", b"", finished(1, 1)),
+    (b"usb", UNKNOWN % b"usb", finished(1, 1)),
+    (b"setenv a=b c", b'## Error: bad name or value for "a=b"\n', finished(1, 1)),
+    (b"if false; then echo a; fi", b"", b""),
+    (b"run bad", b"", finished(1, 5)),
+    (b"exit", b"", b""),
+    (b"exit 0; false", b"", b""),
+    (b"false; exit", b"", exited(1, 2)),
+    (b"false; exit 0", b"", b""),
+    (b"exit 255", b"", exited(255, 1)),
+    (b"exit 256", b"## Error: wrong use of 'exit'\n", finished(1, 1)),
+    (b"echo a; run quits; false", b"a\na\n", b""),
+    (b"while true; do true; done", b"", stopped(b"Steps", 100_000)),
+    (b"echo a; echo b", b"", stopped(b"Steps", 0), b"--steps=0"),
+    (b"echo a; echo b", b"a\n", stopped(b"Steps", 1), b"--steps=1"),
+    (b"echo a; echo b", b"a\nb\n", b"", b"--steps=2"),
+    (b"echo a; false; echo b", b"a\n", stopped(b"Steps", 2), b"--steps=2"),
+    (b"exit 0", b"", stopped(b"Steps", 0), b"--steps=0"),
+    (b"", b"", b"", b"--steps=0"),
+    (b"echo abcd; echo abcde", b"abcd\n", stopped(b"Word", 1), b"--word=4"),
+    (b"echo abcd; echo abcde", b"abcd\nabcde\n", b"", b"--word=5"),
+    (b"echo ab; echo c", b"ab\n", stopped(b"Output", 1), b"--output=4"),
+    (b"echo ab; echo c", b"ab\nc\n", b"", b"--output=5"),
+    (b"run ok", b"", stopped(b"Depth", 1), b"--depth=0"),
+]
+# What is no script, with the line, the column and what is said of it
+NO_SCRIPTS = [
+    (b"echo 'a", 1, 6, b"Quote: a quote is not closed"),
+    (b'a=1; echo b"c', 1, 12, b"Quote: a quote is not closed"),
+    (b'echo "$a', 1, 6, b"Quote: a quote is not closed"),
+    (b"'", 1, 1, b"Quote: a quote is not closed"),
+    (b"echo 'a\nb\n", 1, 6, b"Quote: a quote is not closed"),
+    (b"echo a\n\n  echo 'b", 3, 8, b"Quote: a quote is not closed"),
+    (b"\n'", 2, 1, b"Quote: a quote is not closed"),
+    (b"\xc3\xa9 \t'", 1, 5, b"Quote: a quote is not closed"),
+    (b"echo a\r\n'", 2, 1, b"Quote: a quote is not closed"),
+    (b"echo a\\\n  'b", 2, 3, b"Quote: a quote is not closed"),
+    (b"echo 'a\nb' 'c", 2, 4, b"Quote: a quote is not closed"),
+    (b"echo a\\", 1, 7, b"Backslash: the text ends with a backslash"),
+    (b"\\", 1, 1, b"Backslash: the text ends with a backslash"),
+    (b"echo ${x:-y}", 1, 6, b"Substitution: not a substitution of this shell: ${NAME}, $NAME or $?"),
+    (b"echo a$1", 1, 7, b"Substitution: not a substitution of this shell: ${NAME}, $NAME or $?"),
+    (b'echo "\n$(b)"', 2, 1, b"Substitution: not a substitution of this shell: ${NAME}, $NAME or $?"),
+    (b"true & false", 1, 6, b"Operator: a single & or |, which this shell does not have"),
+    (b"true|false", 1, 5, b"Operator: a single & or |, which this shell does not have"),
+    (b"true &&& false", 1, 8, b"Operator: a single & or |, which this shell does not have"),
+    (b"fi", 1, 1, b"Unexpected: not expected here"),
+    (b"if true; then fi", 1, 15, b"Unexpected: not expected here"),
+    (b"true\n&& true", 2, 1, b"Unexpected: not expected here"),
+    (b"for 1 in a; do true; done", 1, 5, b"Unexpected: not expected here"),
+    (b"if true; then echo", 1, 19, b"Missing: the text ends where more has to follow"),
+    (b"while true\ndo echo\n", 3, 1, b"Missing: the text ends where more has to follow"),
+    (b"true &&", 1, 8, b"Missing: the text ends where more has to follow"),
+    (b"if " * 65, 1, 193, b"Nest: more than 64 commands inside one another"),
+    (b"if " * 64, 1, 193, b"Missing: the text ends where more has to follow"),
+    (b"x=1 echo", 1, 5, b"Assignment: a word after an assignment"),
+    (b"true\n\tx=1 \\\n  y=2", 3, 3, b"Assignment: a word after an assignment"),
+]
+# What is a script though it is near to one of those
+NEAR_SCRIPTS = [
+    (b"echo 'a'", b"a\n"),
+    (b"echo a\\\\", b"a\\\n"),
+    (b"echo ${a} $? $", b"1 0 $\n"),
+    (b"false || true && echo b", b"b\n"),
+    (b"if true; then echo fi; fi", b"fi\n"),
+    (b"true &&\ntrue", b""),
+    (b"if true;then " * 64 + b"echo b" + b";fi" * 64, b"b\n"),
+    (b"x=1; y=2; echo $x$y", b"12\n"),
+]
+# A byte 0 comes in a file alone
+NULS = [(b"\0", 1, 1), (b"echo a\necho b\0'", 2, 7), (b"echo '\0", 1, 7)]
+# Options, a script, and the text, where the stand-ins are these; what is said, if the status isn't 0
+STAND_INS = b"booti\nmmc\nusb 1\n"
+BOOTS = [
+    ([], b"booti 1; echo a", b"+ booti 1\na\n", b""),
+    ([b"--boots", b"booti"], b"booti 1; echo a", b"+ booti 1\n", b""),
+    ([b"--boots=booti"], b"echo a; booti; false", b"a\n+ booti\n", b""),
+    ([b"--boots", b"booti"], b"while true; do booti; echo a; done", b"+ booti\n", b""),
+    ([b"--boots", b"booti"], b"run boot; false", b"+ usb\n+ mmc dev 0\n+ booti 1\n", b""),
+    ([b"--boots", b"booti"], b"false; booti", b"+ booti\n", b""),
+    ([b"--boots", b"usb"], b"usb; echo a", b"+ usb\na\n", b""),
+    ([b"--boots", b"usb"], b"echo a; usb", b"a\n+ usb\n", finished(1, 2)),
+    ([b"--boots", b"mmc", b"--boots", b"booti"], b"booti; echo a", b"+ booti\n", b""),
+    ([b"--boots", b"mmc", b"--boots", b"booti"], b"mmc; echo a", b"+ mmc\n", b""),
+    ([b"--boots", b"booti", b"--boots", b"booti"], b"mmc; booti; echo a", b"+ mmc\n+ booti\n", b""),
+    ([b"--boots", b"boot", b"--boots", b"booti1"], b"booti; false", b"+ booti\n", finished(1, 2)),
+    ([b"--boots", b"reset"], b"reset; echo a", UNKNOWN % b"reset" + b"a\n", b""),
+    ([b"--boots", b"reset"], b"reset", UNKNOWN % b"reset", finished(1, 1)),
+    ([b"--boots", b"true", b"--boots", b"echo"], b"true; echo a; false", b"a\n", finished(1, 3)),
+    ([b"--boots", b""], b"mmc; false", b"+ mmc\n", finished(1, 2)),
+    ([b"--boots", b"booti", b"--steps", b"0"], b"booti", b"", stopped(b"Steps", 0)),
+    ([b"--boots", b"booti", b"--steps", b"1"], b"booti; true", b"+ booti\n", b""),
+    ([b"--boots", b"booti", b"--output", b"7"], b"booti", b"", stopped(b"Output", 0)),
+]
+# Options over two copies, of which the first is current: the text, what is said, and both copies afterwards
+AGAIN = PAIR.image(9, b"a=b\0")
+SAVES = [
+    ([b"--write", b"-e", b"saveenv"], b"Saved copy 2\n", b"", FIRST, SAVED),
+    ([b"-e", b"saveenv"], b"Saved copy 2\n", b"", FIRST, SECOND),
+    ([b"--write", b"-e", b"setenv a; saveenv; exit 0"], b"Saved copy 2\n", b"", FIRST, EMPTIED),
+    ([b"--write", b"-e", b"setenv a"], b"", b"", FIRST, SECOND),
+    ([b"--write", b"-e", b"saveenv; setenv a"], b"Saved copy 2\n", b"", FIRST, SAVED),
+    ([b"--write", b"-e", b"saveenv; saveenv"], b"Saved copy 2\nSaved copy 1\n", b"", AGAIN, SAVED),
+    ([b"--write", b"-e", b"saveenv; false; saveenv"], b"Saved copy 2\nSaved copy 1\n", b"", AGAIN, SAVED),
+    ([b"--write", b"-e", b"saveenv; false"], b"Saved copy 2\n", finished(1, 2), FIRST, SECOND),
+    ([b"--write", b"-e", b"saveenv; saveenv; false"], b"Saved copy 2\nSaved copy 1\n", finished(1, 3), FIRST, SECOND),
+    ([b"--write", b"-e", b"saveenv; exit 2"], b"Saved copy 2\n", exited(2, 2), FIRST, SECOND),
+    ([b"--write", b"--steps=1", b"-e", b"saveenv; true"], b"Saved copy 2\n", stopped(b"Steps", 1), FIRST, SECOND),
+    ([b"--write", b"--depth=0", b"-e", b"saveenv; run a"], b"Saved copy 2\n", stopped(b"Depth", 2), FIRST, SECOND),
+    ([b"--write", b"--word=7", b"-e", b"saveenv; echo a $a$a$a$a$a$a$a$a"], b"Saved copy 2\n", stopped(b"Word", 1), FIRST, SECOND),
+    ([b"--write", b"--output=13", b"-e", b"saveenv; echo"], b"Saved copy 2\n", stopped(b"Output", 1), FIRST, SECOND),
+    ([b"--write", b"-e", b"saveenv '"], b"", b"fwenv: -e:1:9: Quote: a quote is not closed\n", FIRST, SECOND),
+    ([b"--write", b"a"], UNKNOWN % b"b", finished(1, 3), FIRST, SECOND),
+    ([b"--write", b"--boots", b"mmc", b"--stubs", b"stand-ins", b"-e", b"saveenv; mmc; false"], b"Saved copy 2\n+ mmc\n", b"", FIRST, SAVED),
+    ([b"--write", b"--stubs", b"stand-ins", b"-e", b"saveenv; mmc; false"], b"Saved copy 2\n+ mmc\n", finished(1, 3), FIRST, SECOND),
+]
+# Words of `run`, or of another subcommand, that are wrong, and what is said; nothing is read
+FIRST_IS_WRONG = [
+    ([b"run"], NO_SCRIPT),
+    ([b"run", b"--boots", b"booti"], NO_SCRIPT),
+    ([b"run", b"-e", b"true", b"ok"], SEVERAL),
+    ([b"run", b"ok", b"-f", b"script"], SEVERAL),
+    ([b"run", b"-e", b"true", b"-f", b"script"], SEVERAL),
+    ([b"run", b"-f", b"-", b"-e", b"true", b"ok", b"bad"], SEVERAL),
+    ([b"run", b"-e", b"", b""], SEVERAL),
+    ([b"run", b"-e", b"true", b"-e", b"true"], None),
+    ([b"run", b"-f", b"script", b"-f", b"script"], None),
+    ([b"run", b"-e"], None),
+    ([b"run", b"-e", b"-x"], None),
+    ([b"run", b"-f"], None),
+    ([b"run", b"--boots"], None),
+    ([b"run", b"-x"], None),
+    ([b"run", b"-n", b"ok"], None),
+    ([b"run", b"--env", b"env", b"--env", b"env", b"ok"], None),
+    ([b"run", b"--write", b"--env", b"absent", b"ok"], ENV_AND % b"--write"),
+    ([b"run", b"-c", b"absent", b"--env", b"absent", b"ok"], ENV_AND % b"-c <FILE>"),
+    ([b"run", b"--env", b"absent", b"--default", b"absent", b"ok"], ENV_AND % b"--default <FILE>"),
+    ([b"run", b"--env", b"absent", b"--need-copy", b"ok"], ENV_AND % b"--need-copy"),
+    ([b"run", b"--write", b"--need-copy", b"--default=d", b"-c=c", b"--env", b"absent", b"ok"], ENV_AND % b"-c <FILE>"),
+    ([b"run", b"--write", b"--need-copy", b"--default=d", b"--env", b"absent", b"ok"], ENV_AND % b"--default <FILE>"),
+    ([b"run", b"--write", b"--need-copy", b"--env", b"absent", b"ok"], ENV_AND % b"--need-copy"),
+    ([b"run", b"--write", b"--size=x", b"--env", b"absent", b"ok"], ENV_AND % b"--write"),
+    ([b"run", b"--size", b"0x4000", b"ok"], SIZE_ALONE),
+    ([b"run", b"--size", b"x", b"-c", b"absent", b"ok"], SIZE_ALONE),
+    ([b"session", b"--write", b"--env", b"absent"], ENV_AND % b"--write"),
+    ([b"session", b"--env", b"absent", b"-c", b"absent"], ENV_AND % b"-c <FILE>"),
+    ([b"session", b"--env", b"absent", b"--default", b"absent"], ENV_AND % b"--default <FILE>"),
+    ([b"session", b"--env", b"absent", b"--need-copy"], ENV_AND % b"--need-copy"),
+    ([b"session", b"--size", b"0x4000"], SIZE_ALONE),
+    ([b"session", b"--boots", b"booti"], None),
+    ([b"session", b"-e", b"true"], None),
+    ([b"run", b"--steps=x", b"--write", b"--env", b"absent"], ENV_AND % b"--write"),
+    ([b"run", b"--steps=x", b"--size", b"8"], SIZE_ALONE),
+    ([b"run", b"--steps=x", b"--env", b"absent"], NO_NUMBER % (b"x", b"--steps", 1_000_000)),
+    ([b"run", b"--depth=17", b"--output=x", b"ok"], NO_NUMBER % (b"17", b"--depth", 16)),
+    ([b"run", b"--word=65537", b"ok"], NO_NUMBER % (b"65537", b"--word", 65_536)),
+    ([b"run", b"--output=-1", b"ok"], NO_NUMBER % (b"-1", b"--output", 16_777_216)),
+    ([b"run", b"--write", b"--env", b"absent"], ENV_AND % b"--write"),
+    ([b"run", b"--env", b"absent"], NO_SCRIPT),
+    ([b"printenv", b"--env", b"env"], None),
+    ([b"setenv", b"--size", b"10", b"a", b"b"], None),
+    ([b"printenv", b"--need-copy", b"--need-copy"], None),
+    ([b"--need-copy", b"printenv"], None),
+    ([b"status", b"--need-copy"], None),
+]
+NO_SIZES = [
+    b"", b"x", b"0", b"7", b"0x7", b"100001", b"0x100001", b"-8", b"+10", b" 10", b"10 ", b"0x", b"0x 10", b"1_0", b"4k", b"0x0x10", b"1" * 23,
+]  # fmt: skip
+SIZES = [b"8", b"0x8", b"0X8", b"0000000000000000000000000000000008", b"100000", b"0x100000", b"fF"]
+# A text that is the whole environment, the size, a script, its text, and what is said
+ENVIRONMENTS = [
+    (b"", None, b"printenv -a", b"", b""),
+    (b"# nothing\n", None, b"printenv a", NOT_DEFINED % b"a", finished(1, 1)),
+    (b"a=x\\\ny\\\\\n b=2\n", None, b"printenv", b"a=x\ny\\\nb=2\n", b""),
+    (b"a=1\na=2\nb=3\nb=\n", None, b"printenv", b"a=2\n", b""),
+    (b"a=1", None, b"saveenv; setenv a 2; saveenv", b"Saved copy 1\nSaved copy 1\n", b""),
+    (b".flags=n:d\nn=1\n", None, b"setenv n x", b'## Error: type check failure for "n"\n', finished(1, 1)),
+    (b".flags=n:d\nn=1\n", None, b"setenv n 2; printenv n", b"n=2\n", b""),
+    (b"n=x\n.flags=n:d\n", None, b"printenv n", b"n=x\n", b""),
+    (b".flags=r:sr,o:so\nr=1\no=2\n", None, b"printenv r o", b"r=1\no=2\n", b""),
+    (b".flags=r:sr\nr=1\n", None, b"setenv r 2", b'## Error: Can\'t overwrite "r"\n', finished(1, 1)),
+    (b".flags=r:sr\n", None, b"setenv r 2", b'## Error: Can\'t create "r"\n', finished(1, 1)),
+    (b".flags=c:sc\nc=1\n", None, b"setenv c 2; printenv c; setenv c 3", b'c=2\n## Error: Can\'t overwrite "c"\n', finished(1, 3)),
+    (b"a=1\n", b"9", b"printenv a", b"a=1\n", b""),
+    (b"a=1\n", b"9", b"setenv a 12", b'## Error: no room for "a"\n', finished(1, 1)),
+    (b"a=1\n", b"0xa", b"setenv a 12; printenv", b"a=12\n", b""),
+    (b"a=" + b"x" * 16_376, None, b"true", b"", b""),
+    (b"a=" + b"x" * 0xFF8, b"0x1000", b"true", b"", b""),
+]
+# Such a text that can't be used, the size, and what is said
+NO_ENVIRONMENTS = [
+    (b"a=1\n", b"8", b"fwenv: env: Full in line 1\n"),
+    (b"a=1\n\nb=2\n", b"0xc", b"fwenv: env: Full in line 3\n"),
+    (b"a=" + b"x" * 16_377, None, b"fwenv: env: Full in line 1\n"),
+    (b"a=" + b"x" * 0xFF9, b"0x1000", b"fwenv: env: Full in line 1\n"),
+    (b".flags=n:d\nn=x\n", None, b"fwenv: env: BadType in line 2\n"),
+    (b"a=1\n=2\n", None, b"fwenv: env: EmptyName in line 2\n"),
+    (b"a=1\0\n", None, b"fwenv: env: Nul\n"),
+    (None, None, b"fwenv: cannot read env\n"),
+    (b"\n" * (LONGEST + 1), None, b"fwenv: cannot read env\n"),
+]
+# Subcommands over copies of which none is good, the file `text` being a text for import
+NEED_COPY = [
+    [b"printenv"],
+    [b"printenv", b"-n", b"a"],
+    [b"setenv", b"a", b"b"],
+    [b"setenv", b"-s", b"absent"],
+    [b"import", b"text"],
+    [b"import", b"absent"],
+    [b"export"],
+    [b"restore", b"text"],
+    [b"session"],
+    [b"session", b"--write", b"--stubs", b"absent"],
+    [b"run", b"-e", b"echo a"],
+    [b"run", b"--write", b"--stubs", b"absent", b"-f", b"absent"],
+]
+WRONG, NOT_ENDED = b"checksum is wrong", b"list of entries isn't ended"
+SINGLE, LONG_LIST = Geometry(1, 10), PAIR.image(7, b"a=bcd")
+LOOK_AT = b"; look at the size and the number of lines in the configuration, and at the byte order (--big-endian)\n"
+BAD_COPIES = [
+    (PAIR, [BLANK, BLANK], WRONG + b" in the first copy, " + WRONG + b" in the second"),
+    (PAIR, [LONG_LIST, bytes(10)], NOT_ENDED + b" in the first copy, " + WRONG + b" in the second"),
+    (PAIR, [Geometry(2, 10, "big").image(7, b"a=b\0"), LONG_LIST], WRONG + b" in the first copy, " + NOT_ENDED + b" in the second"),
+    (SINGLE, [BLANK], WRONG),
+    (SINGLE, [SINGLE.image(0, b"a=bcde")], NOT_ENDED),
+]
+# The same where a copy is good, or there is a default environment `text` of p=1: what is said and printed, and the copy that a save leaves
+WITH_COPY = [
+    ([b"printenv"], b"a=b\n", None),
+    ([b"export"], b"a=b\n", None),
+    ([b"setenv", b"a", b"b"], b"", b"a=b\0"),
+    ([b"import", b"text"], b"", b"p=1\0"),
+    ([b"restore", b"text"], b"", b"p=1\0"),
+    ([b"session"], b"a=b\n", None),
+    ([b"run", b"-e", b"printenv"], b"a=b\n", None),
+    ([b"run", b"--write", b"-e", b"saveenv"], b"Saved copy 1\n", b"a=b\0"),
+]
+# Files that aren't there, in the order in which they are used
+ORDER = [
+    ([b"-c", b"absent", b"--default", b"none", b"--stubs", b"nothing", b"-f", b"no"], b"absent"),
+    ([b"-c", CONFIG, b"--default", b"none", b"--stubs", b"nothing", b"-f", b"no"], b"none"),
+    ([b"-c", CONFIG, b"--stubs", b"nothing", b"-f", b"no"], b"nothing"),
+    ([b"-c", CONFIG, b"-f", b"no"], b"no"),
+    ([b"-c", CONFIG, b"-f="], b""),
+    ([b"--env", b"none", b"--stubs", b"nothing", b"-f", b"no"], b"none"),
+    ([b"--env", b"stand-ins", b"--stubs", b"nothing", b"-f", b"no"], b"nothing"),
+    ([b"--env", b"stand-ins", b"-f", b"no"], b"no"),
+    ([b"--env", b"-", b"-f", b"no"], b"-"),
+]
+# The file of stand-ins, and what is said of it
+NO_STAND_INS = [
+    (b"x 256\n", b"fwenv: stand-ins: Line in line 1\n"),
+    (b"mmc\n\necho 0\n", b"fwenv: stand-ins: Builtin in line 3\n"),
+    (b"x\nx\n", b"fwenv: stand-ins: Twice in line 2\n"),
+]
+
+
+def row(name, words, files, output, errors, left=(), given=b"", seconds=0.25, status=None):
+    """The status is 1 where something is said, if it isn't told."""
+    wanted = Answer(int(errors != b"") if status is None else status, output, errors, files | dict(left))
+    return Case(name, words, files, given, wanted=wanted, seconds=seconds)
+
+
+def over_text(name, words, output, errors, files=(), **rest):
+    """A run over the text as environment; no configuration is there."""
+    return row(name, [b"run", b"--env", b"env", *words], {b"env": TEXT} | dict(files), output, errors, **rest)
+
+
+def names():
+    for words, output, errors in NAMES:
+        yield over_text("names of scripts", words, output, errors)
+
+
+def scripts():
+    for script, output, errors, *words in SCRIPTS:
+        yield over_text("a script among the words", [*words, b"-e", script], output, errors, seconds=1)
+        yield over_text("a script in a file", [b"-f", b"script", *words], output, errors, {b"script": script}, seconds=1)
+    yield over_text("a script behind an option's letter", [b"-eecho a"], b"a\n", b"")
+    yield over_text("a script behind an equals sign", [b"-e=-x"], UNKNOWN % b"-x", finished(1, 1))
+    yield over_text("standard input that isn't asked for", [b"-e", b"echo a"], b"a\n", b"", given=b"echo b\n")
+
+
+def refused(name, line, column, said):
+    return b"fwenv: %s:%d:%d: %s\n" % (name, line, column, said)
+
+
+def no_scripts():
+    for script, *place in NO_SCRIPTS:
+        yield over_text("no script among the words", [b"-e", script], b"", refused(b"-e", *place))
+        yield over_text("no script in a file", [b"-f", b"a:1 b"], b"", refused(b"a:1 b", *place), {b"a:1 b": script})
+        yield over_text("no script on standard input", [b"-f", b"-"], b"", refused(b"-", *place), given=script)
+    for script, output in NEAR_SCRIPTS:
+        yield over_text("nearly no script", [b"-e", script], output, b"")
+    for script, *place in NULS:
+        errors = refused(b"script", *place, b"Nul: a byte 0")
+        yield over_text("a byte 0", [b"-f", b"script"], b"", errors, {b"script": script})
+    case = over_text("a path as it is given", [b"-f", b"./script"], b"", refused(b"./script", 1, 2, NO_SCRIPTS[0][3]), {b"script": b" '"})
+    case.is_modelled = False
+    yield case
+
+
+def script_files():
+    yield over_text("a script without a newline", [b"-f", b"script"], b"a\n", b"", {b"script": b"echo a"})
+    yield over_text("a script of lines", [b"-f", b"script"], b"a\nb\n", b"", {b"script": b"# both\necho a\necho b\n"})
+    yield over_text("a script on standard input", [b"-f", b"-"], b"a\n1\n", finished(1, 3), given=b"echo a\necho $a\nfalse\n")
+    yield over_text("dot lines are none", [b"-f", b"-"], UNKNOWN % b".print", finished(1, 1), given=b".print\n")
+    yield over_text("no standard input", [b"-f-"], b"", b"")
+    yield over_text("a file of the name run", [b"-f", b"run"], b"", refused(b"run", 1, 1, NO_SCRIPTS[0][3]), {b"run": b"'"})
+    yield over_text("a file that is not there", [b"-f", b"absent"], b"", b"fwenv: cannot read absent\n")
+    longest, longer = b"#" * LONGEST, b"#" * (LONGEST + 1)
+    yield over_text("the longest script", [b"-f", b"script"], b"", b"", {b"script": longest}, seconds=2)
+    yield over_text("a longer script", [b"-f", b"script"], b"", b"fwenv: cannot read script\n", {b"script": longer}, seconds=2)
+    yield over_text("longer standard input", [b"-f", b"-"], b"", b"fwenv: cannot read -\n", given=longer, seconds=2)
+
+
+def booted():
+    files = {b"stand-ins": STAND_INS}
+    for words, script, output, errors in BOOTS:
+        words = [*words, b"--stubs", b"stand-ins", b"-e", script]
+        yield over_text("a stand-in that boots", words, output, errors, files)
+    words = [b"--boots", b"booti", b"-e", b"booti; echo a"]
+    yield over_text("no stand-ins", words, UNKNOWN % b"booti" + b"a\n", b"")
+    words = [b"--boots", b"booti", b"--stubs", b"stand-ins", b"boot", b"bad"]
+    yield over_text("a script that boots", words, b"+ usb\n+ mmc dev 0\n+ booti 1\n", b"", files)
+    for text, errors in NO_STAND_INS:
+        yield over_text("wrong stand-ins", [b"--stubs", b"stand-ins", b"ok"], b"", errors, {b"stand-ins": text})
+
+
+def saves():
+    for words, output, errors, *left in SAVES:
+        files = board(PAIR, [FIRST, SECOND]) | {b"stand-ins": STAND_INS}
+        yield row("a save of a script", arguments(b"run", *words), files, output, errors, board(PAIR, left))
+    newer = PAIR.image(8, b"a=c\0")
+    left = board(PAIR, [PAIR.image(9, b"a=c\0"), newer])
+    words = arguments(b"run", b"-e", b"saveenv", b"--write")
+    yield row("a save of the first copy", words, board(PAIR, [FIRST, newer]), b"Saved copy 1\n", b"", left)
+    left = board(SINGLE, [SINGLE.image(0, b"a=1\0")])
+    words = arguments(b"run", b"--write", b"-e", b"setenv a 1; saveenv; setenv a 2")
+    yield row("a save of a single image", words, board(SINGLE, [SINGLE.image(0, b"b=\0")]), b"Saved copy 1\n", b"", left)
+    big = Geometry(2, 10, "big")
+    left = board(big, [big.image(7, b"a=b\0"), big.image(8, b"a=b\0")])
+    words = arguments(b"run", b"--write", b"-e", b"saveenv", order="big")
+    yield row("a big-endian save", words, board(big, [big.image(7, b"a=b\0"), BLANK]), b"Saved copy 2\n", b"", left)
+
+
+def without_copies():
+    """Without `--need-copy` the default environment is used, and that is said first."""
+    files = board(PAIR, [BLANK, BLANK]) | {b"text": b"p=1\n"}
+    left = board(PAIR, [PAIR.image(1, b"p=1\0"), BLANK])
+    words = arguments(b"run", b"--default", b"text", b"--write", b"-e")
+    yield row("a default text", [*words, b"saveenv"], files, b"Saved copy 1\n", WARNING, left, status=0)
+    yield row("a default text", [*words, b"printenv"], files, b"p=1\n", WARNING, status=0)
+    yield row("a default text", [*words, b"saveenv; false"], files, b"Saved copy 1\n", WARNING + finished(1, 2))
+    yield row("no default text", arguments(b"run", b"p"), files, NOT_DEFINED % b"p", WARNING + finished(1, 2))
+    yield row("a quote", arguments(b"run", b"-e", b"'"), files, b"", WARNING + refused(b"-e", 1, 1, NO_SCRIPTS[0][3]))
+
+
+def words():
+    files = {b"env": TEXT, b"script": b"echo a\n"}
+    for given, errors in FIRST_IS_WRONG:
+        yield row("wrong words of a run", given, files, b"", errors)
+    for text in NO_SIZES:
+        for tool in ([b"run", b"ok"], [b"session"]):
+            yield row("a wrong size", [*tool, b"--env", b"absent", b"--size=" + text], files, b"", NO_SIZE % text)
+    for text in SIZES:
+        yield row("a size", [b"run", b"--env", b"script", b"--size", text, b"-e", b"true"], {b"script": b""}, b"", b"")
+    most = b"a=" + b"x" * (LARGEST - 8) + b"\n"
+    yield row("the largest size", [b"run", b"--env", b"env", b"--size=100000", b"-e", b"true"], {b"env": most}, b"", b"", seconds=1)
+
+
+def environments():
+    for text, size, script, output, errors in ENVIRONMENTS:
+        sized = [] if size is None else [b"--size", size]
+        files = {b"env": text}
+        yield row("a whole environment", [b"run", b"--env", b"env", *sized, b"-e", script], files, output, errors)
+        given, ending = script + b"\n.save\n", b"[Finished %d %d]\nSaved copy 1\n"
+        steps = int(errors.split()[-2]) if errors else len(script.split(b";"))
+        output += ending % (errors != b"", steps)
+        yield row("a session over it", [b"session", *sized, b"--env", b"env"], files, output, b"", given=given)
+    for text, size, errors in NO_ENVIRONMENTS:
+        files = {} if text is None else {b"env": text}
+        sized = [b"--env", b"env"] if size is None else [b"--env", b"env", b"--size=" + size]
+        yield row("no environment", [b"run", *sized, b"--stubs", b"absent", b"ok"], files, b"", errors, seconds=2)
+        yield row("no session over it", [b"session", *sized], files, b"", errors, given=b".print\n", seconds=2)
+    given, output = b"setenv a 2\n.save\n.undo\n.print\n", b"[Finished 0 1]\nSaved copy 1\n[Undone]\na=1\n"
+    yield row("an undo to it", [b"session", b"--env", b"env", b"--big-endian"], {b"env": b"a=1\n"}, output, b"", given=given)
+    yield row("a big-endian one", [b"run", b"--big-endian", b"--env", b"env", b"-e", b"printenv"], {b"env": b"a=1\n"}, b"a=1\n", b"")
+
+
+def no_good_copy():
+    for form, copies, said in BAD_COPIES:
+        files = board(form, copies) | {b"text": b"p=1\n"}
+        for words in NEED_COPY:
+            errors = b"fwenv: no good copy: " + said + LOOK_AT
+            yield row("no good copy", arguments(*words, b"--need-copy"), files, b"", errors, given=b".save\n.print\n")
+    files = board(SINGLE, [SINGLE.image(0, b"a=b\0")])
+    errors = b"fwenv: no good copy: " + WRONG + LOOK_AT
+    yield row("another byte order", arguments(b"printenv", b"--need-copy", order="big"), files, b"", errors)
+
+
+def good_copies():
+    """The second copy is good, and the first isn't; or a default environment is given."""
+    good = PAIR.image(7, b"a=b\0")
+    for words, output, area in WITH_COPY:
+        files = board(PAIR, [BLANK, good]) | {b"text": b"a=\np=1\n"}
+        left = board(PAIR, [PAIR.image(8, area), good]) if area else {}
+        yield row("a good copy", arguments(*words, b"--need-copy"), files, output, b"", left, given=b".print\n")
+    for words, output, area in WITH_COPY:
+        files = board(PAIR, [BLANK, BLANK]) | {b"default": b"a=b\n", b"text": b"a=\np=1\n"}
+        left = board(PAIR, [PAIR.image(1, area), BLANK]) if area else {}
+        words = arguments(*words, b"--need-copy", b"--default", b"default")
+        yield row("a default environment", words, files, output, WARNING, left, given=b".print\n", status=0)
+    files = board(PAIR, [BLANK, BLANK])
+    words = arguments(b"printenv", b"--need-copy", b"--default", b"absent")
+    yield row("no default environment", words, files, b"", WARNING + b"fwenv: cannot read absent\n")
+
+
+def order():
+    files = board(PAIR, [FIRST, SECOND]) | {b"stand-ins": b""}
+    for words, path in ORDER:
+        yield row("the first file", [b"run", *words], files, b"", b"fwenv: cannot read %s\n" % path)
+    config = board(PAIR, [FIRST, SECOND]) | {CONFIG: b"none 0 a\n"}
+    words = arguments(b"run", b"--default", b"absent", b"--stubs", b"nothing", b"-f", b"no")
+    yield row("a copy first", words, config, b"", b"fwenv: cannot read none\n")
+
+
+def chunks():
+    return [
+        names, scripts, no_scripts, script_files, booted, saves, without_copies, words, environments, no_good_copy, good_copies, order,
+    ]

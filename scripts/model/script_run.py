@@ -1,0 +1,36 @@
+"""What `fwenv run` says of a script: how its run ended, and where a text is no script (docs/dry-runs.md)."""
+
+SENTENCES = {
+    "Quote": b"a quote is not closed",
+    "Backslash": b"the text ends with a backslash",
+    "Substitution": b"not a substitution of this shell: ${NAME}, $NAME or $?",
+    "Operator": b"a single & or |, which this shell does not have",
+    "Unexpected": b"not expected here",
+    "Missing": b"the text ends where more has to follow",
+    "Nest": b"more than 64 commands inside one another",
+    "Assignment": b"a word after an assignment",
+    "Nul": b"a byte 0",
+}
+BY_ITSELF = ("Finished", "Exited")
+
+
+def starts(names):
+    """The script that starts variables of these names one after the other: each is in quotes."""
+    return b"run" + b"".join(b" '" + name.replace(b"'", b"'\\''") + b"'" for name in names)
+
+
+def fault_line(name, text, fault):
+    """Where the text of this name is no script, and why: the line and the column, which is a byte, from 1."""
+    kind, place = fault.args
+    before = text[:place].split(b"\n")
+    return b"fwenv: %s:%d:%d: %s: %s\n" % (name, len(before), len(before[-1]) + 1, kind.encode(), SENTENCES[kind])
+
+
+def is_well(outcome):
+    return outcome.ending in BY_ITSELF and outcome.status == 0
+
+
+def ended(outcome):
+    """What is said of a run that didn't end well: its status tells nothing where a limit stopped it."""
+    status = b" with status %d" % outcome.status if outcome.ending in BY_ITSELF else b""
+    return b"fwenv: run ended as %s%s after %d steps\n" % (outcome.ending.encode(), status, outcome.steps)
