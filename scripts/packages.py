@@ -15,7 +15,6 @@ import time
 
 TOP = pathlib.Path(__file__).resolve().parent.parent
 IMAGE = b"\xd2\x96\x62\x2ba=b\0\0"
-PAGES = ("fwenv.1", "fwenv-session.1", "fw_env.config.5")
 passed = failed = 0
 
 
@@ -64,6 +63,7 @@ def packages(folder):
     program, links, archive = first
     root = unpacked(program, folder / "root")
     same("the program unpacked", run(root / "usr/bin/fwenv", given=IMAGE).stdout, b"a=b\n")
+    unpacked(links, root)
     run("tar", "-xzf", archive, "-C", folder, check=True)
     same("the program of the archive", run(folder / archive.name.removesuffix(".tar.gz") / "bin/fwenv", given=IMAGE).stdout, b"a=b\n")
     installed(program, links, folder)
@@ -127,13 +127,13 @@ def pages(folder):
     for page in (TOP / "packaging/man").iterdir():
         found = run("groff", "-ww", "-man", "-Tutf8", "-z", page)
         same(f"the page {page.name}", found.stderr, b"")
-    calls = {"fwenv": [], **{f"fwenv {name}": [name] for name in ("printenv", "setenv", "import", "export", "restore", "status", "session")}}
-    listed = page_options("fwenv.1") | {"fwenv session": page_options("fwenv-session.1")[""]}
+    calls = {"fwenv": [], **{f"fwenv {name}": [name] for name in ("printenv", "setenv", "import", "export", "restore", "status", "run", "session")}}
+    listed = page_options("fwenv.1") | {f"fwenv {name}": page_options(f"fwenv-{name}.1")[""] for name in ("run", "session")}
     common = listed[""] - {"-V", "--version"}
     for name, words in calls.items():
         helped = options_of_help(run(folder / "root/usr/bin/fwenv", *words, "--help").stdout.decode())
-        own = {"--big-endian"} | listed[""] - {"-c", "--default"} if name == "fwenv" else common | listed[name]
-        own -= {"--default"} if name == "fwenv status" else set()
+        own = {"--big-endian"} | listed[""] - {"-c", "--default", "--need-copy"} if name == "fwenv" else common | listed[name]
+        own -= {"--default", "--need-copy"} if name == "fwenv status" else set()
         same(f"the options of {name}, in its page and in its help", sorted(own), sorted(helped))
 
 
@@ -167,15 +167,17 @@ def page_options(page):
     return options
 
 
-def completed_by_bash(script, board, line):
-    """What bash offers for a line whose last word is being typed."""
-    program = f"""source {script}; COMP_WORDS=({line}); [ '{line[-1]}' != ' ' ] || COMP_WORDS+=('')
-    COMP_CWORD=$((${{#COMP_WORDS[@]}} - 1)); compopt() {{ echo "$@" >>options; }}; _fwenv; printf '%s\\n' "${{COMPREPLY[@]}}"; complete -p fwenv >&2"""
+def completed_by_bash(folder, board, line):
+    """What bash offers for a line whose last word is being typed, and whether it was to offer files."""
+    name = line.split()[0]
+    program = f"""source {folder}/{name}; COMP_WORDS=({line}); COMP_CWORD=$((${{#COMP_WORDS[@]}} - 1))
+    compopt() {{ echo "$@" >&2; }}; read -r _ _ _ _ call _ < <(complete -p {name}); "$call"; printf '%s\\n' "${{COMPREPLY[@]}}" """
     found = run("bash", "-c", program, cwd=board)
-    return set(found.stdout.decode().split()), found.stderr.decode()
+    return set(found.stdout.decode().split()), found.stderr.endswith(b"-o default\n")
 
 
-def completed_by_fish(script, board, line):
+def completed_by_fish(folder, board, line):
+    script = folder / f"{line.split()[0]}.fish"
     found = run("fish", "--no-config", "-c", f"source {script}; complete -C '{line}'", cwd=board)
     return {it.split("\t")[0] for it in found.stdout.decode().splitlines()}
 
@@ -202,11 +204,11 @@ def completed_by_zsh(folder, board, line):
         said = b""
         os.write(screen, line.encode() + b"\t\x01print -r -- '<\x05>'\n")
         wait(b">\r\n")
-        wait(b"<fwenv")
+        wait(b"<fw")
     finally:
         os.close(screen)
         os.waitpid(child, 0)
-    found = re.findall(rb"<(fwenv[^<>]*)>", said)
+    found = re.findall(rb"<(fw[^<>]*)>", said)
     return found[-1].decode() if found else repr(said)
 
 
@@ -214,42 +216,65 @@ def completions(folder):
     root, board = folder / "root/usr", folder / "board"
     board.mkdir()
     (board / "copy").write_bytes(b"\xff" * 0x1000)
-    (board / "config").write_text("copy 0 1000\n")
+    (board / "blank").write_bytes(b"\xff" * 0x1000)
+    for name in ("of-copy", "of copy", "of-blank"):
+        (board / name).write_text(f"{name[3:]} 0 1000\n")
     (board / "text").write_text("bootcmd=run x\nbootdelay=2\nbaudrate=115200\n")
-    env = os.environ | {"PATH": f"{root}/bin:{os.environ['PATH']}"}
-    os.environ.update(env)
-    check("the board", run("fwenv", "import", "-c", "config", "text", cwd=board).returncode == 0)
+    os.environ["PATH"] = f"{root}/bin:{os.environ['PATH']}"
+    check("the board", run("fwenv", "import", "-c", "of-copy", "text", cwd=board).returncode == 0)
     names = {"bootcmd", "bootdelay"}
     rows = [
         ("fwenv pri", {"printenv"}),
+        ("fwenv ru", {"run"}),
+        ("fwenv run --b", {"--boots", "--big-endian"}),
+        ("fwenv run --env text boot", {"bootcmd", "bootdelay"}),
+        ("fwenv session --si", {"--size"}),
+        ("fwenv import --n", {"--need-copy"}),
         ("fwenv export --de", {"--default"}),
         ("fwenv session --st", {"--stubs", "--steps"}),
         ("fwenv re", {"restore"}),
         ("fwenv status --b", {"--big-endian"}),
         ("fwenv status --de", set()),
-        ("fwenv printenv -c config boot", names),
-        ("fwenv setenv -c config boot", names),
+        ("fwenv printenv -c of-copy boot", names),
+        ("fwenv setenv -c of-copy boot", names),
+        ("fw_printenv --no", {"--noheader", "--no-header"}),
+        ("fw_printenv --s", set()),
+        ("fw_setenv --no", set()),
+        ("fw_setenv --s", {"--script"}),
+        ("fw_setenv --de", {"--defenv"}),
+        ("fw_printenv -c of-copy -l . boot", names),
+        ("fw_setenv --lock . --config of-copy boot", names),
+        ("fw_setenv -c of-blank -l . boot", set()),
+        ("fw_setenv -c of-blank -l . -f text boot", names),
     ]
-    script = root / "share/bash-completion/completions/fwenv"
+    with_files = ("fwenv printenv -c te", "fw_printenv -c te", "fw_printenv --defenv te", "fw_setenv -f te", "fw_setenv -s te")
+    folder = root / "share/bash-completion/completions"
     for line, wanted in rows:
-        found, told = completed_by_bash(script, board, line)
-        same(f"bash: {line}", found, wanted)
-        check("bash: complete -p", "complete -o default -F _fwenv fwenv" in told, told)
-    found, _ = completed_by_bash(script, board, "fwenv printenv -c co")
-    check("bash: files after -c", found == set() and "-o default" in (board / "options").read_text(), found)
+        same(f"bash: {line}", completed_by_bash(folder, board, line), (wanted, False))
+    for line in with_files:
+        same(f"bash: files for {line}", completed_by_bash(folder, board, line), (set(), True))
     if has("fish"):
-        for line, wanted in rows:
-            same(f"fish: {line}", completed_by_fish(root / "share/fish/vendor_completions.d/fwenv.fish", board, line), wanted)
-        check("fish: files after -c", "config" in completed_by_fish(root / "share/fish/vendor_completions.d/fwenv.fish", board, "fwenv printenv -c co"))
+        folder = root / "share/fish/vendor_completions.d"
+        for line, wanted in [*rows, *((line, {"text"}) for line in with_files)]:
+            same(f"fish: {line}", completed_by_fish(folder, board, line), wanted)
     if has("zsh"):
-        for line, wanted in (
-            ("fwenv pri", "fwenv printenv"),
-            ("fwenv export --de", "fwenv export --default"),
-            ("fwenv printenv -c conf", "fwenv printenv -c config"),
-            ("fwenv printenv -c config bootc", "fwenv printenv -c config bootcmd"),
-            ("fwenv setenv -c config bootd", "fwenv setenv -c config bootdelay"),
+        for line, more in (
+            ("fwenv pri", "ntenv"),
+            ("fwenv export --de", "fault"),
+            ("fwenv printenv -c of-c", "opy"),
+            ("fwenv printenv -c of-copy bootc", "md"),
+            ("fwenv setenv -c of\\ copy bootd", "elay"),
+            ("fw_printenv --noh", "eader"),
+            ("fw_setenv --sc", "ript"),
+            ("fw_printenv -c of-c", "opy"),
+            ("fw_setenv --defenv te", "xt"),
+            ("fw_setenv -s te", "xt"),
+            ("fw_printenv -c of-copy -l . bootc", "md"),
+            ("fw_setenv --lock=. --config of\\ copy bootd", "elay"),
+            ("fw_setenv -c of-blank -l . bootd", ""),
+            ("fw_setenv -c of-blank -l . -f text bootd", "elay"),
         ):
-            same(f"zsh: {line}", completed_by_zsh(root / "share/zsh/site-functions", board, line).strip(), wanted)
+            same(f"zsh: {line}", completed_by_zsh(root / "share/zsh/site-functions", board, line).strip(), line + more)
 
 
 def main():

@@ -1,22 +1,25 @@
-# Completion of fwenv's command line for bash: commands, options, files, and the names of variables after printenv and setenv.
+# Completion of fwenv's command line for bash: commands, options, files, and the names of variables after printenv, setenv and run.
 # shellcheck shell=bash
 
-# The names of the variables in the configuration that the command line names.
+# The names of the variables in the configuration, or the text, that the command line names.
 _fwenv_names() {
-    local at words=(printenv)
+    local at words=(printenv) text=()
     for ((at = 1; at < COMP_CWORD; at++)); do
         case ${COMP_WORDS[at]} in
             -c) words+=(-c "${COMP_WORDS[at + 1]}") ;;
             --big-endian) words+=(--big-endian) ;;
+            --env | --size) text+=("${COMP_WORDS[at]}" "${COMP_WORDS[at + 1]}") ;;
         esac
     done
+    if [ ${#text[@]} != 0 ]; then words=(run "${text[@]}" -e printenv); fi
     "${COMP_WORDS[0]}" "${words[@]}" 2>/dev/null | sed -n 's/^\([^=]*\)=.*/\1/p'
 }
 
 _fwenv() {
     local word=${COMP_WORDS[COMP_CWORD]} before=${COMP_WORDS[COMP_CWORD - 1]} command='' at
-    local commands='printenv setenv import export restore status session help'
-    local options='-c --default --big-endian -h --help'
+    local commands='printenv setenv import export restore status run session help'
+    local options='-c --default --need-copy --big-endian -h --help'
+    local dry_run=' --write --stubs --steps --depth --word --output --env --size'
     for ((at = 1; at < COMP_CWORD; at++)); do
         case " $commands " in *" ${COMP_WORDS[at]} "*)
             command=${COMP_WORDS[at]}
@@ -27,22 +30,23 @@ _fwenv() {
     compopt +o default
     COMPREPLY=()
     case $before in
-        -c | --default | --stubs | -s)
+        -c | --default | --stubs | --env | -s | -f)
             compopt -o default
             return
             ;;
-        --steps | --depth | --word | --output) return ;;
+        --steps | --depth | --word | --output | --size | --boots | -e) return ;;
     esac
     case $command in
         '') options="$commands --big-endian -h --help -V --version" ;;
         printenv) options+=' -n' ;;
         setenv) options+=' -s' ;;
         status) options='-c --big-endian -h --help' ;;
-        session) options+=' --write --stubs --steps --depth --word --output' ;;
+        run) options+="$dry_run --boots -e -f" ;;
+        session) options+=$dry_run ;;
         help) options=$commands ;;
     esac
     case $command:$word in
-        printenv:[^-]* | printenv: | setenv:[^-]* | setenv:)
+        printenv:[^-]* | printenv: | setenv:[^-]* | setenv: | run:[^-]* | run:)
             mapfile -t COMPREPLY < <(compgen -W "$(_fwenv_names)" -- "$word")
             ;;
         import:[^-]* | import: | restore:[^-]* | restore: | status:[^-]* | status:) compopt -o default ;;

@@ -1,6 +1,6 @@
-# Completion of fwenv's command line for fish: commands, options, files, and the names of variables after printenv and setenv.
+# Completion of fwenv's command line for fish: commands, options, files, and the names of variables after printenv, setenv and run.
 
-# The names of the variables in the configuration that the command line names.
+# The names of the variables in the configuration, or the text, that the command line names.
 function __fwenv_names
     set -l tokens (commandline -opc)
     set -l call printenv
@@ -10,10 +10,16 @@ function __fwenv_names
     if contains -- --big-endian $tokens
         set -a call --big-endian
     end
+    if set -l at (contains -i -- --env $tokens)
+        set call run --env $tokens[(math $at + 1)] -e printenv
+        if set -l at (contains -i -- --size $tokens)
+            set -a call --size $tokens[(math $at + 1)]
+        end
+    end
     fwenv $call 2>/dev/null | string replace -rf '^([^=]*)=.*' '$1'
 end
 
-set -l commands printenv setenv import export restore status session help
+set -l commands printenv setenv import export restore status run session help
 complete -c fwenv -f
 complete -c fwenv -n "not __fish_seen_subcommand_from $commands" -a printenv -d 'Print variables'
 complete -c fwenv -n "not __fish_seen_subcommand_from $commands" -a setenv -d 'Set or delete variables, and save'
@@ -21,21 +27,28 @@ complete -c fwenv -n "not __fish_seen_subcommand_from $commands" -a import -d 'S
 complete -c fwenv -n "not __fish_seen_subcommand_from $commands" -a export -d 'Print a text that import reads'
 complete -c fwenv -n "not __fish_seen_subcommand_from $commands" -a restore -d 'Make the variables those of a text, and save'
 complete -c fwenv -n "not __fish_seen_subcommand_from $commands" -a status -d 'Say what each copy is good for'
+complete -c fwenv -n "not __fish_seen_subcommand_from $commands" -a run -d 'Run a boot script for its own status'
 complete -c fwenv -n "not __fish_seen_subcommand_from $commands" -a session -d 'Try boot scripts'
 complete -c fwenv -n "not __fish_seen_subcommand_from $commands" -a help -d 'Print help'
 complete -c fwenv -n "not __fish_seen_subcommand_from $commands" -s V -l version -d 'Print the version'
 complete -c fwenv -s h -l help -d 'Print help'
 complete -c fwenv -l big-endian -d 'Checksums have the highest byte first'
-complete -c fwenv -n "__fish_seen_subcommand_from printenv setenv import export restore status session" -s c -rF -d 'Configuration'
-complete -c fwenv -n "__fish_seen_subcommand_from printenv setenv import export restore session" -l default -rF -d 'Default environment'
+complete -c fwenv -n "__fish_seen_subcommand_from printenv setenv import export restore status run session" -s c -rF -d 'Configuration'
+complete -c fwenv -n "__fish_seen_subcommand_from printenv setenv import export restore run session" -l default -rF -d 'Default environment'
+complete -c fwenv -n "__fish_seen_subcommand_from printenv setenv import export restore run session" -l need-copy -d 'Do nothing without a good copy'
 complete -c fwenv -n "__fish_seen_subcommand_from printenv" -s n -d 'Print the value alone'
-complete -c fwenv -n "__fish_seen_subcommand_from printenv setenv" -a "(__fwenv_names)"
+complete -c fwenv -n "__fish_seen_subcommand_from printenv setenv run" -a "(__fwenv_names)"
 complete -c fwenv -n "__fish_seen_subcommand_from setenv" -s s -rF -d 'Script of names and values'
 complete -c fwenv -n "__fish_seen_subcommand_from import restore status" -F
-complete -c fwenv -n "__fish_seen_subcommand_from session" -l write -d 'Write back the copies that changed'
-complete -c fwenv -n "__fish_seen_subcommand_from session" -l stubs -rF -d 'Stand-ins'
-complete -c fwenv -n "__fish_seen_subcommand_from session" -l steps -x -d 'Steps of a block'
-complete -c fwenv -n "__fish_seen_subcommand_from session" -l depth -x -d 'Starts inside one another'
-complete -c fwenv -n "__fish_seen_subcommand_from session" -l word -x -d 'Bytes of a word'
-complete -c fwenv -n "__fish_seen_subcommand_from session" -l output -x -d 'Bytes that a block prints'
+complete -c fwenv -n "__fish_seen_subcommand_from run session" -l write -d 'Write back the copies that changed'
+complete -c fwenv -n "__fish_seen_subcommand_from run session" -l stubs -rF -d 'Stand-ins'
+complete -c fwenv -n "__fish_seen_subcommand_from run session" -l steps -x -d 'Steps of a script'
+complete -c fwenv -n "__fish_seen_subcommand_from run session" -l depth -x -d 'Starts inside one another'
+complete -c fwenv -n "__fish_seen_subcommand_from run session" -l word -x -d 'Bytes of a word'
+complete -c fwenv -n "__fish_seen_subcommand_from run session" -l output -x -d 'Bytes that a script prints'
+complete -c fwenv -n "__fish_seen_subcommand_from run session" -l env -rF -d 'Text that is the whole environment'
+complete -c fwenv -n "__fish_seen_subcommand_from run session" -l size -x -d 'Size of its image, in hexadecimal'
+complete -c fwenv -n "__fish_seen_subcommand_from run" -l boots -x -d 'Command that does not come back'
+complete -c fwenv -n "__fish_seen_subcommand_from run" -s e -x -d 'Script'
+complete -c fwenv -n "__fish_seen_subcommand_from run" -s f -rF -d 'File of a script'
 complete -c fwenv -n "__fish_seen_subcommand_from help" -a "$commands"
