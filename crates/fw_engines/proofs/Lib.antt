@@ -8,3 +8,4 @@ mod RestorationLemmas
 mod ShowLemmas
 mod StreamLemmas
 mod WriteLemmas
+pub mod Rows

@@ -4,7 +4,11 @@ use Rattle.clap.proofs.OnLiterals.{clap_on_literals}
 use Rattle.clap.specs.declared.error.kind.ErrorKind.TheVariants.{ArgumentConflict, DisplayHelp, DisplayVersion, InvalidSubcommand, MissingRequiredArgument, TooManyValues, UnknownArgument}
 use Rattle.envimg_core.specs.declared.geometry.Order.TheVariants.{Little, Big}
 use Rattle.fw_tools.specs.DryRuns.{number_in}
-use Rattle.fw_tools.specs.ProgramNames.{faults, order_of}
+use Rattle.fw_tools.specs.ImageSizes.{size_in}
+use Rattle.fw_tools.specs.ProgramNames.{faults, name_in, order_of}
+use Rattle.fw_tools.specs.ScriptRuns.{starts}
+use Rattle.fw_tools.specs.declared.program_name.ProgramName.TheVariants.{Fwenv, FwenvWith, Printenv}
+use Rattle.fw_tools.specs.declared.program_name.Subcommand.TheVariants as sub
 
 -- no word but the program's own name
 pub name_alone : faults (codes "fwenv" ∷ []) ≡ []
@@ -140,6 +144,58 @@ number_twice = refl
 pub no_word_for_a_session : faults (codes "fwenv" ∷ codes "session" ∷ codes "a" ∷ []) ≡ UnknownArgument ∷ []
 unfolding clap_on_literals
 no_word_for_a_session = refl
+
+-- a script's run
+pub run_of_names : faults (codes "fwenv" ∷ codes "run" ∷ codes "a" ∷ codes "b" ∷ []) ≡ []
+unfolding clap_on_literals
+run_of_names = refl
+
+pub boots_twice : faults (codes "fwenv" ∷ codes "run" ∷ codes "--boots" ∷ codes "booti" ∷ codes "--boots" ∷ codes "reset" ∷ codes "a" ∷ []) ≡ []
+unfolding clap_on_literals
+boots_twice = refl
+
+pub text_twice : faults (codes "fwenv" ∷ codes "run" ∷ codes "--env" ∷ codes "f" ∷ codes "--env" ∷ codes "g" ∷ []) ≡ ArgumentConflict ∷ []
+unfolding clap_on_literals
+text_twice = refl
+
+pub boots_nowhere_else : faults (codes "fwenv" ∷ codes "session" ∷ codes "--boots" ∷ codes "booti" ∷ []) ≡ UnknownArgument ∷ []
+unfolding clap_on_literals
+boots_nowhere_else = refl
+
+pub quotes_kept : starts (codes "a" ∷ codes "it's" ∷ []) ≡ codes "run 'a' 'it'\\''s'"
+quotes_kept = refl
+
+-- the name under which the program is called, and the subcommand after it
+pub link_named : name_in (codes "/usr/bin/fw_printenv" ∷ codes "export" ∷ []) ≡ Printenv
+link_named = refl
+
+pub subcommand_first : name_in (codes "bin/fwenv" ∷ codes "export" ∷ codes "run" ∷ []) ≡ FwenvWith sub.Export
+subcommand_first = refl
+
+pub option_first : name_in (codes "fwenv" ∷ codes "--big-endian" ∷ codes "export" ∷ []) ≡ Fwenv
+option_first = refl
+
+-- the sizes of an image in memory
+pub size_with_0x : size_in (codes "0x4000") ≡ Some 16384
+size_with_0x = refl
+
+pub size_without : size_in (codes "4000") ≡ Some 16384
+size_without = refl
+
+pub least_size : size_in (codes "8") ≡ Some 8
+least_size = refl
+
+pub below_the_least : size_in (codes "0x7") ≡ None
+below_the_least = refl
+
+pub greatest_size : size_in (codes "0x100000") ≡ Some 1048576
+greatest_size = refl
+
+pub above_the_greatest : size_in (codes "0x100001") ≡ None
+above_the_greatest = refl
+
+pub no_size : size_in (codes "4k") ≡ None
+no_size = refl
 
 -- numbers
 pub largest_depth : number_in 16 (codes "0016") ≡ Some 16

@@ -9,14 +9,15 @@ use Rattle.envimg_core.specs.Pieces.{Entry}
 use Rattle.envimg_core.specs.declared.geometry.Order.{Order}
 use Rattle.fw_tools.specs.Said.{SaysSome}
 use Rattle.envvars_core.specs.declared.refusals.Refusal.{Refusal}
-use Rattle.fw_tools.specs.Subcommands.{Acts, Closes, DoesJob, IsAccepted, IsOpening, Scene, Uses, UsesTool, printed_so}
+use Rattle.fw_tools.specs.Subcommands.{Acts, AreCopiesIn, Closes, DoesJob, IsAccepted, IsOpening, OpensOver, Scene, Uses, UsesTool, printed_so}
 use Rattle.fw_tools.specs.Calls.{Call, Defaults, Job, Runs, Task, Tool, Tries}
 use Rattle.fw_tools.specs.DryRuns.{ScriptRun}
 use Rattle.fw_tools.specs.ScriptRuns as ScriptRuns
 use Rattle.fw_tools.specs.ScriptRuns.{ClosesRun, RunsOver}
 use Rattle.fw_engines.specs.ScriptRun.{ended_so, is_well, outcome_texts, run_texts}
 use Rattle.hush_run.specs.declared.ending.Ending.{Ending}
-use Rattle.fw_tools.specs.Source.{IsFound}
+use Rattle.fw_tools.specs.Source.{IsFound, second_bytes}
+use Rattle.fw_tools.specs.declared.source.Source.{Source}
 use Rattle.fw_tools.specs.declared.task.Printing.{Printing}
 use Rattle.fw_tools.specs.declared.task.Printing.TheVariants.{Lines, OneValue, Values}
 use Rattle.fw_engines.specs.TextForm.{export_texts, status_for}
@@ -32,15 +33,21 @@ use Rattle.fw_engines.specs.declared.tool_end.StreamFault.TheVariants.{Read, Wri
 use Rattle.fw_engines.specs.declared.tool_end.ToolEnd.{ToolEnd}
 
 -- the session that was accepted is the one that was opened
-pub accepted_is : (o : Option Held) (order : Order) (asked : Defaults) (session : Held) (a b : Option (List ℕ)) → IsOpening order asked session →
-    MatchOption o (SaysSome a b) (λ s. (s ≡ session) × IsAccepted asked session a b) → MatchOption o (SaysSome a b) (λ s. IsOpening order asked s × IsAccepted asked s a b)
-accepted_is None order asked session a b opening p = p
-accepted_is (Some s) order asked session a b opening p =
-    (subst (IsOpening order asked) (sym p.0) opening, subst (λ (h : Held). IsAccepted asked h a b) (sym p.0) p.1)
+pub accepted_is : (o : Option Held) (source : Source) (asked : Defaults) (session : Held) (a b : Option (List ℕ)) → OpensOver source asked session →
+    MatchOption o (SaysSome a b) (λ s. (s ≡ session) × IsAccepted asked session a b) → MatchOption o (SaysSome a b) (λ s. OpensOver source asked s × IsAccepted asked s a b)
+accepted_is None source asked session a b opens p = p
+accepted_is (Some s) source asked session a b opens p =
+    (subst (OpensOver source asked) (sym p.0) opens, subst (λ (h : Held). IsAccepted asked h a b) (sym p.0) p.1)
+
+-- and it is one over such copies as were read
+pub opens_so : (image : Option ℕ) (order : Order) (source : Source) (asked : Defaults) (session : Held) →
+    AreCopiesIn image order source → OpensOver source asked session → IsOpening image order asked session
+opens_so image order source asked session copies (defaults, are, is) =
+    (source.geometry, source.first.bytes.items, second_bytes source.second, defaults, copies, are, is)
 
 -- a session was opened, with a warning or none, and worked on
 pub opened_session : (call : Call) (asked : Defaults) (old : Streams) (session : Held) (warned : Option (List ℕ)) (new : Streams) (status : ℕ) →
-    IsFound call.defaults asked → IsOpening call.order asked session → IsAccepted asked session old.errors warned →
+    IsFound call.defaults asked → IsOpening call.image call.order asked session → IsAccepted asked session old.errors warned →
     DoesJob call.job session (record { input = old.input; output = old.output; errors = warned }) new status → Uses call old new status
 opened_session call asked old session warned new status found opening accepted does = inr (asked, session, warned, found, opening, accepted, does)
 

@@ -19,7 +19,8 @@ use Rattle.envimg_core.specs.declared.geometry.Order.TheVariants.{Little}
 use Rattle.fw_tools.specs.ProgramNames.{app_of_name, called_by, called_in, called_under, name_in, order_of, order_under}
 use Rattle.fw_tools.specs.Words.{IsTool, big_endian, fwenv, order_by, order_in, source_in}
 use Rattle.fw_tools.specs.declared.program_name.ProgramName.{ProgramName}
-use Rattle.fw_tools.specs.declared.program_name.ProgramName.TheVariants.{Fwenv, Printenv, Setenv}
+use Rattle.fw_tools.specs.declared.program_name.ProgramName.TheVariants.{Fwenv, FwenvWith, Printenv, Setenv}
+use Rattle.fw_tools.specs.declared.program_name.Subcommand.TheVariants as sub
 use Rattle.clap.specs.declared.builder.arg.Arg.{Arg}
 use Rattle.clap.specs.declared.builder.command.Command.{Command}
 use Rattle.clap.specs.Words.{AddsArg, AddsSubcommand, HasKind, app_of, IsAmong, fault_of, is_simple_and_free, kind_of, matches_of, subcommand_of, subcommand_rows_of, with_rule, with_subcommand}
@@ -43,12 +44,28 @@ order_by_rows m = ap order_by (source_found (found_of m) (codes "big-endian"))
 app_simple : (name : ProgramName) → is_simple (app_of_name name) ≡ true
 unfolding clap_on_literals
 app_simple Fwenv = refl
+app_simple (FwenvWith sub.Printenv) = refl
+app_simple (FwenvWith sub.Setenv) = refl
+app_simple (FwenvWith sub.Import) = refl
+app_simple (FwenvWith sub.Export) = refl
+app_simple (FwenvWith sub.Restore) = refl
+app_simple (FwenvWith sub.Status) = refl
+app_simple (FwenvWith sub.Run) = refl
+app_simple (FwenvWith sub.Session) = refl
 app_simple Printenv = refl
 app_simple Setenv = refl
 
 pub app_free : (name : ProgramName) → is_simple_and_free (app_of_name name) ≡ true
 unfolding clap_on_literals
 app_free Fwenv = refl
+app_free (FwenvWith sub.Printenv) = refl
+app_free (FwenvWith sub.Setenv) = refl
+app_free (FwenvWith sub.Import) = refl
+app_free (FwenvWith sub.Export) = refl
+app_free (FwenvWith sub.Restore) = refl
+app_free (FwenvWith sub.Status) = refl
+app_free (FwenvWith sub.Run) = refl
+app_free (FwenvWith sub.Session) = refl
 app_free Printenv = refl
 app_free Setenv = refl
 
@@ -63,6 +80,7 @@ order_chosen name app words m is has =
 called_there : (name : ProgramName) (words : List Text) (m : ArgMatches) → rows_of (found_of m) ≡ matches_of (app_of_name name) words →
     subcommand_rows_of m ≡ subcommand_of (app_of_name name) words → called_in name m ≡ called_under name words
 called_there Fwenv words m rows sub = sub
+called_there (FwenvWith s) words m rows sub = sub
 called_there Printenv words m rows sub = λ i. Some (codes "fw_printenv", rows i)
 called_there Setenv words m rows sub = λ i. Some (codes "fw_setenv", rows i)
 
@@ -137,6 +155,7 @@ replies_by name words e old new status is (inr among) same (inr replies) =
 -- the name under which it is
 pub shown_under : (name : ProgramName) (count : ℕ) → is_shown name count ≡ true → (name ≡ Fwenv) × (count ≤ 1)
 shown_under Fwenv count shown = (refl, leb-true count 1 shown)
+shown_under (FwenvWith s) count shown = absurd cc
 shown_under Printenv count shown = absurd cc
 shown_under Setenv count shown = absurd cc
 

@@ -5,6 +5,7 @@ pub mod CopyReport
 pub mod DryRuns
 pub mod EntryPoint
 pub mod Files
+pub mod Greeting
 pub mod ImageSizes
 pub mod ProgramNames
 pub mod Report

@@ -1,10 +1,11 @@
 -- What a subcommand does over a session, and what it prints (docs/tools.md, "Subcommands over files").
-use Rattle.std.specs.Prelude.{◌≡◌, ◌⊎◌, ℕ, ◌==◌, ◌&&◌, Bool, true, false, List, Option, Result, Ok, Err}
+use Rattle.std.specs.Prelude.{◌≡◌, ◌⊎◌, ℕ, ◌==◌, ◌&&◌, Bool, true, false, List, replicate, Option, Some, None, Result, Ok, Err}
 use Rattle.env_session.specs.Session.{Held, opened}
 use Rattle.envimg_core.specs.Geometry.{Shape, room_of}
 use Rattle.envimg_core.specs.Pieces.{Entry}
 use Rattle.envimg_core.specs.declared.choice.Choice.{Choice}
 use Rattle.envimg_core.specs.declared.choice.Choice.TheVariants.{Neither}
+use Rattle.envimg_core.specs.declared.geometry.Layout.TheVariants.{Single}
 use Rattle.envimg_core.specs.declared.geometry.Order.{Order}
 use Rattle.envcfg_core.specs.Entries as text_entries
 use Rattle.envcfg_core.specs.Import.{import_of}
@@ -13,11 +14,12 @@ use Rattle.clap.specs.Words.{Text}
 use Rattle.fw_tools.specs.Calls.{Call, Defaults, Job, Tool, Tries, Runs, Task}
 use Rattle.fw_tools.specs.CopyReport.{ReportsOn}
 use Rattle.fw_tools.specs.Report.{Asked, Look, Work}
-use Rattle.fw_tools.specs.Source.{AreDefaultsOf, IsFound, lacks_copy, warned}
+use Rattle.fw_tools.specs.Source.{AreDefaultsOf, IsFound, lacks_copy, second_bytes, warned}
 use Rattle.fw_tools.specs.Said.{Says, SaysSome, Stops}
 use Rattle.fw_engines.specs.TextForm.{export_texts}
 use Rattle.fw_engines.specs.VariableLines.{named, printed}
 use Rattle.envimg_core.specs.Environment.{Environment}
+use Rattle.fw_tools.specs.declared.source.Source.{Source}
 use Rattle.fw_tools.specs.declared.task.Printing.{Printing}
 use Rattle.fw_tools.specs.declared.task.Printing.TheVariants.{Lines, OneValue, Values}
 use Rattle.fw_engines.specs.Changes.{Changes, Changing, Effect, LacksMemory, LacksMemoryToImport, LacksMemoryToSet, import_effect, script_effect, set_effect}
@@ -74,11 +76,27 @@ abbrev pub is_left : Bool → Choice → ℕ → Bool
 is_left only_changes Neither changed = false
 is_left only_changes choice changed = only_changes && changed == 0
 
--- a session just opened over some copies in this byte order, with the defaults of some text where its path is given, else none
-abbrev pub IsOpening : Order → Defaults → Held → Type 0
-IsOpening order asked session =
+-- the copies of a session: some that a configuration names, in this byte order, or an erased image of a size in their place
+abbrev pub AreCopies : (image : Option ℕ) → Order → Shape → (first : List ℕ) → (second : Option (List ℕ)) → Type 0
+AreCopies None order shape first second = shape.order ≡ order
+AreCopies (Some size) order shape first second =
+    (shape ≡ record { layout = Single; size = size; order = order }) × (first ≡ replicate size 255) × (second ≡ None)
+
+-- a session just opened over such copies, with the defaults of some text where its path is given, else none
+abbrev pub IsOpening : (image : Option ℕ) → Order → Defaults → Held → Type 0
+IsOpening image order asked session =
     (shape : Shape) × (first : List ℕ) × (second : Option (List ℕ)) × (defaults : Contents)
-    × (shape.order ≡ order) × AreDefaultsOf (room_of shape) asked defaults × (session ≡ opened shape first second defaults)
+    × AreCopies image order shape first second × AreDefaultsOf (room_of shape) asked defaults × (session ≡ opened shape first second defaults)
+
+-- the same copies as they were read
+abbrev pub AreCopiesIn : (image : Option ℕ) → Order → Source → Type 0
+AreCopiesIn image order source = AreCopies image order source.geometry source.first.bytes.items (second_bytes source.second)
+
+-- a session just opened over what was read
+abbrev pub OpensOver : Source → Defaults → Held → Type 0
+OpensOver source asked session =
+    (defaults : Contents) × AreDefaultsOf (room_of source.geometry) asked defaults
+    × (session ≡ opened source.geometry source.first.bytes.items (second_bytes source.second) defaults)
 
 -- a task is done over a session, and the copies are written back; or its file can't be used
 abbrev pub UsesTool : Task → Held → Writers → Writers → ℕ → Type 0
@@ -101,7 +119,7 @@ IsAccepted asked session old said = (lacks_copy asked session.now.current ≡ fa
 abbrev pub UsesSession : Call → Streams → Streams → ℕ → Type 0
 UsesSession call old new status =
     (asked : Defaults) × (session : Held) × (warned : Option (List ℕ))
-    × IsFound call.defaults asked × IsOpening call.order asked session × IsAccepted asked session old.errors warned
+    × IsFound call.defaults asked × IsOpening call.image call.order asked session × IsAccepted asked session old.errors warned
     × DoesJob call.job session (record { input = old.input; output = old.output; errors = warned }) new status
 
 -- or before that a file can't be used, or memory runs out

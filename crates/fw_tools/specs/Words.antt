@@ -78,8 +78,11 @@ status = with_rule (with_rule (with_rule (new_app (codes "status")) config) big_
 abbrev pub write : Rule
 write = record (flag (codes "write")) { long = Some (codes "write") }
 
+abbrev pub file_option : Text → Rule
+file_option id = record (one id) { long = Some id }
+
 abbrev pub stand_ins : Rule
-stand_ins = record (one (codes "stubs")) { long = Some (codes "stubs") }
+stand_ins = file_option (codes "stubs")
 
 abbrev pub number : (id usual : Text) → Rule
 number id usual = record (one id) { long = Some id; defaults = usual ∷ [] }
@@ -115,7 +118,7 @@ limited app = with_output (with_word (with_depth (with_steps app)))
 
 -- a text that is the whole environment, and the size of its image
 abbrev pub env : Rule
-env = record (one (codes "env")) { long = Some (codes "env") }
+env = file_option (codes "env")
 
 abbrev pub usual_size : Text
 usual_size = codes "0x4000"

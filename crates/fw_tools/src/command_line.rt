@@ -1,13 +1,14 @@
 //! The words that the program is called with.
 ghost use Rattle.std.specs.Prelude.{◌≡◌, IfOk, codes, false, map};
 ghost use Rattle.clap.specs.Words.{FailsBy, app_of, fault_of, rule_of};
-ghost use Rattle.fw_tools.specs.ProgramNames.{app_of_name, called_in, called_under, order_under};
+ghost use Rattle.fw_tools.specs.ProgramNames.{app_of_name, app_of_subcommand, called_in, called_under, order_under};
 ghost use Rattle.fw_tools.specs.Words.{IsTool, fwenv, order_in};
 ghost use Rattle.fw_tools.specs.Words as words;
+ghost use Rattle.fw_tools.specs.declared.program_name.ProgramName.TheVariants.{FwenvWith};
 
 use crate::client_words::{fw_printenv, fw_setenv};
 use crate::dry_run_words::{run, session};
-use crate::program_name::ProgramName;
+use crate::program_name::{ProgramName, Subcommand};
 use crate::upkeep_words::{restore, status, wanted_file};
 use clap::{Arg, ArgAction, ArgMatches, Command, Error};
 use std::alloc::{AllocError, Global};
@@ -126,6 +127,7 @@ fn command_of_name<'a>(alloc: Global, name: ProgramName) -> Result<Command<'a>, 
 {
     match name {
         ProgramName::Fwenv => command(alloc),
+        ProgramName::FwenvWith(subcommand) => command_with(alloc, subcommand),
         ProgramName::Printenv => fw_printenv(alloc),
         ProgramName::Setenv => fw_setenv(alloc),
     }
@@ -145,6 +147,31 @@ fn command<'a>(alloc: Global) -> Result<Command<'a>, AllocError>
     let running = reporting.subcommand(run(alloc)?)?;
     let talking = running.subcommand(session(alloc)?)?;
     Ok(talking)
+}
+
+/// The command with one subcommand alone: to make all of them takes longer than to print a small environment.
+fn command_with<'a>(alloc: Global, subcommand: Subcommand) -> Result<Command<'a>, AllocError>
+    ensures { IfOk result (λ c. app_of c ≡ app_of_name (FwenvWith subcommand)) }
+{
+    let top = top(alloc)?;
+    let command = top.subcommand(command_of(alloc, subcommand)?)?;
+    Ok(command)
+}
+
+/// A subcommand, as clap knows it.
+fn command_of<'a>(alloc: Global, subcommand: Subcommand) -> Result<Command<'a>, AllocError>
+    ensures { IfOk result (IsTool (app_of_subcommand subcommand)) }
+{
+    match subcommand {
+        Subcommand::Printenv => printenv(alloc),
+        Subcommand::Setenv => setenv(alloc),
+        Subcommand::Import => import(alloc),
+        Subcommand::Export => export(alloc),
+        Subcommand::Restore => restore(alloc),
+        Subcommand::Status => status(alloc),
+        Subcommand::Run => run(alloc),
+        Subcommand::Session => session(alloc),
+    }
 }
 
 /// The command without its subcommands.

@@ -28,7 +28,8 @@ pub(crate) fn session<'a>(alloc: Global) -> Result<Command<'a>, AllocError>
         alloc,
         "session",
         "Tries boot scripts: runs the blocks and dot lines of standard input, and writes nothing without --write",
-        "Example:\n  echo 'run bootcmd' | fwenv session --stubs stand-ins.txt",
+        "Dot lines run the lines before them:\n  .print  .save  .mark NAME  .undo [NAME]\n\n\
+         Example:\n  echo 'run bootcmd' | fwenv session --stubs stand-ins.txt",
     )?;
     dry_run(
         alloc,
@@ -75,26 +76,27 @@ fn dry_run<'a>(
     let depth = "How many starts by run may be inside one another, at most 16";
     let word = "How many bytes a word may have, at most 65536";
     let output = "How many bytes a run may print, at most 16777216";
+    let stand_ins = "The stand-ins, a line NAME [STATUS] for each command that only hardware has";
+    let env =
+        "Takes a text as for import as the whole environment, without a configuration and copies";
     let command = tool
         .arg(write(alloc, write_help))?
-        .arg(stand_ins(alloc))?
+        .arg(file_option(alloc, "stubs", stand_ins))?
         .arg(number(alloc, "steps", STEPS, steps))?
         .arg(number(alloc, "depth", DEPTH, depth))?
         .arg(number(alloc, "word", WORD, word))?
         .arg(number(alloc, "output", OUTPUT, output))?
-        .arg(env(alloc))?
+        .arg(file_option(alloc, "env", env))?
         .arg(size(alloc))?;
     Ok(command)
 }
 
-/// `--env FILE`
-fn env<'a>(alloc: Global) -> Arg<'a>
-    ensures rule { rule_of result ≡ words.env }
+/// An option that takes a file.
+fn file_option<'a>(alloc: Global, id: &'a str, help: &'a str) -> Arg<'a>
+    ensures rule { rule_of result ≡ words.file_option id.entry.now }
     ensures local { result.global ≡ false }
 {
-    Arg::new(alloc, "env").long("env").value_name("FILE").help(
-        "Takes a text as for import as the whole environment, without a configuration and copies",
-    )
+    Arg::new(alloc, id).long(id).value_name("FILE").help(help)
 }
 
 /// `--size N`
@@ -141,17 +143,6 @@ fn given_file<'a>(alloc: Global) -> Arg<'a>
     Arg::new(alloc, "script").short('f').value_name("FILE").help(
         "The file of a script, or - for standard input, in place of NAMES",
     )
-}
-
-/// `--stubs FILE`
-fn stand_ins<'a>(alloc: Global) -> Arg<'a>
-    ensures rule { rule_of result ≡ words.stand_ins }
-    ensures local { result.global ≡ false }
-{
-    Arg::new(alloc, "stubs")
-        .long("stubs")
-        .value_name("FILE")
-        .help("The stand-ins, a line NAME [STATUS] for each command that only hardware has")
 }
 
 /// `--write`

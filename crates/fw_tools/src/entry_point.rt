@@ -177,6 +177,7 @@ fn called<'m, 'w>(
 {
     match under {
         ProgramName::Fwenv => matches.subcommand(),
+        ProgramName::FwenvWith(_) => matches.subcommand(),
         ProgramName::Printenv => Some(("fw_printenv", matches)),
         ProgramName::Setenv => Some(("fw_setenv", matches)),
     }

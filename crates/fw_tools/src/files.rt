@@ -7,6 +7,7 @@ ghost use Rattle.envcfg_core.specs.Import.{import_of};
 ghost use Rattle.envcfg_core.specs.SetScript.{set_script_of};
 ghost use Rattle.fw_tools.specs.Files.{file_limit, name_of, text_fault};
 ghost use Rattle.fw_tools.specs.SessionRun.{AreStubsOf};
+ghost use Rattle.fw_tools.specs.declared.files.FileFault.TheVariants.{Memory};
 ghost use Rattle.hush_commands.specs.Stubs.{stand_ins_of};
 
 use crate::program_texts::{
@@ -17,7 +18,7 @@ use envvars_core::Refusal;
 use fw_engines::StreamFault;
 use fw_engines::streams::{read_up_to, say, write_decimal, write_text, write_three, write_two};
 use hush_run::{StubFault, Stubs};
-use std::alloc::Global;
+use std::alloc::{AllocError, Global};
 use std::fs::OpenOptions;
 use std::io::Write;
 use std::rt::Files;
@@ -44,6 +45,14 @@ pub(crate) enum FileFault {
     Stubs(StubFault),
     /// It is a default environment, and the entry in this line is refused.
     Default(usize, Refusal),
+}
+
+impl From<AllocError> for FileFault {
+    ghost from_gives = { λ _ fault. fault ≡ Memory };
+
+    fn from(_refused: AllocError) -> FileFault {
+        FileFault::Memory
+    }
 }
 
 /// Reads a whole file of at most 16,777,216 bytes.

@@ -1,8 +1,9 @@
 //! The program: its words, the files that they name, and the tools and dry runs over them. docs/tools.md and
 //! docs/dry-runs.md state the rules.
 //!
-//! To read in this order: entry_point, program_name; command_line, client_words, upkeep_words, dry_run_words, arguments, call,
-//! task, dry_runs, image_size, report, word_fault; subcommands, lock_file, source, default_text, copies, files, changed_copies; session_run, script_source, script_work, copy_report; system,
+//! To read in this order: entry_point, program_name, greeting; command_line, client_words, upkeep_words, dry_run_words, arguments, call,
+//! task, dry_runs, image_size, report, word_fault; subcommands, task_work, lock_file, source,
+//! default_text, copies, files, changed_copies; session_run, script_source, script_work, copy_report; system,
 //! program_texts.
 #![tactic(auto)]
 
@@ -18,6 +19,7 @@ mod dry_run_words;
 mod dry_runs;
 mod entry_point;
 mod files;
+mod greeting;
 mod image_size;
 mod lock_file;
 mod program_name;
@@ -30,6 +32,7 @@ mod source;
 mod subcommands;
 mod system;
 mod task;
+mod task_work;
 mod upkeep_words;
 mod word_fault;
 
@@ -39,4 +42,5 @@ pub use fw_engines::{
     printenv, restore, run, set_script, setenv, show, status,
 };
 pub use fw_session::{SessionEnd, SessionEnding, session};
+pub use greeting::{greet, talks};
 pub use system::{Hold, System};

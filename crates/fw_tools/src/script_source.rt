@@ -58,29 +58,9 @@ fn read_text<X: Files + AllocGlobal>(
     ensures { IfOk result (λ text. IsTextOf (script_view given.now) text.items) }
 {
     match *given {
-        GivenScript::Names(names) => starts_of(rt.alloc(), names),
-        GivenScript::Words(text) => copy_of(rt.alloc(), text.as_bytes()),
+        GivenScript::Names(names) => Ok(starts(rt.alloc(), names)?),
+        GivenScript::Words(text) => Ok(Vec::from_slice(rt.alloc(), text.as_bytes())?),
         GivenScript::File(path) => read_file(rt, if path == "-" { STANDARD_INPUT } else { path }),
-    }
-}
-
-/// A `run` of these names, if there is memory.
-fn starts_of(alloc: Global, names: &[&str]) -> Result<Vec<u8>, FileFault>
-    ensures { IfOk result (λ text. text.items ≡ starts (map (λ n. n.now) names.now)) }
-{
-    match starts(alloc, names) {
-        Ok(text) => Ok(text),
-        Err(_) => Err(FileFault::Memory),
-    }
-}
-
-/// A copy of a text, if there is memory.
-fn copy_of(alloc: Global, text: &[u8]) -> Result<Vec<u8>, FileFault>
-    ensures { IfOk result (λ copy. copy.items ≡ text.now) }
-{
-    match Vec::from_slice(alloc, text) {
-        Ok(copy) => Ok(copy),
-        Err(_) => Err(FileFault::Memory),
     }
 }
 
@@ -137,7 +117,7 @@ pub(crate) fn script_or_say<E: Write>(
     ensures { MatchOption result (Refuses name.now text.now (E.contents errors.old) (E.contents errors.new))
         (λ script. (read text.now ≡ Some (tree_of script)) × (E.contents errors.new ≡ E.contents errors.old)) }
 {
-    match copy_of(alloc, text) {
+    match Vec::from_slice(alloc, text) {
         Ok(copy) => parsed_or_say(alloc, name, text, copy, errors),
         Err(_) => {
             say(errors, OUT_OF_MEMORY);

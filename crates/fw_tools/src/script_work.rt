@@ -60,10 +60,8 @@ fn stand_ins_of<X: System + AllocGlobal>(
     ensures { IfOk result (AreStandInsOf (script_run_view asked.now)) }
 {
     let mut stand_ins = read_stand_ins(rt, asked.dry.stand_ins)?;
-    match boot_given(rt.alloc(), &mut stand_ins, asked.boots) {
-        Ok(()) => Ok(stand_ins),
-        Err(_) => Err(FileFault::Memory),
-    }
+    boot_given(rt.alloc(), &mut stand_ins, asked.boots)?;
+    Ok(stand_ins)
 }
 
 /// Makes the stand-ins of these names boot.

@@ -1,7 +1,7 @@
 //! A session over the copies that a configuration names.
-ghost use Rattle.std.specs.Prelude.{◌≡◌, Ok, false, IfOk, MatchOption, is_some};
+ghost use Rattle.std.specs.Prelude.{◌≡◌, Ok, Some, false, IfOk, MatchOption, is_some, replicate, None};
 ghost use Rattle.fw_tools.specs.Calls.{defaults_view};
-ghost use Rattle.fw_tools.specs.Subcommands.{IsAccepted, IsOpening};
+ghost use Rattle.fw_tools.specs.Subcommands.{AreCopiesIn, IsAccepted, OpensOver};
 ghost use Rattle.fw_tools.specs.Copies.{overlap};
 ghost use Rattle.fw_tools.specs.Said.{SaysSome};
 ghost use Rattle.env_session.specs.Session.{bytes_of, opened, opening_choice};
@@ -80,7 +80,7 @@ pub(crate) fn erased_or_say<E: Write>(
     errors: &mut E,
 ) -> Option<Source>
     ensures { MatchOption result (SaysSome (E.contents errors.old) (E.contents errors.new))
-        (λ source. (source.geometry.order ≡ order) × (E.contents errors.new ≡ E.contents errors.old)) }
+        (λ source. AreCopiesIn (Some size) order source × (E.contents errors.new ≡ E.contents errors.old)) }
 {
     // there is one: the size is one that a single image may have
     let geometry = Geometry::with_order(Layout::Single, size, order)?;
@@ -95,7 +95,9 @@ pub(crate) fn erased_or_say<E: Write>(
 
 /// An erased image of this size, which is in no device.
 fn erased(alloc: Global, geometry: Geometry) -> Result<Source, AllocError>
-    ensures { IfOk result (λ source. source.geometry ≡ geometry) }
+    ensures geometry { IfOk result (λ source. source.geometry ≡ geometry) }
+    ensures first { IfOk result (λ source. source.first.bytes.items ≡ replicate geometry.size 255) }
+    ensures second { IfOk result (λ source. source.second ≡ None) }
 {
     let size = geometry.size();
     let first = ReadCopy {
@@ -128,7 +130,7 @@ pub(crate) fn open<X: Files + AllocGlobal, E: Write>(
     errors: &mut E,
 ) -> Option<Session>
     ensures { MatchOption result (SaysSome (E.contents errors.old) (E.contents errors.new))
-        (λ session. IsOpening source.now.geometry.order (defaults_view asked.now) session
+        (λ session. OpensOver source.now (defaults_view asked.now) session
         × IsAccepted (defaults_view asked.now) session (E.contents errors.old) (E.contents errors.new)) }
 {
     match session_over(rt, source, asked) {
@@ -273,7 +275,7 @@ fn session_over<X: Files + AllocGlobal>(
     source: &Source,
     asked: &Defaults<'_>,
 ) -> Result<Session, FileFault>
-    ensures { IfOk result (IsOpening source.now.geometry.order (defaults_view asked.now)) }
+    ensures { IfOk result (OpensOver source.now (defaults_view asked.now)) }
 {
     let given = given_defaults(rt, source.geometry.room(), asked)?;
     start(rt.alloc(), source, given)
@@ -283,13 +285,11 @@ fn session_over<X: Files + AllocGlobal>(
 fn start(alloc: Global, source: &Source, given: Vars) -> Result<Session, FileFault>
     ensures { IfOk result (λ s. s ≡ opened source.now.geometry source.now.first.bytes.items (second_bytes source.now.second) given) }
 {
-    match copies_of(alloc, source) {
+    let stored = copies_of(alloc, source)?;
+    match Session::start(alloc, stored, given) {
+        Ok(session) => Ok(session),
+        // no other refusal comes: each copy was read in the configuration's size, and the defaults have its room
         Err(_) => Err(FileFault::Memory),
-        Ok(stored) => match Session::start(alloc, stored, given) {
-            Ok(session) => Ok(session),
-            // no other refusal comes: each copy was read in the configuration's size, and the defaults have its room
-            Err(_) => Err(FileFault::Memory),
-        },
     }
 }
 

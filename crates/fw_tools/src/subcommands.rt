@@ -1,35 +1,23 @@
 //! The subcommands over the files that the words name.
-ghost use Rattle.std.specs.Prelude.{◌≡◌, ◌≤◌, ℕ, List, None, Some, Ok, IfOk, MatchOption, if◌then◌else◌, map, unwrap_or};
-ghost use Rattle.envcfg_core.specs.Entries as text_entries;
-ghost use Rattle.envcfg_core.specs.Import.{import_of};
-ghost use Rattle.envimg_core.specs.Pieces.{Entry};
-ghost use Rattle.fw_tools.specs.Subcommands.{Acts, Closes, DoesJob, Uses, UsesTool, is_left, printed_so};
-ghost use Rattle.fw_tools.specs.Calls.{call_view, job_view, keeps_lock, task_view, texts};
-ghost use Rattle.fw_tools.specs.Said.{SaysOnly, SaysSome};
-ghost use Rattle.fw_engines.specs.Changes.{Changes, LacksMemory, LacksMemoryToImport, LacksMemoryToSet, import_effect, script_effect, set_effect};
-ghost use Rattle.fw_engines.specs.Restoration.{LacksMemoryToRestore, restore_effect};
-ghost use Rattle.text_parts.specs.Words.{spaced};
-ghost use Rattle.fw_engines.specs.Tool.{Printed, Prints};
+ghost use Rattle.std.specs.Prelude.{◌≡◌, ◌≤◌, None, MatchOption, if◌then◌else◌, unwrap_or};
+ghost use Rattle.fw_tools.specs.Subcommands.{AreCopiesIn, Closes, DoesJob, Uses, UsesTool, is_left};
+ghost use Rattle.fw_tools.specs.Calls.{call_view, job_view, keeps_lock, task_view};
+ghost use Rattle.fw_tools.specs.Said.{SaysSome};
 
 use crate::call::{Call, Job};
 use crate::changed_copies::write_back;
 use crate::copies::lock_device;
-use crate::entry_point::{report, stopped};
-use crate::files::{entries_or_say, read_file, script_from, value_or_say};
+use crate::entry_point::report;
 use crate::lock_file::lock_or_say;
-use crate::program_texts::OUT_OF_MEMORY;
 use crate::script_work::run_given;
 use crate::session_run::talk;
 use crate::source::{Source, config_or_say, erased_or_say, open, read_source};
 use crate::system::System;
-use crate::task::{Printing, Task};
+use crate::task::Task;
+use crate::task_work::act;
 use env_session::Session;
 use envimg_core::Choice;
-use fw_engines::streams::{say, write_text};
-use fw_engines::{
-    StreamFault, ToolEnd, export, import, print_values, printenv, restore, set_script, setenv,
-};
-use std::alloc::{AllocError, Global};
+use fw_engines::ToolEnd;
 use std::io::{Read, Write};
 
 /// Runs a subcommand and answers its exit status.
@@ -65,68 +53,43 @@ fn use_files<X: System + AllocGlobal, R: Read, W: Write, E: Write>(
         (record { input = R.remaining input.new; output = W.contents output.new; errors = E.contents errors.new })
         (unwrap_or result 1) }
 {
+    let (source, _lock) = copies_for(rt, call, errors)?;
+    let defaults = call.defaults.found(rt);
+    let session = open(rt, &source, &defaults, errors)?;
+    work(rt, &source, session, call, input, output, errors)
+}
+
+/// The copies for a subcommand, and the lock under which it works on them, if it has one; none where they can't be used.
+fn copies_for<X: System + AllocGlobal, E: Write>(
+    rt: &X,
+    call: &Call<'_, '_>,
+    errors: &mut E,
+) -> Option<(Source, Option<X::File>)>
+    ensures { MatchOption result (SaysSome (E.contents errors.old) (E.contents errors.new))
+        (λ found. AreCopiesIn call.now.image call.now.order found.0 × (E.contents errors.new ≡ E.contents errors.old)) }
+{
     match call.image {
-        None => use_devices(rt, call, input, output, errors),
-        Some(size) => use_memory(rt, size, call, input, output, errors),
+        None => copies_in_devices(rt, call, errors),
+        Some(size) => {
+            let source = erased_or_say(rt.alloc(), call.order, size, errors)?;
+            Some((source, None))
+        }
     }
 }
 
-/// The same over the devices that the configuration names.
-fn use_devices<X: System + AllocGlobal, R: Read, W: Write, E: Write>(
+/// The same of the copies that the configuration names.
+fn copies_in_devices<X: System + AllocGlobal, E: Write>(
     rt: &X,
     call: &Call<'_, '_>,
-    input: &mut R,
-    output: &mut W,
     errors: &mut E,
-) -> Option<u8>
-    ensures { Uses (call_view call.now)
-        (record { input = R.remaining input.old; output = W.contents output.old; errors = E.contents errors.old })
-        (record { input = R.remaining input.new; output = W.contents output.new; errors = E.contents errors.new })
-        (unwrap_or result 1) }
+) -> Option<(Source, Option<X::File>)>
+    ensures { MatchOption result (SaysSome (E.contents errors.old) (E.contents errors.new))
+        (λ found. AreCopiesIn None call.now.order found.0 × (E.contents errors.new ≡ E.contents errors.old)) }
 {
     let config = config_or_say(rt, call.config, errors)?;
     let lock = lock_device(rt, &config.first, call.job.hold());
     let source = read_source(rt, call.order, config, errors)?;
-    let _lock = lock_for_work(lock, &call.job);
-    open_and_work(rt, &source, call, input, output, errors)
-}
-
-/// The same over an erased image in memory.
-fn use_memory<X: System + AllocGlobal, R: Read, W: Write, E: Write>(
-    rt: &X,
-    size: u32,
-    call: &Call<'_, '_>,
-    input: &mut R,
-    output: &mut W,
-    errors: &mut E,
-) -> Option<u8>
-    ensures { Uses (call_view call.now)
-        (record { input = R.remaining input.old; output = W.contents output.old; errors = E.contents errors.old })
-        (record { input = R.remaining input.new; output = W.contents output.new; errors = E.contents errors.new })
-        (unwrap_or result 1) }
-{
-    let source = erased_or_say(rt.alloc(), call.order, size, errors)?;
-    open_and_work(rt, &source, call, input, output, errors)
-}
-
-/// Opens the session over these copies and works on it; none where a file can't be used.
-fn open_and_work<X: System + AllocGlobal, R: Read, W: Write, E: Write>(
-    rt: &X,
-    source: &Source,
-    call: &Call<'_, '_>,
-    input: &mut R,
-    output: &mut W,
-    errors: &mut E,
-) -> Option<u8>
-    requires { source.now.geometry.order ≡ call.now.order }
-    ensures { Uses (call_view call.now)
-        (record { input = R.remaining input.old; output = W.contents output.old; errors = E.contents errors.old })
-        (record { input = R.remaining input.new; output = W.contents output.new; errors = E.contents errors.new })
-        (unwrap_or result 1) }
-{
-    let defaults = call.defaults.found(rt);
-    let session = open(rt, source, &defaults, errors)?;
-    work(rt, source, session, call, input, output, errors)
+    Some((source, lock_for_work(lock, &call.job)))
 }
 
 /// The lock under which a job works, if it writes what it read: the other jobs let go of it here. A dry run takes it again to
@@ -195,169 +158,6 @@ fn is_left(only_changes: bool, current: Choice, changed: usize) -> bool
     }
 }
 
-/// Does a task over the session; none where a file can't be used, or memory ran out before.
-fn act<X: System + AllocGlobal, W: Write, E: Write>(
-    rt: &X,
-    task: Task<'_, '_>,
-    session: &mut Session,
-    output: &mut W,
-    errors: &mut E,
-) -> Option<ToolEnd>
-    ensures { MatchOption result (SaysOnly (record { output = W.contents output.old; errors = E.contents errors.old })
-        (record { output = W.contents output.new; errors = E.contents errors.new }))
-        (λ end. Acts (task_view task.entry)
-        (record { session = session.old; writers = record { output = W.contents output.old; errors = E.contents errors.old } })
-        (record { session = session.new; writers = record { output = W.contents output.new; errors = E.contents errors.new } })
-        end) }
-{
-    match task {
-        Task::Print { names, printing } => {
-            print(rt.alloc(), session, names, printing, output, errors)
-        }
-        Task::Export => Some(export(rt.alloc(), session, output, errors)),
-        Task::Set { name, words } => set(rt.alloc(), session, name, words, errors),
-        Task::SetScript { path } => set_from_file(rt, path, session, errors),
-        Task::Import { path } => import_file(rt, path, session, errors),
-        Task::Restore { path } => restore_file(rt, path, session, errors),
-    }
-}
-
-/// `printenv [-n] [NAMES]`
-fn print<W: Write, E: Write>(
-    alloc: Global,
-    session: &Session,
-    names: Option<&[&str]>,
-    printing: Printing,
-    output: &mut W,
-    errors: &mut E,
-) -> Option<ToolEnd>
-    ensures { MatchOption result (SaysOnly (record { output = W.contents output.old; errors = E.contents errors.old })
-        (record { output = W.contents output.new; errors = E.contents errors.new }))
-        (λ end. Printed end.fault (record { output = W.contents output.old; errors = E.contents errors.old })
-        (record { output = W.contents output.new; errors = E.contents errors.new })
-        (printed_so printing session.now.now.env (texts names.entry)) end.status) }
-{
-    let names = bytes_or_say(alloc, names, errors)?;
-    let mut text = Vec::new(alloc);
-    let mut messages = Vec::new(alloc);
-    let end = print_so(session, &names, printing, &mut text, &mut messages);
-    match end.fault {
-        Some(_) => Some(stopped(StreamFault::Memory)),
-        None => Some(write_both(&text, &messages, end.status, output, errors)),
-    }
-}
-
-/// Prints names in a way.
-fn print_so(
-    session: &Session,
-    names: &[&[u8]],
-    printing: Printing,
-    text: &mut Vec<u8>,
-    messages: &mut Vec<u8>,
-) -> ToolEnd
-    ensures { Prints (record { output = Some text.old.items; errors = Some messages.old.items })
-        (record { output = Some text.new.items; errors = Some messages.new.items })
-        (printed_so printing session.now.now.env (map (λ n. n.now) names.now)) result }
-{
-    match printing {
-        Printing::Lines => printenv(session, names, false, text, messages),
-        Printing::OneValue => printenv(session, names, true, text, messages),
-        Printing::Values => print_values(session, names, text, messages),
-    }
-}
-
-/// Writes a text on each writer at once, and ends with this status.
-fn write_both<W: Write, E: Write>(
-    text: &[u8],
-    messages: &[u8],
-    status: u8,
-    output: &mut W,
-    errors: &mut E,
-) -> ToolEnd
-    ensures { Prints (record { output = W.contents output.old; errors = E.contents errors.old })
-        (record { output = W.contents output.new; errors = E.contents errors.new })
-        (record { output = text.now; errors = messages.now; status = status }) result }
-{
-    if !write_text(output, text) {
-        return stopped(StreamFault::Write);
-    }
-    if !write_text(errors, messages) {
-        return stopped(StreamFault::Write);
-    }
-    ToolEnd {
-        status,
-        fault: None,
-    }
-}
-
-/// `setenv NAME [WORDS]`
-fn set<E: Write>(
-    alloc: Global,
-    session: &mut Session,
-    name: &str,
-    words: Option<&[&str]>,
-    errors: &mut E,
-) -> Option<ToolEnd>
-    ensures { MatchOption result (SaysSome (E.contents errors.old) (E.contents errors.new))
-        (λ end. Changes (record { session = session.old; errors = E.contents errors.old })
-        (record { session = session.new; errors = E.contents errors.new })
-        (set_effect session.old name.now (spaced (texts words.entry)))
-        (LacksMemoryToSet session.old name.now (texts words.entry)) end) }
-{
-    let words = bytes_or_say(alloc, words, errors)?;
-    Some(setenv(alloc, session, name.as_bytes(), &words, errors))
-}
-
-/// `setenv -s FILE`
-fn set_from_file<X: System + AllocGlobal, E: Write>(
-    rt: &X,
-    path: &str,
-    session: &mut Session,
-    errors: &mut E,
-) -> Option<ToolEnd>
-    ensures { MatchOption result (SaysSome (E.contents errors.old) (E.contents errors.new))
-        (λ end. (entries : List Entry) × Changes (record { session = session.old; errors = E.contents errors.old })
-        (record { session = session.new; errors = E.contents errors.new }) (script_effect session.old entries)
-        (LacksMemory session.old entries 0) end) }
-{
-    let text = value_or_say(rt.alloc(), errors, path, read_file(rt, path))?;
-    let entries = value_or_say(rt.alloc(), errors, path, script_from(rt.alloc(), &text))?;
-    Some(set_script(session, &entries, errors))
-}
-
-/// `import FILE`
-fn import_file<X: System + AllocGlobal, E: Write>(
-    rt: &X,
-    path: &str,
-    session: &mut Session,
-    errors: &mut E,
-) -> Option<ToolEnd>
-    ensures { MatchOption result (SaysSome (E.contents errors.old) (E.contents errors.new))
-        (λ end. (entries : List Entry) × Changes (record { session = session.old; errors = E.contents errors.old })
-        (record { session = session.new; errors = E.contents errors.new }) (import_effect session.old entries)
-        (LacksMemoryToImport session.old entries) end) }
-{
-    let entries = entries_or_say(rt, path, errors)?;
-    Some(import(session, &entries, errors))
-}
-
-/// `restore FILE`
-fn restore_file<X: System + AllocGlobal, E: Write>(
-    rt: &X,
-    path: &str,
-    session: &mut Session,
-    errors: &mut E,
-) -> Option<ToolEnd>
-    ensures { MatchOption result (SaysSome (E.contents errors.old) (E.contents errors.new))
-        (λ end. (text : List ℕ) × (entries : List text_entries.Entry) × (import_of text ≡ Ok entries)
-        × Changes (record { session = session.old; errors = E.contents errors.old })
-        (record { session = session.new; errors = E.contents errors.new }) (restore_effect session.old entries)
-        (LacksMemoryToRestore session.old entries) end) }
-{
-    let entries = entries_or_say(rt, path, errors)?;
-    Some(restore(rt.alloc(), session, &entries, errors))
-}
-
 /// Writes the copies back that the subcommand changed, and says what stopped it, if anything did.
 fn finish<X: System + AllocGlobal, E: Write>(
     rt: &X,
@@ -371,43 +171,4 @@ fn finish<X: System + AllocGlobal, E: Write>(
     let stored = session.close();
     write_back(rt, source, &stored, errors)?;
     Some(report(end, errors))
-}
-
-/// Words as bytes; where memory runs out that is said on `errors`.
-fn bytes_or_say<'a, E: Write>(
-    alloc: Global,
-    words: Option<&[&'a str]>,
-    errors: &mut E,
-) -> Option<Vec<&'a [u8]>>
-    ensures { MatchOption result (SaysSome (E.contents errors.old) (E.contents errors.new))
-        (λ bytes. (map (λ b. b.now) bytes.items ≡ texts words.entry) × (E.contents errors.new ≡ E.contents errors.old)) }
-{
-    match bytes_of(alloc, words) {
-        Ok(bytes) => Some(bytes),
-        Err(_) => {
-            say(errors, OUT_OF_MEMORY);
-            None
-        }
-    }
-}
-
-/// Words as bytes.
-fn bytes_of<'a>(alloc: Global, words: Option<&[&'a str]>) -> Result<Vec<&'a [u8]>, AllocError>
-    ensures { IfOk result (λ bytes. map (λ b. b.now) bytes.items ≡ texts words.entry) }
-{
-    match words {
-        None => Ok(Vec::new(alloc)),
-        Some(words) => all_bytes(alloc, words),
-    }
-}
-
-/// All these words as bytes.
-fn all_bytes<'a>(alloc: Global, words: &[&'a str]) -> Result<Vec<&'a [u8]>, AllocError>
-    ensures { IfOk result (λ bytes. map (λ b. b.now) bytes.items ≡ map (λ w. w.now) words.now) }
-{
-    let mut bytes = Vec::new(alloc);
-    for word in words {
-        bytes.push(word.as_bytes())?;
-    }
-    Ok(bytes)
 }

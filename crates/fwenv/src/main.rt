@@ -1,19 +1,14 @@
 //! `fwenv`: hands its words and streams to `fw_tools::program`.
 #![tactic(auto)]
 
-use fw_tools::{program, words_failed};
+use fw_tools::{greet, program, talks, words_failed};
+use std::env;
+use std::io::{self, IsTerminal, Read, Stderr, Stdin, Write};
 use std::process::ExitCode;
-use std::{env, io};
 
 fn main(rt: HostRuntime) -> ExitCode {
     let status = match words(&rt) {
-        Ok(words) => program(
-            &rt,
-            words.as_slice(),
-            &mut rt.stdin(),
-            &mut rt.stdout(),
-            &mut rt.stderr(),
-        ),
+        Ok(words) => run(&rt, words.as_slice()),
         Err(error) => words_failed(&error, &mut rt.stderr()),
     };
     ExitCode::from(status)
@@ -26,4 +21,36 @@ fn words(rt: &HostRuntime) -> io::Result<Vec<String>> {
         words.push(word)?;
     }
     Ok(words)
+}
+
+/// Runs the program. To somebody at a terminal it says what is awaited, and it asks for each line of a session.
+fn run(rt: &HostRuntime, words: &[String]) -> u8 {
+    let mut input = rt.stdin();
+    if !input.is_terminal() {
+        return program(rt, words, &mut input, &mut rt.stdout(), &mut rt.stderr());
+    }
+    greet(words, &mut rt.stderr());
+    if talks(words) {
+        let mut lines = Prompted {
+            input,
+            errors: rt.stderr(),
+        };
+        return program(rt, words, &mut lines, &mut rt.stdout(), &mut rt.stderr());
+    }
+    program(rt, words, &mut input, &mut rt.stdout(), &mut rt.stderr())
+}
+
+/// A terminal that is asked for each of its lines.
+#[derive(Drop)]
+struct Prompted {
+    input: Stdin,
+    errors: Stderr,
+}
+
+impl Read for Prompted {
+    fn read(&mut self, buf: &mut [u8]) -> io::Result<usize> {
+        // where no prompt can be written, there is none
+        let _ = self.errors.write(b"> ");
+        self.input.read(buf)
+    }
 }

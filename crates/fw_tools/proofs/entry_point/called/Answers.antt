@@ -6,3 +6,7 @@ use Rattle.fw_tools.proofs.entry_point.called.Goals as goal
 pub returns-in-Fwenv : goal.returns-in-Fwenv
 returns-in-Fwenv c =
     called_found c.args.matches.now c.subcommand.result c.subcommand.ensures.name c.subcommand.ensures.rows ∙ ap (λ u. called_in u c.args.matches.now) (sym c.in-Fwenv.is)
+
+pub returns-in-FwenvWith : goal.returns-in-FwenvWith
+returns-in-FwenvWith c =
+    called_found c.args.matches.now c.subcommand-in-FwenvWith.result c.subcommand-in-FwenvWith.ensures.name c.subcommand-in-FwenvWith.ensures.rows ∙ ap (λ u. called_in u c.args.matches.now) (sym c.in-FwenvWith.is)

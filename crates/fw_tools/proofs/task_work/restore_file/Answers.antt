@@ -3,7 +3,7 @@ use Rattle.envcfg_core.specs.Entries.{entry_view}
 use Rattle.envcfg_core.specs.declared.entry.TextEntry.{TextEntry}
 use Rattle.fw_engines.specs.Changes.{Changes}
 use Rattle.fw_engines.specs.Restoration.{LacksMemoryToRestore, restore_effect}
-use Rattle.fw_tools.proofs.subcommands.restore_file.Goals as goal
+use Rattle.fw_tools.proofs.task_work.restore_file.Goals as goal
 
 pub returns : goal.returns
 returns g c =

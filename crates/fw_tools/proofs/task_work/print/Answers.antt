@@ -2,7 +2,7 @@ use Rattle.std.proofs.Common.{ℕ, List, Option, ◌∙◌, ap, map, subst}
 use Rattle.fw_tools.specs.Subcommands.{printed_so}
 use Rattle.fw_engines.specs.Tool.{Printed}
 use Rattle.fw_tools.proofs.SubcommandLemmas.{made_first}
-use Rattle.fw_tools.proofs.subcommands.print.Goals as goal
+use Rattle.fw_tools.proofs.task_work.print.Goals as goal
 
 pub returns : goal.returns
 returns g c =
