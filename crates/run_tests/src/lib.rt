@@ -9,6 +9,12 @@ mod fixtures;
 #[cfg(test)]
 mod frames;
 #[cfg(test)]
+mod plain;
+#[cfg(test)]
+mod random_lists;
+#[cfg(test)]
+mod random_requests;
+#[cfg(test)]
 mod request_lists;
 #[cfg(test)]
 mod running;

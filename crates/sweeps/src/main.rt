@@ -11,6 +11,7 @@ mod commands;
 mod courses;
 mod entries;
 mod harness;
+mod lists;
 mod many;
 mod pages;
 mod readers;
@@ -43,7 +44,8 @@ fn sweep_small(rt: &HostRuntime) -> io::Result<()> {
     many::sweep(rt.alloc(), &mut rt.stdout())?;
     sessions::sweep(rt.alloc(), &mut rt.stdout())?;
     tools::sweep(rt.alloc(), &mut rt.stdout())?;
-    commands::sweep(rt.alloc(), &mut rt.stdout())
+    commands::sweep(rt.alloc(), &mut rt.stdout())?;
+    lists::sweep(rt.alloc(), &mut rt.stdout())
 }
 
 /// Texts of 500 lines, which is more than first growths and one run of the store hold, and what takes their entries.

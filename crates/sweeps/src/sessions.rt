@@ -119,7 +119,7 @@ pub fn bad_copy(alloc: Global, size: u32) -> Option<Stored> {
 }
 
 /// Two copies, of which the first has the variables `a` and `n`, and the flag 255.
-fn pair(alloc: Global) -> Option<Stored> {
+pub fn pair(alloc: Global) -> Option<Stored> {
     let geometry = Geometry::new(Layout::Redundant, SIZE)?;
     let mut first = vec![in alloc; 0u8; SIZE as usize].ok()?;
     if first.len() != geometry.size() as usize {
