@@ -13,6 +13,8 @@ import subprocess
 import sys
 import time
 
+from counted import check, end
+
 SIZE = 0x4000
 # The most seconds of a command, and of a service that starts or ends
 LONGEST = 30
@@ -48,7 +50,6 @@ MENDER_CALLS = (
 )
 # What a command answers and leaves; what it wrote to standard error, which isn't compared
 Step = collections.namedtuple("Step", "call, wanted, status, output, variables, errors")
-passed = failed = 0
 
 
 class Broken(Exception):
@@ -57,15 +58,6 @@ class Broken(Exception):
 
 class NotAllowed(Exception):
     """What a part needs isn't allowed here."""
-
-
-def check(name, is_right, said=""):
-    global passed, failed
-    if is_right:
-        passed += 1
-    else:
-        failed += 1
-        print(f"FAILED: {name}: {said}")
 
 
 def run(*words, **more):
@@ -216,8 +208,7 @@ def main():
             print(f"NOT TRIED: {name} over fw_printenv and fw_setenv: {why}")
         except Broken as why:
             check(name, False, why)
-    print(f"{passed} passed, {failed} failed")
-    sys.exit(failed != 0)
+    end()
 
 
 main()

@@ -12,7 +12,6 @@
 #include <stdlib.h>
 #include <string.h>
 #include <sys/syscall.h>
-#include <sys/uio.h>
 #include <unistd.h>
 
 enum { READ, WRITE, SYNC };
@@ -88,21 +87,6 @@ ssize_t write(int fd, const void *from, size_t size) {
     return most <= 0 ? most : taken(syscall(SYS_write, fd, from, (size_t)most));
 }
 
-/* Of several pieces the first that isn't empty is moved: a stream may always move less. */
-ssize_t readv(int fd, const struct iovec *pieces, int count) {
-    if (!is_cut(fd, READ)) return syscall(SYS_readv, fd, pieces, count);
-    for (int i = 0; i < count; i++)
-        if (pieces[i].iov_len) return read(fd, pieces[i].iov_base, pieces[i].iov_len);
-    return 0;
-}
-
-ssize_t writev(int fd, const struct iovec *pieces, int count) {
-    if (!is_cut(fd, WRITE)) return syscall(SYS_writev, fd, pieces, count);
-    for (int i = 0; i < count; i++)
-        if (pieces[i].iov_len) return write(fd, pieces[i].iov_base, pieces[i].iov_len);
-    return 0;
-}
-
 int fsync(int fd) {
     if (!is_cut(fd, SYNC)) return (int)syscall(SYS_fsync, fd);
     calls += 1;
@@ -112,8 +96,12 @@ int fsync(int fd) {
 
 int fdatasync(int fd) { return is_cut(fd, SYNC) ? fsync(fd) : (int)syscall(SYS_fdatasync, fd); }
 
-static int opened(int folder, const char *name, int flags, int mode) {
-    int fd = (int)syscall(SYS_openat, folder, name, flags, mode);
+int open(const char *name, int flags, ...) {
+    va_list rest;
+    va_start(rest, flags);
+    int mode = flags & O_CREAT ? va_arg(rest, int) : 0;
+    va_end(rest);
+    int fd = (int)syscall(SYS_openat, AT_FDCWD, name, flags, mode);
     int is_read = (flags & O_ACCMODE) == O_RDONLY;
     if (fd >= 0 && path && !strcmp(name, path) && is_read == (direction == READ)) {
         opens += 1;
@@ -121,25 +109,6 @@ static int opened(int folder, const char *name, int flags, int mode) {
     }
     return fd;
 }
-
-static int mode_of(int flags, va_list rest) {
-    return flags & O_CREAT || (flags & O_TMPFILE) == O_TMPFILE ? va_arg(rest, int) : 0;
-}
-
-#define OPENS(folder)                                                                                                       \
-    va_list rest;                                                                                                           \
-    va_start(rest, flags);                                                                                                  \
-    int mode = mode_of(flags, rest);                                                                                        \
-    va_end(rest);                                                                                                           \
-    return opened(folder, file, flags, mode);
-
-int open(const char *file, int flags, ...) { OPENS(AT_FDCWD) }
-
-int open64(const char *file, int flags, ...) { OPENS(AT_FDCWD) }
-
-int openat(int folder, const char *file, int flags, ...) { OPENS(folder) }
-
-int openat64(int folder, const char *file, int flags, ...) { OPENS(folder) }
 
 int close(int fd) {
     if (path && fd == stream) stream = -1;

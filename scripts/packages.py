@@ -13,19 +13,10 @@ import subprocess
 import sys
 import time
 
+from counted import check, end
+
 TOP = pathlib.Path(__file__).resolve().parent.parent
 IMAGE = b"\xd2\x96\x62\x2ba=b\0\0"
-passed = failed = 0
-
-
-def check(name, is_right, said=""):
-    global passed, failed
-    if is_right:
-        passed += 1
-    else:
-        failed += 1
-        print(f"FAILED: {name}: {said}")
-
 
 def same(name, found, wanted):
     check(name, found == wanted, f"{found!r} and not {wanted!r}")
@@ -285,8 +276,7 @@ def main():
         pages(folder)
         client_pages(folder)
         completions(folder)
-    print(f"{passed} passed, {failed} failed")
-    sys.exit(failed != 0)
+    end()
 
 
 main()

@@ -2,7 +2,7 @@
 and every byte of every file, for cases that are made of a seed, and for those that cut, turn and damage what the
 program reads.
 
-    python3 -m differential PROGRAM FOLDER PART [COUNT SEED [EVERY]]     (PYTHONPATH=scripts)
+    python3 -m differential PROGRAM FOLDER PART [COUNT SEED]     (PYTHONPATH=scripts)
 
 FOLDER has the libraries cut.so, refuse.so and raw.so that are preloaded, which scripts/test compiles.
 
@@ -30,5 +30,5 @@ FOLDER has the libraries cut.so, refuse.so and raw.so that are preloaded, which 
     other_tools   tools of other makers over the same files
     mistakes      mistakes in answers of the program, each of which some case has to find out
 
-With EVERY one of so many cases is tried, and what is rare isn't told. The last line is 'N passed, M failed'.
+The last line is 'N passed, M failed'.
 """

@@ -36,9 +36,8 @@ def names_of(answer):
 class Worker:
     """One process of several, with a runner of its own."""
 
-    def __init__(self, program, preloads, folder, every):
+    def __init__(self, program, preloads, folder):
         self.words = program, preloads, folder
-        self.every = every
         self.runner = None
 
     def runner_here(self):
@@ -55,7 +54,7 @@ class Worker:
     def compare(self, cases):
         """How many cases passed and failed, texts for the first failures, and how often each name came."""
         passed, failed, texts, names = 0, 0, [], Counter()
-        for case in itertools.islice(cases, 0, None, self.every):
+        for case in cases:
             wanted = case.answer() if case.is_modelled else case.wanted
             names.update(names_of(wanted) if wanted else ())
             failure = self.runner_here().failure(case, wanted)
@@ -85,25 +84,23 @@ def folder_for(name, folder):
 def main():
     global worker, chunks, is_of_mistakes
     program, preloads, name, *numbers = sys.argv[1:]
-    numbers = list(map(int, numbers))
     if name not in PARTS:
         sys.exit(f"no part is called {name}")
     sys.setrecursionlimit(100_000)
     running.PROGRAM = os.path.abspath(program)
     part = importlib.import_module(f"differential.{name}")
     # A chunk makes some of the cases; each process takes one after the other
-    chunks, is_of_mistakes = part.chunks(*numbers[:2]), name == "mistakes"
+    chunks, is_of_mistakes = part.chunks(*map(int, numbers)), name == "mistakes"
     passed, failed, texts, names = 0, 0, [], Counter()
     with tempfile.TemporaryDirectory(dir=folder_for(name, preloads)) as folder:
-        every = numbers[2] if len(numbers) > 2 else 1
-        worker = Worker(os.path.abspath(program), os.path.abspath(preloads), folder, every)
+        worker = Worker(os.path.abspath(program), os.path.abspath(preloads), folder)
         with multiprocessing.get_context("fork").Pool() as pool:
             for found in pool.imap_unordered(compare_chunk, range(len(chunks))):
                 passed, failed, texts = passed + found[0], failed + found[1], texts + found[2]
                 names.update(found[3])
     for text in itertools.islice(texts, SHOWN):
         print(f"FAILED: {text}")
-    for rarity in rare(part, names, passed + failed) if every == 1 else ():
+    for rarity in rare(part, names, passed + failed):
         failed += 1
         print(f"FAILED: of {passed + failed} cases of {name} only {names[rarity]} are '{rarity}'")
     for text in getattr(part, "UNTRIED", ()):

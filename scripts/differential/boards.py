@@ -1,8 +1,16 @@
 """Boards: a device with one copy or two, bytes around them, and the configuration that names them."""
 
+from model.image import ERASED, Geometry
+
 CONFIG = b"fw.config"
 DEVICE = b"device"
 BEFORE, BETWEEN, AFTER = b"XXX", b"YY", b"ZZZZ"
+# Two copies of 10 bytes, of which the first is current; the second after a save, and after one without variables; one that was never
+# written
+PAIR = Geometry(2, 10)
+FIRST, SECOND = PAIR.image(7, b"a=b\0"), PAIR.image(7, b"\0")
+SAVED, EMPTIED = PAIR.image(8, b"a=b\0"), PAIR.image(8, b"\0")
+BLANK = ERASED * PAIR.size
 
 
 def board(geometry, copies):
@@ -15,6 +23,11 @@ def board(geometry, copies):
 def arguments(tool, *words, order="little"):
     big_endian = [b"--big-endian"] if order == "big" else []
     return [tool, b"-c", CONFIG, *big_endian, *words]
+
+
+def lines_of(variables):
+    """Variables as they are printed."""
+    return b"".join(name + b"=" + value + b"\n" for name, value in sorted(variables.items()))
 
 
 def text_of(variables):

@@ -3,15 +3,16 @@
 import os
 import subprocess
 
-from differential.boards import CONFIG, board
+from differential.boards import BLANK, CONFIG, EMPTIED, FIRST, PAIR, SECOND, board
 from differential.running import Case
-from differential.tool_rows import BLANK, EMPTIED, FIRST, NO_ROOM_A, PAIR, SAVED, SECOND
+from differential.tool_rows import NO_ROOM_A
+from model.arguments import VERSION
 from model.image import Geometry
-from model.program import WARNING
+from model.program import LOOK_AT, NO_GOOD_COPY, WARNING
+from model.report import FAULTS
 
-LOOK_AT = b"; look at the size and the number of lines in the configuration, and at the byte order (--big-endian)\n"
-NO_COPY = b"fwenv: no good copy: "
-WRONG = b"checksum is wrong"
+WRONG = FAULTS["BadCrc"]
+NO_COPIES = NO_GOOD_COPY + WRONG + b" in the first copy, " + WRONG + b" in the second" + LOOK_AT
 NO_NAMES = b"""error: the following required arguments were not provided:
   <NAMES>...
 
@@ -44,8 +45,8 @@ OVER_GOOD_COPIES = [
 ]
 # The same where no copy is good; the first copy afterwards
 OVER_BLANK_COPIES = [
-    (b"fw_printenv", [], 1, b"", NO_COPY + WRONG + b" in the first copy, " + WRONG + b" in the second" + LOOK_AT),
-    (b"fw_setenv", [b"a", b"b"], 1, b"", NO_COPY + WRONG + b" in the first copy, " + WRONG + b" in the second" + LOOK_AT),
+    (b"fw_printenv", [], 1, b"", NO_COPIES),
+    (b"fw_setenv", [b"a", b"b"], 1, b"", NO_COPIES),
     (b"fw_printenv", [b"-f", b"text"], 0, b"p=\\\n", WARNING, BLANK, b"p=\\\n"),
     (b"fw_setenv", [b"-f", b"text", b"a", b"b"], 0, b"", WARNING, PAIR.image(1, b"a=b\0"), b"# nothing\n"),
     (b"fw_setenv", [b"-f", b"text", b"a", b"b"], 0, b"", WARNING, PAIR.image(1, b"a=b\0"), b"a=b\n"),
@@ -100,7 +101,7 @@ def over_pairs():
 def over_singles():
     for image, fault in BAD_SINGLES:
         files = board(SINGLE, [image])
-        wanted = 1, b"", NO_COPY + fault + LOOK_AT, files
+        wanted = 1, b"", NO_GOOD_COPY + fault + LOOK_AT, files
         yield row(b"fw_printenv", [b"--config", CONFIG, b"--lock", b""], files, wanted)
 
 
@@ -119,7 +120,7 @@ def names():
     """Help and version are those of the name; a name that isn't the whole last part is fwenv's."""
     for name in (b"fw_printenv", b"fw_setenv"):
         for word in (b"-V", b"-v", b"--version"):
-            yield row(name, [word], {}, (0, name + b" 0.2.0\n", b"", {}))
+            yield row(name, [word], {}, (0, VERSION.replace(b"fwenv", name), b"", {}))
     yield row(b"my_fw_printenv", [b"-c", CONFIG], {}, (1, b"", None, {}))
 
 

@@ -1,5 +1,6 @@
 """Inputs that are made to cost much, and those that are as long as they may be, each in bounded time and memory."""
 
+from differential.boards import lines_of
 from differential.running import Case
 from model.image import ERASED, LARGEST, Geometry, entries
 from model.program import TOO_LONG, WARNING, Answer
@@ -68,10 +69,6 @@ def tool(name, words, before, after, output=b"", errors=b"", text=b""):
     wanted = Answer(status, output, errors or (b"" if before else WARNING), files | over(LARGE, after))
     word, *rest = words
     return Case(name, [word, b"-c", b"fw.config", *rest], files, wanted=wanted)
-
-
-def lines_of(variables):
-    return b"".join(name + b"=" + value + b"\n" for name, value in sorted(variables.items()))
 
 
 def variables():

@@ -9,6 +9,7 @@ from differential import running
 from differential.boards import CONFIG, DEVICE, arguments, board
 from differential.damage import prefixes
 from differential.running import Case, Cut
+from differential.streams import WRONG_OPTION
 from model.image import ERASED, Geometry
 from model.program import CANNOT_READ, CANNOT_READ_INPUT, CANNOT_WRITE, CANNOT_WRITE_OUTPUT, TOO_SHORT, WARNING, Answer
 
@@ -19,12 +20,6 @@ NEVER_WRITTEN = board(FORM, [ERASED * FORM.size] * 2)
 ONE = Geometry(1, 9).image(0, b"a=b\0")
 TOO_MUCH = b"x" * 40
 SESSION = b".mark p\nsetenv a 3\n.save\necho x\n.what"
-WRONG_OPTION = b"""error: unexpected argument '--frobnicate' found
-
-Usage: fwenv [OPTIONS] [COMMAND]
-
-For more information, try '--help'.
-"""
 STAND_INS = b"mmc 1\nusb\n#\nmmcinfo 12\nfastboot_devices 3\n"
 ASKED = b"mmc\nusb\nmmcinfo\nfastboot_device\nfastboot_devices\nsetenv b $?\n.save\n"
 

@@ -8,8 +8,9 @@ import shutil
 import subprocess
 import threading
 
+from differential.boards import EMPTIED, FIRST
 from differential.running import Case
-from differential.streams import EMPTIED, FIRST, MILLION, SECOND, at, device, over_copies, read_by, row, stream
+from differential.streams import MILLION, at, device, over_copies, read_by, row
 from model.program import CANNOT_READ, CANNOT_WRITE, CANNOT_WRITE_OUTPUT, Answer
 
 # Configurations: a name, their text, and the message, or none for the variables. The device has 33 bytes
@@ -58,7 +59,6 @@ def faults():
         # (the model would take long for 16 MiB of lines)
         around = as_it_is if len(text) > 2**20 else None
         yield faulty(name, PRINTENV, errors, files={b"fw.config": text}, around=around)
-    yield faulty("an empty device", PRINTENV, b"fwenv: /dev/null is too short\n", files={b"fw.config": b"/dev/null 0 a\n"}, around=as_it_is)
     yield faulty("a pipe as the device", PRINTENV, CANNOT_READ % b"../pipe", files={b"fw.config": b"../pipe 0 a\n"}, around=with_pipe)
 
 

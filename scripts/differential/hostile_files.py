@@ -4,10 +4,9 @@ afterwards."""
 import contextlib
 import os
 
+from differential.boards import BLANK, EMPTIED, SAVED
 from differential.files import IMPORT, PRINTENV, SETENV, as_it_is, cut_to, through_pipe
-from differential.running import Case
-from differential.streams import EMPTIED, SAVED, SECOND, SESSION, device, over_copies, row
-from model.image import ERASED
+from differential.streams import SESSION, device, over_copies, row
 from model.program import CANNOT_READ, CANNOT_WRITE, WARNING
 
 # Each option and argument that names a text
@@ -19,7 +18,6 @@ TEXTS = [
     [b"export", b"-c", b"fw.config", b"--default"],
     [b"session", b"-c", b"fw.config", b"--write", b"--default"],
 ]
-BLANK = ERASED * 10
 
 
 @contextlib.contextmanager
@@ -125,9 +123,12 @@ def replaced(make=None, *words):
     return step
 
 
-def appended(_runner):
-    with open("device", "ab") as it:
-        it.write(b"more-bytes")
+def appended(more):
+    def step(_runner):
+        with open("device", "ab") as it:
+            it.write(more)
+
+    return step
 
 
 def overwritten(_runner):
@@ -166,8 +167,9 @@ def changes():
     del gone.wanted.files[b"device"]
     yield gone
     grown = {b"fw.config": b"device -26 a\ndevice -13 a\n"}
-    # (its copies, which count from its end, are elsewhere then)
-    yield changed("a device that has grown", appended, False, device() + b"more-bytes", grown)
+    # (its copies, which count from its end, are elsewhere then, also where they are the same there)
+    for more in (b"more-bytes", device()[7:]):
+        yield changed("a device that has grown", appended(more), False, device() + more, grown)
     without = changed("a configuration that is gone", lambda _runner: os.unlink("fw.config"), True, ENDING)
     del without.wanted.files[b"fw.config"]
     yield without

@@ -6,10 +6,9 @@ import functools
 import re
 from dataclasses import replace
 
-from differential.boards import arguments
+from differential.boards import BLANK, arguments
 from differential.running import Case
 from differential.streams import ONE_VARIABLE, SESSION, WRONG_OPTION, over_copies
-from differential.tool_rows import BLANK
 from model.arguments import read_arguments
 from model.dry_run import DryRun, items_of
 from model.grammar import parse

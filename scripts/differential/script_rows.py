@@ -1,23 +1,15 @@
 """Scripts that are run for their own status, by hand: `fwenv run`, an environment that is a text alone, and copies of which one has
 to be good. Each row is a call, what it prints, and what it leaves."""
 
-from differential.boards import CONFIG, arguments, board
+from differential.boards import BLANK, CONFIG, EMPTIED, FIRST, PAIR, SAVED, SECOND, arguments, board
 from differential.running import Case
-from differential.tool_rows import BLANK, EMPTIED, FIRST, PAIR, SAVED, SECOND
-from model.arguments import NO_NUMBER
-from model.image import ERASED, LARGEST, Geometry
-from model.program import WARNING, Answer
-
-LONGEST = 2**24
-HELP = b"\n\nFor more information, try '--help'.\n"
-USAGE = b"\n\nUsage: fwenv run [OPTIONS] [NAMES]...\n\nFor more information, try '--help'.\n"
-NO_SCRIPT = b"error: the following required arguments were not provided:\n  <NAMES|-e <SCRIPT>|-f <FILE>>" + USAGE
-SEVERAL = b"error: only one of '[NAMES]...', '-e <SCRIPT>' and '-f <FILE>' can be given" + USAGE
-ENV_AND = b"error: the argument '--env <FILE>' cannot be used with '%s'" + HELP
-SIZE_ALONE = b"error: the argument '--size <N>' is only for '--env <FILE>'" + HELP
-NO_SIZE = b"error: invalid value '%s' for '--size <N>': not the size of an image in hexadecimal, 0x8 to 0x100000" + HELP
-NOT_DEFINED = b'## Error: "%s" not defined\n'
-UNKNOWN = b"Unknown command '%s' - try 'help'\n"
+from model.arguments import ENV_AND, NO_NUMBER, NO_SCRIPT, NO_SIZE, SEVERAL_SCRIPTS, SIZE_ALONE
+from model.dry_run import LONGEST
+from model.image import LARGEST, Geometry
+from model.program import LOOK_AT, NO_GOOD_COPY, WARNING, Answer
+from model.report import FAULTS
+from model.script import UNKNOWN
+from model.variables import NOT_DEFINED
 
 
 def finished(status, steps):
@@ -91,6 +83,7 @@ SCRIPTS = [
     (b"echo -n a", b"a", b""),
     (b"echo -n a; false", b"a", finished(1, 2)),
     (b"echo $a; echo b", b"1\nb\n", b""),
+    (b"echo a\rb \r", b"a\rb \r\n", b""),
     (b"false; true", b"", b""),
     (b"true; false", b"", finished(1, 2)),
     (b"false", b"", finished(1, 1)),
@@ -213,11 +206,11 @@ SAVES = [
 FIRST_IS_WRONG = [
     ([b"run"], NO_SCRIPT),
     ([b"run", b"--boots", b"booti"], NO_SCRIPT),
-    ([b"run", b"-e", b"true", b"ok"], SEVERAL),
-    ([b"run", b"ok", b"-f", b"script"], SEVERAL),
-    ([b"run", b"-e", b"true", b"-f", b"script"], SEVERAL),
-    ([b"run", b"-f", b"-", b"-e", b"true", b"ok", b"bad"], SEVERAL),
-    ([b"run", b"-e", b"", b""], SEVERAL),
+    ([b"run", b"-e", b"true", b"ok"], SEVERAL_SCRIPTS),
+    ([b"run", b"ok", b"-f", b"script"], SEVERAL_SCRIPTS),
+    ([b"run", b"-e", b"true", b"-f", b"script"], SEVERAL_SCRIPTS),
+    ([b"run", b"-f", b"-", b"-e", b"true", b"ok", b"bad"], SEVERAL_SCRIPTS),
+    ([b"run", b"-e", b"", b""], SEVERAL_SCRIPTS),
     ([b"run", b"-e", b"true", b"-e", b"true"], None),
     ([b"run", b"-f", b"script", b"-f", b"script"], None),
     ([b"run", b"-e"], None),
@@ -309,9 +302,8 @@ NEED_COPY = [
     [b"run", b"-e", b"echo a"],
     [b"run", b"--write", b"--stubs", b"absent", b"-f", b"absent"],
 ]
-WRONG, NOT_ENDED = b"checksum is wrong", b"list of entries isn't ended"
+WRONG, NOT_ENDED = FAULTS["BadCrc"], FAULTS["Unterminated"]
 SINGLE, LONG_LIST = Geometry(1, 10), PAIR.image(7, b"a=bcd")
-LOOK_AT = b"; look at the size and the number of lines in the configuration, and at the byte order (--big-endian)\n"
 BAD_COPIES = [
     (PAIR, [BLANK, BLANK], WRONG + b" in the first copy, " + WRONG + b" in the second"),
     (PAIR, [LONG_LIST, bytes(10)], NOT_ENDED + b" in the first copy, " + WRONG + b" in the second"),
@@ -395,7 +387,6 @@ def no_scripts():
 
 
 def script_files():
-    yield over_text("a script without a newline", [b"-f", b"script"], b"a\n", b"", {b"script": b"echo a"})
     yield over_text("a script of lines", [b"-f", b"script"], b"a\nb\n", b"", {b"script": b"# both\necho a\necho b\n"})
     yield over_text("a script on standard input", [b"-f", b"-"], b"a\n1\n", finished(1, 3), given=b"echo a\necho $a\nfalse\n")
     yield over_text("dot lines are none", [b"-f", b"-"], UNKNOWN % b".print", finished(1, 1), given=b".print\n")
@@ -486,10 +477,10 @@ def no_good_copy():
     for form, copies, said in BAD_COPIES:
         files = board(form, copies) | {b"text": b"p=1\n"}
         for words in NEED_COPY:
-            errors = b"fwenv: no good copy: " + said + LOOK_AT
+            errors = NO_GOOD_COPY + said + LOOK_AT
             yield row("no good copy", arguments(*words, b"--need-copy"), files, b"", errors, given=b".save\n.print\n")
     files = board(SINGLE, [SINGLE.image(0, b"a=b\0")])
-    errors = b"fwenv: no good copy: " + WRONG + LOOK_AT
+    errors = NO_GOOD_COPY + WRONG + LOOK_AT
     yield row("another byte order", arguments(b"printenv", b"--need-copy", order="big"), files, b"", errors)
 
 

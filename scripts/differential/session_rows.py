@@ -1,27 +1,16 @@
-"""Sessions by hand: blocks and dot lines, names of marks, limits, stand-ins, wrong numbers, and what is written back.
-A row is a name, the input, what is printed, and the options."""
+"""Sessions by hand, beside those of docs/dry-runs.md: blocks and dot lines, names of marks, limits, stand-ins, wrong numbers, and what is
+written back. A row is a name, the input, what is printed, and the options."""
 
-from differential.boards import arguments, board
+from differential.boards import EMPTIED, FIRST, PAIR, SAVED, SECOND, arguments, board
 from differential.running import Case
 from model.arguments import LIMITS, NO_NUMBER
 from model.image import ERASED, Geometry
 from model.program import WARNING, Answer
 
-SMALL, PAIR = Geometry(1, 16), Geometry(2, 10)
+SMALL = Geometry(1, 16)
 NAME = b"abcdefghijklmnopqrstuvwxyz012345"
 
 BLOCKS = [
-    (
-        "blocks and dot lines",
-        b'setenv a 1; echo $a\n.save\nsetenv a 2\n.undo\n.print\n.x\necho "\n',
-        b"1\n[Finished 0 2]\nSaved copy 1\n[Finished 0 1]\n[Undone]\n[Unknown]\n[Syntax]\n",
-    ),
-    (
-        "marks",
-        b"setenv a 1\n.mark p\nsetenv a 2\n.save\n.mark q\nsetenv b 3\n.undo p\n.print\n.undo q\n.undo\n.print\n.mark\n",
-        b"[Finished 0 1]\n[Marked]\n[Finished 0 1]\nSaved copy 1\n[Marked]\n[Finished 0 1]\n[Undone]\na=1\n[Gone]\n[Undone]\n[Unknown]\n",
-    ),
-    ("exit", b"exit 2\n.print\necho a\n", b"[Exited 2 1]\na\n[Finished 0 1]\n"),
     ("no input", b"", b""),
     ("a newline", b"\n", b"[Finished 0 0]\n"),
     ("a newline between dot lines", b".x\n\n.x\n", b"[Unknown]\n[Finished 0 0]\n[Unknown]\n"),
@@ -112,13 +101,12 @@ STAND_INS = [
     (b"\0" * (2**24 + 1), b"echo a\n", b"", b"fwenv: cannot read stand-ins\n"),
     (None, b"echo a\n", b"", b"fwenv: cannot read stand-ins\n"),
 ]
-# Two copies, of which the first is current: the input, what is printed, the second copy and perhaps the first one, and the options
-FIRST, SECOND = PAIR.image(7, b"a=b\0"), PAIR.image(7, b"\0")
+# Two copies, of which the first is current: the input, what is printed, the second copy and the first one, and the options
 WRITES = [
     (b".save\n", b"Saved copy 2\n", SECOND, FIRST),
-    (b".save\n", b"Saved copy 2\n", PAIR.image(8, b"a=b\0"), FIRST, b"--write"),
-    (b"setenv a\nsaveenv", b"Saved copy 2\n[Finished 0 2]\n", PAIR.image(8, b"\0"), FIRST, b"--write"),
-    (b".save\n.save\n", b"Saved copy 2\nSaved copy 1\n", PAIR.image(8, b"a=b\0"), PAIR.image(9, b"a=b\0"), b"--write"),
+    (b".save\n", b"Saved copy 2\n", SAVED, FIRST, b"--write"),
+    (b"setenv a\nsaveenv", b"Saved copy 2\n[Finished 0 2]\n", EMPTIED, FIRST, b"--write"),
+    (b".save\n.save\n", b"Saved copy 2\nSaved copy 1\n", SAVED, PAIR.image(9, b"a=b\0"), b"--write"),
     (b"setenv a c\n", b"[Finished 0 1]\n", SECOND, FIRST, b"--write"),
     (b".save\n.undo\n", b"Saved copy 2\n[Undone]\n", SECOND, FIRST, b"--write"),
 ]

@@ -11,16 +11,13 @@ import struct
 import subprocess
 import threading
 
+from differential.boards import FIRST, SAVED, SECOND
 from differential.running import Case
 from model.image import Geometry
 from model.program import CANNOT_READ_INPUT, CANNOT_WRITE_OUTPUT, TOO_LONG, Answer
 
 ONE_VARIABLE = Geometry(1, 9).image(0, b"a=b\0")
 MILLION = Geometry(1, 2**20).image(0, b"".join(b"variable%05d=xxxxxxxxxx\0" % i for i in range(40_000)))
-# Two copies of 10 bytes in the middle of a file; the first is current. After a save the second has flag 8
-PAIR = Geometry(2, 10)
-FIRST, SECOND = PAIR.image(7, b"a=b\0"), PAIR.image(7, b"\0")
-SAVED, EMPTIED = PAIR.image(8, b"a=b\0"), PAIR.image(8, b"\0")
 TWO_COPIES = b"device 7 a\ndevice 20 a 0x1000 1\n"
 BAD_LENGTH = b"## Error: bad image: BadLength\n"
 WRONG_OPTION = b"error: unexpected argument '--frobnicate' found\n\nUsage: fwenv [OPTIONS] [COMMAND]\n\nFor more information, try '--help'.\n"
@@ -112,8 +109,6 @@ def row(name, arguments, given, status, output, errors, around=None, files=()):
 
 
 def images():
-    yield row("one variable", [], ONE_VARIABLE, 0, b"a=b\n", b"")
-    yield row("no bytes", [], b"", 1, b"", BAD_LENGTH)
     yield row("too many bytes", [], bytes(2**20 + 1), 1, b"", BAD_LENGTH)
     yield row("a reader that never ends", [], b"", 1, b"", BAD_LENGTH, functools.partial(piped, "exec yes ''"))
     yield row("standard input closed", [], b"", 1, b"", CANNOT_READ_INPUT, at(0, None))
@@ -126,7 +121,6 @@ def images():
     yield row("a pipe that nobody reads", [], MILLION, 1, b"", CANNOT_WRITE_OUTPUT, functools.partial(read_by, 0))
     yield row("standard error closed", [], ONE_VARIABLE, 0, b"a=b\n", b"", at(2, None))
     yield row("standard error on a full disk", [], b"", 1, b"", b"", at(2, "/dev/full"))
-    yield row("a big-endian image", [b"--big-endian"], b"\x2b\x62\x96\xd2a=b\0\0", 0, b"a=b\n", b"")
     yield row("a big-endian image read as little-endian", [], b"\x2b\x62\x96\xd2a=b\0\0", 1, b"", b"## Error: bad image: BadCrc\n")
     yield row("a little-endian image read as big-endian", [b"--big-endian"], ONE_VARIABLE, 1, b"", b"## Error: bad image: BadCrc\n")
 
@@ -134,7 +128,7 @@ def images():
 def helps():
     """The help of each subcommand says how it is called, with an example, and `help` prints the same."""
     texts = {}
-    for word in (b"printenv", b"setenv", b"import", b"export", b"restore", b"status", b"session"):
+    for word in (b"printenv", b"setenv", b"import", b"export", b"restore", b"status", b"session", b"run"):
 
         def is_help(found, word=word):
             texts[word] = found.output

@@ -1,16 +1,11 @@
 """The tools by hand: each row is a call over a board, what it prints, and the copies that it leaves."""
 
-from differential.boards import CONFIG, arguments, board
+from differential.boards import BLANK, CONFIG, EMPTIED, FIRST, PAIR, SAVED, SECOND, arguments, board
 from differential.running import Case
 from model.arguments import NO_SUBCOMMAND, VERSION
 from model.image import ERASED, Geometry, entries
 from model.program import WARNING, Answer
 
-# Two copies of 10 bytes; the first is current
-PAIR = Geometry(2, 10)
-FIRST, SECOND = PAIR.image(7, b"a=b\0"), PAIR.image(7, b"\0")
-SAVED, EMPTIED = PAIR.image(8, b"a=b\0"), PAIR.image(8, b"\0")
-BLANK = ERASED * 10
 NO_ROOM_A = b'## Error: no room for "a"\n'
 # Arguments, status, output, errors; the second copy afterwards (SECOND), and a text in the file `text`
 OVER_GOOD_COPIES = [

@@ -4,7 +4,6 @@ import re
 
 from model.grammar import parse
 from model.script import run
-from model.session import MARKS
 from model.words import Fault
 
 NAMED = re.compile(rb"\.(mark|undo)[ \t]+([^ \t]{1,32})")
@@ -66,9 +65,8 @@ class DryRun:
         return self.mark(named[2]) if named[1] == b"mark" else self.undo(named[2])
 
     def mark(self, name):
-        if len(self.names) == MARKS:
+        if not self.session.mark():
             return b"[Full]\n"
-        self.session.mark()
         self.names.append(name)
         return b"[Marked]\n"
 

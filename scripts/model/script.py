@@ -32,6 +32,12 @@ class Outcome:
     text: bytes
 
 
+def option_of(words, option):
+    """Whether the words begin with an option, and those after it."""
+    given = words[:1] == [option]
+    return given, words[1:] if given else words
+
+
 class Run:
     """A run of a script over a session."""
 
@@ -222,9 +228,7 @@ class Run:
             self.environment.write(name, value, force)
 
     def setenv(self, name, words):
-        force = words[:1] == [b"-f"]
-        if force:
-            words = words[1:]
+        force, words = option_of(words, b"-f")
         if not words:
             self.wrong_use(name)
         else:
@@ -241,9 +245,7 @@ class Run:
 
     def printenv(self, _name, words):
         variables = self.environment.values
-        everything = words[:1] == [b"-a"]
-        if everything:
-            words = words[1:]
+        everything, words = option_of(words, b"-a")
         status, text = 0, b""
         for each in words or sorted(name for name in variables if everything or name[:1] != b"."):
             if each in variables:
@@ -267,9 +269,7 @@ class Run:
             self.done(0 if words[0] in self.environment.values else 1)
 
     def delete(self, name, words):
-        force = words[:1] == [b"-f"]
-        if force:
-            words = words[1:]
+        force, words = option_of(words, b"-f")
         if not words:
             self.wrong_use(name)
             return

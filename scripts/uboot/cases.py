@@ -6,16 +6,11 @@ before it have saved, and an undo goes back to what was saved then. What `saveen
 """
 
 import re
-import sys
 from dataclasses import dataclass, field
-from pathlib import Path
 
 from board import Board
-from dry_run import ANSWER, Copy, answer_of
-
-TOP = Path(__file__).resolve().parents[2]
-sys.path.insert(0, str(TOP / "scripts"))
-from differential.rows import pairs, sections  # noqa: E402
+from dry_run import ANSWER, TOP, Copy, answer_of
+from differential.rows import pairs, sections
 
 SAVED = re.compile(rb"Saving Environment to Flash\.\.\. .*?\nOK\n", re.DOTALL)
 COMMAND_BEGINS = rb"((?:^|[;&|\n]|\b(?:if|elif|then|else|while|until|do)\s)\s*)"

@@ -1,7 +1,6 @@
 """Compares fwenv with U-Boot itself: scripts in a dry run and at its prompt, and stored environments both ways.
 
     compare.py PROGRAM                compares; the last line is 'N passed, M failed'
-    compare.py PROGRAM --show         prints what both answer, too
     compare.py PROGRAM --only TEXT    only the rows, scripts and environments whose name has this text
     compare.py --classes              only the classes of docs/differences.md and those that the rows name
 
@@ -17,8 +16,8 @@ from concurrent.futures import ThreadPoolExecutor
 from pathlib import Path
 
 from board import Board, Silent
-from cases import TOP, answers_of, cases, typed
-from dry_run import ANSWER, Copy, answer_of
+from cases import answers_of, cases, typed
+from dry_run import ANSWER, TOP, Copy, answer_of
 from images import COUNT, MANY, answers_to_many, answers_to_row, faults_of_environment
 from rows import Row, fault_of, read_rows
 
@@ -64,8 +63,7 @@ def with_variables(row, program, folder):
 
 
 class Report:
-    def __init__(self, shows):
-        self.shows = shows
+    def __init__(self):
         self.passed = self.failed = 0
 
     def take(self, name, fault):
@@ -82,17 +80,7 @@ class Report:
         except FAULTS as fault:
             self.take(row.name, f"{type(fault).__name__}: {fault}")
             return
-        if self.shows:
-            show(row, board, dry_run)
         self.take(row.name, fault_of(row, board, dry_run))
-
-
-def show(row, board, dry_run):
-    print(f"{row.name} {' '.join(row.classes)}")
-    if board != dry_run:
-        sys.stdout.buffer.flush()
-        for mark, answer in (("<", board), (">", dry_run)):
-            print("\n".join(f"{mark} {line}" for line in answer.decode(errors="replace").split("\n")))
 
 
 def documented_classes():
@@ -148,7 +136,7 @@ def compare(report, rows, only, program, folder, pool):
 
 def main(arguments):
     rows = [row for path in sorted(HERE.glob("*.rows")) for row in read_rows(path)]
-    report = Report("--show" in arguments)
+    report = Report()
     only = arguments[arguments.index("--only") + 1] if "--only" in arguments else ""
     compare_classes(report, [*rows, MANY])
     if "--classes" not in arguments:

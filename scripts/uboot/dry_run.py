@@ -2,19 +2,16 @@
 
 import re
 import subprocess
+import sys
 from pathlib import Path
 
 from board import ENVIRONMENT_SIZE
 
+TOP = Path(__file__).resolve().parents[2]
+sys.path.insert(0, str(TOP / "scripts"))
+from differential.boards import text_of  # noqa: E402
+
 ANSWER = re.compile(rb"(.*?)\[(Syntax|Memory|[A-Z][a-z]+ \d+ \d+)\]\n", re.DOTALL)
-
-
-def import_text(variables):
-    """A text for import that spells these variables (docs/texts.md)."""
-    text = b""
-    for name, value in variables.items():
-        text += name + b"=" + value.replace(b"\\", b"\\\\").replace(b"\n", b"\\\n") + b"\n"
-    return text
 
 
 class Copy:
@@ -35,7 +32,7 @@ class Copy:
     def store(self, variables):
         """Stores an environment by `fwenv import`."""
         self.image.write_bytes(bytes(ENVIRONMENT_SIZE))
-        self.text.write_bytes(import_text(variables))
+        self.text.write_bytes(text_of(variables))
         done = self.run("import", self.text)
         if done.returncode != 0:
             raise ValueError(f"fwenv import: status {done.returncode}, {done.stderr!r}")
@@ -46,7 +43,7 @@ class Copy:
         words = ["--stubs", self.stubs]
         if default is not None:
             self.image.write_bytes(bytes(ENVIRONMENT_SIZE))
-            self.text.write_bytes(import_text(default))
+            self.text.write_bytes(text_of(default))
             words += ["--default", self.text]
         done = self.run("session", *words, input=text)
         if done.returncode != 0:

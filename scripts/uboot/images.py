@@ -12,6 +12,7 @@ import zlib
 
 from board import ENVIRONMENT_SIZE, Board
 from dry_run import Copy
+from differential.boards import lines_of
 from rows import Row
 
 COUNT = 20
@@ -46,10 +47,6 @@ def loaded(value):
 
 def stored(value):
     return value.replace(b"\\", b"\\\\")
-
-
-def listing(variables):
-    return b"".join(b"%s=%s\n" % pair for pair in sorted(variables.items()))
 
 
 def with_a_bit_turned(image, numbers):
@@ -99,7 +96,7 @@ def both_ways(number, program, folder):
     if not printed.endswith(b"\nOK\n") or left[b"new one"] == left[b"long"]:
         yield f"nothing was saved: {printed!r}"
     shown = copy.run("printenv")
-    if (shown.stdout, shown.stderr) != (listing({name: stored(left[name]) for name in left}), b""):
+    if (shown.stdout, shown.stderr) != (lines_of({name: stored(left[name]) for name in left}), b""):
         yield f"back from the board: {shown.stdout!r}, {shown.stderr!r}, {left!r}"
 
 
@@ -120,7 +117,7 @@ def answers_to_image(image, program, path):
     dry_run = DEFAULT if b"using default environment" in shown.stderr else shown.stdout.rstrip(b"\n")
     with Board(copy.image) as board:
         is_default = b"using default environment" in board.greeting
-        return DEFAULT if is_default else listing(board.own_variables()).rstrip(b"\n"), dry_run
+        return DEFAULT if is_default else lines_of(board.own_variables()).rstrip(b"\n"), dry_run
 
 
 def answers_to_row(row, program, folder):
