@@ -101,7 +101,7 @@ def installed(program, links, folder):
 
 def rows(folder):
     """The rows of the tools, of sessions and of the documents over the program as it is packaged."""
-    for part in ("tool_rows", "report_rows", "session_rows", "documents"):
+    for part in ("tool_rows", "report_rows", "check_rows", "session_rows", "documents"):
         words = (sys.executable, "-B", "-m", "differential", folder / "root/usr/bin/fwenv", folder, part)
         lines = run(*words, env=os.environ | {"PYTHONPATH": str(TOP / "scripts")}).stdout.decode().splitlines()
         check(f"{part} over the program of the package", lines[-1:] and lines[-1].endswith(", 0 failed"), "\n".join(lines[-6:]))
@@ -118,13 +118,13 @@ def pages(folder):
     for page in (TOP / "packaging/man").iterdir():
         found = run("groff", "-ww", "-man", "-Tutf8", "-z", page)
         same(f"the page {page.name}", found.stderr, b"")
-    calls = {"fwenv": [], **{f"fwenv {name}": [name] for name in ("printenv", "setenv", "import", "export", "restore", "status", "run", "session")}}
-    listed = page_options("fwenv.1") | {f"fwenv {name}": page_options(f"fwenv-{name}.1")[""] for name in ("run", "session")}
+    calls = {"fwenv": [], **{f"fwenv {name}": [name] for name in ("printenv", "setenv", "import", "export", "restore", "status", "run", "check", "session")}}
+    listed = page_options("fwenv.1") | {f"fwenv {name}": page_options(f"fwenv-{name}.1")[""] for name in ("run", "check", "session")}
     common = listed[""] - {"-V", "--version"}
     for name, words in calls.items():
         helped = options_of_help(run(folder / "root/usr/bin/fwenv", *words, "--help").stdout.decode())
         own = {"--big-endian"} | listed[""] - {"-c", "--default", "--need-copy"} if name == "fwenv" else common | listed[name]
-        own -= {"--default", "--need-copy"} if name == "fwenv status" else set()
+        own -= {"fwenv status": {"--default", "--need-copy"}, "fwenv check": {"--need-copy"}}.get(name, set())
         same(f"the options of {name}, in its page and in its help", sorted(own), sorted(helped))
 
 
@@ -220,6 +220,10 @@ def completions(folder):
         ("fwenv run --b", {"--boots", "--big-endian"}),
         ("fwenv run --env text boot", {"bootcmd", "bootdelay"}),
         ("fwenv session --si", {"--size"}),
+        ("fwenv che", {"check"}),
+        ("fwenv check --", {"--default", "--big-endian", "--stubs", "--env", "--size", "--help"}),
+        ("fwenv check --env text boot", {"bootcmd", "bootdelay"}),
+        ("fwenv check -c of-copy boot", names),
         ("fwenv import --n", {"--need-copy"}),
         ("fwenv export --de", {"--default"}),
         ("fwenv session --st", {"--stubs", "--steps"}),
@@ -238,7 +242,7 @@ def completions(folder):
         ("fw_setenv -c of-blank -l . boot", set()),
         ("fw_setenv -c of-blank -l . -f text boot", names),
     ]
-    with_files = ("fwenv printenv -c te", "fw_printenv -c te", "fw_printenv --defenv te", "fw_setenv -f te", "fw_setenv -s te")
+    with_files = ("fwenv printenv -c te", "fwenv check -f te", "fw_printenv -c te", "fw_printenv --defenv te", "fw_setenv -f te", "fw_setenv -s te")
     folder = root / "share/bash-completion/completions"
     for line, wanted in rows:
         same(f"bash: {line}", completed_by_bash(folder, board, line), (wanted, False))
@@ -255,6 +259,9 @@ def completions(folder):
             ("fwenv printenv -c of-c", "opy"),
             ("fwenv printenv -c of-copy bootc", "md"),
             ("fwenv setenv -c of\\ copy bootd", "elay"),
+            ("fwenv check --stu", "bs"),
+            ("fwenv check --env text bootc", "md"),
+            ("fwenv check -f te", "xt"),
             ("fw_printenv --noh", "eader"),
             ("fw_setenv --sc", "ript"),
             ("fw_printenv -c of-c", "opy"),

@@ -1,4 +1,4 @@
-# Completion of fwenv's command line for bash: commands, options, files, and the names of variables after printenv, setenv and run.
+# Completion of fwenv's command line for bash: commands, options, files, and the names of variables after printenv, setenv, run and check.
 # shellcheck shell=bash
 
 # The names of the variables in the configuration, or the text, that the command line names.
@@ -17,7 +17,7 @@ _fwenv_names() {
 
 _fwenv() {
     local word=${COMP_WORDS[COMP_CWORD]} before=${COMP_WORDS[COMP_CWORD - 1]} command='' at
-    local commands='printenv setenv import export restore status run session help'
+    local commands='printenv setenv import export restore status run check session help'
     local options='-c --default --need-copy --big-endian -h --help'
     local dry_run=' --write --stubs --steps --depth --word --output --env --size'
     for ((at = 1; at < COMP_CWORD; at++)); do
@@ -42,11 +42,12 @@ _fwenv() {
         setenv) options+=' -s' ;;
         status) options='-c --big-endian -h --help' ;;
         run) options+="$dry_run --boots -e -f" ;;
+        check) options='-c --default --big-endian -h --help --stubs --env --size -f' ;;
         session) options+=$dry_run ;;
         help) options=$commands ;;
     esac
     case $command:$word in
-        printenv:[^-]* | printenv: | setenv:[^-]* | setenv: | run:[^-]* | run:)
+        printenv:[^-]* | printenv: | setenv:[^-]* | setenv: | run:[^-]* | run: | check:[^-]* | check:)
             mapfile -t COMPREPLY < <(compgen -W "$(_fwenv_names)" -- "$word")
             ;;
         import:[^-]* | import: | restore:[^-]* | restore: | status:[^-]* | status:) compopt -o default ;;

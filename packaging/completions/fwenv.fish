@@ -1,4 +1,4 @@
-# Completion of fwenv's command line for fish: commands, options, files, and the names of variables after printenv, setenv and run.
+# Completion of fwenv's command line for fish: commands, options, files, and the names of variables after printenv, setenv, run and check.
 
 # The names of the variables in the configuration, or the text, that the command line names.
 function __fwenv_names
@@ -19,7 +19,7 @@ function __fwenv_names
     fwenv $call 2>/dev/null | string replace -rf '^([^=]*)=.*' '$1'
 end
 
-set -l commands printenv setenv import export restore status run session help
+set -l commands printenv setenv import export restore status run check session help
 complete -c fwenv -f
 complete -c fwenv -n "not __fish_seen_subcommand_from $commands" -a printenv -d 'Print variables'
 complete -c fwenv -n "not __fish_seen_subcommand_from $commands" -a setenv -d 'Set or delete variables, and save'
@@ -28,27 +28,28 @@ complete -c fwenv -n "not __fish_seen_subcommand_from $commands" -a export -d 'P
 complete -c fwenv -n "not __fish_seen_subcommand_from $commands" -a restore -d 'Make the variables those of a text, and save'
 complete -c fwenv -n "not __fish_seen_subcommand_from $commands" -a status -d 'Say what each copy is good for'
 complete -c fwenv -n "not __fish_seen_subcommand_from $commands" -a run -d 'Run a boot script for its own status'
+complete -c fwenv -n "not __fish_seen_subcommand_from $commands" -a check -d 'Look for faults in boot scripts'
 complete -c fwenv -n "not __fish_seen_subcommand_from $commands" -a session -d 'Try boot scripts'
 complete -c fwenv -n "not __fish_seen_subcommand_from $commands" -a help -d 'Print help'
 complete -c fwenv -n "not __fish_seen_subcommand_from $commands" -s V -l version -d 'Print the version'
 complete -c fwenv -s h -l help -d 'Print help'
 complete -c fwenv -l big-endian -d 'Checksums have the highest byte first'
-complete -c fwenv -n "__fish_seen_subcommand_from printenv setenv import export restore status run session" -s c -rF -d 'Configuration'
-complete -c fwenv -n "__fish_seen_subcommand_from printenv setenv import export restore run session" -l default -rF -d 'Default environment'
+complete -c fwenv -n "__fish_seen_subcommand_from printenv setenv import export restore status run check session" -s c -rF -d 'Configuration'
+complete -c fwenv -n "__fish_seen_subcommand_from printenv setenv import export restore run check session" -l default -rF -d 'Default environment'
 complete -c fwenv -n "__fish_seen_subcommand_from printenv setenv import export restore run session" -l need-copy -d 'Do nothing without a good copy'
 complete -c fwenv -n "__fish_seen_subcommand_from printenv" -s n -d 'Print the value alone'
-complete -c fwenv -n "__fish_seen_subcommand_from printenv setenv run" -a "(__fwenv_names)"
+complete -c fwenv -n "__fish_seen_subcommand_from printenv setenv run check" -a "(__fwenv_names)"
 complete -c fwenv -n "__fish_seen_subcommand_from setenv" -s s -rF -d 'Script of names and values'
 complete -c fwenv -n "__fish_seen_subcommand_from import restore status" -F
 complete -c fwenv -n "__fish_seen_subcommand_from run session" -l write -d 'Write back the copies that changed'
-complete -c fwenv -n "__fish_seen_subcommand_from run session" -l stubs -rF -d 'Stand-ins'
+complete -c fwenv -n "__fish_seen_subcommand_from run check session" -l stubs -rF -d 'Stand-ins'
 complete -c fwenv -n "__fish_seen_subcommand_from run session" -l steps -x -d 'Steps of a script'
 complete -c fwenv -n "__fish_seen_subcommand_from run session" -l depth -x -d 'Starts inside one another'
 complete -c fwenv -n "__fish_seen_subcommand_from run session" -l word -x -d 'Bytes of a word'
 complete -c fwenv -n "__fish_seen_subcommand_from run session" -l output -x -d 'Bytes that a script prints'
-complete -c fwenv -n "__fish_seen_subcommand_from run session" -l env -rF -d 'Text that is the whole environment'
-complete -c fwenv -n "__fish_seen_subcommand_from run session" -l size -x -d 'Size of its image, in hexadecimal'
+complete -c fwenv -n "__fish_seen_subcommand_from run check session" -l env -rF -d 'Text that is the whole environment'
+complete -c fwenv -n "__fish_seen_subcommand_from run check session" -l size -x -d 'Size of its image, in hexadecimal'
 complete -c fwenv -n "__fish_seen_subcommand_from run" -l boots -x -d 'Command that does not come back'
 complete -c fwenv -n "__fish_seen_subcommand_from run" -s e -x -d 'Script'
-complete -c fwenv -n "__fish_seen_subcommand_from run" -s f -rF -d 'File of a script'
+complete -c fwenv -n "__fish_seen_subcommand_from run check" -s f -rF -d 'File of a script'
 complete -c fwenv -n "__fish_seen_subcommand_from help" -a "$commands"

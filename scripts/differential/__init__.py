@@ -21,6 +21,8 @@ FOLDER has the libraries cut.so, refuse.so and raw.so that are preloaded, which 
     report_rows   reports of what is stored by hand
     client_rows   fw_printenv and fw_setenv by hand, called through links
     script_rows   fwenv run, an environment without a board, and copies of which one has to be good, by hand
+    check_rows    fwenv check by hand
+    check_boards  fwenv check over boot scripts of boards, as they are and with slips planted
     session_rows  sessions by hand
     streams       streams that are closed, full, endless or reset, and a session line by line
     files         files that are faulty, and those that can't be written

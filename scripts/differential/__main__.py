@@ -14,7 +14,7 @@ from differential.running import Runner
 
 PARTS = (
     "images", "texts", "scripts", "runs", "requests", "inputs", "calls", "largest", "documents", "mistakes", "session_rows", "tool_rows",
-    "report_rows", "client_rows", "script_rows", "cuts", "streams", "files", "hostile_files", "costs", "memory", "other_tools",
+    "report_rows", "client_rows", "script_rows", "check_rows", "check_boards", "cuts", "streams", "files", "hostile_files", "costs", "memory", "other_tools",
 )
 SHOWN = 5
 # What an answer tells: the ending of a block, a dot line's answer, a message, or that nothing is said
@@ -22,6 +22,7 @@ TOLD = re.compile(
     rb"^\[(Finished|Exited|Steps|Depth|Word|Output|Syntax|Marked|Full|Undone|Gone|Unknown)"
     rb"|^(?:fwenv: .*|## Error: bad image): (\w+)(?: in line \d+)?\n"
     rb"|^fwenv: run ended as (\w+)|^fwenv: .*:\d+:\d+: (\w+): "
+    rb"|^[^\n]*:\d+:\d+: error: [^\n]* \((\w+)\)$|(names a variable|no builtin|carriage return|be assigned|no variable)"
     rb"|(no room|bad name|type check|not defined|Can't \w+|too short|overlap|cannot read|no good copy)",
     re.M,
 )

@@ -5,9 +5,11 @@ import functools
 
 from differential.boards import CONFIG, text_of
 from differential.damage import at_random, mutant, numbers_of
+from differential.random_scripts import Writer, spoiled, variables
 from differential.running import Case
 from differential.scripts import SCRIPTS, TOKENS
 from differential.texts import IMPORTS, IMPORT_TOKENS, SET_SCRIPTS, STAND_INS
+from model.check import STARTED
 from model.image import ERASED, Geometry, entries
 
 NAMES = [b"a", b"b", b"n", b"o", b"r", b".flags", b"q", b"a=b", b"", b"#c", b" d", b"two\nlines", b"\xc3\xa9"]
@@ -18,6 +20,7 @@ ENVIRONMENTS = [
     {b".flags": b"n:d,o:so,r:sr,c:bc", b"a": b"1 2", b"n": b"3", b"c": b"1"},
     {b"#c": b"1", b" d": b"2", b"m": b"x\\\ny", b"e\nf": b"3", b"\xff": b"\xfe"},
     {b"o": b"1", b".flags": b"o:so", b"long": b"0123456789" * 5},
+    {b"bootcmd": b"run a none; c=1", b"a": b"usb\r; laod", b"b": b"run bootcmd; for a in 1; do usb &", b"preboot": b"b="},
     {b"a": b"echo $q; saveenv", b"b": b"run a; exit 2", b"n": b"run n", b"q": b"mmc; usb", b"r": b"'", b" d": b"setenv a"},
 ]
 INPUTS = [
@@ -27,7 +30,8 @@ INPUTS = [
 WRONG = [
     [b"frob"], [b""], [b"--frob"], [b"-x"], [b"printenv", b"-z"], [b"\xff"], [b"export", b"a"], [b"import"], [b"session", b"a"],
     [b"run"], [b"run", b"-e", b"true", b"a"], [b"run", b"-f", b"text", b"-e", b"a"], [b"run", b"-n", b"a"], [b"printenv", b"--env", b"a"],
-    [b"session", b"--size", b"9"], [b"session", b"-f", b"text"], [b"status", b"--need-copy"],
+    [b"session", b"--size", b"9"], [b"session", b"-f", b"text"], [b"status", b"--need-copy"], [b"check", b"--write"], [b"check", b"-e", b"a"],
+    [b"check", b"-f", b"text", b"a"], [b"check", b"--size", b"9"],
 ]  # fmt: skip
 NUMBERS = {
     b"--steps": [b"0", b"1", b"3", b"007", b"1000000", b"1000001", b"-1", b"", b"1x", b"99999999999999999999"],
@@ -45,11 +49,13 @@ RUNS = [
 GIVEN_STAND_INS = [*STAND_INS, *[b"mmc\nusb 1\n"] * 4]
 BOOTS = [b"mmc", b"mmc", b"usb", b"mmcinfo", b"echo", b"", b"\xc3\xa9"]
 SIZES = [b"0x4000", b"1000", b"0X100", b"200", b"80", b"0d", b"8", b"100001", b"4k"]
-DRY = (b"session", b"run")
+DRY, WHOLE = (b"session", b"run"), (b"session", b"run", b"check")
+CHECKED = [b"r", b"s", b"t", *STARTED, *NAMES]
 OFTEN = {
     **{name: 0.003 for name in ("too short", "overlap", "cannot read", "no room", "bad name", "type check", "not defined")},
     **{name: 0.0002 for name in ("Can't create", "Can't delete", "Can't overwrite", "EmptyName", "Undone")},
     **{name: 0.001 for name in ("Exited", "Finished", "Quote", "Missing", "Unexpected", "Substitution", "no good copy")},
+    **{name: 0.003 for name in ("names a variable", "no builtin", "carriage return", "be assigned", "no variable")},
     "status 0": 0.3,
 }
 
@@ -119,14 +125,14 @@ class Calls:
         return self.numbers.choice([[name, value], [name + value], [name + b"=" + value]])
 
     def shared(self, tool, words, is_whole):
-        """The options that each subcommand has, in any order; a report of a file, and a text that is the whole environment, mostly
-        have none."""
+        """The options that each subcommand has, in any order; a report of a file, a check of one, and a text that is the whole
+        environment mostly have none."""
         if (is_whole or tool == b"status" and words) and not self.chance(5):
             return []
         options = [self.option(b"-c", CONFIG if not self.chance(3) else b"absent")]
         if tool != b"status" and self.chance(40):
             options.append(self.option(b"--default", self.text(b"default", self.entries_text())))
-        if tool != b"status" and self.chance(25):
+        if tool not in (b"status", b"check") and self.chance(25):
             options.append([b"--need-copy"])
         return options
 
@@ -161,6 +167,35 @@ class Calls:
         given, words = self.given_script()
         return options + given + [self.option(b"--boots", name) for name in self.some(BOOTS, 2)], words
 
+    def board_script(self):
+        """A script at random, perhaps with a fault or a carriage return."""
+        script = Writer(self.numbers).script()
+        if self.chance(30):
+            script = spoiled(self.numbers, script)
+        return script.replace(b"\n", b"\r\n") + b"\r" * self.chance(50) if self.chance(10) else script
+
+    def scripts_text(self):
+        """An environment of scripts, as a text for import."""
+        found = variables(self.numbers)
+        for name in STARTED:
+            if self.chance(60):
+                found[name] = self.board_script().replace(b"\0", b"")
+        return text_of(found)
+
+    def checked(self, is_whole):
+        """The options and the names of a check: of a text, of copies, or, as if that were a text, of one script."""
+        options = []
+        if self.chance(60):
+            options.append(self.option(b"--stubs", self.text(b"stand-ins", self.numbers.choice(GIVEN_STAND_INS))))
+        if is_whole and self.chance(40):
+            options.append(self.option(b"-f", b"-" if self.chance(15) else self.text(b"script", self.board_script())))
+            return options, self.some(CHECKED, 1) * self.chance(5)
+        if is_whole:
+            options.append(self.option(b"--env", self.text(b"env", self.scripts_text())))
+        if self.chance(30 if is_whole else 2):
+            options.append(self.option(b"--size", self.numbers.choice(SIZES)))
+        return options, self.some(CHECKED, 2) if self.chance(60) else []
+
     def own(self, tool, is_whole):
         """The options and the other words of a subcommand."""
         if tool == b"printenv":
@@ -173,11 +208,14 @@ class Calls:
             return [], [self.numbers.choice([b"one", b"two", CONFIG])] * self.chance(40)
         if tool in (b"import", b"restore"):
             return [], [self.text(b"text", self.entries_text())]
+        if tool == b"check":
+            return self.checked(is_whole)
         return self.dry_run(tool, is_whole) if tool in DRY else ([], [])
 
     def subcommand(self):
-        tool = self.numbers.choice([b"printenv", b"setenv", b"setenv", b"import", b"export", b"restore", b"status", b"session", b"run", b"run"])
-        is_whole = tool in DRY and self.chance(35)
+        tools = [b"printenv", b"setenv", b"setenv", b"import", b"export", b"restore", b"status", b"session", b"run", b"run", b"check", b"check"]
+        tool = self.numbers.choice(tools)
+        is_whole = tool in WHOLE and self.chance(70 if tool == b"check" else 35)
         self.board()
         own, words = self.own(tool, is_whole)
         options = self.shared(tool, words, is_whole) + own

@@ -1,6 +1,7 @@
 """Inputs that are made to cost much, and those that are as long as they may be, each in bounded time and memory."""
 
 from differential.boards import lines_of
+from differential.check_rows import cut_off
 from differential.running import Case
 from model.image import ERASED, LARGEST, Geometry, entries
 from model.program import TOO_LONG, WARNING, Answer
@@ -110,5 +111,36 @@ def orders():
     yield bounded(Case("names that rise and then fall", [], given=LARGE.image(0, area), wanted=wanted), 2, 65_536)
 
 
+def check(name, words, files, found):
+    output = cut_off(found)
+    wanted = Answer(int(b": error: " in output), output, b"", files)
+    return bounded(Case(name, [b"check", *words], files, wanted=wanted), 2, 262_144)
+
+
+def checks():
+    """Many findings in one script, a long way from script to script, scripts each of which starts all, and long names."""
+    unknown = b"%s:1:%d: error: no builtin and no stand-in is called `a`\n"
+    script = b"a;" * 500_000
+    found = [unknown % (b"s", 2 * at + 1) for at in range(500_000)]
+    yield check("500,000 commands that nobody has", [b"-f", b"s", b"--stubs", b"none"], {b"s": script, b"none": b""}, found)
+    lines = b"true\n" * 200_000
+    found = [b"s:200001:1: error: not expected here (Unexpected)\n"]
+    yield check("a fault in line 200,001", [b"-f", b"s"], {b"s": lines + b"fi"}, found)
+    whole = [b"--env", b"env", b"--size=100000"]
+    text = b"a=1\nbootcmd=" + b"a=;\\\n" * 150_000 + b"\n"
+    found = [b"bootcmd:%d:1: warning: `a` is an environment variable, so it can not be assigned\n" % line for line in range(1, 150_001)]
+    yield check("150,000 assignments that are refused", whole, {b"env": text}, found)
+    text = b"bootcmd=run v00000\n" + b"".join(b"v%05d=run v%05d\n" % (at, at + 1) for at in range(50_000))
+    found = [b"v49999:1:5: error: `run v50000` names a variable that is not defined\n"]
+    yield check("50,000 scripts, each of which starts the next", whole, {b"env": text}, found)
+    every = b" ".join(b"v%d" % at for at in range(440))
+    text = b"bootcmd=run v0\n" + b"".join(b"v%d=run %s\n" % (at, every) for at in range(440))
+    yield check("440 scripts, each of which starts all", whole, {b"env": text}, [])
+    long = b"a" * 300_000
+    text = b"bootcmd=run %s\n%s=%s\n" % (long, long, script[:300_000])
+    found = [unknown % (long, 2 * at + 1) for at in range(2)]
+    yield check("150,000 commands in a script of a long name", [*whole, b"--stubs", b"none"], {b"env": text, b"none": b""}, found)
+
+
 def chunks():
-    return [blocks, inputs, variables, texts, orders]
+    return [blocks, inputs, variables, texts, orders, checks]

@@ -34,6 +34,15 @@ def whole_environment(words):
     return Case("run", [b"run", b"--env", b"text", *words], FILES | {b"text": b"a=echo x; run m\nm=echo y\\\necho z\n#q=\nb=true\n"})
 
 
+def whole_check(words, text=b"a=run m x\nm=true\\\n'\nq=a=1; run m\n"):
+    """A check of a text alone."""
+    return Case("check", [b"check", b"--env", b"text", *words], FILES | {b"text": text})
+
+
+def script_check(script):
+    return Case("check", [b"check", b"--stubs", b"stand-ins", b"-f", b"text"], FILES | {b"text": script, b"stand-ins": b"mmc\n"})
+
+
 # What prints one text on standard output alone
 PRINTING = [
     Case("an image", [], given=ONE),
@@ -46,6 +55,9 @@ PRINTING = [
     call([b"status"], over=NEVER_WRITTEN),
     call([b"run", b"--write", b"-e", b"echo a; setenv a 3; saveenv"]),
     whole_environment([b"a", b"m"]),
+    call([b"check", b"q", b"a"]),
+    whole_check([b"a", b"q"]),
+    script_check(b"mmc; a\r\nb"),
 ]
 # What prints on both streams
 ON_BOTH = [call([b"printenv", b"q", b"a"]), call([b"export"]), call([b"run", b"--write", b"-e", b"saveenv; false"])]
@@ -81,6 +93,9 @@ READING = [
     (b"text", call([b"session", b"--write", b"--stubs", b"text"], {b"text": STAND_INS}, ASKED)),
     (b"text", call([b"run", b"--write", b"-f", b"text"], {b"text": b"setenv a $m; saveenv\nsaveenv; echo 'b\nc'\nfalse || exit 0\n"})),
     (b"text", whole_environment([b"-e", b"run a || printenv"])),
+    (b"text", whole_check([b"q", b"a"])),
+    (b"text", script_check(b"mmc 1; mmc2\nif true; then a\r\nfi")),
+    (b"text", call([b"check", b"--stubs", b"text", b"a", b"m"], {b"text": STAND_INS + b"x 1\none\n"})),
 ]
 
 
@@ -224,11 +239,12 @@ def saves():
 
 def script_read():
     """A script on standard input, which is opened by its path."""
-    case = call([b"run", b"--write", b"-f", b"-"], given=b"saveenv; echo\n")
-    for place in places(len(case.given) + 1, "fail", "none"):
-        answer = replace(case, given=case.given[: place[0]]).answer()
-        wanted = Answer(1, b"", CANNOT_READ % b"-", case.files) if place[2] == "fail" else answer
-        yield cut_case(case, b"/dev/stdin", "read", place, wanted)
+    run, check = call([b"run", b"--write", b"-f", b"-"], given=b"saveenv; echo\n"), Case("check", [b"check", b"-f", b"-"], given=b"run 'a'\r\n")
+    for case in (run, check):
+        for place in places(len(case.given) + 1, "fail", "none"):
+            answer = replace(case, given=case.given[: place[0]]).answer()
+            wanted = Answer(1, b"", CANNOT_READ % b"-", case.files) if place[2] == "fail" else answer
+            yield cut_case(case, b"/dev/stdin", "read", place, wanted)
 
 
 def saves_of_a_run():

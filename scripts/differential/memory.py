@@ -33,6 +33,8 @@ WITHOUT_FILES = [
     ([b"run", b"--help"], b""),
     ([b"run", b"--env", b"text", b"--size", b"7", b"a"], b""),
     ([b"run", b"--env", b"text", b"-e", b"true", b"a"], b""),
+    ([b"check", b"--help"], b""),
+    ([b"check", b"-f", b"text", b"a"], b""),
 ]
 # Tools over two copies: their words, and perhaps the file `text`
 TOOLS = [
@@ -50,6 +52,7 @@ TOOLS = [
     ([b"restore", b"text"], b"a=c\n"),
     ([b"restore", b"text"], b"a=bcd\n"),
     ([b"status"], b""),
+    ([b"check", b"a", b"q", b"--stubs", b"text"], b"mmc\n"),
 ]
 EVERY_FORM = b"""x='a b'; for i in $x "$x" ''; do echo "[$i]"; done
 if test -z "$x"; then echo no; elif true && false; then echo no; else setenv n 1; fi
@@ -107,6 +110,19 @@ RUNS = [
     ("no script", [*arguments(b"run", b"--write"), b"-e", b"saveenv\n'"]),
     ("names", [*WHOLE, b"a", b"it's", b"a"]),
     ("a text alone", [*WHOLE, b"--size=100", b"-f", b"text"]),
+]
+# What is checked of the text `text`, and of a script
+CHECKED_TEXT = b"""bootcmd=run a 'a_variable_of_a_long_name' none || laod; for a in 1 2; do a=$a; done
+a=if run a_variable_of_a_long_name; then a_command_of_a_long_name; elif run b; then run c; fi
+a_variable_of_a_long_name=run bootcmd; mmc; a_stand_in_of_a_long_name
+b=echo "a
+c=true
+"""
+CHECKS = [
+    ("a check", [b"check", b"--env", b"text", b"--stubs", b"stand-ins"], CHECKED_TEXT),
+    ("a check of names", [b"check", b"--env", b"text", b"none", b"c", b"b", b"a_variable_of_no_value"], CHECKED_TEXT),
+    ("a check of a script", [b"check", b"--stubs", b"stand-ins", b"-f", b"text"], b"mmc\r\n" * 40 + b"a_stand_in_of_a_long_name\n"),
+    ("a check of no script", [b"check", b"-f", b"text"], b"echo a; if true; then echo 'b\r\n"),
 ]
 OVER_PAIR = b"setenv a bc; mmc\n.save\n.mark p\nsetenv a\n.undo p\n.print\n.undo\n"
 
@@ -285,5 +301,12 @@ def runs():
     yield refusing(case, WARNING)
 
 
+def checks():
+    """Nothing that is found goes out before all of it was found."""
+    for name, words, text in CHECKS:
+        files = {b"text": text, b"stand-ins": b"mmc 3\na_stand_in_of_a_long_name\n"}
+        yield refusing(Case(f"{name} without memory", words, files))
+
+
 def chunks():
-    return [without_files, tools, over_pair, runs, *(functools.partial(one_session, row) for row in SESSIONS)]
+    return [without_files, tools, over_pair, runs, checks, *(functools.partial(one_session, row) for row in SESSIONS)]

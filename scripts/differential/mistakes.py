@@ -20,6 +20,7 @@ PARTS = {
     "inputs": (100, 1, 11),
     "calls": (400, 1, 1),
     "script_rows": (2,),
+    "check_rows": (1,),
 }
 
 
@@ -59,7 +60,7 @@ def saved_anyway(found, _):
     return replace(found, files=found.files | {DEVICE: found.files[DEVICE][:15] + bytes(10) + found.files[DEVICE][25:]})
 
 
-def counted_from_0(which):
+def counted_from_0(which, stream="errors"):
     """The line or the column of a fault is one less."""
 
     def less(match):
@@ -67,7 +68,7 @@ def counted_from_0(which):
         place[which] -= 1
         return b":%d:%d: " % tuple(place)
 
-    return lambda found, _: replace(found, errors=re.sub(rb":(\d+):(\d+): ", less, found.errors))
+    return lambda found, _: replace(found, **{stream: re.sub(rb":(\d+):(\d+): ", less, getattr(found, stream))})
 
 
 def warned(found, case):
@@ -160,6 +161,23 @@ MISTAKES = {
         "a warning over a whole environment": warned,
         "a second copy that is passed over": errors(rb"( in the first copy, )checksum is wrong", rb"\1list of entries isn't ended"),
         "a whole environment with a configuration": errors(rb"error: the argument '--env <FILE>' cannot.*", b"fwenv: cannot read absent\n"),
+    },
+    "check_rows": {
+        "the status of what is found": status(0),
+        "a warning that is an error": output(b": warning: a carriage", b": error: a carriage"),
+        "warnings have status 1": lambda found, _: replace(found, status=int(found.output != b"")),
+        "a line counted from 0": counted_from_0(0, "output"),
+        "a column counted from 0": counted_from_0(1, "output"),
+        "two lines in the other order": swapped,
+        "the first carriage return is passed over": output(rb"^[^\n]*a carriage return[^\n]*\n", b""),
+        "the kind of a fault is not told": output(rb" \(Missing\)$", b""),
+        "a start inside a loop is passed over": output(rb"\A[^\n]*`run n1`[^\n]*\n[^\n]*`run n2`[^\n]*\n\Z", b""),
+        "the second time that a name is given": output(rb"\A(none: [^\n]*\n)none: [^\n]*\n\Z", rb"\1"),
+        "a variable that is started is not followed": output(rb"^c:[^\n]*\n", b""),
+        "a variable is looked at twice": output(rb"\A(b:1:5: [^\n]*\n)\Z", rb"\1\1"),
+        "findings over copies that are not good": lambda found, _: replace(found, output=b"") if found.errors == WARNING else found,
+        "a head of a for is passed over": output(rb"^[^\n]*:1:5: warning: `a`[^\n]*\n", b""),
+        "an unknown command without stand-ins": lambda found, case: replace(found, status=1) if b"laod" in b"".join(case.files.values()) else found,
     },
 }
 

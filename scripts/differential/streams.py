@@ -128,7 +128,7 @@ def images():
 def helps():
     """The help of each subcommand says how it is called, with an example, and `help` prints the same."""
     texts = {}
-    for word in (b"printenv", b"setenv", b"import", b"export", b"restore", b"status", b"session", b"run"):
+    for word in (b"printenv", b"setenv", b"import", b"export", b"restore", b"status", b"run", b"check", b"session"):
 
         def is_help(found, word=word):
             texts[word] = found.output

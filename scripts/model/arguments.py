@@ -11,7 +11,8 @@ from model.texts import SIZE
 
 # The flags of each subcommand, which may be before it too, and the options of all that open an environment
 FLAGS, OPENING_FLAGS, OPENING_VALUES = {"--big-endian"}, {"--need-copy"}, {"-c", "--default"}
-DRY_VALUES = {"--stubs", "--steps", "--depth", "--word", "--output", "--env", "--size"}
+WHOLE_VALUES = {"--stubs", "--env", "--size"}
+DRY_VALUES = WHOLE_VALUES | {"--steps", "--depth", "--word", "--output"}
 # Of each subcommand: its flags, its options with a value, and how many other words it takes
 FORMS = {
     "printenv": (OPENING_FLAGS | {"-n"}, OPENING_VALUES, (0, None)),
@@ -22,6 +23,7 @@ FORMS = {
     "status": (set(), {"-c"}, (0, 1)),
     "session": (OPENING_FLAGS | {"--write"}, OPENING_VALUES | DRY_VALUES, (0, 0)),
     "run": (OPENING_FLAGS | {"--write"}, OPENING_VALUES | DRY_VALUES | {"--boots", "-e", "-f"}, (0, None)),
+    "check": (set(), OPENING_VALUES | WHOLE_VALUES | {"-f"}, (0, None)),
 }
 # Options that may be given more than once
 REPEATED = {"--boots"}
@@ -79,6 +81,12 @@ Usage: fwenv run [OPTIONS] [NAMES]...
 
 For more information, try '--help'.
 """
+FILE_AND = b"""error: the argument '-f <FILE>' cannot be used with '[NAMES]...', '-c <FILE>', '--default <FILE>', '--env <FILE>' or '--size <N>'
+
+Usage: fwenv check [OPTIONS] [NAMES]...
+
+For more information, try '--help'.
+"""
 NOT_UTF8 = b"fwenv: a word of the command line is not UTF-8\n"
 
 
@@ -116,6 +124,11 @@ class Call:
         given = bool(self.words) + ("-e" in self.options) + ("-f" in self.options)
         if given != 1:
             raise Wrong(SEVERAL_SCRIPTS if given else NO_SCRIPT)
+
+    def refuse_beside_file(self):
+        """A check of a file is one of that file alone."""
+        if self.words or self.options.keys() & {"-c", "--default", "--env", "--size"}:
+            raise Wrong(FILE_AND)
 
     def size_in_memory(self):
         """The size of the image under an environment that is a text alone; None where the copies are a board's."""

@@ -1,7 +1,8 @@
 """The tree of a script (docs/scripts.md, "Grammar").
 
-A command is ("simple", words), ("assign", name, parts), ("if", branches, list or None), ("for", name, words, list),
-("while", list, list) or ("until", list, list). A list is a list of chains, a chain a list of (operator, command).
+A command is ("simple", words), ("assign", name, parts, place), ("if", branches, list or None), ("for", name, words, list, place),
+("while", list, list) or ("until", list, list). A list is a list of chains, a chain a list of (operator, command). The place is that
+of the name.
 """
 
 import functools
@@ -94,7 +95,7 @@ class Parser:
             self.take()
             if self.peek().kind == "word":
                 raise Fault("Assignment", self.peek().place)
-            return ("assign", name, token.parts[len(name) + 1 :])
+            return ("assign", name, token.parts[len(name) + 1 :], token.place)
         return ("simple", self.words())
 
     def words(self):
@@ -141,7 +142,7 @@ class Parser:
         name = self.peek().plain()
         if name is None or not NAME.fullmatch(name):
             self.refuse()
-        self.take()
+        place = self.take().place
         self.expect(b"in")
         words = self.words()
         if self.separators() == 0:
@@ -149,7 +150,7 @@ class Parser:
         self.expect(b"do")
         body = self.inner()
         self.expect(b"done")
-        return ("for", name, words, body)
+        return ("for", name, words, body, place)
 
 
 @functools.lru_cache(maxsize=10_000)

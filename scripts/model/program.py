@@ -3,7 +3,7 @@
 
 from dataclasses import dataclass
 
-from model import report, script_run, texts
+from model import check, report, script_run, texts
 from model.arguments import VERSION, Wrong, read_arguments
 from model.dry_run import LONGEST, DryRun
 from model.grammar import parse
@@ -263,6 +263,20 @@ class Program:
         if "--write" in call.options:
             self.write_back(session)
         return 0
+
+    def call_check(self, call):
+        is_file = "-f" in call.options
+        if is_file:
+            call.refuse_beside_file()
+        call.size_in_memory()
+        values = None if is_file else self.opened(call).environment.values
+        stand_ins = self.stand_ins(call) if "--stubs" in call.options else None
+        if is_file:
+            found = check.of_script(*self.script(call), stand_ins)
+        else:
+            found = check.of_environment(values, stand_ins, call.words)
+        self.output = found.printed()
+        return found.status()
 
     def call_session(self, call):
         call.size_in_memory()

@@ -140,7 +140,7 @@ class Run:
     def command_until(self, condition, body):
         self.command_while(condition, body, False)
 
-    def command_for(self, name, words, body):
+    def command_for(self, name, words, body, _place):
         self.begin()
         fields = self.expanded(words)
         self.done(self.status)
@@ -155,7 +155,7 @@ class Run:
             self.locals[name] = each
             self.chains(body)
 
-    def command_assign(self, name, parts):
+    def command_assign(self, name, parts, _place):
         self.begin()
         value = self.expanded_value(parts)
         if name in self.environment.values:

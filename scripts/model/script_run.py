@@ -19,11 +19,16 @@ def starts(names):
     return b"run" + b"".join(b" '" + name.replace(b"'", b"'\\''") + b"'" for name in names)
 
 
-def fault_line(name, text, fault):
-    """Where the text of this name is no script, and why: the line and the column, which is a byte, from 1."""
-    kind, place = fault.args
+def line_and_column(text, place):
+    """A place of a text, both from 1; columns are bytes."""
     before = text[:place].split(b"\n")
-    return b"fwenv: %s:%d:%d: %s: %s\n" % (name, len(before), len(before[-1]) + 1, kind.encode(), SENTENCES[kind])
+    return len(before), len(before[-1]) + 1
+
+
+def fault_line(name, text, fault):
+    """Where the text of this name is no script, and why."""
+    kind, place = fault.args
+    return b"fwenv: %s:%d:%d: %s: %s\n" % (name, *line_and_column(text, place), kind.encode(), SENTENCES[kind])
 
 
 def is_well(outcome):

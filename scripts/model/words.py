@@ -16,14 +16,22 @@ class Fault(Exception):
         self.text = b"%s at byte %d" % (kind.encode(), place)
 
 
+class Word(list):
+    """The parts of a word: ("plain", byte), ("quoted", byte), ("mark",), ("name", name, is_quoted) or ("status", is_quoted);
+    and its place, the number of bytes before it."""
+
+    def __init__(self, parts=(), place=None):
+        super().__init__(parts)
+        self.place = place
+
+
 @dataclass
 class Token:
-    """A token and its place. A word has a list of parts: ("plain", byte), ("quoted", byte), ("mark",),
-    ("name", name, is_quoted) or ("status", is_quoted)."""
+    """A token, its place, and the parts of a word."""
 
     kind: str  # word, newline, semicolon, and, or, end
     place: int
-    parts: list = field(default_factory=list)
+    parts: Word = field(default_factory=Word)
 
     def plain(self):
         """The word's text, where it is unquoted plain bytes alone; else None."""
@@ -90,7 +98,7 @@ class Lexer:
                 raise Fault("Operator", at)
             self.at += 2
             return Token("and" if byte == b"&" else "or", at)
-        return Token("word", at, self.word())
+        return Token("word", at, Word(self.word(), at))
 
     def word(self):
         parts = []

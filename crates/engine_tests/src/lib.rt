@@ -1,7 +1,9 @@
-//! Tests of the engines `status`, `restore` and `run` by their rules (docs/tools.md), over streams in memory. They are apart from
-//! `fw_engines`, so that it is proved once.
+//! Tests of the engines `status`, `restore`, `run` and `check` by their rules (docs/tools.md), over streams in memory. They are
+//! apart from `fw_engines` and `fw_check`, so that these are proved once.
 #![tactic(auto)]
 
+#[cfg(test)]
+mod checks;
 #[cfg(test)]
 mod copy_reports;
 #[cfg(test)]

@@ -1,5 +1,6 @@
 mod SubcommandLemmas
 mod CallLemmas
+mod CheckLemmas
 mod CopyReportLemmas
 mod DryRunLemmas
 mod FileLemmas

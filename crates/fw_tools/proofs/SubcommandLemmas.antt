@@ -10,7 +10,8 @@ use Rattle.envimg_core.specs.declared.geometry.Order.{Order}
 use Rattle.fw_tools.specs.Said.{SaysSome}
 use Rattle.envvars_core.specs.declared.refusals.Refusal.{Refusal}
 use Rattle.fw_tools.specs.Subcommands.{Acts, AreCopiesIn, Closes, DoesJob, IsAccepted, IsOpening, OpensOver, Scene, Uses, UsesTool, printed_so}
-use Rattle.fw_tools.specs.Calls.{Call, Defaults, Job, Runs, Task, Tool, Tries}
+use Rattle.fw_tools.specs.Calls.{Call, Checks, Defaults, Job, Runs, Task, Tool, Tries}
+use Rattle.fw_tools.proofs.CheckLemmas.{check_small}
 use Rattle.fw_tools.specs.DryRuns.{ScriptRun}
 use Rattle.fw_tools.specs.ScriptRuns as ScriptRuns
 use Rattle.fw_tools.specs.ScriptRuns.{ClosesRun, RunsOver}
@@ -174,6 +175,7 @@ job_small (Tool task) session old new status (unread, uses) = tool_small task se
 job_small (Tries run) session old new status (inl stopped) = omega (arith, stopped.1.1)
 job_small (Tries run) session old new status (inr (stand_ins, stand, tries)) = leaves_small (is_kept run.write tries.0) tries.0 _ _ status tries.5
 job_small (Runs run) session old new status (unread, runs) = script_run_small run session _ _ status runs
+job_small (Checks check) session old new status (unread, checks) = check_small check session _ _ status checks
 
 pub uses_small : (call : Call) (old new : Streams) (status : ℕ) → Uses call old new status → status ≤ 1
 uses_small call old new status (inl stopped) = omega (arith, stopped.1.1)

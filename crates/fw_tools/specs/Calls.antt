@@ -6,6 +6,7 @@ use Rattle.clap.specs.Words.{Row, Text, first_of}
 use Rattle.envimg_core.specs.declared.geometry.Order.{Order}
 use Rattle.fw_tools.specs.DryRuns.{DryRun, ScriptRun, and_then, dry_run_of, dry_run_view, script_run_of, script_run_view}
 pub use Rattle.fw_tools.specs.DryRuns.{texts}
+use Rattle.fw_tools.specs.Checks.{EnvironmentCheck, environment_check_of, environment_check_view}
 use Rattle.fw_tools.specs.ImageSizes.{image_of, whole_text}
 use Rattle.fw_tools.specs.Values.{all_values, first_or, is_given}
 use Rattle.fw_tools.specs.Words.{big_endian, either_order, order_by, source_in}
@@ -30,11 +31,13 @@ pub data Task : Type 0 where
   Export : Task
   Restore : Text → Task
 
--- what a subcommand does over its session: a tool works on it; blocks of script and dot lines are tried; a script is run
+-- what a subcommand does over its session: a tool works on it; blocks of script and dot lines are tried; a script is run; its
+-- scripts are looked at
 pub data Job : Type 0 where
   Tool : Task → Job
   Tries : DryRun → Job
   Runs : ScriptRun → Job
+  Checks : EnvironmentCheck → Job
 
 -- the default environment: its text's path, if there is one; whether that has plain lines, and is /etc/u-boot-initial-env if
 -- none is given and it is there; whether a copy has to be good where there is none; and whether it is the whole environment,
@@ -67,6 +70,7 @@ abbrev pub writes : Job → Bool
 writes (Tool task) = changes task
 writes (Tries run) = run.write
 writes (Runs run) = run.dry.write
+writes (Checks check) = false
 
 abbrev pub hold_for : Job → Hold
 hold_for job = if writes job then Alone else Shared
@@ -76,6 +80,7 @@ abbrev pub keeps_lock : Job → Bool
 keeps_lock (Tool task) = changes task
 keeps_lock (Tries run) = false
 keeps_lock (Runs run) = run.dry.write
+keeps_lock (Checks check) = false
 
 -- the end of what is said of wrong words: how they are to be
 abbrev pub usage : Text → Text
@@ -157,6 +162,7 @@ abbrev pub job_of : Text → List Row → Result Job Text
 job_of name rows =
     if bytes_eq name (codes "session") then tried (dry_run_of rows)
     else if bytes_eq name (codes "run") then ran (script_run_of rows)
+    else if bytes_eq name (codes "check") then Ok (Checks (environment_check_of rows))
     else called (task_of name rows)
 
 -- the names of other tools, which have their own rules
@@ -215,6 +221,7 @@ abbrev pub job_view : jobs.Job → Job
 job_view (job.Tool task) = Tool (task_view task)
 job_view (job.DryRun run) = Tries (dry_run_view run)
 job_view (job.Script run) = Runs (script_run_view run)
+job_view (job.Check check) = Checks (environment_check_view check)
 
 abbrev pub defaults_view : defaults.Defaults → Defaults
 defaults_view d = record { path = option_map (λ p. p.now) d.path; plain = d.plain; need_copy = d.need_copy; whole = d.whole }

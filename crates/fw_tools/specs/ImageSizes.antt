@@ -9,7 +9,7 @@ use Rattle.fw_tools.specs.Words.{usual_size}
 
 -- the subcommands whose environment may be a text alone
 abbrev pub takes_text : Text → Bool
-takes_text name = bytes_eq name (codes "session") || bytes_eq name (codes "run")
+takes_text name = bytes_eq name (codes "session") || (bytes_eq name (codes "run") || bytes_eq name (codes "check"))
 
 abbrev pub whole_text : Text → List Row → Option Text
 whole_text name rows = if takes_text name then first_of (codes "env") rows else None

@@ -1,5 +1,6 @@
 -- What the public calls promise.
 pub mod Calls
+pub mod Checks
 pub mod ClientWords
 pub mod CopyReport
 pub mod DryRuns

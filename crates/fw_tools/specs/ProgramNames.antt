@@ -28,6 +28,7 @@ subcommand_named name =
     else if bytes_eq name (codes "restore") then Some sub.Restore
     else if bytes_eq name (codes "status") then Some sub.Status
     else if bytes_eq name (codes "run") then Some sub.Run
+    else if bytes_eq name (codes "check") then Some sub.Check
     else if bytes_eq name (codes "session") then Some sub.Session
     else None
 
@@ -56,6 +57,7 @@ app_of_subcommand sub.Export = words.export
 app_of_subcommand sub.Restore = words.restore
 app_of_subcommand sub.Status = words.status
 app_of_subcommand sub.Run = words.run
+app_of_subcommand sub.Check = words.check
 app_of_subcommand sub.Session = words.session
 
 -- the command of a name, as clap's rules see it: where the first word after it is a subcommand, all that follows is that one's,

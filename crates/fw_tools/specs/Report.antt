@@ -4,6 +4,7 @@ use Rattle.std.specs.Str.{bytes_eq}
 use Rattle.clap.specs.Words.{Row, Text, first_of}
 use Rattle.envimg_core.specs.declared.geometry.Order.{Order}
 use Rattle.fw_tools.specs.Calls.{Call, call_of, call_view}
+use Rattle.fw_tools.specs.Checks.{FileCheck, file_check_of, file_check_view}
 use Rattle.fw_tools.specs.Values.{first_or, is_given}
 use Rattle.fw_tools.specs.Words.{big_endian, either_order, order_by, source_in}
 use Rattle.fw_tools.specs.declared.report.Asked as asked
@@ -22,10 +23,11 @@ pub record Report : Type 0 where
   pub order : Order
   pub subject : Subject
 
--- what a subcommand asks for: work over a session, or a report
+-- what a subcommand asks for: work over a session, a report, or the check of the script in a file
 pub data Asked : Type 0 where
   Work : Call → Asked
   Look : Report → Asked
+  Check : FileCheck → Asked
 
 -- what is wrong where a configuration and a file are given
 abbrev pub config_and_file : Text
@@ -56,9 +58,21 @@ abbrev pub worked : Result Call Text → Result Asked Text
 worked (Ok call) = Ok (Work call)
 worked (Err text) = Err text
 
+abbrev pub checked : Result FileCheck Text → Result Asked Text
+checked (Ok check) = Ok (Check check)
+checked (Err text) = Err text
+
+-- the script in a file is looked at where one is given, else the scripts of an environment
+abbrev pub checked_by : Option Text → Order → List Row → Result Asked Text
+checked_by None order rows = worked (call_of order (codes "check") rows)
+checked_by (Some path) order rows = checked (file_check_of path rows)
+
 -- what words ask for that choose a byte order before the subcommand, or the text for what is wrong with them
 abbrev pub asked_of : Order → Text → List Row → Result Asked Text
-asked_of order name rows = if bytes_eq name (codes "status") then looked (report_of order rows) else worked (call_of order name rows)
+asked_of order name rows =
+    if bytes_eq name (codes "status") then looked (report_of order rows)
+    else if bytes_eq name (codes "check") then checked_by (first_of (codes "script") rows) order rows
+    else worked (call_of order name rows)
 
 -- the code's answers, seen so
 abbrev pub subject_view : subjects.Subject → Subject
@@ -71,3 +85,4 @@ report_view r = record { order = r.order; subject = subject_view r.subject }
 abbrev pub asked_view : asked.Asked → Asked
 asked_view (answer.Work call) = Work (call_view call)
 asked_view (answer.Look report) = Look (report_view report)
+asked_view (answer.Check check) = Check (file_check_view check)

@@ -11,9 +11,10 @@ use Rattle.envcfg_core.specs.Entries as text_entries
 use Rattle.envcfg_core.specs.Import.{import_of}
 use Rattle.envvars_core.specs.Variables.{Contents}
 use Rattle.clap.specs.Words.{Text}
-use Rattle.fw_tools.specs.Calls.{Call, Defaults, Job, Tool, Tries, Runs, Task}
+use Rattle.fw_tools.specs.Calls.{Call, Checks, Defaults, Job, Tool, Tries, Runs, Task}
+use Rattle.fw_tools.specs.Checks.{ChecksFile, ChecksOver}
 use Rattle.fw_tools.specs.CopyReport.{ReportsOn}
-use Rattle.fw_tools.specs.Report.{Asked, Look, Work}
+use Rattle.fw_tools.specs.Report.{Asked, Check, Look, Work}
 use Rattle.fw_tools.specs.Source.{AreDefaultsOf, IsFound, lacks_copy, second_bytes, warned}
 use Rattle.fw_tools.specs.Said.{Says, SaysSome, Stops}
 use Rattle.fw_engines.specs.TextForm.{export_texts}
@@ -105,11 +106,12 @@ UsesTool task session old new status =
     ⊎ ((after : Scene) × (end : ToolEnd) × Acts task (record { session = session; writers = old }) after end
     × (new.output ≡ after.writers.output) × Closes end after.writers.errors new.errors status)
 
--- what is done over a session; a tool doesn't read standard input, and neither does the run of a script, but for its file
+-- what is done over a session; a tool doesn't read standard input, and neither does a check, nor the run of a script but for its file
 abbrev pub DoesJob : Job → Held → Streams → Streams → ℕ → Type 0
 DoesJob (Tool task) session old new status = (new.input ≡ old.input) × UsesTool task session (writers_of old) (writers_of new) status
 DoesJob (Tries run) session old new status = TriesOver run session old new status
 DoesJob (Runs run) session old new status = (new.input ≡ old.input) × RunsOver run session (writers_of old) (writers_of new) status
+DoesJob (Checks check) session old new status = (new.input ≡ old.input) × ChecksOver check session (writers_of old) (writers_of new) status
 
 -- a copy is good, or none has to be: then there is a warning, unless the default text is the whole environment
 abbrev pub IsAccepted : Defaults → Held → Option (List ℕ) → Option (List ℕ) → Type 0
@@ -130,4 +132,5 @@ Uses call old new status = ((new.input ≡ old.input) × Stops (writers_of old) 
 abbrev pub Called : Result Asked Text → Streams → Streams → ℕ → Type 0
 Called (Ok (Work call)) old new status = Uses call old new status
 Called (Ok (Look report)) old new status = (new.input ≡ old.input) × ReportsOn report (writers_of old) (writers_of new) status
+Called (Ok (Check check)) old new status = (new.input ≡ old.input) × ChecksFile check (writers_of old) (writers_of new) status
 Called (Err text) old new status = (new.input ≡ old.input) × (new.output ≡ old.output) × AppendsFront old.errors new.errors text × (status ≡ 1)

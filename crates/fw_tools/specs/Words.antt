@@ -146,13 +146,19 @@ given_file = record (one (codes "script")) { short = Some 102 }
 abbrev pub run : App
 run = with_rule (with_rule (with_rule (with_rule (dry_run (tool (codes "run"))) boots) given_text) given_file) (any_number (codes "names"))
 
+-- a check has no copies to write
+abbrev pub check : App
+check =
+    with_rule (with_rule (with_rule (with_rule (with_rule (with_rule (with_rule (with_rule (new_app (codes "check")) config) default) big_endian) stand_ins)
+    env) size) given_file) (any_number (codes "names"))
+
 -- the command with the tools over a session
 abbrev pub with_tools : App → App
 with_tools app = with_subcommand (with_subcommand (with_subcommand (with_subcommand (with_subcommand app printenv.top) setenv.top) import.top) export.top) restore.top
 
 -- the command
 abbrev pub fwenv : App
-fwenv = with_subcommand (with_subcommand (with_subcommand (with_tools top) status.top) run.top) session.top
+fwenv = with_subcommand (with_subcommand (with_subcommand (with_subcommand (with_tools top) status.top) run.top) check.top) session.top
 
 -- a command that clap's rules see so, and that may be the subcommand of another
 abbrev pub IsTool : App → Command → Type 0

@@ -6,6 +6,7 @@ ghost use Rattle.fw_tools.specs.DryRuns.{dry_run_of, script_run_of};
 ghost use Rattle.fw_tools.specs.WordFaults.{word_seen};
 
 use crate::arguments::{chosen_order, either_order, first, first_or, is_given};
+use crate::checks::{EnvironmentCheck, read_environment_check};
 use crate::client_words::LOCK_FOLDER;
 use crate::command_line::CONFIG;
 use crate::default_text::Defaults;
@@ -45,6 +46,8 @@ pub(crate) enum Job<'m, 'w> {
     DryRun(DryRun<'w>),
     /// A script is run over it.
     Script(ScriptRun<'m, 'w>),
+    /// Its scripts are looked at.
+    Check(EnvironmentCheck<'m, 'w>),
 }
 
 impl Job<'_, '_> {
@@ -67,6 +70,7 @@ impl Job<'_, '_> {
             Job::Tool(task) => task.changes(),
             Job::DryRun(run) => run.write,
             Job::Script(run) => run.dry.write,
+            Job::Check(_) => false,
         }
     }
 
@@ -78,6 +82,7 @@ impl Job<'_, '_> {
             Job::Tool(task) => task.changes(),
             Job::DryRun(_) => false,
             Job::Script(run) => run.dry.write,
+            Job::Check(_) => false,
         }
     }
 }
@@ -129,6 +134,9 @@ fn read_job<'m, 'w>(name: &str, found: &'m ArgMatches<'w>) -> Result<Job<'m, 'w>
     }
     if name == "run" {
         return script_job(found);
+    }
+    if name == "check" {
+        return Ok(Job::Check(read_environment_check(found)));
     }
     tool_job(name, found)
 }

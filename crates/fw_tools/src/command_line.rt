@@ -1,13 +1,13 @@
 //! The words that the program is called with.
 ghost use Rattle.std.specs.Prelude.{◌≡◌, IfOk, codes, false, map};
-ghost use Rattle.clap.specs.Words.{FailsBy, app_of, fault_of, rule_of};
+ghost use Rattle.clap.specs.Words.{FailsBy, app_of, fault_of, new_app, rule_of};
 ghost use Rattle.fw_tools.specs.ProgramNames.{app_of_name, app_of_subcommand, called_in, called_under, order_under};
 ghost use Rattle.fw_tools.specs.Words.{IsTool, fwenv, order_in};
 ghost use Rattle.fw_tools.specs.Words as words;
 ghost use Rattle.fw_tools.specs.declared.program_name.ProgramName.TheVariants.{FwenvWith};
 
 use crate::client_words::{fw_printenv, fw_setenv};
-use crate::dry_run_words::{run, session};
+use crate::dry_run_words::{check, run, session};
 use crate::program_name::{ProgramName, Subcommand};
 use crate::upkeep_words::{restore, status, wanted_file};
 use clap::{Arg, ArgAction, ArgMatches, Command, Error};
@@ -102,6 +102,18 @@ fn need_copy<'a>(alloc: Global) -> Arg<'a>
     )
 }
 
+/// A subcommand without arguments.
+pub(crate) fn bare<'a>(
+    alloc: Global,
+    name: &'a str,
+    about: &'a str,
+    example: &'a str,
+) -> Command<'a>
+    ensures { IsTool (new_app name.entry.now) result }
+{
+    Command::new(alloc, name).about(about).after_help(example)
+}
+
 /// A subcommand over a session, with the options that all of them have.
 pub(crate) fn tool<'a>(
     alloc: Global,
@@ -111,9 +123,7 @@ pub(crate) fn tool<'a>(
 ) -> Result<Command<'a>, AllocError>
     ensures { IfOk result (IsTool (words.tool name.entry.now)) }
 {
-    let command = Command::new(alloc, name)
-        .about(about)
-        .after_help(example)
+    let command = bare(alloc, name, about, example)
         .arg(config(alloc))?
         .arg(default(alloc))?
         .arg(need_copy(alloc))?
@@ -145,7 +155,8 @@ fn command<'a>(alloc: Global) -> Result<Command<'a>, AllocError>
     let restoring = exporting.subcommand(restore(alloc)?)?;
     let reporting = restoring.subcommand(status(alloc)?)?;
     let running = reporting.subcommand(run(alloc)?)?;
-    let talking = running.subcommand(session(alloc)?)?;
+    let checking = running.subcommand(check(alloc)?)?;
+    let talking = checking.subcommand(session(alloc)?)?;
     Ok(talking)
 }
 
@@ -170,6 +181,7 @@ fn command_of<'a>(alloc: Global, subcommand: Subcommand) -> Result<Command<'a>, 
         Subcommand::Restore => restore(alloc),
         Subcommand::Status => status(alloc),
         Subcommand::Run => run(alloc),
+        Subcommand::Check => check(alloc),
         Subcommand::Session => session(alloc),
     }
 }
@@ -193,6 +205,14 @@ pub(crate) fn any_number<'a>(alloc: Global, id: &'a str, name: &'a str) -> Arg<'
     Arg::new(alloc, id).value_name(name).num_args(0..)
 }
 
+/// `NAMES`
+pub(crate) fn names<'a>(alloc: Global, help: &'a str) -> Arg<'a>
+    ensures rule { rule_of result ≡ words.any_number (codes "names") }
+    ensures local { result.global ≡ false }
+{
+    any_number(alloc, "names", "NAMES").help(help)
+}
+
 /// `printenv`
 fn printenv<'a>(alloc: Global) -> Result<Command<'a>, AllocError>
     ensures { IfOk result (IsTool words.printenv) }
@@ -200,9 +220,7 @@ fn printenv<'a>(alloc: Global) -> Result<Command<'a>, AllocError>
     let value_only = flag(alloc, "value-only")
         .short('n')
         .help("Prints the value of one name and nothing else");
-    let names = any_number(alloc, "names", "NAMES").help(
-        "The variables; without names all of them",
-    );
+    let names = names(alloc, "The variables; without names all of them");
     let plain = tool(
         alloc,
         "printenv",

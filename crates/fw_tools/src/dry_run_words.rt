@@ -1,10 +1,10 @@
-//! The subcommands `session` and `run`, and the options of a dry run.
+//! The subcommands `session`, `run` and `check`, and their options.
 ghost use Rattle.std.specs.Prelude.{◌≡◌, IfOk, false};
 ghost use Rattle.clap.specs.Words.{App, rule_of};
 ghost use Rattle.fw_tools.specs.Words.{IsTool};
 ghost use Rattle.fw_tools.specs.Words as words;
 
-use crate::command_line::{any_number, flag, tool};
+use crate::command_line::{bare, big_endian, config, default, flag, names, tool};
 use clap::{Arg, ArgAction, Command};
 use std::alloc::{AllocError, Global};
 
@@ -19,6 +19,12 @@ pub(crate) const OUTPUT: &str = "1048576";
 
 /// The size of the image under an environment that is a text, if the words give none.
 pub(crate) const SIZE: &str = "0x4000";
+
+const STAND_INS_HELP: &str =
+    "The stand-ins, a line NAME [STATUS] for each command that only hardware has";
+
+const ENV_HELP: &str =
+    "Takes a text as for import as the whole environment, without a configuration and copies";
 
 /// `session`
 pub(crate) fn session<'a>(alloc: Global) -> Result<Command<'a>, AllocError>
@@ -42,7 +48,8 @@ pub(crate) fn session<'a>(alloc: Global) -> Result<Command<'a>, AllocError>
 pub(crate) fn run<'a>(alloc: Global) -> Result<Command<'a>, AllocError>
     ensures { IfOk result (IsTool words.run) }
 {
-    let names = any_number(alloc, "names", "NAMES").help(
+    let names = names(
+        alloc,
         "The variables whose scripts are run, as by run NAMES",
     );
     let plain = tool(
@@ -64,6 +71,32 @@ pub(crate) fn run<'a>(alloc: Global) -> Result<Command<'a>, AllocError>
     Ok(command)
 }
 
+/// `check`
+pub(crate) fn check<'a>(alloc: Global) -> Result<Command<'a>, AllocError>
+    ensures { IfOk result (IsTool words.check) }
+{
+    let names = names(
+        alloc,
+        "The variables whose scripts are looked at first; without names bootcmd, altbootcmd and preboot",
+    );
+    let plain = bare(
+        alloc,
+        "check",
+        "Looks for faults in boot scripts and runs nothing; the status is 1 if there is an error",
+        "Example:\n  fwenv check --env board.txt --stubs stand-ins.txt bootcmd",
+    );
+    let command = plain
+        .arg(config(alloc))?
+        .arg(default(alloc))?
+        .arg(big_endian(alloc))?
+        .arg(file_option(alloc, "stubs", STAND_INS_HELP))?
+        .arg(file_option(alloc, "env", ENV_HELP))?
+        .arg(size(alloc))?
+        .arg(given_file(alloc))?
+        .arg(names)?;
+    Ok(command)
+}
+
 /// A subcommand with the options of a dry run.
 fn dry_run<'a>(
     alloc: Global,
@@ -76,17 +109,14 @@ fn dry_run<'a>(
     let depth = "How many starts by run may be inside one another, at most 16";
     let word = "How many bytes a word may have, at most 65536";
     let output = "How many bytes a run may print, at most 16777216";
-    let stand_ins = "The stand-ins, a line NAME [STATUS] for each command that only hardware has";
-    let env =
-        "Takes a text as for import as the whole environment, without a configuration and copies";
     let command = tool
         .arg(write(alloc, write_help))?
-        .arg(file_option(alloc, "stubs", stand_ins))?
+        .arg(file_option(alloc, "stubs", STAND_INS_HELP))?
         .arg(number(alloc, "steps", STEPS, steps))?
         .arg(number(alloc, "depth", DEPTH, depth))?
         .arg(number(alloc, "word", WORD, word))?
         .arg(number(alloc, "output", OUTPUT, output))?
-        .arg(file_option(alloc, "env", env))?
+        .arg(file_option(alloc, "env", ENV_HELP))?
         .arg(size(alloc))?;
     Ok(command)
 }

@@ -11,6 +11,7 @@ ghost use Rattle.fw_tools.specs.Words.{order_in};
 ghost use Rattle.std.specs.IoError.{error_kind};
 
 use crate::arguments::chosen_order;
+use crate::check_work::run_file_check;
 use crate::command_line::read_words;
 use crate::copy_report::run_report;
 use crate::program_name::ProgramName;
@@ -155,6 +156,7 @@ fn run_asked<X: System + AllocGlobal, R: Read, W: Write, E: Write>(
     match asked {
         Asked::Work(call) => run_call(rt, call, input, output, errors),
         Asked::Look(report) => run_report(rt, report, output, errors),
+        Asked::Check(check) => run_file_check(rt, check, output, errors),
     }
 }
 

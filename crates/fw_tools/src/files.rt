@@ -166,7 +166,10 @@ pub(crate) fn say_fault<E: Write>(alloc: Global, errors: &mut E, path: &str, fau
 }
 
 /// Reads the stand-ins in a file.
-fn read_stand_in_file<X: Files + AllocGlobal>(rt: &X, path: &str) -> Result<Stubs, FileFault>
+pub(crate) fn read_stand_in_file<X: Files + AllocGlobal>(
+    rt: &X,
+    path: &str,
+) -> Result<Stubs, FileFault>
     ensures { IfOk result (AreStubsOf (Some path.now)) }
 {
     let text = read_file(rt, path)?;

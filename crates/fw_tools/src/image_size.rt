@@ -47,7 +47,7 @@ pub(crate) fn whole_text<'w>(name: &str, found: &ArgMatches<'w>) -> Option<&'w s
 fn takes_text(name: &str) -> bool
     ensures { result ≡ takes_text name.now }
 {
-    name == "session" || name == "run"
+    name == "session" || name == "run" || name == "check"
 }
 
 /// None: the copies are those of a configuration.

@@ -35,6 +35,8 @@ pub(crate) enum Subcommand {
     Status,
     /// `run`
     Run,
+    /// `check`
+    Check,
     /// `session`
     Session,
 }
@@ -64,6 +66,7 @@ impl Subcommand {
             "restore" => Some(Subcommand::Restore),
             "status" => Some(Subcommand::Status),
             "run" => Some(Subcommand::Run),
+            "check" => Some(Subcommand::Check),
             "session" => Some(Subcommand::Session),
             _ => None,
         }

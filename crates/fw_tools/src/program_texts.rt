@@ -143,3 +143,9 @@ pub(crate) const NO_SCRIPT: &[u8] =
 pub(crate) const SEVERAL_SCRIPTS: &[u8] =
     b"error: only one of '[NAMES]...', '-e <SCRIPT>' and '-f <FILE>' can be given\n\n\
       Usage: fwenv run [OPTIONS] [NAMES]...\n\nFor more information, try '--help'.\n";
+
+/// What is wrong where the script of a file is to be checked and an environment is named.
+pub(crate) const FILE_ALONE: &[u8] =
+    b"error: the argument '-f <FILE>' cannot be used with '[NAMES]...', '-c <FILE>', \
+    '--default <FILE>', '--env <FILE>' or '--size <N>'\n\nUsage: fwenv check [OPTIONS] [NAMES]...\n\n\
+    For more information, try '--help'.\n";

@@ -1,12 +1,13 @@
 //! What the words of `status` ask for, and what those of any subcommand do.
-ghost use Rattle.std.specs.Prelude.{◌≡◌, option_copied};
-ghost use Rattle.clap.specs.Words.{found_of, rows_of};
+ghost use Rattle.std.specs.Prelude.{◌≡◌, codes, option_copied};
+ghost use Rattle.clap.specs.Words.{first_of, found_of, rows_of};
 ghost use Rattle.fw_tools.specs.Calls.{call_of};
-ghost use Rattle.fw_tools.specs.Report.{asked_of, asked_view, looked, report_of, report_view, subject_by, subject_of, subject_view, worked};
+ghost use Rattle.fw_tools.specs.Report.{asked_of, asked_view, checked_by, looked, report_of, report_view, subject_by, subject_of, subject_view, worked};
 ghost use Rattle.fw_tools.specs.WordFaults.{word_seen};
 
 use crate::arguments::{chosen_order, either_order, first, first_or, is_given};
 use crate::call::{Call, read_call};
+use crate::checks::{FileCheck, read_file_check};
 use crate::command_line::CONFIG;
 use crate::program_texts::CONFIG_AND_FILE;
 use crate::word_fault::WordFault;
@@ -20,6 +21,8 @@ pub(crate) enum Asked<'m, 'w> {
     Work(Call<'m, 'w>),
     /// A look at what is stored.
     Look(Report<'w>),
+    /// A check of the script in a file.
+    Check(FileCheck<'w>),
 }
 
 /// A report: `status [-c FILE] [--big-endian] [FILE]`.
@@ -52,7 +55,26 @@ pub(crate) fn read_asked<'m, 'w>(
     if name == "status" {
         return ask_to_look(order, found);
     }
+    if name == "check" {
+        return ask_to_check(order, found);
+    }
     ask_to_work(order, name, found)
+}
+
+/// The check that the words of `check` ask for: of the script in a file, if one is given, else of an environment.
+fn ask_to_check<'m, 'w>(
+    order: Order,
+    found: &'m ArgMatches<'w>,
+) -> Result<Asked<'m, 'w>, WordFault<'w>>
+    ensures { word_seen asked_view result ≡ checked_by (first_of (codes "script") (rows_of (found_of found.now))) order (rows_of (found_of found.now)) }
+{
+    match first(found, "script") {
+        None => ask_to_work(order, "check", found),
+        Some(path) => match read_file_check(path, found) {
+            Ok(check) => Ok(Asked::Check(check)),
+            Err(fault) => Err(fault),
+        },
+    }
 }
 
 /// The report that the words of `status` ask for.

@@ -6,6 +6,7 @@ ghost use Rattle.fw_tools.specs.Said.{SaysSome};
 
 use crate::call::{Call, Job};
 use crate::changed_copies::write_back;
+use crate::check_work::check_session;
 use crate::copies::lock_device;
 use crate::entry_point::report;
 use crate::lock_file::lock_or_say;
@@ -121,6 +122,7 @@ fn work<X: System + AllocGlobal, R: Read, W: Write, E: Write>(
         }
         Job::DryRun(run) => talk(rt, source, opened, run, input, output, errors),
         Job::Script(run) => run_given(rt, source, opened, run, output, errors),
+        Job::Check(check) => check_session(rt, &opened, check, output, errors),
     }
 }
 

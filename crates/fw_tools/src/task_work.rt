@@ -188,7 +188,7 @@ fn restore_file<X: System + AllocGlobal, E: Write>(
 }
 
 /// Words as bytes; where memory runs out that is said on `errors`.
-fn bytes_or_say<'a, E: Write>(
+pub(crate) fn bytes_or_say<'a, E: Write>(
     alloc: Global,
     words: Option<&[&'a str]>,
     errors: &mut E,

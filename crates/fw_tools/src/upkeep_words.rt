@@ -4,7 +4,7 @@ ghost use Rattle.clap.specs.Words.{rule_of};
 ghost use Rattle.fw_tools.specs.Words.{IsTool};
 ghost use Rattle.fw_tools.specs.Words as words;
 
-use crate::command_line::{big_endian, config, tool};
+use crate::command_line::{bare, big_endian, config, tool};
 use clap::{Arg, Command};
 use std::alloc::{AllocError, Global};
 
@@ -27,9 +27,13 @@ pub(crate) fn status<'a>(alloc: Global) -> Result<Command<'a>, AllocError>
     ensures { IfOk result (IsTool words.status) }
 {
     let image = file(alloc).help("A file that is looked at as one image, in place of the copies");
-    let command = Command::new(alloc, "status")
-        .about("Says what each copy is good for, and which is current; writes nothing")
-        .after_help("Example:\n  fwenv status -c fw_env.config\n  fwenv status board.img")
+    let plain = bare(
+        alloc,
+        "status",
+        "Says what each copy is good for, and which is current; writes nothing",
+        "Example:\n  fwenv status -c fw_env.config\n  fwenv status board.img",
+    );
+    let command = plain
         .arg(config(alloc))?
         .arg(big_endian(alloc))?
         .arg(image)?;

@@ -1,7 +1,15 @@
 //! The names of the commands that a run has itself (docs/runs.md, "Names of builtins").
-ghost use Rattle.std.specs.Prelude.{◌≡◌};
+ghost use Rattle.std.specs.Prelude.{◌≡◌, is_some};
+ghost use Rattle.hush_commands.specs.Builtins.{builtin_of};
 
 use hush_calc::is_text;
+
+/// Whether a run has a command of this name itself.
+pub fn is_builtin(name: &[u8]) -> bool
+    ensures { result ≡ is_some (builtin_of name.now) }
+{
+    Builtin::of(name).is_some()
+}
 
 /// A command that a run has itself.
 #[derive(Clone, Copy, Debug, PartialEq, Eq)]

@@ -21,6 +21,7 @@ mod stand_in_line;
 mod stand_ins;
 mod writes;
 
+pub use builtins::is_builtin;
 pub use execution::carry_out;
 pub use expansion::{ExpansionFault, Scope};
 pub use field_buffer::FieldBuffer;

@@ -7,5 +7,4 @@ use Rattle.fw_tools.proofs.command_line.printenv.Goals as goal
 pub returns : goal.returns
 returns c =
     let value_is : rule_of c.help-value_only.result ≡ record (words.flag (codes "value-only")) { short = Some 110 } = search rules in
-    let names_is : rule_of c.help-names.result ≡ words.any_number (codes "names") = search rules in
-    with_one_more _ _ _ _ _ (with_one_more _ _ _ _ _ c.in_ok-plain.ensures c.in_ok-arg.ensures value_is (search rules)) c.in_ok-command.ensures names_is (search rules)
+    with_one_more _ _ _ _ _ (with_one_more _ _ _ _ _ c.in_ok-plain.ensures c.in_ok-arg.ensures value_is (search rules)) c.in_ok-command.ensures c.names-names.ensures.rule c.names-names.ensures.local

@@ -1,0 +1,7 @@
+mod GatherLemmas
+mod FoundLemmas
+mod LiteralLemmas
+mod PlaceLemmas
+mod NameLemmas
+mod TypeLemmas
+mod VisitLemmas

@@ -1,0 +1,9 @@
+use Rattle.std.proofs.Common.{◌≡◌, drop}
+use Rattle.std.specs.Prelude.{fold}
+use Rattle.fw_check.specs.Expecting.{expected_view}
+use Rattle.fw_check.specs.Findings.{after_field}
+use Rattle.fw_check.specs.Operators.{ATerm}
+use Rattle.fw_check.proofs.operators.wrong_operator.Given as goal
+
+abbrev pub invariant-loop-word : goal.invariant-loop-word
+invariant-loop-word l = fold (after_field l.text) (expected_view l.expected) (drop l.word-index l.words) ≡ fold (after_field l.text) ATerm l.words

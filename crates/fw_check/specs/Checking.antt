@@ -1,0 +1,144 @@
+-- What a check of an environment, or of one script, prints (docs/tools.md, "Checks of scripts").
+use Rattle.std.specs.Prelude.{◌≡◌, ◌≢◌, ◌⊎◌, ℕ, suc, ◌&&◌, Bool, not, List, [], ◌∷◌, ◌++◌, map, fold, slice_get, codes, Option, Some, None, unwrap_or, if◌then◌else◌}
+use Rattle.std.specs.List.{flat_map, list_any}
+use Rattle.std.specs.Ordering.{eq_by_cmp}
+use Rattle.std.specs.FinMap.{entries, get}
+use Rattle.std.specs.Io.KnownBytes.{Keeps}
+use Rattle.hush_words.specs.Parts.{written}
+use Rattle.hush_syntax.specs.Reading.{read}
+use Rattle.hush_syntax.specs.declared.faults.FaultKind.TheVariants.{Memory}
+use Rattle.hush_syntax.specs.declared.faults.SyntaxFault.{SyntaxFault}
+use Rattle.hush_commands.specs.Stubs.{Statuses}
+use Rattle.envimg_core.specs.Environment.{Environment, Pair, bytes_cmp}
+use Rattle.envvars_core.specs.Attributes.{attributes}
+use Rattle.envvars_core.specs.Types.{has_type}
+use Rattle.fw_engines.specs.Tool.{PrintsText}
+use Rattle.fw_engines.specs.declared.tool_end.ToolEnd.{ToolEnd}
+use Rattle.fw_engines.specs.declared.tool_end.StreamFault.TheVariants as stream
+use Rattle.fw_check.specs.declared.items.Item.{Item}
+use Rattle.fw_check.specs.Statements.{AreItemsOf}
+use Rattle.fw_check.specs.Targets.{Target}
+use Rattle.fw_check.specs.Findings.{Finding, error_at, fault_sentence, return_findings, item_findings, item_targets, is_defined, is_undefined, Report, no_lines, report_end, with_error, with_findings}
+
+-- ---- one script
+
+-- what a text is read as: its first fault, or its statements
+pub data Reading : Type 0 where
+  Faulty : SyntaxFault → Reading
+  Script : List Item → Reading
+
+-- a text with a fault is no script. Its kind and its place are those that `Script::parse` answers
+abbrev pub IsReading : List ℕ → Reading → Type 0
+IsReading text (Faulty fault) = (fault.kind ≢ Memory) × (read text ≡ None)
+IsReading text (Script items) = AreItemsOf text items
+
+abbrev pub reading_findings : Option Environment → Option Statuses → List ℕ → Reading → List Finding
+reading_findings env stubs text (Faulty fault) = error_at fault.place (fault_sentence fault.kind) ∷ []
+reading_findings env stubs text (Script items) = flat_map (item_findings env stubs (written text)) items
+
+-- the first carriage return, and what is found from the front of the script on
+abbrev pub findings : Option Environment → Option Statuses → List ℕ → Reading → List Finding
+findings env stubs text reading = return_findings text ++ reading_findings env stubs text reading
+
+-- the arguments of `run` without a substitution
+abbrev pub targets : List ℕ → Reading → List Target
+targets text (Faulty fault) = []
+targets text (Script items) = flat_map (item_targets (written text)) items
+
+-- ---- what is printed
+
+abbrev pub status_of : Report → ℕ
+status_of report = if report.failed then 1 else 0
+
+abbrev pub PrintsReport : Option (List ℕ) → Option (List ℕ) → Report → ToolEnd → Type 0
+PrintsReport old new report end = PrintsText old new (report.text ++ report_end report.cut) (status_of report) end
+
+-- memory ran out before anything was written
+abbrev pub LacksMemory : Option (List ℕ) → Option (List ℕ) → ToolEnd → Type 0
+LacksMemory old new end = (end.fault ≡ Some stream.Memory) × Keeps old new × (end.status ≡ 1)
+
+-- ---- the scripts of an environment
+
+abbrev pub is_among : List (List ℕ) → List ℕ → Bool
+is_among names name = list_any (eq_by_cmp bytes_cmp name) names
+
+-- a name is put behind those that are there already, if it is defined and not among them
+abbrev pub with_name : Option Environment → List (List ℕ) → List ℕ → List (List ℕ)
+with_name env names name = if is_defined env name && not (is_among names name) then names ++ name ∷ [] else names
+
+abbrev pub with_names : Option Environment → List (List ℕ) → List (List ℕ) → List (List ℕ)
+with_names env names more = fold (with_name env) names more
+
+abbrev pub with_targets : Option Environment → List (List ℕ) → List Target → List (List ℕ)
+with_targets env names ts = with_names env names (map (λ t. t.name) ts)
+
+-- where a check begins that is given no names
+abbrev pub usual_names : List (List ℕ)
+usual_names = codes "bootcmd" ∷ codes "altbootcmd" ∷ codes "preboot" ∷ []
+
+abbrev pub first_names : Option Environment → List (List ℕ) → List (List ℕ)
+first_names env [] = with_names env [] usual_names
+first_names env (name ∷ names) = with_names env [] (name ∷ names)
+
+abbrev pub undefined_line : List ℕ → List ℕ
+undefined_line name = name ++ codes ": error: no variable of this name is defined\n"
+
+abbrev pub with_given : Option Environment → Report → List ℕ → Report
+with_given env report name =
+    if is_undefined env name then with_error report (undefined_line name) else report
+
+-- a line for each given name that isn't defined
+abbrev pub first_report : Option Environment → List (List ℕ) → Report
+first_report env names = fold (with_given env) no_lines names
+
+-- the script that a variable is
+pub record Visit : Type 0 where
+  pub name : List ℕ
+  pub reading : Reading
+
+abbrev pub value_in : Option Environment → List ℕ → List ℕ
+value_in None name = []
+value_in (Some env) name = unwrap_or (get env name) []
+
+abbrev pub after_visit : Option Environment → Option Statuses → Report → Visit → Report
+after_visit env stubs report v =
+    with_findings v.name (value_in env v.name) report (findings env stubs (value_in env v.name) v.reading)
+
+-- from the name of this index on each name is visited, and those that its script runs come behind all others
+abbrev pub AreVisits : Option Environment → List (List ℕ) → ℕ → List Visit → Type 0
+AreVisits env names index [] = slice_get names index ≡ None
+AreVisits env names index (v ∷ vs) =
+    (slice_get names index ≡ Some v.name) × IsReading (value_in env v.name) v.reading
+    × AreVisits env (with_targets env names (targets (value_in env v.name) v.reading)) (suc index) vs
+
+-- from there on a check that has this report comes to that one
+abbrev pub ComesTo : Option Environment → Option Statuses → List (List ℕ) → ℕ → Report → Report → Type 0
+ComesTo env stubs names index report final =
+    (visits : List Visit) × AreVisits env names index visits × (fold (after_visit env stubs) report visits ≡ final)
+
+-- ---- values without their types
+
+abbrev pub mistyped_line : List ℕ → List ℕ
+mistyped_line name = name ++ codes ": error: the value does not have the type that .flags gives it\n"
+
+abbrev pub with_typed : Environment → Report → Pair → Report
+with_typed env report p = if has_type (attributes env p.0).kind p.1 then report else with_error report (mistyped_line p.0)
+
+-- a line for each variable whose value doesn't have the type that `.flags` gives it, in ascending order of the names' bytes
+abbrev pub with_types : Environment → Report → Report
+with_types env report = fold (with_typed env) report (entries env)
+
+-- ---- the whole
+
+-- a check of an environment from these names on
+abbrev pub Checks : Environment → Option Statuses → List (List ℕ) → Option (List ℕ) → Option (List ℕ) → ToolEnd → Type 0
+Checks env stubs names old new end =
+    ((report : Report) × ComesTo (Some env) stubs (first_names (Some env) names) 0 (first_report (Some env) names) report
+    × PrintsReport old new (with_types env report) end)
+    ⊎ LacksMemory old new end
+
+-- a check of one script, without an environment
+abbrev pub ChecksText : Option Statuses → (name text : List ℕ) → Option (List ℕ) → Option (List ℕ) → ToolEnd → Type 0
+ChecksText stubs name text old new end =
+    ((reading : Reading) × IsReading text reading × PrintsReport old new (with_findings name text no_lines (findings None stubs text reading)) end)
+    ⊎ LacksMemory old new end

@@ -1,0 +1,18 @@
+-- What is expected of the next word of a test, as the code has it.
+use Rattle.std.specs.Prelude.{option_map}
+use Rattle.fw_check.specs.declared.operators.Suspect.{Suspect}
+use Rattle.fw_check.specs.declared.operators.Expected.{Expected}
+use Rattle.fw_check.specs.declared.operators.Expected.TheVariants as expected
+use Rattle.fw_check.specs.Operators as operators
+use Rattle.fw_check.specs.Targets.{Target, target}
+
+abbrev pub suspect_view : Suspect → Target
+suspect_view s = target s.count s.bytes.items
+
+abbrev pub expected_view : Expected → operators.Expected
+expected_view expected.ATerm = operators.ATerm
+expected_view (expected.Operator first) = operators.Operator (option_map suspect_view first)
+expected_view expected.Operand = operators.Operand
+expected_view expected.Joint = operators.Joint
+expected_view expected.Nothing = operators.Nothing
+expected_view (expected.Wrong s) = operators.Wrong (suspect_view s)

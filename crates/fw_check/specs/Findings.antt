@@ -1,0 +1,213 @@
+-- What is found in a script, and the lines that say so (docs/tools.md, "Checks of scripts").
+use Rattle.std.specs.Prelude.{ℕ, ◌==◌, ◌||◌, ◌&&◌, nat_le, Bool, true, false, List, [], ◌∷◌, ◌++◌, length, fold, codes, Option, Some, None, is_none, is_some, if◌then◌else◌}
+use Rattle.std.specs.Fmt.{decimal}
+use Rattle.std.specs.List.{concat, flat_map, fold, list_any, position_or_len}
+use Rattle.std.specs.Str.{bytes_eq}
+use Rattle.std.specs.FinMap.{get}
+use Rattle.hush_words.specs.Parts.{Written, word_atoms}
+use Rattle.hush_words.specs.declared.parts.Word.{Word}
+use Rattle.hush_syntax.specs.declared.faults.FaultKind.{FaultKind}
+use Rattle.hush_syntax.specs.declared.faults.FaultKind.TheVariants as fault
+use Rattle.hush_commands.specs.Builtins.{builtin_of}
+use Rattle.hush_commands.specs.Stubs.{Statuses, status_of_name}
+use Rattle.envimg_core.specs.Environment.{Environment}
+use Rattle.fw_engines.specs.ScriptRun.{place_of}
+use Rattle.fw_engines.specs.declared.script_fault.Place.{Place}
+use Rattle.fw_check.specs.Literals.{literal_of}
+use Rattle.fw_check.specs.Operators.{ATerm, Expected, after_word, wrong_in}
+use Rattle.fw_check.specs.Targets.{Target, target}
+use Rattle.fw_check.specs.declared.findings.Severity.{Severity}
+use Rattle.fw_check.specs.declared.findings.Severity.TheVariants as severity
+use Rattle.fw_check.specs.declared.items.Item.{Item}
+use Rattle.fw_check.specs.declared.items.Item.TheVariants as item
+
+-- so many bytes of the script are before it
+pub record Finding : Type 0 where
+  pub count : ℕ
+  pub severity : Severity
+  pub sentence : List ℕ
+
+abbrev pub error_at : ℕ → List ℕ → Finding
+error_at count sentence = record { count = count; severity = severity.Error; sentence = sentence }
+
+abbrev pub warning_at : ℕ → List ℕ → Finding
+warning_at count sentence = record { count = count; severity = severity.Warning; sentence = sentence }
+
+-- ---- lines
+
+abbrev pub severity_text : Severity → List ℕ
+severity_text severity.Error = codes ": error: "
+severity_text severity.Warning = codes ": warning: "
+
+abbrev pub place_text : (name : List ℕ) → Place → List ℕ
+place_text name place = concat (name ∷ codes ":" ∷ decimal place.line ∷ codes ":" ∷ decimal place.column ∷ [])
+
+-- the line of a finding in the script of this name and text
+abbrev pub line_of : (name text : List ℕ) → Finding → List ℕ
+line_of name text f = concat (place_text name (place_of text f.count) ∷ severity_text f.severity ∷ f.sentence ∷ codes "\n" ∷ [])
+
+abbrev pub is_severe : Severity → Bool
+is_severe severity.Error = true
+is_severe severity.Warning = false
+
+abbrev pub is_error : Finding → Bool
+is_error f = is_severe f.severity
+
+-- lines, whether an error was found, and whether something was found that has no line
+pub record Report : Type 0 where
+  pub text : List ℕ
+  pub failed : Bool
+  pub cut : Bool
+
+abbrev pub no_lines : Report
+no_lines = record { text = []; failed = false; cut = false }
+
+-- no further line is added once there are so many bytes
+abbrev pub most_text : ℕ
+most_text = 65536
+
+abbrev pub is_full : Report → Bool
+is_full report = nat_le most_text (length report.text)
+
+abbrev pub noted : Report → (severe : Bool) → Report
+noted report severe = record report { failed = report.failed || severe; cut = report.cut || is_full report }
+
+abbrev pub with_line : Report → (line : List ℕ) → (severe : Bool) → Report
+with_line report line severe =
+    if is_full report then noted report severe else record (noted report severe) { text = report.text ++ line }
+
+abbrev pub with_finding : (name text : List ℕ) → Report → Finding → Report
+with_finding name text report f = with_line report (line_of name text f) (is_error f)
+
+abbrev pub with_findings : (name text : List ℕ) → Report → List Finding → Report
+with_findings name text report fs = fold (with_finding name text) report fs
+
+-- at their end it is said that there is more
+abbrev pub report_end : Bool → List ℕ
+report_end true = codes "more is found, and not printed\n"
+report_end false = []
+
+-- one more line, which is an error
+abbrev pub with_error : Report → List ℕ → Report
+with_error report line = with_line report line true
+
+-- ---- texts that are no scripts
+
+abbrev pub fault_sentence : FaultKind → List ℕ
+fault_sentence fault.Quote = codes "a quote is not closed (Quote)"
+fault_sentence fault.Backslash = codes "the text ends with a backslash (Backslash)"
+fault_sentence fault.Substitution = codes "not a substitution of this shell: ${NAME}, $NAME or $? (Substitution)"
+fault_sentence fault.Operator = codes "a single & or |, which this shell does not have (Operator)"
+fault_sentence fault.Unexpected = codes "not expected here (Unexpected)"
+fault_sentence fault.Missing = codes "the text ends where more has to follow (Missing)"
+fault_sentence fault.Nest = codes "more than 64 commands inside one another (Nest)"
+fault_sentence fault.Assignment = codes "a word after an assignment (Assignment)"
+fault_sentence fault.Nul = codes "a byte 0 (Nul)"
+fault_sentence fault.Memory = codes "out of memory (Memory)"
+
+-- ---- carriage returns
+
+abbrev pub is_return : ℕ → Bool
+is_return b = b == 13
+
+abbrev pub return_sentence : List ℕ
+return_sentence = codes "a carriage return stands in the script"
+
+-- the first carriage return of a text
+abbrev pub return_findings : List ℕ → List Finding
+return_findings text = if list_any is_return text then warning_at (position_or_len is_return text) return_sentence ∷ [] else []
+
+-- ---- names: what is defined is known where there is an environment
+
+abbrev pub is_defined : Option Environment → List ℕ → Bool
+is_defined None name = false
+is_defined (Some env) name = is_some (get env name)
+
+abbrev pub is_undefined : Option Environment → List ℕ → Bool
+is_undefined None name = false
+is_undefined (Some env) name = is_none (get env name)
+
+-- which commands there are is known where there are stand-ins
+abbrev pub is_unknown : Option Statuses → List ℕ → Bool
+is_unknown None name = false
+is_unknown (Some stubs) name = is_none (builtin_of name) && is_none (status_of_name stubs name)
+
+-- ---- simple commands
+
+-- the arguments of `run` without a substitution
+abbrev pub targets_at : ℕ → Option (List ℕ) → List Target
+targets_at count None = []
+targets_at count (Some name) = target count name ∷ []
+
+abbrev pub word_targets : Written → Word → List Target
+word_targets text word = targets_at word.start (literal_of (word_atoms text word))
+
+abbrev pub is_run : Option (List ℕ) → Bool
+is_run None = false
+is_run (Some name) = bytes_eq (codes "run") name
+
+abbrev pub call_targets : Written → List Word → List Target
+call_targets text [] = []
+call_targets text (word ∷ words) =
+    if is_run (literal_of (word_atoms text word)) then flat_map (word_targets text) words else []
+
+abbrev pub undefined_sentence : List ℕ → List ℕ
+undefined_sentence name = codes "`run " ++ name ++ codes "` names a variable that is not defined"
+
+abbrev pub target_findings : Option Environment → Target → List Finding
+target_findings env t = if is_undefined env t.name then error_at t.count (undefined_sentence t.name) ∷ [] else []
+
+abbrev pub unknown_sentence : List ℕ → List ℕ
+unknown_sentence name = codes "no builtin and no stand-in is called `" ++ name ++ codes "`"
+
+abbrev pub called_findings : Option Statuses → ℕ → Option (List ℕ) → List Finding
+called_findings stubs count None = []
+called_findings stubs count (Some name) = if is_unknown stubs name then error_at count (unknown_sentence name) ∷ [] else []
+
+abbrev pub operator_sentence : List ℕ → List ℕ
+operator_sentence name = codes "`test` has no operator `" ++ name ++ codes "` here, and is false"
+
+abbrev pub wrong_findings : Option Target → List Finding
+wrong_findings None = []
+wrong_findings (Some t) = error_at t.count (operator_sentence t.name) ∷ []
+
+-- each word of a test is taken for one field, whatever it stands for
+abbrev pub after_field : Written → Expected → Word → Expected
+after_field text expected word = after_word expected word.start (literal_of (word_atoms text word))
+
+abbrev pub test_findings : Written → List Word → List Finding
+test_findings text words = wrong_findings (wrong_in (fold (after_field text) ATerm words))
+
+abbrev pub is_test : Option (List ℕ) → Bool
+is_test None = false
+is_test (Some name) = bytes_eq (codes "test") name
+
+abbrev pub operator_findings : Written → List Word → List Finding
+operator_findings text [] = []
+operator_findings text (word ∷ words) = if is_test (literal_of (word_atoms text word)) then test_findings text words else []
+
+abbrev pub command_findings : Option Statuses → Written → List Word → List Finding
+command_findings stubs text [] = []
+command_findings stubs text (word ∷ words) = called_findings stubs word.start (literal_of (word_atoms text word))
+
+-- ---- assignments and the heads of `for`
+
+abbrev pub refused_sentence : List ℕ → List ℕ
+refused_sentence name = codes "`" ++ name ++ codes "` is an environment variable, so it can not be assigned"
+
+abbrev pub assigned_findings : Option Environment → ℕ → Option (List ℕ) → List Finding
+assigned_findings env count None = []
+assigned_findings env count (Some name) = if is_defined env name then warning_at count (refused_sentence name) ∷ [] else []
+
+-- ---- a whole script
+
+abbrev pub item_targets : Written → Item → List Target
+item_targets text (item.Call words) = call_targets text words.now
+item_targets text (item.Assignment name value) = []
+item_targets text (item.Binding name words) = []
+
+abbrev pub item_findings : Option Environment → Option Statuses → Written → Item → List Finding
+item_findings env stubs text (item.Call words) =
+    command_findings stubs text words.now ++ operator_findings text words.now ++ flat_map (target_findings env) (call_targets text words.now)
+item_findings env stubs text (item.Assignment name value) = assigned_findings env name.start (literal_of (word_atoms text name))
+item_findings env stubs text (item.Binding name words) = assigned_findings env name.start (literal_of (word_atoms text name))

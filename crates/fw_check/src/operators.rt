@@ -1,0 +1,206 @@
+//! Words of `test` where an operator has to be, and that aren't one.
+ghost use Rattle.std.specs.Prelude.{◌≡◌, ◌==◌, ◌&&◌, not, fold, length, map, IfOk, option_map};
+ghost use Rattle.std.specs.List.{list_all};
+ghost use Rattle.fw_check.specs.Expecting.{expected_view, suspect_view};
+ghost use Rattle.fw_check.specs.Findings.{after_field};
+ghost use Rattle.fw_check.specs.Operators.{ATerm, Joint, Operator, after_word, begins_option, ends_at, is_sign, is_word_of, looks_like_operator, or_first, suspect, wrong_in};
+
+use crate::literals::literal;
+use hush_calc::is_text;
+use hush_syntax::{Text, Word};
+use std::alloc::{AllocError, Global};
+
+/// A word that looks like an operator.
+#[derive(Drop)]
+pub(crate) struct Suspect {
+    /// How many bytes of the script are before it.
+    pub(crate) count: usize,
+    pub(crate) bytes: Vec<u8>,
+}
+
+/// What is expected of the next word of a test.
+#[derive(Drop)]
+enum Expected {
+    /// A negation, `-n`, `-z`, or the first word of a comparison.
+    ATerm,
+    /// The operator of a comparison, whose first word may look like an operator.
+    Operator(Option<Suspect>),
+    /// The last word of a term.
+    Operand,
+    /// `-a` or `-o`.
+    Joint,
+    /// The words are no expression, for another reason than an operator.
+    Nothing,
+    /// This is no operator.
+    Wrong(Suspect),
+}
+
+const COMPARISONS: [&[u8]; 10] = [
+    b"=", b"!=", b"<", b">", b"-eq", b"-ne", b"-lt", b"-le", b"-gt", b"-ge",
+];
+
+/// The first of these words of a test that is where an operator has to be and looks like one, but isn't.
+pub(crate) fn wrong_operator(
+    alloc: Global,
+    text: &Text,
+    words: &[Word],
+) -> Result<Option<Suspect>, AllocError>
+    ensures { IfOk result
+        (λ wrong. option_map suspect_view wrong ≡ wrong_in (fold (after_field text.now) ATerm words.now)) }
+{
+    let mut expected = Expected::ATerm;
+    for word in words {
+        let bytes = literal(alloc, text, *word)?;
+        expected = after_word(expected, word.start as usize, bytes);
+    }
+    Ok(wrong_in(expected))
+}
+
+/// What is expected after one more word, which has these bytes if it is without a substitution.
+fn after_word(expected: Expected, count: usize, bytes: Option<Vec<u8>>) -> Expected
+    ensures { expected_view result
+        ≡ after_word (expected_view expected) count (option_map (λ v. v.items) bytes) }
+{
+    match expected {
+        Expected::ATerm => after_term(count, bytes),
+        Expected::Operator(first) => after_operator(first, count, bytes),
+        Expected::Operand => Expected::Joint,
+        Expected::Joint => after_joint(count, bytes),
+        Expected::Nothing => Expected::Nothing,
+        Expected::Wrong(wrong) => Expected::Wrong(wrong),
+    }
+}
+
+fn after_term(count: usize, bytes: Option<Vec<u8>>) -> Expected
+    ensures { expected_view result ≡ after_word ATerm count (option_map (λ v. v.items) bytes) }
+{
+    match bytes {
+        None => Expected::Operator(None),
+        Some(bytes) => {
+            if is_word_of(&[b"!"], &bytes) {
+                Expected::ATerm
+            } else if is_word_of(&[b"-n", b"-z"], &bytes) {
+                Expected::Operand
+            } else {
+                Expected::Operator(suspected(count, bytes))
+            }
+        }
+    }
+}
+
+fn after_operator(first: Option<Suspect>, count: usize, bytes: Option<Vec<u8>>) -> Expected
+    ensures { expected_view result
+        ≡ after_word (Operator (option_map suspect_view first)) count (option_map (λ v. v.items) bytes) }
+{
+    match bytes {
+        None => ends_at(first),
+        Some(bytes) => {
+            if is_word_of(&COMPARISONS, &bytes) {
+                Expected::Operand
+            } else {
+                or_first(suspected(count, bytes), first)
+            }
+        }
+    }
+}
+
+fn after_joint(count: usize, bytes: Option<Vec<u8>>) -> Expected
+    ensures { expected_view result ≡ after_word Joint count (option_map (λ v. v.items) bytes) }
+{
+    match bytes {
+        None => Expected::Nothing,
+        Some(bytes) => {
+            if is_word_of(&[b"-a", b"-o"], &bytes) {
+                Expected::ATerm
+            } else {
+                ends_at(suspected(count, bytes))
+            }
+        }
+    }
+}
+
+fn ends_at(wrong: Option<Suspect>) -> Expected
+    ensures { expected_view result ≡ ends_at (option_map suspect_view wrong) }
+{
+    match wrong {
+        Some(wrong) => Expected::Wrong(wrong),
+        None => Expected::Nothing,
+    }
+}
+
+fn or_first(wrong: Option<Suspect>, first: Option<Suspect>) -> Expected
+    ensures { expected_view result ≡ or_first (option_map suspect_view wrong) (option_map suspect_view first) }
+{
+    match wrong {
+        Some(wrong) => Expected::Wrong(wrong),
+        None => ends_at(first),
+    }
+}
+
+/// The word that was wrong, if one was.
+fn wrong_in(expected: Expected) -> Option<Suspect>
+    ensures { option_map suspect_view result ≡ wrong_in (expected_view expected) }
+{
+    match expected {
+        Expected::Wrong(wrong) => Some(wrong),
+        Expected::Operator(first) => first,
+        Expected::ATerm | Expected::Operand | Expected::Joint | Expected::Nothing => None,
+    }
+}
+
+/// The word, if it looks like an operator.
+fn suspected(count: usize, bytes: Vec<u8>) -> Option<Suspect>
+    ensures { option_map suspect_view result ≡ suspect count bytes.items }
+{
+    if looks_like_operator(&bytes) {
+        Some(Suspect { count, bytes })
+    } else {
+        None
+    }
+}
+
+/// Whether a word is written as operators are: a `-` and a letter first, or bytes of `=!<>~` alone.
+fn looks_like_operator(word: &[u8]) -> bool
+    ensures { result ≡ looks_like_operator word.now }
+{
+    begins_option(word) || are_signs(word)
+}
+
+fn begins_option(word: &[u8]) -> bool
+    ensures { result ≡ begins_option word.now }
+{
+    match word {
+        [first, second, ..] => *first == b'-' && second.is_ascii_alphabetic(),
+        _ => false,
+    }
+}
+
+fn are_signs(word: &[u8]) -> bool
+    ensures { result ≡ (not (length word.now == 0) && list_all is_sign word.now) }
+{
+    !word.is_empty() && all_signs(word)
+}
+
+fn all_signs(word: &[u8]) -> bool
+    ensures { result ≡ list_all is_sign word.now }
+{
+    word.iter().all(|b| is_sign(*b))
+}
+
+fn is_sign(b: u8) -> bool
+    ensures { result ≡ is_sign b }
+{
+    b == b'=' || b == b'!' || b == b'<' || b == b'>' || b == b'~'
+}
+
+/// Whether a word is one of these texts.
+fn is_word_of(texts: &[&[u8]], word: &[u8]) -> bool
+    ensures { result ≡ is_word_of (map (λ t. t.now) texts.now) word.now }
+{
+    for text in texts {
+        if is_text(word, text) {
+            return true;
+        }
+    }
+    false
+}

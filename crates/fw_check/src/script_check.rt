@@ -1,0 +1,148 @@
+//! What is found in a script, and what is printed of one script alone.
+ghost use Rattle.std.specs.Prelude.{◌≡◌, ◌≢◌, [], ◌∷◌, Some, IfOk, OnOk, option_map};
+ghost use Rattle.hush_syntax.specs.Grammar.{SpellsText};
+ghost use Rattle.hush_syntax.specs.Scripts.{source_of, tree_of};
+ghost use Rattle.hush_syntax.specs.declared.faults.FaultKind.TheVariants as kind;
+ghost use Rattle.fw_engines.specs.declared.tool_end.StreamFault.TheVariants as stream;
+ghost use Rattle.fw_check.specs.Checking.{ChecksText, PrintsReport};
+ghost use Rattle.fw_check.specs.Findings.{error_at, fault_sentence, report_end};
+ghost use Rattle.fw_check.specs.Found.{found_more};
+ghost use Rattle.fw_check.specs.Looking.{env_in, stubs_in};
+ghost use Rattle.fw_check.specs.Reports.{GoesOn, Reads, ReadsItems};
+
+use crate::findings::{Findings, Report};
+use crate::followed::Names;
+use crate::items::items_of;
+use crate::lookups::Lookups;
+use crate::statements::check_items;
+use fw_engines::streams::write_two;
+use fw_engines::{StreamFault, ToolEnd};
+use hush_commands::Stubs;
+use hush_syntax::{FaultKind, Script, SyntaxFault};
+use std::alloc::{AllocError, Global};
+use std::io::Write;
+
+/// Prints on `output` what is found in one script. No environment is looked at; with stand-ins a command that is
+/// neither a builtin nor one of them is an error. The status is 1 if an error was found, else 0. docs/tools.md has the
+/// texts.
+///
+/// At the fault `Memory` nothing is printed.
+pub fn check_text<W: Write>(
+    alloc: Global,
+    stubs: Option<&Stubs>,
+    name: &[u8],
+    text: &[u8],
+    output: &mut W,
+) -> ToolEnd
+    ensures { ChecksText (option_map (λ s. s.now) stubs.entry) name.now text.now
+        (W.contents output.old) (W.contents output.new) result }
+{
+    let lookups = Lookups {
+        alloc,
+        vars: None,
+        stubs,
+    };
+    let mut names = Names::new(alloc);
+    match check_script(&lookups, Report::new(alloc), name, text, &mut names) {
+        Err(_) => lacks_memory(),
+        Ok(report) => print_report(&report, output),
+    }
+}
+
+/// Prints the lines of a report.
+pub(crate) fn print_report<W: Write>(report: &Report, output: &mut W) -> ToolEnd
+    ensures { PrintsReport (W.contents output.old) (W.contents output.new) report.now result }
+{
+    if !write_two(output, &report.text, report_end(report.cut)) {
+        return ToolEnd {
+            status: 1,
+            fault: Some(StreamFault::Write),
+        };
+    }
+    ToolEnd {
+        status: if report.failed { 1 } else { 0 },
+        fault: None,
+    }
+}
+
+/// After the lines of a report: that there is more, if it hasn't all.
+fn report_end(cut: bool) -> &'static [u8]
+    ensures { result.now ≡ report_end cut }
+{
+    if cut {
+        b"more is found, and not printed\n"
+    } else {
+        b""
+    }
+}
+
+/// The end where memory ran out.
+pub(crate) fn lacks_memory() -> ToolEnd
+    ensures { (result.status ≡ 1) × (result.fault ≡ Some stream.Memory) }
+{
+    ToolEnd {
+        status: 1,
+        fault: Some(StreamFault::Memory),
+    }
+}
+
+/// Goes on with a report by what is found in the script of this name and text, and adds the names that it runs to those
+/// that are followed.
+pub(crate) fn check_script(
+    lookups: &Lookups<'_>,
+    report: Report,
+    name: &[u8],
+    text: &[u8],
+    names: &mut Names,
+) -> Result<Report, AllocError>
+    ensures { IfOk result (λ after. GoesOn (env_in lookups.now) (stubs_in lookups.now) name.now text.now
+        report after names.old names.new) }
+{
+    let mut found = Findings::new(report, name, text);
+    found.add_return()?;
+    check_reading(lookups, text, &mut found, names)?;
+    Ok(found.report())
+}
+
+/// Adds what is found in what a text is read as, and the names that it runs.
+fn check_reading(
+    lookups: &Lookups<'_>,
+    text: &[u8],
+    found: &mut Findings<'_>,
+    names: &mut Names,
+) -> Result<(), AllocError>
+    ensures { OnOk result (Reads (env_in lookups.now) (stubs_in lookups.now) text.now found.old found.new
+        names.old names.new) }
+{
+    let source = Vec::from_slice(lookups.alloc, text)?;
+    match Script::parse(lookups.alloc, source) {
+        Ok(script) => check_parsed(lookups, &script, found, names),
+        Err(fault) => add_fault(fault, found),
+    }
+}
+
+/// Adds what is found in a text that is a script.
+fn check_parsed(
+    lookups: &Lookups<'_>,
+    script: &Script,
+    found: &mut Findings<'_>,
+    names: &mut Names,
+) -> Result<(), AllocError>
+    requires { SpellsText (tree_of script.now) (source_of script.now) }
+    ensures { OnOk result (ReadsItems (env_in lookups.now) (stubs_in lookups.now) (source_of script.now)
+        found.old found.new names.old names.new) }
+{
+    let items = items_of(lookups.alloc, script)?;
+    check_items(lookups, script.text(), &items, found, names)
+}
+
+/// Adds the fault of a text that is no script; memory that was refused is no finding.
+fn add_fault(fault: SyntaxFault, found: &mut Findings<'_>) -> Result<(), AllocError>
+    ensures { OnOk result ((fault.kind ≢ kind.Memory) × (found.new ≡ found_more found.old
+        (error_at fault.place (fault_sentence fault.kind) ∷ []))) }
+{
+    match fault.kind {
+        FaultKind::Memory => Err(AllocError),
+        _ => found.add_fault(fault),
+    }
+}

@@ -1,0 +1,56 @@
+//! Variables whose values don't have the types that `.flags` gives them.
+ghost use Rattle.std.specs.Prelude.{◌≡◌, IfOk, IsTrue, OnOk};
+ghost use Rattle.envimg_core.specs.Environment.{is_name, is_value};
+ghost use Rattle.envvars_core.specs.Attributes.{attributes};
+ghost use Rattle.envvars_core.specs.Types.{has_type};
+ghost use Rattle.fw_check.specs.Checking.{with_typed, with_types};
+ghost use Rattle.fw_check.specs.Looking.{is_for_type};
+
+use crate::findings::Report;
+use envvars_core::{Refusal, Vars};
+use std::alloc::AllocError;
+
+/// After the name of a variable whose value doesn't have its type.
+const MISTYPED: &[u8] = b": error: the value does not have the type that .flags gives it\n";
+
+/// Goes on with a report by a line for each variable whose value doesn't have its type.
+pub(crate) fn check_types(vars: &Vars, report: Report) -> Result<Report, AllocError>
+    ensures { IfOk result (λ after. after ≡ with_types vars.now.env report) }
+{
+    let mut so_far = report;
+    for (name, value) in vars.iter() {
+        check_type(vars, name, value, &mut so_far)?;
+    }
+    Ok(so_far)
+}
+
+/// A line for a variable, if its value doesn't have its type.
+fn check_type(vars: &Vars, name: &[u8], value: &[u8], report: &mut Report) -> Result<(), AllocError>
+    requires name { IsTrue (is_name name.now) }
+    requires value { IsTrue (is_value value.now) }
+    ensures { OnOk result (report.new ≡ with_typed vars.now.env report.old (name.now, value.now)) }
+{
+    if has_its_type(vars, name, value) {
+        return Ok(());
+    }
+    report.add_error(name, MISTYPED)
+}
+
+/// Whether a value has the type of a name: it isn't refused for it.
+fn has_its_type(vars: &Vars, name: &[u8], value: &[u8]) -> bool
+    requires name { IsTrue (is_name name.now) }
+    requires value { IsTrue (is_value value.now) }
+    ensures { result ≡ has_type (attributes vars.now.env name.now).kind value.now }
+{
+    match vars.check(name, Some(value), true, vars) {
+        Ok(()) => true,
+        Err(refusal) => !is_for_type(refusal),
+    }
+}
+
+/// Whether a write is refused for the type.
+fn is_for_type(refusal: Refusal) -> bool
+    ensures { result ≡ is_for_type refusal }
+{
+    matches!(refusal, Refusal::BadType)
+}

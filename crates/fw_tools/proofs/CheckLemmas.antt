@@ -1,0 +1,57 @@
+-- The status of a check.
+use Rattle.std.proofs.Common.{◌≡◌, ◌≤◌, ◌++◌, ◌∙◌, ℕ, Bool, true, false, List, Option, Some, None, ap, codes, inl, inr, sym, arith}
+use Rattle.std.specs.Prelude.{MatchOption, Ok, Err, if◌then◌else◌}
+use Rattle.clap.specs.Words.{Row, first_of}
+use Rattle.std.specs.Io.KnownBytes.{Appends}
+use Rattle.env_session.specs.Session.{Held}
+use Rattle.hush_commands.specs.Stubs.{Statuses}
+use Rattle.envimg_core.specs.Environment.{Environment}
+use Rattle.fw_check.specs.Checking.{Checks, ChecksText, PrintsReport, findings, status_of, with_types}
+use Rattle.fw_check.specs.Findings.{Report, no_lines, report_end, with_findings}
+use Rattle.fw_engines.specs.Streams.{AppendsPart, Writers}
+use Rattle.fw_engines.specs.Tool.{PrintsText}
+use Rattle.fw_engines.specs.declared.tool_end.StreamFault.{StreamFault}
+use Rattle.fw_engines.specs.declared.tool_end.StreamFault.TheVariants.{Write}
+use Rattle.fw_engines.specs.declared.tool_end.ToolEnd.{ToolEnd}
+use Rattle.fw_tools.specs.Checks.{ChecksFile, ChecksOver, EnvironmentCheck, FileCheck, file_alone, file_check_of, names_environment}
+
+-- 1 where there is an error, else 0
+flag_small : (failed : Bool) → (if failed then 1 else 0) ≤ 1
+flag_small true = omega arith
+flag_small false = omega arith
+
+report_small : (report : Report) → status_of report ≤ 1
+report_small report = flag_small report.failed
+
+text_small : (end : ToolEnd) (old new : Option (List ℕ)) (text : List ℕ) (status : ℕ) → status ≤ 1 → PrintsText old new text status end → end.status ≤ 1
+text_small end old new text status small p = by_fault end.fault p
+  where
+    by_fault : (f : Option StreamFault) → MatchOption f (Appends old new text × (end.status ≡ status)) (λ fault. (fault ≡ Write) × AppendsPart old new text × (end.status ≡ 1)) → end.status ≤ 1
+    by_fault None h = omega (arith, h.1, small)
+    by_fault (Some f) h = omega (arith, h.2)
+
+prints_small : (old new : Option (List ℕ)) (report : Report) (end : ToolEnd) → PrintsReport old new report end → end.status ≤ 1
+prints_small old new report end p = text_small end old new (report.text ++ report_end report.cut) (status_of report) (report_small report) p
+
+checks_small : (env : Environment) (stand_ins : Option Statuses) (names : List (List ℕ)) (old new : Option (List ℕ)) (end : ToolEnd) → Checks env stand_ins names old new end → end.status ≤ 1
+checks_small env stand_ins names old new end (inl (report, comes, prints)) = prints_small old new (with_types env report) end prints
+checks_small env stand_ins names old new end (inr lacks) = omega (arith, lacks.2)
+
+file_checks_small : (stand_ins : Option Statuses) (name text : List ℕ) (old new : Option (List ℕ)) (end : ToolEnd) → ChecksText stand_ins name text old new end → end.status ≤ 1
+file_checks_small stand_ins name text old new end (inl (reading, is, prints)) = prints_small old new (with_findings name text no_lines (findings None stand_ins text reading)) end prints
+file_checks_small stand_ins name text old new end (inr lacks) = omega (arith, lacks.2)
+
+pub check_small : (check : EnvironmentCheck) (session : Held) (old new : Writers) (status : ℕ) → ChecksOver check session old new status → status ≤ 1
+check_small check session old new status (inl stopped) = omega (arith, stopped.1)
+check_small check session old new status (inr (stand_ins, end, given, checks, ends)) =
+    omega (arith, ends.1, checks_small session.now.env stand_ins check.names old.output new.output end checks)
+
+pub file_check_small : (check : FileCheck) (old new : Writers) (status : ℕ) → ChecksFile check old new status → status ≤ 1
+file_check_small check old new status (inl stopped) = omega (arith, stopped.1)
+file_check_small check old new status (inr (stand_ins, text, end, given, checks, ends)) =
+    omega (arith, ends.1, file_checks_small stand_ins check.path text old.output new.output end checks)
+
+-- a check that names an environment as well
+pub refused_file : (rows : List Row) (path text : List ℕ) → text ≡ file_alone → names_environment rows ≡ true → Err text ≡ file_check_of path rows
+refused_file rows path text is named =
+    ap Err is ∙ ap (λ (b : Bool). if b then Err file_alone else Ok (let c : FileCheck = record { stand_ins = first_of (codes "stubs") rows; path = path } in c)) (sym named)

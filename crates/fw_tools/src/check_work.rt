@@ -1,0 +1,113 @@
+//! `check`: the scripts of an environment, or that of a file, are looked at before anything runs.
+ghost use Rattle.std.specs.Prelude.{◌≤◌, MatchOption, ◌≡◌, IfOk, option_map, unwrap_or};
+ghost use Rattle.fw_tools.specs.Checks.{AreStandInsGiven, ChecksFile, ChecksOver, environment_check_view, file_check_view};
+ghost use Rattle.fw_tools.specs.Said.{SaysSome};
+
+use crate::checks::{EnvironmentCheck, FileCheck};
+use crate::entry_point::report;
+use crate::files::{FileFault, read_file, read_stand_in_file, value_or_say};
+use crate::program_texts::STANDARD_INPUT;
+use crate::system::System;
+use crate::task_work::bytes_or_say;
+use env_session::Session;
+use fw_check::{check, check_text};
+use hush_run::Stubs;
+use std::io::Write;
+use std::rt::Files;
+
+/// Looks at the scripts of a session's environment, and answers the exit status; none where a file can't be used before.
+pub(crate) fn check_session<X: System + AllocGlobal, W: Write, E: Write>(
+    rt: &X,
+    session: &Session,
+    asked: &EnvironmentCheck<'_, '_>,
+    output: &mut W,
+    errors: &mut E,
+) -> Option<u8>
+    ensures { ChecksOver (environment_check_view asked.now) session.now
+        (record { output = W.contents output.old; errors = E.contents errors.old })
+        (record { output = W.contents output.new; errors = E.contents errors.new }) (unwrap_or result 1) }
+{
+    let stand_ins = stand_ins_or_say(rt, asked.stand_ins, errors)?;
+    let names = bytes_or_say(rt.alloc(), asked.names, errors)?;
+    let end = check(
+        rt.alloc(),
+        session.vars(),
+        stand_ins.as_ref(),
+        &names,
+        output,
+    );
+    Some(report(end, errors))
+}
+
+/// Looks at the script in a file, and answers the exit status.
+pub(crate) fn run_file_check<X: System + AllocGlobal, W: Write, E: Write>(
+    rt: &X,
+    asked: &FileCheck<'_>,
+    output: &mut W,
+    errors: &mut E,
+) -> u8
+    ensures status { result ≤ 1 }
+    ensures checks { ChecksFile (file_check_view asked.now)
+        (record { output = W.contents output.old; errors = E.contents errors.old })
+        (record { output = W.contents output.new; errors = E.contents errors.new }) result }
+{
+    check_file(rt, asked, output, errors).unwrap_or(1)
+}
+
+/// The same; none where a file can't be used before.
+fn check_file<X: System + AllocGlobal, W: Write, E: Write>(
+    rt: &X,
+    asked: &FileCheck<'_>,
+    output: &mut W,
+    errors: &mut E,
+) -> Option<u8>
+    ensures { ChecksFile (file_check_view asked.now)
+        (record { output = W.contents output.old; errors = E.contents errors.old })
+        (record { output = W.contents output.new; errors = E.contents errors.new }) (unwrap_or result 1) }
+{
+    let stand_ins = stand_ins_or_say(rt, asked.stand_ins, errors)?;
+    let text = value_or_say(rt.alloc(), errors, asked.path, read_script(rt, asked.path))?;
+    let end = check_text(
+        rt.alloc(),
+        stand_ins.as_ref(),
+        asked.path.as_bytes(),
+        &text,
+        output,
+    );
+    Some(report(end, errors))
+}
+
+/// The stand-ins, if a file of them is given; a fault of it is said on `errors`.
+fn stand_ins_or_say<X: System + AllocGlobal, E: Write>(
+    rt: &X,
+    path: Option<&str>,
+    errors: &mut E,
+) -> Option<Option<Stubs>>
+    ensures { MatchOption result (SaysSome (E.contents errors.old) (E.contents errors.new))
+        (λ stand_ins. AreStandInsGiven (option_map (λ p. p.now) path.entry) stand_ins × (E.contents errors.new ≡ E.contents errors.old)) }
+{
+    value_or_say(
+        rt.alloc(),
+        errors,
+        path.unwrap_or(""),
+        stand_ins_given(rt, path),
+    )
+}
+
+/// The stand-ins, if a file of them is given.
+fn stand_ins_given<X: Files + AllocGlobal>(
+    rt: &X,
+    path: Option<&str>,
+) -> Result<Option<Stubs>, FileFault>
+    ensures { IfOk result (AreStandInsGiven (option_map (λ p. p.now) path.entry)) }
+{
+    match path {
+        None => Ok(None),
+        Some(file) => Ok(Some(read_stand_in_file(rt, file)?)),
+    }
+}
+
+/// The text of a script.
+fn read_script<X: Files + AllocGlobal>(rt: &X, path: &str) -> Result<Vec<u8>, FileFault> {
+    read_file(rt, if path == "-" { STANDARD_INPUT } else { path })
+}

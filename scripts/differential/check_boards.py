@@ -1,0 +1,113 @@
+"""Boot scripts of boards (scripts/runs/boards) and of the examples through `fwenv check`: what is found in them as they are, and in
+each script that is followed once a slip is planted in it, at its place. Over each the variable `script` has what is started."""
+
+import pathlib
+import re
+
+from differential.boards import text_of
+from differential.check_rows import lines, not_assigned, not_called, not_run, place, returned, row, with_stand_ins
+from differential.rows import rows
+from differential.running import Case
+from model.texts import import_entries, stand_ins
+
+TOP = pathlib.Path(__file__).parent.parent.parent
+# What is found in boards as they are: a run of the first comes to this, and at the end of the others is a try of it
+FOUND = {
+    "no-way-back": [not_run("1:38", "altbootcmd")],
+    **{f"swupdate-{name}": [not_assigned("1:239", "ustate")] for name in ("failed", "installed", "tried-in-vain")},
+}
+NOT_CLOSED = "%s: error: a quote is not closed (Quote)"
+MISSING = "%s: error: the text ends where more has to follow (Missing)"
+# What stands before the name of a command, and the last word that closes a form
+BEFORE = re.compile(rb"(?:\A|; |&& |\|\| |if |then |else |do |\n *)\Z")
+CLOSING = re.compile(rb"(?<=[;\n] )(?:done|fi)(?=[;\n]|\Z)|^(?:done|fi)$", re.M)
+
+
+def boards():
+    """The name of each board, its variables with the script that is started, and its stand-ins."""
+    for path in sorted((TOP / "scripts/runs/boards").iterdir()):
+        [made] = [each.setup for each in rows(path)]
+        yield path.name, made.defaults | made.variables | {b"script": made.script}, made.stand_ins
+    for path in sorted((TOP / "examples").glob("*/environment.txt")):
+        variables = {name: value for _, name, value in import_entries(path.read_bytes())}
+        started = [line for line in (path.parent / "input.txt").read_bytes().split(b"\n") if line[:1] != b"."]
+        yield path.parent.name, variables | {b"script": b"\n".join(started)}, (path.parent / "stand-ins.txt").read_bytes()
+
+
+def scripts_of(variables):
+    """The variables whose scripts are followed, as their text shows them."""
+    found = [b"script"]
+    for each in found:
+        text = variables[each]
+        found += [other for other in sorted(variables) if other not in found and re.search(rb"\brun( [^;\n]*)* %s\b" % re.escape(other), text)]
+    return found
+
+
+# Slips in a script: the text with each, and what is found then
+
+
+def misspelt_names(text, variables, _stubs):
+    for name in sorted(variables):
+        for match in re.finditer(rb"(?<=run )%s(?=[; ]|\Z)" % re.escape(name), text):
+            other = name[:-1] + b"_"
+            yield text[: match.start()] + other + text[match.end() :], not_run(place(text, match.start()), other.decode())
+
+
+def misspelt_commands(text, _variables, stubs):
+    for name in sorted(stand_ins(stubs)):
+        for match in re.finditer(rb"%s(?=[ ;\n]|\Z)" % re.escape(name), text):
+            if BEFORE.search(text[: match.start()]):
+                other = name[:-2] + name[:-3:-1]
+                yield text[: match.start()] + other + text[match.end() :], not_called(place(text, match.start()), other.decode())
+
+
+def lost_quotes(text, _variables, _stubs):
+    if text.count(b'"') and b"'" not in text:
+        last = text.rfind(b'"')
+        yield text[:last] + text[last + 1 :], NOT_CLOSED % place(text, text.rfind(b'"', 0, last))
+
+
+def lost_endings(text, _variables, _stubs):
+    *_, last = [None, *CLOSING.finditer(text)]
+    if last:
+        other = text[: last.start()] + text[last.end() :]
+        yield other, MISSING % place(other, len(other))
+
+
+def carriage_returns(text, _variables, _stubs):
+    at = text.find(b"\n") if b"\n" in text else len(text)
+    yield text[:at] + b"\r" + text[at:], returned(place(text, at))
+
+
+SLIPS = (misspelt_names, misspelt_commands, lost_quotes, lost_endings, carriage_returns)
+
+
+def slipped(name, variables, stubs, script, slip):
+    """A board with a slip in this script: its line is among what the model finds, and that is all."""
+    text, found = slip
+    files = {b"env": text_of(variables | {script: text}), b"stand-ins": stubs}
+    case = Case(f"{name}: a slip in {script.decode()}", [b"check", b"--env", b"env", *with_stand_ins([b"script"])], files)
+    wanted = lines([found], script.decode())
+    case.accepts = lambda seen: seen.is_as(case.answer()) and wanted in seen.output and seen.status == int(b": error: " in seen.output)
+    return case
+
+
+def as_they_are():
+    for name, variables, stubs in boards():
+        files = {b"env": text_of(variables), b"stand-ins": stubs}
+        yield row(name, [b"--env", b"env", *with_stand_ins([b"script"])], files, lines(FOUND.get(name, []), "script"))
+    broken = TOP / "examples/booting/broken.txt"
+    files = {b"env": broken.read_bytes(), b"stand-ins": (broken.parent / "stand-ins.txt").read_bytes()}
+    yield row("a broken environment", [b"--env", b"env", *with_stand_ins()], files, lines([not_called("1:14", "laod")], "mmcboot"))
+
+
+def with_slips():
+    for name, variables, stubs in boards():
+        for script in scripts_of(variables):
+            for kind in SLIPS:
+                for slip in kind(variables[script], variables, stubs):
+                    yield slipped(name, variables, stubs, script, slip)
+
+
+def chunks():
+    return [as_they_are, with_slips]

@@ -1,0 +1,249 @@
+"""What `fwenv check` finds in scripts without running them (docs/tools.md, "Checks of scripts").
+
+Each kind of finding is a function of its own: of a text, or of a command and what is known. `KINDS` are those of commands that are
+looked for, in the order in which one command gets them."""
+
+import re
+from dataclasses import dataclass
+
+from model.calculations import COMPARISONS
+from model.grammar import parse
+from model.script_run import SENTENCES, line_and_column
+from model.texts import BUILTINS
+from model.variables import PLAIN, TYPES, attributes
+from model.words import Fault
+
+# Where a check begins if it is given no names
+STARTED = (b"bootcmd", b"altbootcmd", b"preboot")
+ERROR, WARNING = b"error", b"warning"
+NOT_DEFINED = b"%s: error: no variable of this name is defined\n"
+NOT_TYPED = b"%s: error: the value does not have the type that .flags gives it\n"
+NO_SCRIPT = b"%s (%s)"
+CARRIAGE_RETURN = b"a carriage return stands in the script"
+NO_TARGET = b"`run %s` names a variable that is not defined"
+NO_COMMAND = b"no builtin and no stand-in is called `%s`"
+NO_OPERATOR = b"`test` has no operator `%s` here, and is false"
+NOT_ASSIGNED = b"`%s` is an environment variable, so it can not be assigned"
+# No further line is added once there are so many bytes; then it is told that there is more
+MOST = 65_536
+MORE = b"more is found, and not printed\n"
+# How an operator is written
+WRITTEN = re.compile(rb"-[A-Za-z].*|[=!<>~]+", re.DOTALL)
+
+
+@dataclass
+class Finding:
+    place: int
+    severity: bytes
+    sentence: bytes
+
+    def line(self, name, text):
+        return b"%s:%d:%d: %s: %s\n" % (name, *line_and_column(text, self.place), self.severity, self.sentence)
+
+
+@dataclass
+class Known:
+    """The values of the environment, or None where only one script is looked at; the stand-ins, or None where there is no file of
+    them."""
+
+    values: dict = None
+    stand_ins: dict = None
+
+
+@dataclass
+class Report:
+    """The lines, whether an error was found, and whether something was found that has no line."""
+
+    text: bytes = b""
+    failed: bool = False
+    is_cut: bool = False
+
+    def add_line(self, line, is_error):
+        if len(self.text) < MOST:
+            self.text += line
+        else:
+            self.is_cut = True
+        self.failed |= is_error
+
+    def add(self, name, text, findings):
+        for finding in findings:
+            self.add_line(finding.line(name, text), finding.severity == ERROR)
+
+    def printed(self):
+        return self.text + MORE * self.is_cut
+
+    def status(self):
+        return int(self.failed)
+
+
+# The tree
+
+
+def commands(chains):
+    """The commands of a list in the order of the text, each before those inside it."""
+    for chain in chains:
+        for _, command in chain:
+            yield command
+            for inner in lists_in(command):
+                yield from commands(inner)
+
+
+def lists_in(command):
+    """The lists of which a command consists."""
+    kind = command[0]
+    if kind == "if":
+        found = [each for branch in command[1] for each in branch]
+        return found if command[2] is None else [*found, command[2]]
+    if kind == "for":
+        return [command[3]]
+    return list(command[1:]) if kind in ("while", "until") else []
+
+
+def literal(word):
+    """The bytes of a word without a substitution; None for another."""
+    if any(part[0] in ("name", "status") for part in word):
+        return None
+    return bytes(part[1] for part in word if part[0] != "mark")
+
+
+def targets(command):
+    """The names that a command starts whatever its variables are: literal arguments of `run`, with their places."""
+    if command[0] != "simple" or literal(command[1][0]) != b"run":
+        return []
+    return [(word.place, literal(word)) for word in command[1][1:] if literal(word) is not None]
+
+
+# The kinds of findings in a text
+
+
+def carriage_return(text):
+    """The first one is told."""
+    at = text.find(b"\r")
+    return [] if at < 0 else [Finding(at, WARNING, CARRIAGE_RETURN)]
+
+
+def no_script(fault):
+    kind, place = fault.args
+    return [Finding(place, ERROR, NO_SCRIPT % (SENTENCES[kind], kind.encode()))]
+
+
+# The kinds of findings in a command
+
+
+def unknown_command(command, known):
+    """A command that only hardware has and that no stand-in answers."""
+    if command[0] != "simple" or known.stand_ins is None:
+        return []
+    name = literal(command[1][0])
+    if name is None or name in BUILTINS or name in known.stand_ins:
+        return []
+    return [Finding(command[1][0].place, ERROR, NO_COMMAND % name)]
+
+
+def undefined_target(command, known):
+    """A start of a variable that isn't there."""
+    if known.values is None:
+        return []
+    return [Finding(place, ERROR, NO_TARGET % name) for place, name in targets(command) if name not in known.values]
+
+
+def refused_assignment(command, known):
+    """An assignment, or the head of a `for`, that the environment refuses."""
+    if command[0] not in ("assign", "for") or known.values is None or command[1] not in known.values:
+        return []
+    return [Finding(command[-1], WARNING, NOT_ASSIGNED % command[1])]
+
+
+def written(word):
+    """The word, if it is written as an operator is; else None."""
+    return word if word is not None and WRITTEN.fullmatch(literal(word) or b"") else None
+
+
+def no_operator(words):
+    """The first of the words of `test`, each taken for one field, that is where an operator has to be and is written as one, but isn't
+    one; None if there is none."""
+    rest = list(words)
+    while rest:
+        first, second = rest[0], rest[1] if rest[1:] else None
+        if literal(first) == b"!":
+            rest = rest[1:]
+            continue
+        if literal(first) in (b"-n", b"-z"):
+            rest = rest[2:]
+        elif second is None or literal(second) not in COMPARISONS:
+            return written(second) or written(first)
+        else:
+            rest = rest[3:]
+        if rest and literal(rest[0]) not in (b"-a", b"-o"):
+            return written(rest[0])
+        rest = rest[1:]
+    return None
+
+
+def unknown_operator(command, _known):
+    """A `test` that is false whatever it is to compare."""
+    if command[0] != "simple" or literal(command[1][0]) != b"test":
+        return []
+    word = no_operator(command[1][1:])
+    return [] if word is None else [Finding(word.place, ERROR, NO_OPERATOR % literal(word))]
+
+
+KINDS = (unknown_command, undefined_target, unknown_operator, refused_assignment)
+
+
+# Scripts
+
+
+def tree_of(text):
+    """The tree of a script, or the fault for which a text is none."""
+    try:
+        return parse(text), None
+    except Fault as fault:
+        return None, fault
+
+
+def findings(text, known):
+    found = carriage_return(text)
+    tree, fault = tree_of(text)
+    if fault:
+        return found + no_script(fault)
+    return found + [each for command in commands(tree) for kind in KINDS for each in kind(command, known)]
+
+
+def of_script(name, text, stand_ins):
+    """One script of a file."""
+    report = Report()
+    report.add(name, text, findings(text, Known(None, stand_ins)))
+    return report
+
+
+def visited(values, names):
+    """The variables that are looked at, each once: those that are named, and behind them those that each of them starts."""
+    found = list(dict.fromkeys(name for name in names if name in values))
+    for name in found:
+        tree, _ = tree_of(values[name])
+        for command in commands(tree or []):
+            for _, target in targets(command):
+                if target in values and target not in found:
+                    found.append(target)
+    return found
+
+
+def not_typed(values):
+    """The variables whose values don't have the types that `.flags` gives them."""
+    given = attributes(values.get(b".flags", b""))
+    return [name for name, value in sorted(values.items()) if not TYPES[given.get(name, PLAIN)[0]].fullmatch(value)]
+
+
+def of_environment(values, stand_ins, names):
+    """The scripts that are named, and those that they start; then the types of all variables."""
+    report = Report()
+    for name in names:
+        if name not in values:
+            report.add_line(NOT_DEFINED % name, True)
+    known = Known(values, stand_ins)
+    for name in visited(values, names or STARTED):
+        report.add(name, values[name], findings(values[name], known))
+    for name in not_typed(values):
+        report.add_line(NOT_TYPED % name, True)
+    return report
