@@ -27,7 +27,7 @@ pub data Reading : Type 0 where
   Faulty : SyntaxFault → Reading
   Script : List Item → Reading
 
--- a text with a fault is no script. Its kind and its place are those that `Script::parse` answers
+-- a text with a fault is no script; which fault it has first, and where, is not said here
 abbrev pub IsReading : List ℕ → Reading → Type 0
 IsReading text (Faulty fault) = (fault.kind ≢ Memory) × (read text ≡ None)
 IsReading text (Script items) = AreItemsOf text items
