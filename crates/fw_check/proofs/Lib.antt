@@ -1,7 +1,6 @@
 mod GatherLemmas
 mod FoundLemmas
 mod LiteralLemmas
-mod PlaceLemmas
 mod NameLemmas
 mod TypeLemmas
 mod VisitLemmas

@@ -12,7 +12,7 @@ use Rattle.hush_commands.specs.Builtins.{builtin_of}
 use Rattle.hush_commands.specs.Stubs.{Statuses, status_of_name}
 use Rattle.envimg_core.specs.Environment.{Environment}
 use Rattle.fw_engines.specs.ScriptRun.{place_of}
-use Rattle.fw_engines.specs.declared.script_fault.Place.{Place}
+use Rattle.fw_engines.specs.declared.text_places.Place.{Place}
 use Rattle.fw_check.specs.Literals.{literal_of}
 use Rattle.fw_check.specs.Operators.{ATerm, Expected, after_word, wrong_in}
 use Rattle.fw_check.specs.Targets.{Target, target}

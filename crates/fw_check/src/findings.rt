@@ -3,8 +3,7 @@ ghost use Rattle.std.specs.Prelude.{◌≡◌, ◌++◌, [], ◌∷◌, not, OnO
 ghost use Rattle.fw_check.specs.Findings.{error_at, fault_sentence, is_full, is_severe, no_lines, noted, place_text, return_findings, severity_text, with_error};
 ghost use Rattle.fw_check.specs.Found.{found_more};
 
-use crate::pointer::Pointer;
-use fw_engines::Place;
+use fw_engines::{Place, Pointer};
 use hush_syntax::{FaultKind, SyntaxFault};
 use itoa::Buffer;
 use memchr::memchr;

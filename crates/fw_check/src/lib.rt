@@ -1,7 +1,7 @@
 //! A check of boot scripts that runs nothing: what is wrong with a script, or with those of an environment from some
 //! names on, as lines. docs/tools.md states the rules.
 //!
-//! To read in this order: items, literals, lookups; pointer, findings; followed, operators, statements;
+//! To read in this order: items, literals, lookups; findings; followed, operators, statements;
 //! script_check, typed_values, visits.
 #![tactic(auto)]
 
@@ -11,7 +11,6 @@ mod items;
 mod literals;
 mod lookups;
 mod operators;
-mod pointer;
 mod script_check;
 mod statements;
 mod typed_values;

@@ -4,6 +4,7 @@ mod DefaultsLemmas
 mod LineLemmas
 mod ListingLemmas
 mod PartLemmas
+mod PlaceLemmas
 mod RestorationLemmas
 mod ShowLemmas
 mod StreamLemmas

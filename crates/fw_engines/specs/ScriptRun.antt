@@ -13,7 +13,7 @@ use Rattle.hush_run.specs.declared.ending.Ending.TheVariants as ending
 use Rattle.hush_run.specs.declared.outcome.Outcome.{Outcome}
 use Rattle.fw_engines.specs.Streams.{Writers}
 use Rattle.fw_engines.specs.Tool.{Prints, Texts}
-use Rattle.fw_engines.specs.declared.script_fault.Place.{Place}
+use Rattle.fw_engines.specs.declared.text_places.Place.{Place}
 use Rattle.fw_engines.specs.declared.tool_end.ToolEnd.{ToolEnd}
 
 -- a run came to its end or to an `exit`, with status 0
@@ -65,23 +65,35 @@ after_bytes p (b ∷ bs) = after_bytes (after_byte p b) bs
 abbrev pub place_of : (text : List ℕ) → (count : ℕ) → Place
 place_of text count = after_bytes (record { line = 1; column = 1 }) (take count text)
 
--- what keeps a text from being a script, and a sentence on it
-abbrev pub fault_words : FaultKind → List ℕ
-fault_words fault.Quote = codes "Quote: a quote is not closed"
-fault_words fault.Backslash = codes "Backslash: the text ends with a backslash"
-fault_words fault.Substitution = codes "Substitution: not a substitution of this shell: ${NAME}, $NAME or $?"
-fault_words fault.Operator = codes "Operator: a single & or |, which this shell does not have"
-fault_words fault.Unexpected = codes "Unexpected: not expected here"
-fault_words fault.Missing = codes "Missing: the text ends where more has to follow"
-fault_words fault.Nest = codes "Nest: more than 64 commands inside one another"
-fault_words fault.Assignment = codes "Assignment: a word after an assignment"
-fault_words fault.Nul = codes "Nul: a byte 0"
-fault_words fault.Memory = codes "Memory: out of memory"
+-- what keeps a text from being a script: its name, and a sentence
+abbrev pub fault_name : FaultKind → List ℕ
+fault_name fault.Quote = codes "Quote"
+fault_name fault.Backslash = codes "Backslash"
+fault_name fault.Substitution = codes "Substitution"
+fault_name fault.Operator = codes "Operator"
+fault_name fault.Unexpected = codes "Unexpected"
+fault_name fault.Missing = codes "Missing"
+fault_name fault.Nest = codes "Nest"
+fault_name fault.Assignment = codes "Assignment"
+fault_name fault.Nul = codes "Nul"
+fault_name fault.Memory = codes "Memory"
+
+abbrev pub fault_sentence : FaultKind → List ℕ
+fault_sentence fault.Quote = codes "a quote is not closed"
+fault_sentence fault.Backslash = codes "the text ends with a backslash"
+fault_sentence fault.Substitution = codes "not a substitution of this shell: ${NAME}, $NAME or $?"
+fault_sentence fault.Operator = codes "a single & or |, which this shell does not have"
+fault_sentence fault.Unexpected = codes "not expected here"
+fault_sentence fault.Missing = codes "the text ends where more has to follow"
+fault_sentence fault.Nest = codes "more than 64 commands inside one another"
+fault_sentence fault.Assignment = codes "a word after an assignment"
+fault_sentence fault.Nul = codes "a byte 0"
+fault_sentence fault.Memory = codes "out of memory"
 
 -- where a text isn't a script, and why
-abbrev pub fault_at : (name : List ℕ) → Place → (words : List ℕ) → List ℕ
-fault_at name place words =
-    concat (codes "fwenv: " ∷ name ∷ codes ":" ∷ decimal place.line ∷ codes ":" ∷ decimal place.column ∷ codes ": " ∷ words ∷ codes "\n" ∷ [])
+abbrev pub fault_at : (name : List ℕ) → Place → (kind sentence : List ℕ) → List ℕ
+fault_at name place kind sentence =
+    concat (codes "fwenv: " ∷ name ∷ codes ":" ∷ decimal place.line ∷ codes ":" ∷ decimal place.column ∷ codes ": " ∷ kind ∷ codes ": " ∷ sentence ∷ codes "\n" ∷ [])
 
 abbrev pub fault_line : (name text : List ℕ) → (count : ℕ) → FaultKind → List ℕ
-fault_line name text count kind = fault_at name (place_of text count) (fault_words kind)
+fault_line name text count kind = fault_at name (place_of text count) (fault_name kind) (fault_sentence kind)

@@ -3,7 +3,7 @@
 //! stored copies, and the default environment of a text. docs/tools.md states the rules.
 //!
 //! To read in this order: tool_end, streams, tool_texts; single_image; variable_lines, text_form; changes, restoration,
-//! default_environment; script_run, script_fault; copy_status, with copy_words, ways, variable_count, skipped_lines and line_parts; whole_file.
+//! default_environment; script_run, text_places, script_fault; copy_status, with copy_words, ways, variable_count, skipped_lines and line_parts; whole_file.
 #![tactic(auto)]
 
 mod changes;
@@ -18,6 +18,7 @@ mod single_image;
 mod skipped_lines;
 pub mod streams;
 mod text_form;
+mod text_places;
 mod tool_end;
 mod tool_texts;
 mod variable_count;
@@ -29,10 +30,11 @@ pub use changes::{import, set_script, setenv};
 pub use copy_status::{FoundCopy, Survey, status};
 pub use default_environment::defaults;
 pub use restoration::restore;
-pub use script_fault::{Place, place_of, say_syntax_fault};
+pub use script_fault::{fault_name, fault_sentence, say_syntax_fault};
 pub use script_run::run;
 pub use single_image::show;
 pub use text_form::export;
+pub use text_places::{Place, Pointer, place_of};
 pub use tool_end::{StreamFault, ToolEnd};
 pub use variable_lines::{print_values, printenv};
 pub use whole_file::file_status;

@@ -1,7 +1,7 @@
 use Rattle.std.proofs.Common.{◌-◌, drop, length-take, ap, sym, ◌∙◌, arith}
 use Rattle.fw_engines.specs.ScriptRun.{place_of}
-use Rattle.fw_check.proofs.PlaceLemmas.{place-moved, place-within}
-use Rattle.fw_check.proofs.pointer.Pointer.place.Goals as goal
+use Rattle.fw_engines.proofs.PlaceLemmas.{place-moved, place-within}
+use Rattle.fw_engines.proofs.text_places.Pointer.place.Goals as goal
 
 pub invariant_of-self : goal.invariant_of-self
 invariant_of-self c =

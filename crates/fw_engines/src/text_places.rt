@@ -1,13 +1,32 @@
-//! Lines and columns of a text whose places are asked for from its front on.
+//! Lines and columns of a text.
 ghost use Rattle.std.specs.Prelude.{◌≡◌, ◌≤◌, ◌+◌, ◌-◌, length, take, drop};
 ghost use Rattle.fw_engines.specs.ScriptRun.{place_of, after_bytes};
 
-use fw_engines::Place;
 use std::marker::Model;
 
-/// A place in a text, that is moved on. To ask for an earlier place begins at the front again.
+/// A place in a text.
+#[derive(Clone, Copy, Debug, PartialEq, Eq)]
+pub struct Place {
+    /// The line, from 1.
+    pub line: usize,
+    /// The byte in that line, from 1.
+    pub column: usize,
+}
+
+/// The start of a text.
+const START: Place = Place { line: 1, column: 1 };
+
+/// The place after so many bytes of a text.
+pub fn place_of(text: &[u8], count: usize) -> Place
+    ensures { result ≡ place_of text.now count }
+{
+    Pointer::new(text).place(count)
+}
+
+/// A place in a text, that is moved on: places that are asked for in ascending order take one way through the text together.
+/// To ask for an earlier place begins at the start again.
 #[derive(Drop)]
-pub(crate) struct Pointer<'t> {
+pub struct Pointer<'t> {
     text: &'t [u8],
     /// How many bytes of the text are before it.
     count: usize,
@@ -27,25 +46,25 @@ impl<'t> Model for Pointer<'t> {
 }
 
 impl<'t> Pointer<'t> {
-    /// The front of a text.
-    pub(crate) fn new(text: &'t [u8]) -> Pointer<'t>
+    /// The start of a text.
+    pub fn new(text: &'t [u8]) -> Pointer<'t>
         ensures { result ≡ text.now }
     {
         Pointer {
             text,
             count: 0,
-            place: FRONT,
+            place: START,
         }
     }
 
     /// The place after so many bytes of the text.
-    pub(crate) fn place(&mut self, count: usize) -> Place
+    pub fn place(&mut self, count: usize) -> Place
         ensures place { result ≡ place_of self.old count }
         ensures text { self.new ≡ self.old }
     {
         let count = count.min(self.text.len());
-        let (start, front) = self.known(count);
-        self.place = place_after(&self.text[start..count], front, start);
+        let (start, known) = self.known(count);
+        self.place = place_after(&self.text[start..count], known, start);
         self.count = count;
         self.place
     }
@@ -60,24 +79,21 @@ impl<'t> Pointer<'t> {
         if self.count <= count {
             (self.count, self.place)
         } else {
-            (0, FRONT)
+            (0, START)
         }
     }
 }
 
-/// The front of a text.
-const FRONT: Place = Place { line: 1, column: 1 };
-
-/// The place after these bytes, where so many others are before them.
-fn place_after(bytes: &[u8], front: Place, count: usize) -> Place
+/// The place after these bytes, if so many others and this place are before them.
+fn place_after(bytes: &[u8], first: Place, count: usize) -> Place
     requires few { count + length bytes.now ≤ usize.MAX - 2 }
-    requires bound { front.line + front.column ≤ count + 2 }
-    requires least { 1 ≤ front.column }
-    ensures place { result ≡ after_bytes front bytes.now }
+    requires bound { first.line + first.column ≤ count + 2 }
+    requires least { 1 ≤ first.column }
+    ensures place { result ≡ after_bytes first bytes.now }
     ensures bound { result.line + result.column ≤ count + length bytes.now + 2 }
     ensures least { 1 ≤ result.column }
 {
-    let mut place = front;
+    let mut place = first;
     for byte in bytes {
         if *byte == b'\n' {
             place.line += 1;
