@@ -3,6 +3,7 @@ use Rattle.std.proofs.Common.{◌≡◌, ℕ, suc, ◌+◌, List, [], ◌∷◌,
 use Rattle.std.specs.Prelude.{◌≢◌, slice_get, OnOk, Result, Ok, Err}
 use Rattle.std.specs.List.{fold}
 use Rattle.envimg_core.specs.Environment.{Environment}
+use Rattle.hush_syntax.specs.FirstFault.{IsFirstFault}
 use Rattle.hush_syntax.specs.Reading.{read}
 use Rattle.hush_syntax.specs.declared.faults.FaultKind.TheVariants.{Memory}
 use Rattle.hush_syntax.specs.declared.faults.SyntaxFault.{SyntaxFault}
@@ -20,9 +21,11 @@ module _ (env : Option Environment) (stubs : Option Statuses) where
   read-script (Err e) source text old new names more same h = tt
 
   pub read-fault : {E : Type 0} (r : Result (Unit {0}) E) (source text : List ℕ) (fault : SyntaxFault) (old new : Found) (names : List (List ℕ)) → source ≡ text → (fault.kind ≢ Memory → read source ≡ None) →
+      (fault.kind ≢ Memory → IsFirstFault source fault) →
       OnOk r ((fault.kind ≢ Memory) × (new ≡ found_more old (error_at fault.place (fault_sentence fault.kind) ∷ []))) → OnOk r (Reads env stubs text old new names names)
-  read-fault (Ok u) source text fault old new names same unread h = (Faulty fault, (h.0, ap read (sym same) ∙ unread h.0), h.1, refl)
-  read-fault (Err e) source text fault old new names same unread h = tt
+  read-fault (Ok u) source text fault old new names same unread first h =
+      (Faulty fault, (h.0, ap read (sym same) ∙ unread h.0, subst (λ t. IsFirstFault t fault) same (first h.0)), h.1, refl)
+  read-fault (Err e) source text fault old new names same unread first h = tt
 
   pub script-checked : (name text : List ℕ) (report after : Report) (first second third : Found) (names more : List (List ℕ)) → first ≡ record { name = name; text = text; report = report } →
       second ≡ found_more first (return_findings first.text) → Reads env stubs text second third names more → after ≡ third.report → GoesOn env stubs name text report after names more

@@ -4,8 +4,9 @@ use Rattle.std.specs.List.{flat_map}
 use Rattle.clap.specs.Words.{Text}
 use Rattle.env_session.specs.Session.{Held}
 use Rattle.hush_syntax.specs.Grammar.{Chains}
+use Rattle.hush_syntax.specs.FirstFault.{IsFirstFault}
 use Rattle.hush_syntax.specs.Reading.{read}
-use Rattle.hush_syntax.specs.declared.faults.FaultKind.{FaultKind}
+use Rattle.hush_syntax.specs.declared.faults.SyntaxFault.{SyntaxFault}
 use Rattle.hush_commands.specs.Stubs.{Statuses, with_boot}
 use Rattle.hush_run.specs.Runs.{rules}
 use Rattle.fw_engines.specs.ScriptRun.{RunsScript, fault_line}
@@ -39,11 +40,12 @@ name_of_script (Names names) = codes "run"
 name_of_script (Words given) = codes "-e"
 name_of_script (File path) = path
 
--- it is said where a text isn't a script, or that memory ran out
+-- it is said that memory ran out, or where a text isn't a script: at a fault that it has there
 abbrev pub Refuses : (name text : List ℕ) → Option (List ℕ) → Option (List ℕ) → Type 0
 Refuses name text old new =
     AppendsFront old new (message_of Memory)
-    ⊎ ((kind : FaultKind) × (count : ℕ) × (read text ≡ None) × AppendsFront old new (fault_line name text count kind))
+    ⊎ ((fault : SyntaxFault) × (read text ≡ None) × IsFirstFault text fault ×
+    AppendsFront old new (fault_line name text fault.place fault.kind))
 
 -- the copies are written back where that was asked for and the status is 0
 abbrev pub is_kept : Bool → (status : ℕ) → Bool

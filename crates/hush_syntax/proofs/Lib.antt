@@ -3,6 +3,7 @@ pub mod FromMembers
 pub mod Forms
 pub mod Readers
 pub mod EndLemmas
+pub mod Places
 pub mod FindParts
 pub mod Finds
 pub mod SoundParts

@@ -34,6 +34,10 @@ fault_at tokens = first_fault tokens.next
 abbrev pub missing_at : ℕ → SyntaxFault
 missing_at len = record { place = len; kind = fault.Missing }
 
+-- memory was refused
+abbrev pub memory_refused : SyntaxFault
+memory_refused = record { place = 0; kind = fault.Memory }
+
 -- the text ends, and nothing else is wrong
 abbrev pub is_missing : FaultKind → Bool
 is_missing fault.Quote = false

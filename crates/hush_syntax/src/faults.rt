@@ -1,7 +1,6 @@
 //! What can be wrong with a script, and where.
 ghost use Rattle.std.specs.Prelude.{◌≡◌};
-ghost use Rattle.hush_syntax.specs.Faults.{word_fault, is_missing};
-ghost use Rattle.hush_syntax.specs.declared.faults.FaultKind.TheVariants.{Memory};
+ghost use Rattle.hush_syntax.specs.Faults.{word_fault, memory_refused, is_missing};
 
 use std::alloc::{AllocError, AllocFailed};
 use thiserror::Error;
@@ -70,7 +69,7 @@ impl From<hush_words::Fault> for SyntaxFault {
 }
 
 impl From<AllocError> for SyntaxFault {
-    ghost from_gives = { λ _ fault. fault.kind ≡ Memory };
+    ghost from_gives = { λ _ fault. fault ≡ memory_refused };
 
     fn from(_refused: AllocError) -> SyntaxFault {
         SyntaxFault {
@@ -81,7 +80,7 @@ impl From<AllocError> for SyntaxFault {
 }
 
 impl<T: Drop> From<AllocFailed<T>> for SyntaxFault {
-    ghost from_gives = { λ _ fault. fault.kind ≡ Memory };
+    ghost from_gives = { λ _ fault. fault ≡ memory_refused };
 
     fn from(_refused: AllocFailed<T>) -> SyntaxFault {
         SyntaxFault {

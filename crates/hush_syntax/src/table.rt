@@ -37,7 +37,7 @@ pub(crate) struct Builder {
 
 impl Builder {
     ghost use Rattle.hush_words.specs.Parts.{word_atoms};
-    ghost use Rattle.hush_syntax.specs.Answers.{left_in, SameEnd};
+    ghost use Rattle.hush_syntax.specs.Answers.{left_in, SameEnd, IsAt, Keeps};
     ghost use Rattle.hush_syntax.specs.Builders.{Put, Adds, SettlesChains, SettlesLinks, SettlesBranches, Grows, IsEmpty, waiting, add_chains, add_links, add_branches};
     ghost use Rattle.hush_syntax.specs.Stored.{Members, block_of};
     ghost use Rattle.hush_syntax.specs.Reading.{skip, is_word, words_at};
@@ -78,12 +78,14 @@ impl Builder {
         text: &Text,
         tokens: &mut Tokens,
     ) -> Result<Block, SyntaxFault>
+        requires at { IsAt text.now tokens.old }
         ensures words { IfOk result (λ block. (more : Members) → words_in text.now
             (block_of block (self.new.table.words.items ++ more.words)) ≡ words_at (left_in text.now tokens.old)) }
         ensures grows { OnOk result (Grows self.old.table self.new.table) }
         ensures waits { OnOk result (waiting self.new ≡ waiting self.old) }
         ensures left { OnOk result (left_in text.now tokens.new ≡ skip is_word (left_in text.now tokens.old)) }
         ensures whole { OnOk result (SameEnd text.now tokens.old tokens.new) }
+        ensures at { Keeps text.now tokens.new result }
         ensures refused { IfErr result (λ f. f.kind ≡ Memory) }
     {
         let first = count(&self.table.words);
@@ -99,12 +101,14 @@ impl Builder {
         text: &Text,
         tokens: &mut Tokens,
     ) -> Result<Block, SyntaxFault>
+        requires at { IsAt text.now tokens.old }
         ensures words { IfOk result (λ block. (more : Members) → words_in text.now
             (block_of block (self.new.table.words.items ++ more.words)) ≡ word_atoms text.now name ∷ words_at (left_in text.now tokens.old)) }
         ensures grows { OnOk result (Grows self.old.table self.new.table) }
         ensures waits { OnOk result (waiting self.new ≡ waiting self.old) }
         ensures left { OnOk result (left_in text.now tokens.new ≡ skip is_word (left_in text.now tokens.old)) }
         ensures whole { OnOk result (SameEnd text.now tokens.old tokens.new) }
+        ensures at { Keeps text.now tokens.new result }
         ensures refused { IfErr result (λ f. f.kind ≡ Memory) }
     {
         let first = count(&self.table.words);

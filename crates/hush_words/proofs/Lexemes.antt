@@ -102,11 +102,11 @@ ends-59 : ends_word 59 ≡ true
 unfolding ends_word is_blank
 ends-59 = refl
 
-ends-38 : ends_word 38 ≡ true
+pub ends-38 : ends_word 38 ≡ true
 unfolding ends_word is_blank
 ends-38 = refl
 
-ends-124 : ends_word 124 ≡ true
+pub ends-124 : ends_word 124 ≡ true
 unfolding ends_word is_blank
 ends-124 = refl
 

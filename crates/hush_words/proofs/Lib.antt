@@ -13,6 +13,7 @@ pub mod Inners
 pub mod PieceLemmas
 pub mod QuoteLemmas
 pub mod WordLemmas
+pub mod FaultLemmas
 pub mod TextLemmas
 pub mod TokenLemmas
 pub mod WordOpens

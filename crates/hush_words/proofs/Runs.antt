@@ -47,7 +47,7 @@ first-cut test (b ∷ bs) (suc n) before here within =
 pub range-rest : {X : Type 0} (n : ℕ) (xs : List X) → take (length xs - n) (drop n xs) ≡ drop n xs
 range-rest n xs = take_all (length xs - n) (drop n xs) (omega (arith, length-drop n xs))
 
-found-first : (byte : ℕ) (ys : List ℕ) (n : ℕ) → IsFirstByte (is_byte byte) ys (Some n) →
+pub found-first : (byte : ℕ) (ys : List ℕ) (n : ℕ) → IsFirstByte (is_byte byte) ys (Some n) →
     (n < length ys) × (take n ys ≡ front (λ b. not (b == byte)) ys) × (drop n ys ≡ behind (λ b. not (b == byte)) ys)
 found-first byte ys n h =
     let lt : n < length ys = h.0.high in

@@ -3,6 +3,7 @@ pub mod Bytes
 pub mod Words
 pub mod Tokens
 pub mod Reading
+pub mod Faults
 pub mod Parts
 pub mod Ranges
 pub mod Views

@@ -12,6 +12,7 @@ use Rattle.hush_words.specs.Words.Atom.{Plain, Quoted, Mark, Value, Status}
 use Rattle.hush_words.specs.Forms.{is_plain, goes_on, name_from, assignment_from, assignment_of}
 use Rattle.hush_words.specs.Parts.{Written, written, range_bytes, part_atoms}
 use Rattle.hush_words.specs.Views.{kind_token}
+use Rattle.hush_words.specs.Faults.{stop_at, fault_in, left_fault}
 use Rattle.hush_words.specs.Ranges.{Fits, FitsSome}
 use Rattle.hush_words.specs.declared.classes.Class.{Class}
 use Rattle.hush_words.specs.declared.classes.Class.TheVariants as class
@@ -95,11 +96,15 @@ ReadsInner source at (Some r) =
     (inner_left (drop at source) ≡ optional_atoms source r.part ++ inner_left (drop r.end source)) ×
     (inner_end (drop at source) ≡ inner_end (drop r.end source))
 
+-- what is wrong with what stands at a place of a word
+abbrev pub StopsAt : List ℕ → ℕ → Fault → Type 0
+StopsAt source at f = option_map (fault_in source) (stop_at (drop at source)) ≡ Some f
+
 -- one piece, up to where it ends
 abbrev pub ReadsPiece : List ℕ → ℕ → Result ℕ Fault → Type 0
 ReadsPiece source at (Ok end) =
     (at < end) × (end ≤ length source) × (option_map (λ f. f.1) (piece_at (drop at source)) ≡ Some (drop end source))
-ReadsPiece source at (Err f) = piece_at (drop at source) ≡ None
+ReadsPiece source at (Err f) = (piece_at (drop at source) ≡ None) × StopsAt source at f
 
 -- a part between double quotes is one of this source
 abbrev pub FitsInner : List ℕ → Option InnerRead → Type 0
@@ -112,7 +117,7 @@ ReadsPieces source at (Ok (Some end)) =
     (at < end) × (end ≤ length source) × (is_some (piece_at (drop at source)) ≡ true) ×
     (piece_end (drop end source) ≡ piece_end (drop at source))
 ReadsPieces source at (Ok None) = (piece_at (drop at source) ≡ None) × (next ends_word (drop at source) ≡ true)
-ReadsPieces source at (Err f) = (piece_at (drop at source) ≡ None) × (next ends_word (drop at source) ≡ false)
+ReadsPieces source at (Err f) = (piece_at (drop at source) ≡ None) × (next ends_word (drop at source) ≡ false) × StopsAt source at f
 
 -- where pieces end no byte that stands for itself stands
 abbrev pub EndsPlain : List ℕ → Result (Option ℕ) Fault → Type 0
@@ -162,7 +167,7 @@ abbrev pub ReadsLexeme : List ℕ → ℕ → Result LexemeRead Fault → Type 0
 ReadsLexeme source at (Ok r) =
     (at < r.end) × (r.end ≤ length source) ×
     (option_map lexeme_read (lexeme_at (drop at source)) ≡ Some (optional_token (written source) r.kind, drop r.end source))
-ReadsLexeme source at (Err f) = lexeme_at (drop at source) ≡ None
+ReadsLexeme source at (Err f) = (lexeme_at (drop at source) ≡ None) × (left_fault source (drop at source) ≡ Some f)
 
 -- the first atom is another than a plain byte
 abbrev pub begins_otherwise : List Atom → Bool

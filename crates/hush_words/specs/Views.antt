@@ -4,6 +4,7 @@ use Rattle.hush_words.specs.Words.{Atom}
 use Rattle.hush_words.specs.Tokens as tokens
 use Rattle.hush_words.specs.Forms.{name_of}
 use Rattle.hush_words.specs.Reading.{tokens_left, lexeme_end}
+use Rattle.hush_words.specs.Faults.{placed_left, left_fault}
 use Rattle.hush_words.specs.Parts.{Written, word_atoms}
 use Rattle.hush_words.specs.declared.forms.Assignment.{Assignment}
 use Rattle.hush_words.specs.declared.tokens.TokenKind.{TokenKind}
@@ -18,15 +19,20 @@ kind_token text kind.Semicolon = tokens.Token.Semicolon
 kind_token text kind.AndIf = tokens.Token.AndIf
 kind_token text kind.OrIf = tokens.Token.OrIf
 
--- the token behind a place where no word is open, where it ends, and what stands behind it; or none up to the end of the
--- text, or up to a fault
+-- the token behind a place where no word is open, where it begins and ends, and what stands behind it; or none up to the
+-- end of the text, or up to this fault
 abbrev pub NextToken : Written → ℕ → Result (Option TokenRead) Fault → Type 0
-NextToken text at (Ok None) = (tokens_left (drop at text.source) ≡ []) × (lexeme_end (drop at text.source) ≡ [])
+NextToken text at (Ok None) =
+    (tokens_left (drop at text.source) ≡ []) × (lexeme_end (drop at text.source) ≡ []) × (placed_left at (drop at text.source) ≡ [])
 NextToken text at (Ok (Some read)) =
     (tokens_left (drop at text.source) ≡ kind_token text read.token.kind ∷ tokens_left (drop read.end text.source)) ×
     (lexeme_end (drop at text.source) ≡ lexeme_end (drop read.end text.source)) ×
-    (at < read.end) × (read.end ≤ length text.source)
-NextToken text at (Err fault) = (tokens_left (drop at text.source) ≡ []) × (lexeme_end (drop at text.source) ≡ [] → ⊥)
+    (at < read.end) × (read.end ≤ length text.source) ×
+    (placed_left at (drop at text.source) ≡
+    (read.token.place, kind_token text read.token.kind) ∷ placed_left read.end (drop read.end text.source))
+NextToken text at (Err fault) =
+    (tokens_left (drop at text.source) ≡ []) × (lexeme_end (drop at text.source) ≡ [] → ⊥) ×
+    (placed_left at (drop at text.source) ≡ []) × (left_fault text.source (lexeme_end (drop at text.source)) ≡ Some fault)
 
 -- the name and the value that an assignment's words stand for
 abbrev pub assignment_view : Written → Assignment → Option (List ℕ) × List Atom

@@ -1,8 +1,9 @@
 //! The tokens of a text (docs/scripts.md, "Words"), read one by one.
 
-ghost use Rattle.std.specs.Prelude.{◌≡◌, ◌≤◌, length, not, is_some, true, ◌==◌, ◌||◌};
+ghost use Rattle.std.specs.Prelude.{◌≡◌, ◌≤◌, length, not, is_some, true, ◌==◌, ◌||◌, IfSome};
 ghost use Rattle.hush_words.specs.Bytes.{ampersand, vertical_bar};
 ghost use Rattle.hush_words.specs.Tokens.{has_no_nul};
+ghost use Rattle.hush_words.specs.Faults.{first_nul};
 ghost use Rattle.hush_words.specs.Parts.{written};
 ghost use Rattle.hush_words.specs.Views.{NextToken};
 ghost use Rattle.hush_words.specs.Ranges.{IsShort};
@@ -17,7 +18,8 @@ use memchr::memchr;
 impl Text {
     /// The first byte 0, which is a fault of the whole text: it is looked for before any token is read.
     pub fn nul(&self) -> Option<Fault>
-        ensures { has_no_nul self.now.source ≡ not (is_some result) }
+        ensures found { has_no_nul self.now.source ≡ not (is_some result) }
+        ensures first { IfSome result (λ fault. fault ≡ first_nul self.now.source) }
     {
         match memchr(0, self.source()) {
             Some(place) => Some(Fault {

@@ -12,7 +12,7 @@ use crate::stored::{Block, Stored};
 use crate::table::Builder;
 
 impl<'s> Parser<'s> {
-    ghost use Rattle.hush_syntax.specs.Answers.{branch, otherwise, SameEnd};
+    ghost use Rattle.hush_syntax.specs.Answers.{branch, otherwise, SameEnd, IsAt, HasFaultOf, Keeps};
     ghost use Rattle.hush_syntax.specs.Grammar.{Chains, Command};
     ghost use Rattle.hush_syntax.specs.Reading.{command, compound, loop_parts};
     ghost use Rattle.hush_syntax.specs.Builders.{Parses, CommandAt, BranchAt, OtherwiseAt, LoopAt};
@@ -28,8 +28,11 @@ impl<'s> Parser<'s> {
         fault: SyntaxFault,
         room: u32,
     ) -> Result<NodeId, SyntaxFault>
+        requires at { IsAt self.text.now tokens.old }
+        requires fault { HasFaultOf self.text.now fault }
         ensures built { Parses CommandAt self.entry.text.now (compound (command room) keyword) builder.old builder.new tokens.old tokens.new result }
         ensures whole { OnOk result (SameEnd self.entry.text.now tokens.old tokens.new) }
+        ensures at { Keeps self.entry.text.now tokens.new result }
     {
         match keyword {
             Keyword::If => self.branches(tokens, builder, room),
@@ -61,9 +64,11 @@ impl<'s> Parser<'s> {
         builder: &mut Builder,
         room: u32,
     ) -> Result<(NodeId, NodeId), SyntaxFault>
+        requires at { IsAt self.text.now tokens.old }
         ensures built { (form : Chains → Chains → Command) → Parses (LoopAt form) self.entry.text.now
             (loop_parts (command room) form) builder.old builder.new tokens.old tokens.new result }
         ensures whole { OnOk result (SameEnd self.entry.text.now tokens.old tokens.new) }
+        ensures at { Keeps self.entry.text.now tokens.new result }
     {
         let condition = self.list(tokens, builder, room)?;
         tokens.expect(self.text, Keyword::Do.text())?;
@@ -80,8 +85,10 @@ impl<'s> Parser<'s> {
         builder: &mut Builder,
         room: u32,
     ) -> Result<NodeId, SyntaxFault>
+        requires at { IsAt self.text.now tokens.old }
         ensures built { Parses CommandAt self.entry.text.now (compound (command room) Keyword.For) builder.old builder.new tokens.old tokens.new result }
         ensures whole { OnOk result (SameEnd self.entry.text.now tokens.old tokens.new) }
+        ensures at { Keeps self.entry.text.now tokens.new result }
     {
         let name = tokens.name(self.text)?;
         tokens.expect(self.text, b"in")?;
@@ -102,8 +109,10 @@ impl<'s> Parser<'s> {
         builder: &mut Builder,
         room: u32,
     ) -> Result<NodeId, SyntaxFault>
+        requires at { IsAt self.text.now tokens.old }
         ensures built { Parses CommandAt self.entry.text.now (compound (command room) Keyword.If) builder.old builder.new tokens.old tokens.new result }
         ensures whole { OnOk result (SameEnd self.entry.text.now tokens.old tokens.new) }
+        ensures at { Keeps self.entry.text.now tokens.new result }
     {
         let mark = builder.waiting_branches();
         let first = self.branch(tokens, builder, room)?;
@@ -127,8 +136,10 @@ impl<'s> Parser<'s> {
         builder: &mut Builder,
         room: u32,
     ) -> Result<Branch, SyntaxFault>
+        requires at { IsAt self.text.now tokens.old }
         ensures built { Parses BranchAt self.entry.text.now (branch (command room)) builder.old builder.new tokens.old tokens.new result }
         ensures whole { OnOk result (SameEnd self.entry.text.now tokens.old tokens.new) }
+        ensures at { Keeps self.entry.text.now tokens.new result }
     {
         let condition = self.list(tokens, builder, room)?;
         tokens.expect(self.text, Keyword::Then.text())?;
@@ -144,8 +155,10 @@ impl<'s> Parser<'s> {
         builder: &mut Builder,
         room: u32,
     ) -> Result<Option<NodeId>, SyntaxFault>
+        requires at { IsAt self.text.now tokens.old }
         ensures built { Parses OtherwiseAt self.entry.text.now (otherwise (command room)) builder.old builder.new tokens.old tokens.new result }
         ensures whole { OnOk result (SameEnd self.entry.text.now tokens.old tokens.new) }
+        ensures at { Keeps self.entry.text.now tokens.new result }
     {
         if !tokens.at(self.text, Keyword::Else.text()) {
             tokens.expect(self.text, Keyword::Fi.text())?;

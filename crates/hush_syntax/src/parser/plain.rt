@@ -18,7 +18,7 @@ use hush_words::{Assignment, Word};
 impl<'s> Parser<'s> {
     ghost use Rattle.hush_words.specs.Forms.{assignment_of};
     ghost use Rattle.hush_words.specs.Parts.{word_atoms};
-    ghost use Rattle.hush_syntax.specs.Answers.{assigned_of, assignment_before, SameEnd};
+    ghost use Rattle.hush_syntax.specs.Answers.{assigned_of, assignment_before, SameEnd, IsAt, IsAfterAssignment, Keeps};
     ghost use Rattle.hush_syntax.specs.Reading.{plain};
     ghost use Rattle.hush_syntax.specs.Builders.{Parses, CommandAt};
 
@@ -28,8 +28,10 @@ impl<'s> Parser<'s> {
         tokens: &mut Tokens,
         builder: &mut Builder,
     ) -> Result<NodeId, SyntaxFault>
+        requires at { IsAt self.text.now tokens.old }
         ensures built { Parses CommandAt self.entry.text.now plain builder.old builder.new tokens.old tokens.new result }
         ensures whole { OnOk result (SameEnd self.entry.text.now tokens.old tokens.new) }
+        ensures at { Keeps self.entry.text.now tokens.new result }
     {
         let fault = tokens.fault();
         let Some(first) = tokens.first_word() else {
@@ -62,9 +64,11 @@ impl<'s> Parser<'s> {
         builder: &mut Builder,
         assignment: Assignment,
     ) -> Result<NodeId, SyntaxFault>
+        requires after { IsAfterAssignment self.text.now tokens.old }
         ensures built { Parses CommandAt self.entry.text.now (assignment_before (assigned_of self.entry.text.now assignment))
             builder.old builder.new tokens.old tokens.new result }
         ensures whole { OnOk result (SameEnd self.entry.text.now tokens.old tokens.new) }
+        ensures at { Keeps self.entry.text.now tokens.new result }
     {
         no_word(tokens)?;
         let Assignment { name, value } = assignment;

@@ -1,6 +1,7 @@
 use Rattle.std.proofs.Common.{arith, refl, sym, ◌∙◌}
 use Rattle.hush_words.proofs.DollarLemmas.{begins-here}
 use Rattle.hush_words.proofs.QuoteLemmas.{double-closes, double-open}
+use Rattle.hush_words.proofs.FaultLemmas.{double-dollar, double-unclosed}
 use Rattle.hush_words.proofs.quotes.double.Goals as goal
 
 pub returns-then-stands_at : goal.returns-then-stands_at
@@ -14,11 +15,11 @@ returns-then-stands_at c =
 
 pub returns-then-at-source : goal.returns-then-at-source
 returns-then-at-source c =
-    double-open c.args.source.now c.args.place c.loop-read.at c.requires.here c.in_default.ensures.reads (sym c.stands_at.ensures ∙ c.if-stands_at.false) c.loop-read.invariant.2
+    (double-open c.args.source.now c.args.place c.loop-read.at c.requires.here c.in_default.ensures.reads (sym c.stands_at.ensures ∙ c.if-stands_at.false) c.loop-read.invariant.2, double-dollar c.args.source.now c.args.place c.loop-read.at c.requires.here c.in_default.ensures.reads c.loop-read.invariant.2 c.if-at-source.true)
 
 pub returns-else-at-source : goal.returns-else-at-source
 returns-else-at-source c =
-    double-open c.args.source.now c.args.place c.loop-read.at c.requires.here c.in_default.ensures.reads (sym c.stands_at.ensures ∙ c.if-stands_at.false) c.loop-read.invariant.2
+    (double-open c.args.source.now c.args.place c.loop-read.at c.requires.here c.in_default.ensures.reads (sym c.stands_at.ensures ∙ c.if-stands_at.false) c.loop-read.invariant.2, double-unclosed c.args.source.now c.args.place c.loop-read.at c.requires.here c.in_default.ensures.reads c.loop-read.invariant.2 c.if-at-source.false)
 
 pub loop-read-init : goal.loop-read-init
 loop-read-init c = (omega arith, omega (arith, c.requires.here.0), refl)

@@ -3,12 +3,13 @@ use Rattle.hush_words.specs.Parts.{written}
 use Rattle.hush_words.specs.Views.{kind_token}
 use Rattle.hush_words.proofs.DollarLemmas.{begins-here}
 use Rattle.hush_words.proofs.TextLemmas.{operator-single, and-read, or-read}
+use Rattle.hush_words.proofs.FaultLemmas.{operator-fault}
 use Rattle.hush_words.proofs.reading.operator.Goals as goal
 use Rattle.hush_words.proofs.reading.operator.Goals.{then-first-eq38, else-first-eq38}
 
 pub returns-then-not-stands_at : goal.returns-then-not-stands_at
 returns-then-not-stands_at c =
-    operator-single c.args.source.now c.args.at c.args.first c.requires.here c.requires.operator (sym c.stands_at.ensures ∙ c.if-not-stands_at.true)
+    (operator-single c.args.source.now c.args.at c.args.first c.requires.here c.requires.operator (sym c.stands_at.ensures ∙ c.if-not-stands_at.true), operator-fault c.args.source.now c.args.at c.args.first c.requires.here c.requires.operator)
 
 pub returns : goal.returns
 returns c =

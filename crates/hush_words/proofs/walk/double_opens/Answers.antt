@@ -14,4 +14,4 @@ returns-in-Ok c =
     (omega arith, omega (arith, c.requires.here.0), opens.0, tt, opens.1)
 
 pub returns-in-Err : goal.returns-in-Err
-returns-in-Err c = (piece-none (drop c.args.at c.args.source.now) c.in-Err.ensures).0
+returns-in-Err c = (piece-none (drop c.args.at c.args.source.now) c.in-Err.ensures.0).0

@@ -1,5 +1,6 @@
 use Rattle.std.proofs.Common.{arith}
 use Rattle.hush_words.proofs.WordLemmas.{read-dollar-piece, no-dollar-piece}
+use Rattle.hush_words.proofs.FaultLemmas.{dollar-stops}
 use Rattle.hush_words.proofs.words.dollar_piece.Goals as goal
 
 pub returns-in-Some : goal.returns-in-Some
@@ -10,4 +11,4 @@ returns-in-Some c = (
 )
 
 pub returns-in-None : goal.returns-in-None
-returns-in-None c = no-dollar-piece c.args.source.now c.args.at c.requires.here c.in-None.ensures.reads
+returns-in-None c = (no-dollar-piece c.args.source.now c.args.at c.requires.here c.in-None.ensures.reads, dollar-stops c.args.source.now c.args.at c.requires.here)

@@ -5,6 +5,7 @@ use Rattle.hush_words.specs.Parts.{range_bytes}
 use Rattle.hush_words.proofs.PieceLemmas.{piece-none}
 use Rattle.hush_words.proofs.WordLemmas.{word-read, plain-read}
 use Rattle.hush_words.proofs.WordOpens.{word-token, no-word-token}
+use Rattle.hush_words.proofs.FaultLemmas.{word-fault}
 use Rattle.hush_words.proofs.words.word.Goals as goal
 
 pub loop-end-init : goal.loop-end-init
@@ -34,8 +35,11 @@ returns-in_err-end c =
     let source = c.args.source.now in
     let same : c.from_residual.result ≡ Err c.in_err-end.field-0.0 = search rules in
     let r = c.in_err-end.ensures.reads in
-    rw same (no-word-token source c.args.start c.args.first c.requires.here c.requires.inside c.requires.no_comment c.requires.no_line
-    (ap (next ends_word) (sym c.loop-end.invariant.ends ∙ (piece-none (drop c.loop-end.at source) r.0).1) ∙ r.1))
+    rw same (
+      no-word-token source c.args.start c.args.first c.requires.here c.requires.inside c.requires.no_comment c.requires.no_line
+          (ap (next ends_word) (sym c.loop-end.invariant.ends ∙ (piece-none (drop c.loop-end.at source) r.0).1) ∙ r.1),
+      word-fault source c.args.start c.loop-end.at c.in_err-end.field-0.0 r.0 c.loop-end.invariant.ends r.2,
+    )
 
 pub returns : goal.returns
 returns c =

@@ -1,8 +1,10 @@
-use Rattle.std.proofs.Common.{sym, ◌∙◌, ap, length, ◌==◌}
-use Rattle.hush_syntax.specs.Answers.{ends_whole}
+use Rattle.std.proofs.Common.{sym, ◌∙◌, ap, subst, refl, length, ◌==◌}
+use Rattle.hush_words.specs.Faults.{left_fault}
+use Rattle.hush_syntax.specs.Answers.{ends_whole, placed_in, EndsRight, HasFaultOf}
 use Rattle.hush_syntax.specs.Faults.{is_missing}
 use Rattle.hush_syntax.specs.declared.faults.SyntaxFault.{SyntaxFault}
 use Rattle.hush_syntax.proofs.EndLemmas.{not-missing, some-left}
+use Rattle.hush_syntax.proofs.Places.{word-stops}
 use Rattle.hush_syntax.proofs.cursor.Tokens.read_next.Goals as goal
 
 pub returns-in-Ok-Some-clause-whole : goal.returns-in-Ok-Some-clause-whole
@@ -21,3 +23,38 @@ pub returns-in-Err-clause-whole : goal.returns-in-Err-clause-whole
 unfolding ends_whole
 returns-in-Err-clause-whole c =
     ap (λ (f : SyntaxFault). is_missing f.kind) c.from.ensures ∙ not-missing c.in-Err.fault.kind ∙ sym (some-left _ c.in-Err.ensures.1)
+
+pub returns-in-Ok-Some-clause-placed : goal.returns-in-Ok-Some-clause-placed
+unfolding placed_in
+returns-in-Ok-Some-clause-placed c =
+    let read = rw c.in-Ok-Some.field-0-is at c.in-Ok-Some.ensures in
+    sym read.4
+
+pub returns-in-Ok-Some-clause-ends : goal.returns-in-Ok-Some-clause-ends
+unfolding EndsRight
+returns-in-Ok-Some-clause-ends c = λ e.
+    let read = rw c.in-Ok-Some.field-0-is at c.in-Ok-Some.ensures in
+    sym read.1 ∙ e
+
+pub returns-in-Ok-None-clause-placed : goal.returns-in-Ok-None-clause-placed
+unfolding placed_in
+returns-in-Ok-None-clause-placed c =
+    let read = rw c.in-Ok-None.field-0-is at c.in-Ok-None.ensures in
+    sym read.2
+
+pub returns-in-Ok-None-clause-ends : goal.returns-in-Ok-None-clause-ends
+unfolding EndsRight
+returns-in-Ok-None-clause-ends c = λ e.
+    let read = rw c.in-Ok-None.field-0-is at c.in-Ok-None.ensures in
+    subst (HasFaultOf c.args.text.now) (sym c.missing.ensures) (sym e ∙ read.1, refl)
+
+pub returns-in-Err-clause-placed : goal.returns-in-Err-clause-placed
+unfolding placed_in
+returns-in-Err-clause-placed c = sym c.in-Err.ensures.2
+
+pub returns-in-Err-clause-ends : goal.returns-in-Err-clause-ends
+unfolding EndsRight
+returns-in-Err-clause-ends c = λ e.
+    let source = c.args.text.now.source in
+    subst (HasFaultOf c.args.text.now) (sym c.from.ensures)
+    (word-stops source c.in-Err.fault.kind c.in-Err.fault.place (ap (left_fault source) (sym e) ∙ c.in-Err.ensures.3))
