@@ -1,7 +1,6 @@
 -- The status of a check.
-use Rattle.std.proofs.Common.{◌≡◌, ◌≤◌, ◌++◌, ◌∙◌, ℕ, Bool, true, false, List, Option, Some, None, ap, codes, inl, inr, sym, arith}
-use Rattle.std.specs.Prelude.{MatchOption, Ok, Err, if◌then◌else◌}
-use Rattle.clap.specs.Words.{Row, first_of}
+use Rattle.std.proofs.Common.{◌≡◌, ◌≤◌, ◌++◌, ℕ, Bool, true, false, List, Option, Some, None, inl, inr, arith}
+use Rattle.std.specs.Prelude.{MatchOption, if◌then◌else◌}
 use Rattle.std.specs.Io.KnownBytes.{Appends}
 use Rattle.env_session.specs.Session.{Held}
 use Rattle.hush_commands.specs.Stubs.{Statuses}
@@ -13,7 +12,8 @@ use Rattle.fw_engines.specs.Tool.{PrintsText}
 use Rattle.fw_engines.specs.declared.tool_end.StreamFault.{StreamFault}
 use Rattle.fw_engines.specs.declared.tool_end.StreamFault.TheVariants.{Write}
 use Rattle.fw_engines.specs.declared.tool_end.ToolEnd.{ToolEnd}
-use Rattle.fw_tools.specs.Checks.{ChecksFile, ChecksOver, EnvironmentCheck, FileCheck, file_alone, file_check_of, names_environment}
+use Rattle.fw_arguments.specs.Checks.{EnvironmentCheck, FileCheck}
+use Rattle.fw_tools.specs.CheckRuns.{ChecksFile, ChecksOver}
 
 -- 1 where there is an error, else 0
 flag_small : (failed : Bool) → (if failed then 1 else 0) ≤ 1
@@ -50,8 +50,3 @@ pub file_check_small : (check : FileCheck) (old new : Writers) (status : ℕ) �
 file_check_small check old new status (inl stopped) = omega (arith, stopped.1)
 file_check_small check old new status (inr (stand_ins, text, end, given, checks, ends)) =
     omega (arith, ends.1, file_checks_small stand_ins check.path text old.output new.output end checks)
-
--- a check that names an environment as well
-pub refused_file : (rows : List Row) (path text : List ℕ) → text ≡ file_alone → names_environment rows ≡ true → Err text ≡ file_check_of path rows
-refused_file rows path text is named =
-    ap Err is ∙ ap (λ (b : Bool). if b then Err file_alone else Ok (let c : FileCheck = record { stand_ins = first_of (codes "stubs") rows; path = path } in c)) (sym named)

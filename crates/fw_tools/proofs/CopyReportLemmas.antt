@@ -19,7 +19,7 @@ use Rattle.fw_engines.specs.declared.tool_end.ToolEnd.{ToolEnd}
 use Rattle.fw_engines.specs.declared.tool_end.StreamFault.{StreamFault}
 use Rattle.fw_engines.specs.declared.tool_end.StreamFault.TheVariants.{Write}
 use Rattle.fw_tools.specs.CopyReport.{IsSurveyBy, IsSurveyIn, IsSurveyOf, PrintsReport, ReportsOn, ReportsSubject, device_in, device_named}
-use Rattle.fw_tools.specs.Report.{Copies, File, Report, Subject}
+use Rattle.fw_arguments.specs.Report.{Copies, File, Report, Subject}
 use Rattle.fw_tools.specs.Source.{IsSourceOf}
 use Rattle.fw_tools.specs.declared.copies.ReadCopy.{ReadCopy}
 use Rattle.fw_tools.specs.declared.source.Source.{Source}

@@ -6,7 +6,7 @@ use Rattle.std.specs.Result.{result_ok}
 use Rattle.env_session.specs.Session.{Held}
 use Rattle.hush_commands.specs.Stubs.{Statuses, stand_ins_of}
 use Rattle.fw_session.specs.declared.session_end.SessionEnding.{SessionEnding}
-use Rattle.fw_tools.specs.DryRuns.{DryRun}
+use Rattle.fw_arguments.specs.DryRuns.{DryRun}
 use Rattle.fw_tools.specs.Said.{SaysSome}
 use Rattle.fw_tools.specs.SessionRun.{ClosesDryRun, Reports, AreStubsOf, TriesOver, TriesWith, text_for}
 use Rattle.fw_engines.specs.Streams.{AppendsFront, Streams}

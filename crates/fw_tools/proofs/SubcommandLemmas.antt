@@ -10,17 +10,17 @@ use Rattle.envimg_core.specs.declared.geometry.Order.{Order}
 use Rattle.fw_tools.specs.Said.{SaysSome}
 use Rattle.envvars_core.specs.declared.refusals.Refusal.{Refusal}
 use Rattle.fw_tools.specs.Subcommands.{Acts, AreCopiesIn, Closes, DoesJob, IsAccepted, IsOpening, OpensOver, Scene, Uses, UsesTool, printed_so}
-use Rattle.fw_tools.specs.Calls.{Call, Checks, Defaults, Job, Runs, Task, Tool, Tries}
+use Rattle.fw_arguments.specs.Calls.{Call, Checks, Defaults, Job, Runs, Task, Tool, Tries}
 use Rattle.fw_tools.proofs.CheckLemmas.{check_small}
-use Rattle.fw_tools.specs.DryRuns.{ScriptRun}
+use Rattle.fw_arguments.specs.DryRuns.{ScriptRun}
 use Rattle.fw_tools.specs.ScriptRuns as ScriptRuns
 use Rattle.fw_tools.specs.ScriptRuns.{ClosesRun, RunsOver}
 use Rattle.fw_engines.specs.ScriptRun.{ended_so, is_well, outcome_texts, run_texts}
 use Rattle.hush_run.specs.declared.ending.Ending.{Ending}
 use Rattle.fw_tools.specs.Source.{IsFound, second_bytes}
 use Rattle.fw_tools.specs.declared.source.Source.{Source}
-use Rattle.fw_tools.specs.declared.task.Printing.{Printing}
-use Rattle.fw_tools.specs.declared.task.Printing.TheVariants.{Lines, OneValue, Values}
+use Rattle.fw_arguments.specs.declared.task.Printing.{Printing}
+use Rattle.fw_arguments.specs.declared.task.Printing.TheVariants.{Lines, OneValue, Values}
 use Rattle.fw_engines.specs.TextForm.{export_texts, status_for}
 use Rattle.fw_engines.specs.VariableLines.{complaint, named, one_name, printed, status_of}
 use Rattle.fw_engines.specs.Changes.{Changing, Effect, Ends, count_status, script_effect, unless_refused}

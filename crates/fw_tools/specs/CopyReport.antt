@@ -11,7 +11,7 @@ use Rattle.fw_engines.specs.Streams.{Writers}
 use Rattle.fw_engines.specs.declared.copy_status.FoundCopy.{FoundCopy}
 use Rattle.fw_engines.specs.declared.copy_status.Survey.{Survey}
 use Rattle.fw_engines.specs.declared.tool_end.ToolEnd.{ToolEnd}
-use Rattle.fw_tools.specs.Report.{Copies, File, Report, Subject}
+use Rattle.fw_arguments.specs.Report.{Copies, File, Report, Subject}
 use Rattle.fw_tools.specs.Said.{Says, Stops}
 use Rattle.fw_tools.specs.declared.copies.ReadCopy.{ReadCopy}
 use Rattle.fw_tools.specs.declared.source.Source.{Source}

@@ -10,11 +10,11 @@ use Rattle.envimg_core.specs.declared.geometry.Order.{Order}
 use Rattle.fw_engines.specs.Shown.{Shows}
 use Rattle.fw_engines.specs.Streams.{AppendsFront, AppendsPart, Streams, Writers, writers_of}
 use Rattle.fw_tools.specs.Subcommands.{Called}
-use Rattle.fw_tools.specs.Report.{asked_of}
+use Rattle.fw_arguments.specs.Report.{asked_of}
 use Rattle.fw_tools.specs.Said.{Says, message_of}
-use Rattle.fw_tools.specs.ProgramNames.{called_by, faults, order_of}
-use Rattle.fw_tools.specs.declared.program_name.ProgramName.{ProgramName}
-use Rattle.fw_tools.specs.declared.program_name.ProgramName.TheVariants.{Fwenv}
+use Rattle.fw_arguments.specs.ProgramNames.{called_by, faults, order_of}
+use Rattle.fw_arguments.specs.declared.program_name.ProgramName.{ProgramName}
+use Rattle.fw_arguments.specs.declared.program_name.ProgramName.TheVariants.{Fwenv}
 use Rattle.fw_engines.specs.declared.tool_end.ToolEnd.{ToolEnd}
 use Rattle.fw_engines.specs.declared.tool_end.StreamFault.TheVariants.{Write, Memory}
 

@@ -3,10 +3,10 @@ use Rattle.std.specs.Prelude.{ℕ, ◌||◌, nat_le, Bool, true, false, List, []
 use Rattle.std.specs.List.{list_any}
 use Rattle.std.specs.Str.{bytes_eq}
 use Rattle.clap.specs.Words.{Text}
-use Rattle.fw_tools.specs.ProgramNames.{name_in}
-use Rattle.fw_tools.specs.declared.program_name.ProgramName.{ProgramName}
-use Rattle.fw_tools.specs.declared.program_name.ProgramName.TheVariants.{FwenvWith, Fwenv}
-use Rattle.fw_tools.specs.declared.program_name.Subcommand.TheVariants.{Session}
+use Rattle.fw_arguments.specs.ProgramNames.{name_in}
+use Rattle.fw_arguments.specs.declared.program_name.ProgramName.{ProgramName}
+use Rattle.fw_arguments.specs.declared.program_name.ProgramName.TheVariants.{FwenvWith, Fwenv}
+use Rattle.fw_arguments.specs.declared.program_name.Subcommand.TheVariants.{Session}
 
 abbrev pub image_awaited : List ℕ
 image_awaited =

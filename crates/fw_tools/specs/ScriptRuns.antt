@@ -13,7 +13,7 @@ use Rattle.fw_engines.specs.ScriptRun.{RunsScript, fault_line}
 use Rattle.fw_engines.specs.Streams.{AppendsFront, Writers}
 use Rattle.fw_engines.specs.declared.tool_end.ToolEnd.{ToolEnd}
 use Rattle.fw_engines.specs.declared.tool_end.StreamFault.TheVariants.{Memory}
-use Rattle.fw_tools.specs.DryRuns.{GivenScript, Names, Words, File, ScriptRun}
+use Rattle.fw_arguments.specs.DryRuns.{GivenScript, Names, Words, File, ScriptRun}
 use Rattle.fw_tools.specs.Said.{Says, SaysSome, Stops, message_of}
 use Rattle.fw_tools.specs.SessionRun.{AreStubsOf}
 

@@ -10,7 +10,7 @@ use Rattle.fw_session.specs.Turns.{NamedSession}
 use Rattle.fw_session.specs.NamedSessions.{unnamed}
 use Rattle.fw_session.specs.declared.session_end.SessionEnding.{SessionEnding}
 use Rattle.fw_session.specs.declared.session_end.SessionEnding.TheVariants as ending
-use Rattle.fw_tools.specs.DryRuns.{DryRun}
+use Rattle.fw_arguments.specs.DryRuns.{DryRun}
 use Rattle.fw_tools.specs.Said.{SaysSome, Stops, message_of}
 use Rattle.fw_engines.specs.Streams.{AppendsFront, Streams, writers_of}
 use Rattle.fw_engines.specs.declared.tool_end.StreamFault.TheVariants.{Read, Write, Memory}

@@ -13,7 +13,7 @@ use Rattle.envimg_core.specs.declared.state.CopyState.TheVariants.{Unterminated}
 use Rattle.envimg_core.specs.declared.choice.Choice.TheVariants.{First, Second, Neither}
 use Rattle.envcfg_core.specs.declared.config.Config.{Config}
 use Rattle.envimg_core.specs.declared.geometry.Order.{Order}
-use Rattle.fw_tools.specs.Calls.{Defaults}
+use Rattle.fw_arguments.specs.Calls.{Defaults}
 use Rattle.fw_tools.specs.declared.copies.ReadCopy.{ReadCopy}
 use Rattle.fw_tools.specs.declared.source.Source.{Source}
 

@@ -1,5 +1,5 @@
 -- What a subcommand does over a session, and what it prints (docs/tools.md, "Subcommands over files").
-use Rattle.std.specs.Prelude.{◌≡◌, ◌⊎◌, ℕ, ◌==◌, ◌&&◌, Bool, true, false, List, replicate, Option, Some, None, Result, Ok, Err}
+use Rattle.std.specs.Prelude.{◌≡◌, ◌⊎◌, ℕ, ◌==◌, ◌&&◌, Bool, true, false, if◌then◌else◌, List, replicate, Option, Some, None, Result, Ok, Err}
 use Rattle.env_session.specs.Session.{Held, opened}
 use Rattle.envimg_core.specs.Geometry.{Shape, room_of}
 use Rattle.envimg_core.specs.Pieces.{Entry}
@@ -11,18 +11,20 @@ use Rattle.envcfg_core.specs.Entries as text_entries
 use Rattle.envcfg_core.specs.Import.{import_of}
 use Rattle.envvars_core.specs.Variables.{Contents}
 use Rattle.clap.specs.Words.{Text}
-use Rattle.fw_tools.specs.Calls.{Call, Checks, Defaults, Job, Tool, Tries, Runs, Task}
-use Rattle.fw_tools.specs.Checks.{ChecksFile, ChecksOver}
+use Rattle.fw_arguments.specs.Calls.{Call, Checks, Defaults, Job, Tool, Tries, Runs, Task, writes}
+use Rattle.fw_tools.specs.CheckRuns.{ChecksFile, ChecksOver}
 use Rattle.fw_tools.specs.CopyReport.{ReportsOn}
-use Rattle.fw_tools.specs.Report.{Asked, Check, Look, Work}
+use Rattle.fw_arguments.specs.Report.{Asked, Check, Look, Work}
 use Rattle.fw_tools.specs.Source.{AreDefaultsOf, IsFound, lacks_copy, second_bytes, warned}
 use Rattle.fw_tools.specs.Said.{Says, SaysSome, Stops}
 use Rattle.fw_engines.specs.TextForm.{export_texts}
 use Rattle.fw_engines.specs.VariableLines.{named, printed}
 use Rattle.envimg_core.specs.Environment.{Environment}
 use Rattle.fw_tools.specs.declared.source.Source.{Source}
-use Rattle.fw_tools.specs.declared.task.Printing.{Printing}
-use Rattle.fw_tools.specs.declared.task.Printing.TheVariants.{Lines, OneValue, Values}
+use Rattle.fw_tools.specs.declared.system.Hold.{Hold}
+use Rattle.fw_tools.specs.declared.system.Hold.TheVariants.{Alone, Shared}
+use Rattle.fw_arguments.specs.declared.task.Printing.{Printing}
+use Rattle.fw_arguments.specs.declared.task.Printing.TheVariants.{Lines, OneValue, Values}
 use Rattle.fw_engines.specs.Changes.{Changes, Changing, Effect, LacksMemory, LacksMemoryToImport, LacksMemoryToSet, import_effect, script_effect, set_effect}
 use Rattle.fw_engines.specs.Restoration.{LacksMemoryToRestore, restore_effect}
 use Rattle.text_parts.specs.Words.{spaced}
@@ -67,6 +69,10 @@ Acts (Task.SetScript path) old new end = (entries : List Entry) × ChangesAll ol
 Acts (Task.Import path) old new end = (entries : List Entry) × ChangesAll old new (import_effect old.session entries) (LacksMemoryToImport old.session entries) end
 Acts Task.Export old new end = PrintsAll old new (export_texts old.session.now.env) end
 Acts (Task.Restore path) old new end = (text : List ℕ) × (entries : List text_entries.Entry) × RestoresFrom old new text entries end
+
+-- a job that writes the copies back holds their device alone, also while it reads them
+abbrev pub hold_for : Job → Hold
+hold_for job = if writes job then Alone else Shared
 
 -- what stopped a tool is said, if anything did; or some text, which may be empty, of a file that can't be written
 abbrev pub Closes : ToolEnd → Option (List ℕ) → Option (List ℕ) → ℕ → Type 0

@@ -1,15 +1,15 @@
 //! `check`: the scripts of an environment, or that of a file, are looked at before anything runs.
 ghost use Rattle.std.specs.Prelude.{◌≤◌, MatchOption, ◌≡◌, IfOk, option_map, unwrap_or};
-ghost use Rattle.fw_tools.specs.Checks.{AreStandInsGiven, ChecksFile, ChecksOver, environment_check_view, file_check_view};
+ghost use Rattle.fw_arguments.specs.Checks.{environment_check_view, file_check_view};
+ghost use Rattle.fw_tools.specs.CheckRuns.{AreStandInsGiven, ChecksFile, ChecksOver};
 ghost use Rattle.fw_tools.specs.Said.{SaysSome};
 
-use crate::checks::{EnvironmentCheck, FileCheck};
 use crate::entry_point::report;
 use crate::files::{FileFault, read_file, read_stand_in_file, value_or_say};
-use crate::program_texts::STANDARD_INPUT;
 use crate::system::System;
 use crate::task_work::bytes_or_say;
 use env_session::Session;
+use fw_arguments::{EnvironmentCheck, FileCheck, STANDARD_INPUT};
 use fw_check::{check, check_text};
 use hush_run::Stubs;
 use std::io::Write;

@@ -3,18 +3,18 @@ ghost use Rattle.std.specs.Prelude.{◌≡◌, ◌≤◌, IfOk, MatchOption, is_
 ghost use Rattle.envimg_core.specs.declared.geometry.Order.{Order};
 ghost use Rattle.fw_engines.specs.CopyStatus.{file_status_of};
 ghost use Rattle.fw_tools.specs.CopyReport.{IsSurveyIn, PrintsReport, ReportsOn, ReportsSubject, device_found, device_in};
-ghost use Rattle.fw_tools.specs.Report.{Copies, File, report_view};
+ghost use Rattle.fw_arguments.specs.Report.{Copies, File, report_view};
 ghost use Rattle.fw_tools.specs.Said.{SaysSome, Stops};
 ghost use Rattle.fw_tools.specs.Source.{IsSourceOf};
 
 use crate::copies::{ReadCopy, lock_device, lock_path, with_following};
 use crate::entry_point::report;
 use crate::files::{FileFault, read_file, value_or_say};
-use crate::report::{Report, Subject};
 use crate::source::{Source, config_from, read_source};
 use crate::system::{Hold, System};
 use envcfg_core::{Config, Place};
 use envimg_core::Order;
+use fw_arguments::{Report, Subject};
 use fw_engines::{FoundCopy, Survey, file_status, status};
 use std::io::Write;
 use std::rt::Files;

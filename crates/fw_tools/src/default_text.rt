@@ -3,53 +3,39 @@ ghost use Rattle.std.specs.Prelude.{◌≡◌, ◌≤◌, ◌++◌, IfOk, Ok, ma
 ghost use Rattle.std.specs.List.{flat_map};
 ghost use Rattle.envcfg_core.specs.Entries.{entry_view};
 ghost use Rattle.envcfg_core.specs.Import.{import_of};
-ghost use Rattle.fw_tools.specs.Calls.{defaults_view};
+ghost use Rattle.fw_arguments.specs.Calls.{defaults_view};
 ghost use Rattle.fw_tools.specs.Source.{AreDefaultsFrom, AreDefaultsIn, AreDefaultsOf, IsFound, escaped_byte, spelled, takes_initial};
 
 use crate::files::{FileFault, import_from, read_file};
 use crate::program_texts::INITIAL_ENVIRONMENT;
 use envcfg_core::TextEntry;
 use envvars_core::{Refusal, Vars};
+use fw_arguments::Defaults;
 use fw_engines::defaults;
 use std::alloc::{AllocError, Global};
 use std::fs::OpenOptions;
 use std::rt::Files;
 
-/// The default environment that is asked for.
-#[derive(Clone, Copy, Debug)]
-pub(crate) struct Defaults<'w> {
-    /// The path of its text, if there is one.
-    pub(crate) path: Option<&'w str>,
-    /// Whether the text has plain lines `NAME=VALUE`, without escapes, and is that of the board's build if none is given.
-    pub(crate) plain: bool,
-    /// Whether a copy has to be good where there is no text.
-    pub(crate) need_copy: bool,
-    /// Whether the text is the whole environment, so that no copy is missed.
-    pub(crate) whole: bool,
+/// The default environment that is asked for, with the text of the board's build if none is given and it is there.
+pub(crate) fn found_defaults<'w, X: Files>(rt: &X, asked: Defaults<'w>) -> Defaults<'w>
+    ensures { IsFound (defaults_view asked.entry) (defaults_view result) }
+{
+    if takes_initial(&asked) && is_there(rt, INITIAL_ENVIRONMENT) {
+        return Defaults {
+            path: Some(INITIAL_ENVIRONMENT),
+            plain: true,
+            need_copy: asked.need_copy,
+            whole: asked.whole,
+        };
+    }
+    asked
 }
 
-impl<'w> Defaults<'w> {
-    /// The same with the text of the board's build, if none is given and it is there.
-    pub(crate) fn found<X: Files>(self, rt: &X) -> Defaults<'w>
-        ensures { IsFound (defaults_view self.entry) (defaults_view result) }
-    {
-        if self.takes_initial() && is_there(rt, INITIAL_ENVIRONMENT) {
-            return Defaults {
-                path: Some(INITIAL_ENVIRONMENT),
-                plain: true,
-                need_copy: self.need_copy,
-                whole: self.whole,
-            };
-        }
-        self
-    }
-
-    /// Whether it is that of the board's build, if that is there.
-    fn takes_initial(&self) -> bool
-        ensures { result ≡ takes_initial (defaults_view self.now) }
-    {
-        self.plain && self.path.is_none()
-    }
+/// Whether it is that of the board's build, if that is there.
+fn takes_initial(asked: &Defaults<'_>) -> bool
+    ensures { result ≡ takes_initial (defaults_view asked.now) }
+{
+    asked.plain && asked.path.is_none()
 }
 
 /// Whether a file can be opened.

@@ -2,27 +2,25 @@
 ghost use Rattle.std.specs.Prelude.{◌≡◌, ◌⊎◌, ◌≤◌, Ok, Some, map, option_map};
 ghost use Rattle.clap.specs.Words.{found_of, kind_of, rows_of};
 ghost use Rattle.fw_tools.specs.EntryPoint.{RepliesTo, Does, is_shown, LacksMemory, Runs, ShowsAndSays, message_without_words};
-ghost use Rattle.fw_tools.specs.Report.{asked_view};
+ghost use Rattle.fw_arguments.specs.Report.{asked_view};
 ghost use Rattle.fw_tools.specs.Said.{Says};
 ghost use Rattle.fw_tools.specs.Subcommands.{Called};
 ghost use Rattle.fw_engines.specs.Streams.{AppendsFront};
-ghost use Rattle.fw_tools.specs.ProgramNames.{called_in};
-ghost use Rattle.fw_tools.specs.Words.{order_in};
+ghost use Rattle.fw_arguments.specs.ProgramNames.{called_in};
+ghost use Rattle.fw_arguments.specs.WordFaults.{fault_text};
+ghost use Rattle.fw_arguments.specs.Words.{order_in};
 ghost use Rattle.std.specs.IoError.{error_kind};
 
-use crate::arguments::chosen_order;
 use crate::check_work::run_file_check;
-use crate::command_line::read_words;
 use crate::copy_report::run_report;
-use crate::program_name::ProgramName;
 use crate::program_texts::{CANNOT_READ, CANNOT_WRITE, NO_WORDS, NOT_UTF8, OUT_OF_MEMORY};
-use crate::report::{Asked, read_asked};
 use crate::subcommands::run_call;
 use crate::system::System;
 use clap::error::ErrorKind;
 use clap::{ArgMatches, Error};
 use envimg_core::Order;
-use fw_engines::streams::{say, write_text};
+use fw_arguments::{Asked, ProgramName, WordFault, called, chosen_order, read_asked, read_words};
+use fw_engines::streams::{say, write_text, write_three};
 use fw_engines::{StreamFault, ToolEnd, show};
 use std::alloc::Global;
 use std::convert::AsStr;
@@ -131,12 +129,19 @@ fn act_on<X: System + AllocGlobal, R: Read, W: Write, E: Write>(
         None => show_input(alloc, order, input, output, errors),
         Some((name, found)) => match read_asked(order, name, found) {
             Err(fault) => {
-                fault.say(errors);
+                say_word_fault(&fault, errors);
                 1
             }
             Ok(asked) => run_asked(rt, &asked, input, output, errors),
         },
     }
+}
+
+/// Says what is wrong with words, as far as `errors` take it.
+fn say_word_fault<E: Write>(fault: &WordFault<'_>, errors: &mut E)
+    ensures { AppendsFront (E.contents errors.old) (E.contents errors.new) (fault_text fault.now) }
+{
+    let _ = write_three(errors, fault.front, fault.word.as_bytes(), fault.back);
 }
 
 /// Does what a subcommand asks for.
@@ -167,21 +172,6 @@ fn is_shown(name: ProgramName, count: usize) -> bool
     match name {
         ProgramName::Fwenv => count <= 1,
         _ => false,
-    }
-}
-
-/// The subcommand that the words call, and what was found of its words; under another name than `fwenv` all of them are.
-fn called<'m, 'w>(
-    under: ProgramName,
-    matches: &'m ArgMatches<'w>,
-) -> Option<(&'w str, &'m ArgMatches<'w>)>
-    ensures { option_map (λ c. (c.0.now, rows_of (found_of c.1.now))) result ≡ called_in under matches.now }
-{
-    match under {
-        ProgramName::Fwenv => matches.subcommand(),
-        ProgramName::FwenvWith(_) => matches.subcommand(),
-        ProgramName::Printenv => Some(("fw_printenv", matches)),
-        ProgramName::Setenv => Some(("fw_setenv", matches)),
     }
 }
 

@@ -3,7 +3,7 @@ ghost use Rattle.std.specs.Prelude.{◌≡◌, map};
 ghost use Rattle.fw_tools.specs.Greeting.{asks_help, greeting, is_help, talks};
 ghost use Rattle.fw_engines.specs.Streams.{AppendsFront};
 
-use crate::program_name::{ProgramName, Subcommand};
+use fw_arguments::{ProgramName, Subcommand};
 use fw_engines::streams::say;
 use std::convert::AsStr;
 use std::io::Write;

@@ -3,13 +3,13 @@ ghost use Rattle.std.specs.Prelude.{◌≡◌, ◌++◌, IfOk, MatchOption, Some
 ghost use Rattle.std.specs.List.{flat_map};
 ghost use Rattle.hush_syntax.specs.Reading.{read};
 ghost use Rattle.hush_syntax.specs.Scripts.{tree_of};
-ghost use Rattle.fw_tools.specs.DryRuns.{script_view};
+ghost use Rattle.fw_arguments.specs.DryRuns.{script_view};
 ghost use Rattle.fw_tools.specs.Said.{SaysSome};
 ghost use Rattle.fw_tools.specs.ScriptRuns.{IsTextOf, Refuses, name_of_script, quoted, quoted_name, starts};
 
-use crate::dry_runs::GivenScript;
 use crate::files::{FileFault, read_file, value_or_say};
-use crate::program_texts::{OUT_OF_MEMORY, STANDARD_INPUT};
+use crate::program_texts::OUT_OF_MEMORY;
+use fw_arguments::{GivenScript, STANDARD_INPUT};
 use fw_engines::say_syntax_fault;
 use fw_engines::streams::say;
 use hush_syntax::{FaultKind, Script};
@@ -17,24 +17,22 @@ use std::alloc::{AllocError, Global};
 use std::io::Write;
 use std::rt::Files;
 
-impl<'w> GivenScript<'_, 'w> {
-    /// Its name where it is said to be no script.
-    pub(crate) fn name(&self) -> &'w str
-        ensures { result.now ≡ name_of_script (script_view self.now) }
-    {
-        match *self {
-            GivenScript::Names(_) => "run",
-            GivenScript::Words(_) => "-e",
-            GivenScript::File(path) => path,
-        }
+/// The name of a script where it is said to be none.
+pub(crate) fn name_of_script<'w>(given: &GivenScript<'_, 'w>) -> &'w str
+    ensures { result.now ≡ name_of_script (script_view given.now) }
+{
+    match *given {
+        GivenScript::Names(_) => "run",
+        GivenScript::Words(_) => "-e",
+        GivenScript::File(path) => path,
     }
+}
 
-    /// The path of its file, if there is one.
-    fn path(&self) -> &'w str {
-        match *self {
-            GivenScript::File(path) => path,
-            _ => "",
-        }
+/// The path of its file, if there is one.
+fn path_of_script<'w>(given: &GivenScript<'_, 'w>) -> &'w str {
+    match *given {
+        GivenScript::File(path) => path,
+        _ => "",
     }
 }
 
@@ -47,7 +45,12 @@ pub(crate) fn text_or_say<X: Files + AllocGlobal, E: Write>(
     ensures { MatchOption result (SaysSome (E.contents errors.old) (E.contents errors.new))
         (λ text. IsTextOf (script_view given.now) text.items × (E.contents errors.new ≡ E.contents errors.old)) }
 {
-    value_or_say(rt.alloc(), errors, given.path(), read_text(rt, given))
+    value_or_say(
+        rt.alloc(),
+        errors,
+        path_of_script(given),
+        read_text(rt, given),
+    )
 }
 
 /// The text of a script.

@@ -2,19 +2,19 @@
 ghost use Rattle.std.specs.Prelude.{◌≡◌, IfOk, MatchOption, map, unwrap_or};
 ghost use Rattle.hush_run.specs.Runs.{rules};
 ghost use Rattle.hush_syntax.specs.Scripts.{tree_of};
-ghost use Rattle.fw_tools.specs.DryRuns.{script_run_view, texts};
+ghost use Rattle.fw_arguments.specs.DryRuns.{script_run_view, texts};
 ghost use Rattle.fw_tools.specs.ScriptRuns.{AreStandInsOf, ClosesRun, RunsOver, RunsText, RunsTree, is_kept, with_boots};
 ghost use Rattle.fw_tools.specs.Said.{SaysSome};
 
 use crate::changed_copies::write_other_first;
-use crate::dry_runs::ScriptRun;
 use crate::entry_point::report;
 use crate::files::{FileFault, read_stand_ins, value_or_say};
-use crate::script_source::{script_or_say, text_or_say};
+use crate::script_source::{name_of_script, script_or_say, text_or_say};
 use crate::source::Source;
 use crate::system::System;
 use env_session::Session;
 use envimg_core::Choice;
+use fw_arguments::ScriptRun;
 use fw_engines::{ToolEnd, run};
 use hush_run::Stubs;
 use hush_syntax::Script;
@@ -103,7 +103,7 @@ fn run_text<X: System + AllocGlobal, W: Write, E: Write>(
         (record { output = W.contents output.old; errors = E.contents errors.old })
         (record { output = W.contents output.new; errors = E.contents errors.new }) result }
 {
-    match script_or_say(rt.alloc(), asked.script.name(), text, errors) {
+    match script_or_say(rt.alloc(), name_of_script(&asked.script), text, errors) {
         None => 1,
         Some(script) => {
             run_script(

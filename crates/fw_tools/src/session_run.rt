@@ -1,16 +1,16 @@
 //! `session`: a dry run over standard input and output.
 ghost use Rattle.std.specs.Prelude.{◌≡◌, option_map, unwrap_or};
-ghost use Rattle.fw_tools.specs.DryRuns.{dry_run_view};
+ghost use Rattle.fw_arguments.specs.DryRuns.{dry_run_view};
 ghost use Rattle.fw_tools.specs.SessionRun.{ClosesDryRun, Reports, TriesOver, is_kept, text_for};
 
 use crate::changed_copies::write_back;
 use crate::copies::lock_device;
-use crate::dry_runs::DryRun;
 use crate::files::{read_stand_ins, value_or_say};
 use crate::program_texts::{CANNOT_READ, CANNOT_WRITE, OUT_OF_MEMORY, TOO_LONG};
 use crate::source::Source;
 use crate::system::{Hold, System};
 use env_session::Session;
+use fw_arguments::DryRun;
 use fw_engines::streams::say;
 use fw_session::{SessionEnd, SessionEnding, session};
 use std::io::{Read, Write};

@@ -1,6 +1,6 @@
 //! A session over the copies that a configuration names.
 ghost use Rattle.std.specs.Prelude.{◌≡◌, Ok, Some, false, IfOk, MatchOption, is_some, replicate, None};
-ghost use Rattle.fw_tools.specs.Calls.{defaults_view};
+ghost use Rattle.fw_arguments.specs.Calls.{defaults_view};
 ghost use Rattle.fw_tools.specs.Subcommands.{AreCopiesIn, IsAccepted, OpensOver};
 ghost use Rattle.fw_tools.specs.Copies.{overlap};
 ghost use Rattle.fw_tools.specs.Said.{SaysSome};
@@ -10,7 +10,7 @@ ghost use Rattle.fw_tools.specs.Source.{IsSourceOf, fault_of_copy, lacks_copy, s
 ghost use Rattle.fw_engines.specs.Streams.{AppendsFront};
 
 use crate::copies::{ReadCopy, read_copy, share_a_byte};
-use crate::default_text::{Defaults, given_defaults};
+use crate::default_text::given_defaults;
 use crate::files::{FileFault, read_file, say_fault, value_or_say};
 use crate::program_texts::{
     BAD_CRC_DEFAULT, COPIES_OVERLAP, IN_FIRST, IN_SECOND, LOOK_AT, NO_GOOD_COPY, OUT_OF_MEMORY,
@@ -19,6 +19,7 @@ use env_session::{Session, Stored};
 use envcfg_core::{Config, ConfigFault, Place, parse_config};
 use envimg_core::{Choice, CopyState, Geometry, Layout, Order, check_copy, choose};
 use envvars_core::Vars;
+use fw_arguments::Defaults;
 use fw_engines::streams::{say, write_three, write_two};
 use std::alloc::{AllocError, Global};
 use std::io::Write;

@@ -1,23 +1,23 @@
 //! The subcommands over the files that the words name.
 ghost use Rattle.std.specs.Prelude.{◌≡◌, ◌≤◌, None, MatchOption, if◌then◌else◌, unwrap_or};
-ghost use Rattle.fw_tools.specs.Subcommands.{AreCopiesIn, Closes, DoesJob, Uses, UsesTool, is_left};
-ghost use Rattle.fw_tools.specs.Calls.{call_view, job_view, keeps_lock, task_view};
+ghost use Rattle.fw_tools.specs.Subcommands.{AreCopiesIn, Closes, DoesJob, Uses, UsesTool, hold_for, is_left};
+ghost use Rattle.fw_arguments.specs.Calls.{call_view, job_view, keeps_lock, task_view};
 ghost use Rattle.fw_tools.specs.Said.{SaysSome};
 
-use crate::call::{Call, Job};
 use crate::changed_copies::write_back;
 use crate::check_work::check_session;
 use crate::copies::lock_device;
+use crate::default_text::found_defaults;
 use crate::entry_point::report;
 use crate::lock_file::lock_or_say;
 use crate::script_work::run_given;
 use crate::session_run::talk;
 use crate::source::{Source, config_or_say, erased_or_say, open, read_source};
-use crate::system::System;
-use crate::task::Task;
+use crate::system::{Hold, System};
 use crate::task_work::act;
 use env_session::Session;
 use envimg_core::Choice;
+use fw_arguments::{Call, Job, Task};
 use fw_engines::ToolEnd;
 use std::io::{Read, Write};
 
@@ -55,7 +55,7 @@ fn use_files<X: System + AllocGlobal, R: Read, W: Write, E: Write>(
         (unwrap_or result 1) }
 {
     let (source, _lock) = copies_for(rt, call, errors)?;
-    let defaults = call.defaults.found(rt);
+    let defaults = found_defaults(rt, call.defaults);
     let session = open(rt, &source, &defaults, errors)?;
     work(rt, &source, session, call, input, output, errors)
 }
@@ -88,9 +88,20 @@ fn copies_in_devices<X: System + AllocGlobal, E: Write>(
         (λ found. AreCopiesIn None call.now.order found.0 × (E.contents errors.new ≡ E.contents errors.old)) }
 {
     let config = config_or_say(rt, call.config, errors)?;
-    let lock = lock_device(rt, &config.first, call.job.hold());
+    let lock = lock_device(rt, &config.first, hold_for(&call.job));
     let source = read_source(rt, call.order, config, errors)?;
     Some((source, lock_for_work(lock, &call.job)))
+}
+
+/// How the device of the first copy is locked while the copies are read: alone by a job that writes them back.
+fn hold_for(job: &Job<'_, '_>) -> Hold
+    ensures { result ≡ hold_for (job_view job.now) }
+{
+    if job.writes() {
+        Hold::Alone
+    } else {
+        Hold::Shared
+    }
 }
 
 /// The lock under which a job works, if it writes what it read: the other jobs let go of it here. A dry run takes it again to

@@ -4,7 +4,7 @@ ghost use Rattle.envcfg_core.specs.Entries as text_entries;
 ghost use Rattle.envcfg_core.specs.Import.{import_of};
 ghost use Rattle.envimg_core.specs.Pieces.{Entry};
 ghost use Rattle.fw_tools.specs.Subcommands.{Acts, printed_so};
-ghost use Rattle.fw_tools.specs.Calls.{task_view, texts};
+ghost use Rattle.fw_arguments.specs.Calls.{task_view, texts};
 ghost use Rattle.fw_tools.specs.Said.{SaysOnly, SaysSome};
 ghost use Rattle.fw_engines.specs.Changes.{Changes, LacksMemory, LacksMemoryToImport, LacksMemoryToSet, import_effect, script_effect, set_effect};
 ghost use Rattle.fw_engines.specs.Restoration.{LacksMemoryToRestore, restore_effect};
@@ -15,8 +15,8 @@ use crate::entry_point::stopped;
 use crate::files::{entries_or_say, read_file, script_from, value_or_say};
 use crate::program_texts::OUT_OF_MEMORY;
 use crate::system::System;
-use crate::task::{Printing, Task};
 use env_session::Session;
+use fw_arguments::{Printing, Task};
 use fw_engines::streams::{say, write_text};
 use fw_engines::{
     StreamFault, ToolEnd, export, import, print_values, printenv, restore, set_script, setenv,

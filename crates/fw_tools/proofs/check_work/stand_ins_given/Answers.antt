@@ -1,5 +1,5 @@
 use Rattle.std.proofs.Common.{ℕ, List, Option, Some, Bor, option_map, refl, subst, sym}
-use Rattle.fw_tools.specs.Checks.{AreStandInsGiven}
+use Rattle.fw_tools.specs.CheckRuns.{AreStandInsGiven}
 use Rattle.fw_tools.proofs.check_work.stand_ins_given.Goals as goal
 
 pub returns-in_ok-read_stand_in_file-in-Some : goal.returns-in_ok-read_stand_in_file-in-Some

@@ -1,6 +1,6 @@
 use Rattle.std.proofs.Common.{◌≤◌, subst, sym}
 use Rattle.fw_tools.specs.CopyReport.{ReportsOn}
-use Rattle.fw_tools.specs.Report.{report_view}
+use Rattle.fw_arguments.specs.Report.{report_view}
 use Rattle.fw_tools.proofs.CopyReportLemmas.{reports_small}
 use Rattle.fw_tools.proofs.copy_report.run_report.Goals as goal
 

@@ -1,6 +1,6 @@
 use Rattle.std.proofs.Common.{arith, map, refl, sym, ◌∙◌}
 use Rattle.std.proofs.lemmas.List.{length-map}
-use Rattle.fw_tools.proofs.WordLemmas.{alone_is_shown, replies_by, runs_by, shown_under}
+use Rattle.fw_tools.proofs.EntryPointLemmas.{alone_is_shown, replies_by, runs_by, shown_under}
 use Rattle.fw_tools.proofs.entry_point.program.Goals as goal
 
 pub returns-then-is_shown-clause-runs : goal.returns-then-is_shown-clause-runs

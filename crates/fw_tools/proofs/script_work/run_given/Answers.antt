@@ -1,5 +1,5 @@
 use Rattle.std.proofs.Common.{inr, subst, ◌∙◌, ℕ, List, Option}
-use Rattle.fw_tools.specs.DryRuns.{script_run_view}
+use Rattle.fw_arguments.specs.DryRuns.{script_run_view}
 use Rattle.fw_tools.specs.ScriptRuns.{RunsText}
 use Rattle.fw_tools.proofs.script_work.run_given.Goals as goal
 

@@ -1,7 +1,7 @@
 use Rattle.std.proofs.Common.{inr, subst}
 use Rattle.hush_syntax.specs.Scripts.{tree_of}
 use Rattle.fw_engines.specs.Streams.{Writers}
-use Rattle.fw_tools.specs.DryRuns.{script_run_view}
+use Rattle.fw_arguments.specs.DryRuns.{script_run_view}
 use Rattle.fw_tools.specs.ScriptRuns.{RunsTree}
 use Rattle.fw_tools.proofs.script_work.run_text.Goals as goal
 

@@ -1,6 +1,6 @@
 use Rattle.std.proofs.Common.{refl, ap, inl}
 use Rattle.std.specs.Prelude.{unwrap_or}
-use Rattle.fw_tools.specs.DryRuns.{dry_run_view}
+use Rattle.fw_arguments.specs.DryRuns.{dry_run_view}
 use Rattle.fw_tools.proofs.SessionRunLemmas.{tried_over}
 use Rattle.fw_tools.proofs.session_run.talk.Goals as goal
 

@@ -1,6 +1,6 @@
 use Rattle.std.proofs.Common.{ℕ, subst}
 use Rattle.std.proofs.lemmas.Result.{IfOk-weaker}
-use Rattle.fw_tools.specs.Calls.{defaults_view}
+use Rattle.fw_arguments.specs.Calls.{defaults_view}
 use Rattle.fw_tools.specs.Source.{AreDefaultsOf}
 use Rattle.fw_tools.proofs.source.session_over.Goals as goal
 

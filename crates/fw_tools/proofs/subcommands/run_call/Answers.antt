@@ -1,6 +1,6 @@
 use Rattle.std.proofs.Common.{◌≤◌, inl, refl, subst, sym}
 use Rattle.std.specs.Prelude.{unwrap_or}
-use Rattle.fw_tools.specs.Calls.{call_view}
+use Rattle.fw_arguments.specs.Calls.{call_view}
 use Rattle.fw_tools.proofs.SubcommandLemmas.{uses_after, uses_small}
 use Rattle.fw_tools.proofs.subcommands.run_call.Goals as goal
 

@@ -1,6 +1,6 @@
 use Rattle.std.proofs.Common.{ap, inl, inr}
 use Rattle.std.specs.Prelude.{unwrap_or}
-use Rattle.fw_tools.specs.Calls.{task_view}
+use Rattle.fw_arguments.specs.Calls.{task_view}
 use Rattle.fw_tools.proofs.SubcommandLemmas.{used_tool}
 use Rattle.fw_tools.proofs.subcommands.use_tool.Goals as goal
 

@@ -1,0 +1,4 @@
+mod CallLemmas
+mod DryRunLemmas
+pub mod WordLemmas
+pub mod Rows

@@ -1,0 +1,237 @@
+-- What the words of a subcommand ask for (docs/tools.md, "Subcommands over files").
+use Rattle.std.specs.Prelude.{ℕ, ◌||◌, Bool, true, false, List, [], ◌∷◌, ◌++◌, Option, Some, None, Result, Ok, Err, option_map, codes, if◌then◌else◌}
+use Rattle.std.specs.Borrow.{Bor}
+use Rattle.std.specs.Str.{bytes_eq}
+use Rattle.clap.specs.Words.{Row, Text, first_of}
+use Rattle.envimg_core.specs.declared.geometry.Order.{Order}
+use Rattle.fw_arguments.specs.DryRuns.{DryRun, ScriptRun, and_then, dry_run_of, dry_run_view, script_run_of, script_run_view}
+pub use Rattle.fw_arguments.specs.DryRuns.{texts}
+use Rattle.fw_arguments.specs.Checks.{EnvironmentCheck, environment_check_of, environment_check_view}
+use Rattle.fw_arguments.specs.ImageSizes.{image_of, whole_text}
+use Rattle.fw_arguments.specs.Values.{all_values, first_or, is_given}
+use Rattle.fw_arguments.specs.Words.{big_endian, either_order, order_by, source_in}
+use Rattle.fw_arguments.specs.declared.call.Call as calls
+use Rattle.fw_arguments.specs.declared.task.Printing.{Printing}
+use Rattle.fw_arguments.specs.declared.task.Printing.TheVariants.{Lines, OneValue, Values}
+use Rattle.fw_arguments.specs.declared.call.Defaults as defaults
+use Rattle.fw_arguments.specs.declared.call.Job as jobs
+use Rattle.fw_arguments.specs.declared.call.Job.TheVariants as job
+use Rattle.fw_arguments.specs.declared.task.Task as tasks
+use Rattle.fw_arguments.specs.declared.task.Task.TheVariants as code
+
+-- what a tool is to do: print these names in a way; set a name to words; set what a file says; import one; export; make the
+-- variables those of a file
+pub data Task : Type 0 where
+  Print : List Text → Printing → Task
+  Set : Text → List Text → Task
+  SetScript : Text → Task
+  Import : Text → Task
+  Export : Task
+  Restore : Text → Task
+
+-- what a subcommand does over its session: a tool works on it; blocks of script and dot lines are tried; a script is run; its
+-- scripts are looked at
+pub data Job : Type 0 where
+  Tool : Task → Job
+  Tries : DryRun → Job
+  Runs : ScriptRun → Job
+  Checks : EnvironmentCheck → Job
+
+-- the default environment: its text's path, if there is one; whether that has plain lines, and is /etc/u-boot-initial-env if
+-- none is given and it is there; whether a copy has to be good where there is none; and whether it is the whole environment,
+-- so that no copy is missed
+pub record Defaults : Type 0 where
+  pub path : Option Text
+  pub plain : Bool
+  pub need_copy : Bool
+  pub whole : Bool
+
+-- a subcommand with its files, the configuration, the default environment and the folder of the lock file, if there is one; the
+-- size of the erased image in memory that is in the place of the configuration's copies, if it is; its byte order, whether copies are written back only where a variable changed, and what it does
+pub record Call : Type 0 where
+  pub config : Text
+  pub image : Option ℕ
+  pub defaults : Defaults
+  pub lock : Option Text
+  pub order : Order
+  pub only_changes : Bool
+  pub job : Job
+
+-- whether a task changes the session
+abbrev pub changes : Task → Bool
+changes (Print names printing) = false
+changes Export = false
+changes task = true
+
+-- whether a job may write the copies back
+abbrev pub writes : Job → Bool
+writes (Tool task) = changes task
+writes (Tries run) = run.write
+writes (Runs run) = run.dry.write
+writes (Checks check) = false
+
+-- whether it works under the lock under which the copies are read; a session takes it again to write
+abbrev pub keeps_lock : Job → Bool
+keeps_lock (Tool task) = changes task
+keeps_lock (Tries run) = false
+keeps_lock (Runs run) = run.dry.write
+keeps_lock (Checks check) = false
+
+-- the end of what is said of wrong words: how they are to be
+abbrev pub usage : Text → Text
+usage words = codes "Usage: " ++ words ++ 10 ∷ 10 ∷ codes "For more information, try '--help'." ++ 10 ∷ []
+
+-- what is wrong with the words of setenv and of fw_setenv: a name and a script, or neither
+abbrev pub setenv_words : Text
+setenv_words = codes "fwenv setenv [OPTIONS] [NAME] [WORDS]..."
+
+abbrev pub fw_setenv_words : Text
+fw_setenv_words = codes "fw_setenv [OPTIONS] [NAME] [WORDS]..."
+
+abbrev pub name_and_script : (option words : Text) → Text
+name_and_script option words = codes "error: the argument '" ++ option ++ codes " <FILE>' cannot be used with '[NAME]'" ++ 10 ∷ 10 ∷ usage words
+
+abbrev pub no_name : (option words : Text) → Text
+no_name option words =
+    codes "error: the following required arguments were not provided:" ++ 10 ∷ codes "  <NAME|" ++ option ++ codes " <FILE>>" ++ 10 ∷ 10 ∷ usage words
+
+-- setenv takes a name or a script; two texts say what is wrong with other words
+abbrev pub set_task : (both neither : Text) → Option Text → Option Text → List Text → Result Task Text
+set_task both neither (Some name) (Some path) words = Err both
+set_task both neither (Some name) None words = Ok (Set name words)
+set_task both neither None (Some path) words = Ok (SetScript path)
+set_task both neither None None words = Err neither
+
+-- the script `-` of fw_setenv is standard input
+abbrev pub script_file : Option Text → Option Text
+script_file path = option_map (λ p. if bytes_eq p (codes "-") then codes "/dev/stdin" else p) path
+
+-- fw_printenv prints the values of any number of names, but one at least
+abbrev pub no_names : Text
+no_names =
+    codes "error: the following required arguments were not provided:" ++ 10 ∷ codes "  <NAMES>..." ++ 10 ∷ 10 ∷ usage (codes "fw_printenv [OPTIONS] [NAMES]...")
+
+abbrev pub values_task : List Text → Result Task Text
+values_task [] = Err no_names
+values_task (n ∷ names) = Ok (Print (n ∷ names) Values)
+
+abbrev pub print_task : List Text → Bool → Result Task Text
+print_task names true = values_task names
+print_task names false = Ok (Print names Lines)
+
+-- the task by the subcommand's name and what clap's rules found of its words, or the text for what is wrong with them
+abbrev pub tool_task : Text → List Row → Result Task Text
+tool_task name rows =
+    if bytes_eq name (codes "printenv") then Ok (Print (all_values (codes "names") rows) (if is_given (codes "value-only") rows then OneValue else Lines))
+    else if bytes_eq name (codes "export") then Ok Export
+    else if bytes_eq name (codes "import") then Ok (Import (first_or [] (codes "file") rows))
+    else if bytes_eq name (codes "restore") then Ok (Restore (first_or [] (codes "file") rows))
+    else set_task (name_and_script (codes "-s") setenv_words) (no_name (codes "-s") setenv_words) (first_of (codes "name") rows)
+    (first_of (codes "script") rows) (all_values (codes "words") rows)
+
+abbrev pub fw_setenv_task : List Row → Result Task Text
+fw_setenv_task rows =
+    set_task (name_and_script (codes "--script") fw_setenv_words) (no_name (codes "--script") fw_setenv_words) (first_of (codes "name") rows)
+    (script_file (first_of (codes "script") rows)) (all_values (codes "words") rows)
+
+abbrev pub task_of : Text → List Row → Result Task Text
+task_of name rows =
+    if bytes_eq name (codes "fw_printenv") then print_task (all_values (codes "names") rows) (is_given (codes "value-only") rows)
+    else if bytes_eq name (codes "fw_setenv") then fw_setenv_task rows
+    else tool_task name rows
+
+abbrev pub tried : Result DryRun Text → Result Job Text
+tried (Ok run) = Ok (Tries run)
+tried (Err text) = Err text
+
+abbrev pub ran : Result ScriptRun Text → Result Job Text
+ran (Ok run) = Ok (Runs run)
+ran (Err text) = Err text
+
+abbrev pub called : Result Task Text → Result Job Text
+called (Ok task) = Ok (Tool task)
+called (Err text) = Err text
+
+-- what the subcommand of this name does, or the text for what is wrong with its words
+abbrev pub job_of : Text → List Row → Result Job Text
+job_of name rows =
+    if bytes_eq name (codes "session") then tried (dry_run_of rows)
+    else if bytes_eq name (codes "run") then ran (script_run_of rows)
+    else if bytes_eq name (codes "check") then Ok (Checks (environment_check_of rows))
+    else called (task_of name rows)
+
+-- the names of other tools, which have their own rules
+abbrev pub is_client : Text → Bool
+is_client name = bytes_eq name (codes "fw_printenv") || bytes_eq name (codes "fw_setenv")
+
+-- a text that is the whole environment is the default one over an erased image
+abbrev pub defaults_by : Option Text → Text → List Row → Defaults
+defaults_by (Some path) name rows = record { path = Some path; plain = false; need_copy = false; whole = true }
+defaults_by None name rows = record {
+  path = first_of (codes "default") rows;
+  plain = is_client name;
+  need_copy = is_client name || is_given (codes "need-copy") rows;
+  whole = false;
+}
+
+abbrev pub defaults_of : Text → List Row → Defaults
+defaults_of name rows = defaults_by (whole_text name rows) name rows
+
+abbrev pub some_text : Text → Option Text
+some_text [] = None
+some_text (b ∷ bs) = Some (b ∷ bs)
+
+abbrev pub lock_of : Text → List Row → Option Text
+lock_of name rows = if is_client name then some_text (first_or (codes "/var/lock") (codes "lock") rows) else None
+
+-- a job with its files and its byte order
+abbrev pub with_files : Order → Text → List Row → Option ℕ → Job → Call
+with_files order name rows image job = record {
+  config = first_or (codes "/etc/fw_env.config") (codes "config") rows;
+  image = image;
+  defaults = defaults_of name rows;
+  lock = lock_of name rows;
+  order = either_order order (order_by (source_in big_endian.id rows));
+  only_changes = is_client name;
+  job = job;
+}
+
+abbrev pub with_image : Order → Text → List Row → Option ℕ → Result Call Text
+with_image order name rows image = and_then (job_of name rows) (λ job. Ok (with_files order name rows image job))
+
+-- what words ask for that choose a byte order before the subcommand
+abbrev pub call_of : Order → Text → List Row → Result Call Text
+call_of order name rows = and_then (image_of name rows) (with_image order name rows)
+
+-- the code's answers, seen so
+abbrev pub task_view : tasks.Task → Task
+task_view (code.Print names printing) = Print (texts names) printing
+task_view (code.Set name words) = Set name.now (texts words)
+task_view (code.SetScript path) = SetScript path.now
+task_view (code.Import path) = Import path.now
+task_view code.Export = Export
+task_view (code.Restore path) = Restore path.now
+
+abbrev pub job_view : jobs.Job → Job
+job_view (job.Tool task) = Tool (task_view task)
+job_view (job.DryRun run) = Tries (dry_run_view run)
+job_view (job.Script run) = Runs (script_run_view run)
+job_view (job.Check check) = Checks (environment_check_view check)
+
+abbrev pub defaults_view : defaults.Defaults → Defaults
+defaults_view d = record { path = option_map (λ p. p.now) d.path; plain = d.plain; need_copy = d.need_copy; whole = d.whole }
+
+abbrev pub call_view : calls.Call → Call
+call_view c = record {
+  config = c.config.now;
+  image = c.image;
+  defaults = defaults_view c.defaults;
+  lock = option_map (λ l. l.now) c.lock;
+  order = c.order;
+  only_changes = c.only_changes;
+  job = job_view c.job;
+}
+
+abbrev pub seen : {A B : Type 0} → (A → B) → Result A (Bor Text) → Result B Text
+seen view (Ok a) = Ok (view a)
+seen view (Err text) = Err text.now

@@ -1,0 +1,41 @@
+-- What the words of `check` ask for (docs/dry-runs.md, "Faults found before a run").
+use Rattle.std.specs.Prelude.{◌||◌, Bool, List, Option, Result, Ok, Err, codes, if◌then◌else◌, option_map}
+use Rattle.clap.specs.Words.{Row, Text, first_of}
+use Rattle.fw_arguments.specs.DryRuns.{texts}
+use Rattle.fw_arguments.specs.Values.{all_values, is_given}
+use Rattle.fw_arguments.specs.declared.checks.EnvironmentCheck as environments
+use Rattle.fw_arguments.specs.declared.checks.FileCheck as files
+
+-- a check over an environment: the stand-ins' file, if there is one, and the names at which it begins
+pub record EnvironmentCheck : Type 0 where
+  pub stand_ins : Option Text
+  pub names : List Text
+
+-- a check of the script in a file
+pub record FileCheck : Type 0 where
+  pub stand_ins : Option Text
+  pub path : Text
+
+abbrev pub environment_check_of : List Row → EnvironmentCheck
+environment_check_of rows = record { stand_ins = first_of (codes "stubs") rows; names = all_values (codes "names") rows }
+
+-- whether an environment is named, or variables of one
+abbrev pub names_environment : List Row → Bool
+names_environment rows =
+    is_given (codes "names") rows || (is_given (codes "config") rows || (is_given (codes "default") rows || (is_given (codes "env") rows || is_given (codes "size") rows)))
+
+-- what is wrong where the script of a file is asked for as well
+abbrev pub file_alone : Text
+file_alone =
+    codes "error: the argument '-f <FILE>' cannot be used with '[NAMES]...', '-c <FILE>', '--default <FILE>', '--env <FILE>' or '--size <N>'\n\nUsage: fwenv check [OPTIONS] [NAMES]...\n\nFor more information, try '--help'.\n"
+
+abbrev pub file_check_of : Text → List Row → Result FileCheck Text
+file_check_of path rows =
+    if names_environment rows then Err file_alone else Ok (record { stand_ins = first_of (codes "stubs") rows; path = path })
+
+-- the code's answers, seen so
+abbrev pub environment_check_view : environments.EnvironmentCheck → EnvironmentCheck
+environment_check_view c = record { stand_ins = option_map (λ p. p.now) c.stand_ins; names = texts c.names }
+
+abbrev pub file_check_view : files.FileCheck → FileCheck
+file_check_view c = record { stand_ins = option_map (λ p. p.now) c.stand_ins; path = c.path.now }

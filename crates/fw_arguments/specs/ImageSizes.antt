@@ -1,0 +1,57 @@
+-- The size of the image under an environment that is a text alone (docs/dry-runs.md, "An environment without a board").
+use Rattle.std.specs.Prelude.{ℕ, ◌||◌, ◌&&◌, Bool, List, [], ◌∷◌, ◌++◌, Option, Some, None, Result, Ok, Err, codes, if◌then◌else◌, option_and_then}
+use Rattle.std.specs.Str.{bytes_eq}
+use Rattle.clap.specs.Words.{Row, Text, first_of}
+use Rattle.envcfg_core.specs.Numerals.{size_of}
+use Rattle.envcfg_core.specs.Sizes.{copy_size}
+use Rattle.fw_arguments.specs.Values.{first_or, is_given}
+use Rattle.fw_arguments.specs.Words.{usual_size}
+
+-- the subcommands whose environment may be a text alone
+abbrev pub takes_text : Text → Bool
+takes_text name = bytes_eq name (codes "session") || (bytes_eq name (codes "run") || bytes_eq name (codes "check"))
+
+abbrev pub whole_text : Text → List Row → Option Text
+whole_text name rows = if takes_text name then first_of (codes "env") rows else None
+
+-- what is wrong where `--env` is given and another option, or `--size` without it
+abbrev pub help_ends : Text
+help_ends = 10 ∷ 10 ∷ codes "For more information, try '--help'." ++ 10 ∷ []
+
+abbrev pub env_and : Text → Text
+env_and other = codes "error: the argument '--env <FILE>' cannot be used with '" ++ other ++ codes "'" ++ help_ends
+
+abbrev pub size_alone : Text
+size_alone = codes "error: the argument '--size <N>' is only for '--env <FILE>'" ++ help_ends
+
+-- a size as a configuration has it, which an image may have
+abbrev pub size_in : Text → Option ℕ
+size_in word = option_and_then copy_size (size_of word)
+
+abbrev pub sized_or : Text → Option ℕ → Result (Option ℕ) Text
+sized_or word (Some size) = Ok (Some size)
+sized_or word None =
+    Err (codes "error: invalid value '" ++ word ++ codes "' for '--size <N>': not the size of an image in hexadecimal, 0x8 to 0x100000" ++ help_ends)
+
+abbrev pub sized : Text → Result (Option ℕ) Text
+sized word = sized_or word (size_in word)
+
+abbrev pub in_memory : List Row → Result (Option ℕ) Text
+in_memory rows =
+    if is_given (codes "config") rows then Err (env_and (codes "-c <FILE>"))
+    else if is_given (codes "default") rows then Err (env_and (codes "--default <FILE>"))
+    else if is_given (codes "need-copy") rows then Err (env_and (codes "--need-copy"))
+    else if is_given (codes "write") rows then Err (env_and (codes "--write"))
+    else sized (first_or usual_size (codes "size") rows)
+
+abbrev pub in_devices : Text → List Row → Result (Option ℕ) Text
+in_devices name rows =
+    if takes_text name && is_given (codes "size") rows then Err size_alone else Ok None
+
+-- none where the copies are those of a configuration
+abbrev pub image_by : Option Text → Text → List Row → Result (Option ℕ) Text
+image_by None name rows = in_devices name rows
+image_by (Some path) name rows = in_memory rows
+
+abbrev pub image_of : Text → List Row → Result (Option ℕ) Text
+image_of name rows = image_by (whole_text name rows) name rows

@@ -1,0 +1,21 @@
+-- What clap's rules found of the words, for one argument.
+use Rattle.std.specs.Prelude.{Bool, true, false, List, [], Option, Some, unwrap_or}
+use Rattle.clap.specs.Words.{Row, Text, all_of, first_of}
+use Rattle.clap.specs.declared.parser.matches.ValueSource.{ValueSource}
+use Rattle.clap.specs.declared.parser.matches.ValueSource.TheVariants.{CommandLine}
+use Rattle.fw_arguments.specs.Words.{source_in}
+
+-- a flag among the words
+abbrev pub given_by : Option ValueSource → Bool
+given_by (Some CommandLine) = true
+given_by source = false
+
+abbrev pub is_given : Text → List Row → Bool
+is_given id rows = given_by (source_in id rows)
+
+-- the values of an argument, none where it isn't there
+abbrev pub all_values : Text → List Row → List Text
+all_values id rows = unwrap_or (all_of id rows) []
+
+abbrev pub first_or : Text → Text → List Row → Text
+first_or other id rows = unwrap_or (first_of id rows) other

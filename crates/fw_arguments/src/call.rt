@@ -1,0 +1,217 @@
+//! What the words of a subcommand ask for.
+ghost use Rattle.std.specs.Prelude.{◌≡◌, option_copied};
+ghost use Rattle.clap.specs.Words.{found_of, rows_of};
+ghost use Rattle.fw_arguments.specs.Calls.{call_of, call_view, called, defaults_of, defaults_view, is_client, job_of, job_view, keeps_lock, lock_of, ran, some_text, task_of, tried, with_image, writes};
+ghost use Rattle.fw_arguments.specs.DryRuns.{dry_run_of, script_run_of};
+ghost use Rattle.fw_arguments.specs.WordFaults.{word_seen};
+
+use crate::arguments::{chosen_order, either_order, first, first_or, is_given};
+use crate::checks::{EnvironmentCheck, read_environment_check};
+use crate::client_words::LOCK_FOLDER;
+use crate::command_line::CONFIG;
+use crate::dry_runs::{DryRun, ScriptRun, read_dry_run, read_script_run};
+use crate::image_size::{read_image, whole_text};
+use crate::task::{Task, read_task};
+use crate::word_fault::WordFault;
+use clap::ArgMatches;
+use envimg_core::Order;
+
+/// A subcommand: its files, its byte order, and what it does over their session.
+#[derive(Clone, Copy, Debug)]
+pub struct Call<'m, 'w> {
+    /// The path of the configuration.
+    pub config: &'w str,
+    /// The size of the erased image in memory that is in the place of the configuration's copies, if it is.
+    pub image: Option<u32>,
+    /// The default environment.
+    pub defaults: Defaults<'w>,
+    /// The folder of the lock file, if there is one.
+    pub lock: Option<&'w str>,
+    /// The byte order of the copies.
+    pub order: Order,
+    /// Whether copies are written back only where a variable changed.
+    pub only_changes: bool,
+    /// What it does over the session.
+    pub job: Job<'m, 'w>,
+}
+
+/// The default environment that is asked for.
+#[derive(Clone, Copy, Debug)]
+pub struct Defaults<'w> {
+    /// The path of its text, if there is one.
+    pub path: Option<&'w str>,
+    /// Whether the text has plain lines `NAME=VALUE`, without escapes, and is that of the board's build if none is given.
+    pub plain: bool,
+    /// Whether a copy has to be good where there is no text.
+    pub need_copy: bool,
+    /// Whether the text is the whole environment, so that no copy is missed.
+    pub whole: bool,
+}
+
+/// What a subcommand does over its session.
+#[derive(Clone, Copy, Debug)]
+pub enum Job<'m, 'w> {
+    /// A tool works on it.
+    Tool(Task<'m, 'w>),
+    /// Blocks of script and dot lines are tried on it.
+    DryRun(DryRun<'w>),
+    /// A script is run over it.
+    Script(ScriptRun<'m, 'w>),
+    /// Its scripts are looked at.
+    Check(EnvironmentCheck<'m, 'w>),
+}
+
+impl Job<'_, '_> {
+    /// Whether it may write the copies back.
+    pub fn writes(&self) -> bool
+        ensures { result ≡ writes (job_view self.now) }
+    {
+        match self {
+            Job::Tool(task) => task.changes(),
+            Job::DryRun(run) => run.write,
+            Job::Script(run) => run.dry.write,
+            Job::Check(_) => false,
+        }
+    }
+
+    /// Whether it works under that lock; a session lets go of it once the copies are read, and takes it again to write.
+    pub fn keeps_lock(&self) -> bool
+        ensures { result ≡ keeps_lock (job_view self.now) }
+    {
+        match self {
+            Job::Tool(task) => task.changes(),
+            Job::DryRun(_) => false,
+            Job::Script(run) => run.dry.write,
+            Job::Check(_) => false,
+        }
+    }
+}
+
+/// What the words of the subcommand `name` ask for, where `order` is the byte order that the words before it chose; or
+/// what is wrong with them, which clap's rules don't see.
+pub(crate) fn read_call<'m, 'w>(
+    order: Order,
+    name: &str,
+    found: &'m ArgMatches<'w>,
+) -> Result<Call<'m, 'w>, WordFault<'w>>
+    ensures { word_seen call_view result ≡ call_of order name.now (rows_of (found_of found.now)) }
+{
+    match read_image(name, found) {
+        Ok(image) => with_image(order, name, found, image),
+        Err(fault) => Err(fault),
+    }
+}
+
+/// The same with an image in memory, or none.
+fn with_image<'m, 'w>(
+    order: Order,
+    name: &str,
+    found: &'m ArgMatches<'w>,
+    image: Option<u32>,
+) -> Result<Call<'m, 'w>, WordFault<'w>>
+    ensures { word_seen call_view result ≡ with_image order name.now (rows_of (found_of found.now)) image }
+{
+    match read_job(name, found) {
+        Ok(job) => Ok(Call {
+            config: first_or(found, "config", CONFIG),
+            image,
+            defaults: defaults_of(name, found),
+            lock: lock_of(name, found),
+            order: either_order(order, chosen_order(found)),
+            only_changes: is_client(name),
+            job,
+        }),
+        Err(fault) => Err(fault),
+    }
+}
+
+/// What the words of the subcommand `name` ask to be done over its session.
+fn read_job<'m, 'w>(name: &str, found: &'m ArgMatches<'w>) -> Result<Job<'m, 'w>, WordFault<'w>>
+    ensures { word_seen job_view result ≡ job_of name.now (rows_of (found_of found.now)) }
+{
+    if name == "session" {
+        return dry_job(found);
+    }
+    if name == "run" {
+        return script_job(found);
+    }
+    if name == "check" {
+        return Ok(Job::Check(read_environment_check(found)));
+    }
+    tool_job(name, found)
+}
+
+/// The dry run that the words of `session` ask for.
+fn dry_job<'m, 'w>(found: &'m ArgMatches<'w>) -> Result<Job<'m, 'w>, WordFault<'w>>
+    ensures { word_seen job_view result ≡ tried (dry_run_of (rows_of (found_of found.now))) }
+{
+    match read_dry_run(found) {
+        Ok(run) => Ok(Job::DryRun(run)),
+        Err(fault) => Err(fault),
+    }
+}
+
+/// The run of a script that the words of `run` ask for.
+fn script_job<'m, 'w>(found: &'m ArgMatches<'w>) -> Result<Job<'m, 'w>, WordFault<'w>>
+    ensures { word_seen job_view result ≡ ran (script_run_of (rows_of (found_of found.now))) }
+{
+    match read_script_run(found) {
+        Ok(run) => Ok(Job::Script(run)),
+        Err(fault) => Err(fault),
+    }
+}
+
+/// The tool that the words of another subcommand call.
+fn tool_job<'m, 'w>(name: &str, found: &'m ArgMatches<'w>) -> Result<Job<'m, 'w>, WordFault<'w>>
+    ensures { word_seen job_view result ≡ called (task_of name.now (rows_of (found_of found.now))) }
+{
+    match read_task(name, found) {
+        Ok(task) => Ok(Job::Tool(task)),
+        Err(text) => Err(WordFault::of(text)),
+    }
+}
+
+/// Whether the name is that of another tool, which has its own rules.
+fn is_client(name: &str) -> bool
+    ensures { result ≡ is_client name.now }
+{
+    name == "fw_printenv" || name == "fw_setenv"
+}
+
+/// The default environment.
+fn defaults_of<'w>(name: &str, found: &ArgMatches<'w>) -> Defaults<'w>
+    ensures { defaults_view result ≡ defaults_of name.now (rows_of (found_of found.now)) }
+{
+    match whole_text(name, found) {
+        Some(path) => Defaults {
+            path: Some(path),
+            plain: false,
+            need_copy: false,
+            whole: true,
+        },
+        None => Defaults {
+            path: first(found, "default"),
+            plain: is_client(name),
+            need_copy: is_client(name) || is_given(found, "need-copy"),
+            whole: false,
+        },
+    }
+}
+
+/// The folder of the lock file.
+fn lock_of<'w>(name: &str, found: &ArgMatches<'w>) -> Option<&'w str>
+    ensures { option_copied result ≡ lock_of name.now (rows_of (found_of found.now)) }
+{
+    if is_client(name) {
+        some_text(first_or(found, "lock", LOCK_FOLDER))
+    } else {
+        None
+    }
+}
+
+/// The text, or none where it is empty.
+fn some_text(text: &str) -> Option<&str>
+    ensures { option_copied result ≡ some_text text.now }
+{
+    if text.is_empty() { None } else { Some(text) }
+}

@@ -1,0 +1,195 @@
+//! What the words of `session` and `run` ask for.
+ghost use Rattle.std.specs.Prelude.{◌≡◌, ◌≤◌, map, option_map, option_copied, codes, IfOk, IfSome};
+ghost use Rattle.clap.specs.Words.{found_of, rows_of};
+ghost use Rattle.fw_arguments.specs.DryRuns.{dry_run_of, dry_run_view, limits_of, number_in, number_of, run_within, script_by, script_of, script_run_of, script_run_view, script_view, script_within, text_by, texts};
+ghost use Rattle.fw_arguments.specs.WordFaults.{word_seen};
+
+use crate::argument_texts::{
+    BAD_DEPTH, BAD_OUTPUT, BAD_STEPS, BAD_WORD, INVALID_VALUE, NO_SCRIPT, SEVERAL_SCRIPTS,
+};
+use crate::arguments::{first, first_or, is_given, values};
+use crate::dry_run_words::{DEPTH, OUTPUT, STEPS, WORD};
+use crate::word_fault::WordFault;
+use clap::ArgMatches;
+use hush_commands::{Limits, MOST_DEPTH, MOST_OUTPUT, MOST_STEPS, MOST_WORD};
+use text_parts::{Base, numeral};
+
+/// What a session and the run of a script have: `[--write] [--stubs FILE] [--steps N] [--depth N] [--word N] [--output N]`.
+#[derive(Clone, Copy, Debug)]
+pub struct DryRun<'w> {
+    /// Whether the copies are written back.
+    pub write: bool,
+    /// The path of the stand-ins, if there are any.
+    pub stand_ins: Option<&'w str>,
+    /// How far each run may go.
+    pub limits: Limits,
+}
+
+/// The run of a script: `run [--boots NAME].. (NAMES | -e SCRIPT | -f FILE)`, with the options of a dry run.
+#[derive(Clone, Copy, Debug)]
+pub struct ScriptRun<'m, 'w> {
+    /// The options of a dry run.
+    pub dry: DryRun<'w>,
+    /// The names of commands that don't come back.
+    pub boots: Option<&'m [&'w str]>,
+    /// The script.
+    pub script: GivenScript<'m, 'w>,
+}
+
+/// A script to run.
+#[derive(Clone, Copy, Debug)]
+pub enum GivenScript<'m, 'w> {
+    /// Starts of the variables of these names, one after the other.
+    Names(&'m [&'w str]),
+    /// A text among the words.
+    Words(&'w str),
+    /// The text of the file at this path.
+    File(&'w str),
+}
+
+/// The dry run that the words of `session` or `run` ask for, or what is wrong with its numbers.
+pub(crate) fn read_dry_run<'w>(found: &ArgMatches<'w>) -> Result<DryRun<'w>, WordFault<'w>>
+    ensures { word_seen dry_run_view result ≡ dry_run_of (rows_of (found_of found.now)) }
+{
+    match read_limits(found) {
+        Ok(limits) => Ok(dry_run_within(found, limits)),
+        Err(fault) => Err(fault),
+    }
+}
+
+/// The dry run within these limits.
+fn dry_run_within<'w>(found: &ArgMatches<'w>, limits: Limits) -> DryRun<'w>
+    ensures { dry_run_view result ≡ run_within (rows_of (found_of found.now)) limits }
+{
+    DryRun {
+        write: is_given(found, "write"),
+        stand_ins: first(found, "stubs"),
+        limits,
+    }
+}
+
+/// The limits of each run. The first number that is wrong is answered.
+fn read_limits<'w>(found: &ArgMatches<'w>) -> Result<Limits, WordFault<'w>>
+    ensures { word_seen (λ l. l) result ≡ limits_of (rows_of (found_of found.now)) }
+{
+    let steps = number(found, "steps", STEPS, MOST_STEPS, BAD_STEPS)?;
+    let depth = number(found, "depth", DEPTH, MOST_DEPTH, BAD_DEPTH)?;
+    let word = number(found, "word", WORD, MOST_WORD, BAD_WORD)?;
+    let output = number(found, "output", OUTPUT, MOST_OUTPUT, BAD_OUTPUT)?;
+    match Limits::new(steps, depth, word, output) {
+        Some(limits) => Ok(limits),
+        None => unreachable!(),
+    }
+}
+
+/// The run of a script that the words of `run` ask for, or what is wrong with them.
+pub(crate) fn read_script_run<'m, 'w>(
+    found: &'m ArgMatches<'w>,
+) -> Result<ScriptRun<'m, 'w>, WordFault<'w>>
+    ensures { word_seen script_run_view result ≡ script_run_of (rows_of (found_of found.now)) }
+{
+    match read_limits(found) {
+        Ok(limits) => with_limits(found, limits),
+        Err(fault) => Err(fault),
+    }
+}
+
+/// The same within these limits.
+fn with_limits<'m, 'w>(
+    found: &'m ArgMatches<'w>,
+    limits: Limits,
+) -> Result<ScriptRun<'m, 'w>, WordFault<'w>>
+    ensures { word_seen script_run_view result ≡ script_within (rows_of (found_of found.now)) limits }
+{
+    match read_script(found) {
+        Ok(script) => Ok(ScriptRun {
+            dry: dry_run_within(found, limits),
+            boots: values(found, "boots"),
+            script,
+        }),
+        Err(fault) => Err(fault),
+    }
+}
+
+/// The script that the words of `run` give.
+fn read_script<'m, 'w>(found: &'m ArgMatches<'w>) -> Result<GivenScript<'m, 'w>, WordFault<'w>>
+    ensures { word_seen script_view result ≡ script_of (rows_of (found_of found.now)) }
+{
+    script_by(
+        values(found, "names"),
+        first(found, "text"),
+        first(found, "script"),
+    )
+}
+
+/// The one script that is given.
+fn script_by<'m, 'w>(
+    names: Option<&'m [&'w str]>,
+    text: Option<&'w str>,
+    path: Option<&'w str>,
+) -> Result<GivenScript<'m, 'w>, WordFault<'w>>
+    ensures { word_seen script_view result ≡ script_by (texts names.entry) (option_copied text.entry) (option_copied path.entry) }
+{
+    match names {
+        None => text_by(text, path),
+        Some(names) => {
+            if names.is_empty() {
+                text_by(text, path)
+            } else if text.is_some() || path.is_some() {
+                Err(WordFault::of(SEVERAL_SCRIPTS))
+            } else {
+                Ok(GivenScript::Names(names))
+            }
+        }
+    }
+}
+
+/// The one text that is given.
+fn text_by<'m, 'w>(
+    text: Option<&'w str>,
+    path: Option<&'w str>,
+) -> Result<GivenScript<'m, 'w>, WordFault<'w>>
+    ensures { word_seen script_view result ≡ text_by (option_copied text.entry) (option_copied path.entry) }
+{
+    match (text, path) {
+        (None, None) => Err(WordFault::of(NO_SCRIPT)),
+        (Some(text), None) => Ok(GivenScript::Words(text)),
+        (None, Some(path)) => Ok(GivenScript::File(path)),
+        (Some(_), Some(_)) => Err(WordFault::of(SEVERAL_SCRIPTS)),
+    }
+}
+
+/// The number that an option gives, or what it is where the words don't say, which is at most `most`.
+fn number<'w>(
+    found: &ArgMatches<'w>,
+    id: &str,
+    usual: &'static str,
+    most: u32,
+    bad: &'static [u8],
+) -> Result<u32, WordFault<'w>>
+    ensures read { word_seen (λ n. n) result ≡ number_of id.now usual.now most bad.now (rows_of (found_of found.now)) }
+    ensures most { IfOk result (λ n. n ≤ most) }
+{
+    let word = first_or(found, id, usual);
+    match read_number(word.as_bytes(), most) {
+        Some(number) => Ok(number),
+        None => Err(WordFault {
+            front: INVALID_VALUE,
+            word,
+            back: bad,
+        }),
+    }
+}
+
+/// Reads a number of decimal digits, one or more, that is at most `most`; leading zeros are fine.
+fn read_number(text: &[u8], most: u32) -> Option<u32>
+    ensures read { result ≡ number_in most text.now }
+    ensures most { IfSome result (λ n. n ≤ most) }
+{
+    let most = u64::from(most);
+    let number = numeral(Base::Decimal, text, most + 1)?;
+    if number > most {
+        return None;
+    }
+    Some(number as u32)
+}

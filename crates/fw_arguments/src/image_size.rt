@@ -1,0 +1,106 @@
+//! The size of the image under an environment that is a text alone.
+ghost use Rattle.std.specs.Prelude.{◌≡◌, option_copied};
+ghost use Rattle.clap.specs.Words.{found_of, rows_of};
+ghost use Rattle.fw_arguments.specs.ImageSizes.{image_of, in_devices, in_memory, size_in, sized, takes_text, whole_text};
+ghost use Rattle.fw_arguments.specs.WordFaults.{word_seen};
+
+use crate::argument_texts::{
+    BAD_SIZE, ENV_AND_CONFIG, ENV_AND_COPY, ENV_AND_DEFAULT, ENV_AND_WRITE, INVALID_VALUE,
+    SIZE_ALONE,
+};
+use crate::arguments::{first, first_or, is_given};
+use crate::dry_run_words::SIZE;
+use crate::word_fault::WordFault;
+use clap::ArgMatches;
+use envimg_core::SIZE_MAX;
+use text_parts::{Base, behind_0x, numeral};
+
+/// The least size of a single image, in bytes.
+const SIZE_MIN: u64 = 8;
+
+/// The size of the image in memory, if the words of the subcommand `name` say that the environment is a text alone; or what is
+/// wrong with them.
+pub(crate) fn read_image<'w>(
+    name: &str,
+    found: &ArgMatches<'w>,
+) -> Result<Option<u32>, WordFault<'w>>
+    ensures { word_seen (λ size. size) result ≡ image_of name.now (rows_of (found_of found.now)) }
+{
+    match whole_text(name, found) {
+        None => in_devices(name, found),
+        Some(_path) => in_memory(found),
+    }
+}
+
+/// The text that is the whole environment, if there is one.
+pub(crate) fn whole_text<'w>(name: &str, found: &ArgMatches<'w>) -> Option<&'w str>
+    ensures { option_copied result ≡ whole_text name.now (rows_of (found_of found.now)) }
+{
+    if takes_text(name) {
+        first(found, "env")
+    } else {
+        None
+    }
+}
+
+/// Whether the environment of this subcommand may be a text alone.
+fn takes_text(name: &str) -> bool
+    ensures { result ≡ takes_text name.now }
+{
+    name == "session" || name == "run" || name == "check"
+}
+
+/// None: the copies are those of a configuration.
+fn in_devices<'w>(name: &str, found: &ArgMatches<'w>) -> Result<Option<u32>, WordFault<'w>>
+    ensures { word_seen (λ size. size) result ≡ in_devices name.now (rows_of (found_of found.now)) }
+{
+    if takes_text(name) && is_given(found, "size") {
+        return Err(WordFault::of(SIZE_ALONE));
+    }
+    Ok(None)
+}
+
+/// The size of an image in memory, with which nothing of a board is given.
+fn in_memory<'w>(found: &ArgMatches<'w>) -> Result<Option<u32>, WordFault<'w>>
+    ensures { word_seen (λ size. size) result ≡ in_memory (rows_of (found_of found.now)) }
+{
+    if is_given(found, "config") {
+        return Err(WordFault::of(ENV_AND_CONFIG));
+    }
+    if is_given(found, "default") {
+        return Err(WordFault::of(ENV_AND_DEFAULT));
+    }
+    if is_given(found, "need-copy") {
+        return Err(WordFault::of(ENV_AND_COPY));
+    }
+    if is_given(found, "write") {
+        return Err(WordFault::of(ENV_AND_WRITE));
+    }
+    sized(first_or(found, "size", SIZE))
+}
+
+/// The size that a word spells.
+fn sized(word: &str) -> Result<Option<u32>, WordFault<'_>>
+    ensures { word_seen (λ size. size) result ≡ sized word.now }
+{
+    match read_size(word.as_bytes()) {
+        Some(size) => Ok(Some(size)),
+        None => Err(WordFault {
+            front: INVALID_VALUE,
+            word,
+            back: BAD_SIZE,
+        }),
+    }
+}
+
+/// A size as a configuration has it: hexadecimal digits, perhaps after `0x` or `0X`, that spell one which an image may have.
+fn read_size(text: &[u8]) -> Option<u32>
+    ensures { result ≡ size_in text.now }
+{
+    let most = u64::from(SIZE_MAX);
+    let number = numeral(Base::Hexadecimal, behind_0x(text).unwrap_or(text), most + 1)?;
+    if number < SIZE_MIN || number > most {
+        return None;
+    }
+    Some(number as u32)
+}

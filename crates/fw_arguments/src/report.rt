@@ -1,0 +1,149 @@
+//! What the words of `status` ask for, and what those of any subcommand do.
+ghost use Rattle.std.specs.Prelude.{◌≡◌, codes, option_copied};
+ghost use Rattle.clap.specs.Words.{first_of, found_of, rows_of};
+ghost use Rattle.fw_arguments.specs.Calls.{call_of};
+ghost use Rattle.fw_arguments.specs.Report.{asked_of, asked_view, checked_by, looked, report_of, report_view, subject_by, subject_of, subject_view, worked};
+ghost use Rattle.fw_arguments.specs.WordFaults.{word_seen};
+
+use crate::argument_texts::CONFIG_AND_FILE;
+use crate::arguments::{chosen_order, either_order, first, first_or, is_given};
+use crate::call::{Call, read_call};
+use crate::checks::{FileCheck, read_file_check};
+use crate::command_line::CONFIG;
+use crate::word_fault::WordFault;
+use clap::ArgMatches;
+use envimg_core::Order;
+
+/// What a subcommand asks for.
+#[derive(Clone, Copy, Debug)]
+pub enum Asked<'m, 'w> {
+    /// Work over a session.
+    Work(Call<'m, 'w>),
+    /// A look at what is stored.
+    Look(Report<'w>),
+    /// A check of the script in a file.
+    Check(FileCheck<'w>),
+}
+
+/// A report: `status [-c FILE] [--big-endian] [FILE]`.
+#[derive(Clone, Copy, Debug)]
+pub struct Report<'w> {
+    /// The byte order of what it looks at.
+    pub order: Order,
+    /// What it looks at.
+    pub subject: Subject<'w>,
+}
+
+/// What a report looks at.
+#[derive(Clone, Copy, Debug)]
+pub enum Subject<'w> {
+    /// The copies that the configuration at this path names.
+    Copies(&'w str),
+    /// The whole file at this path.
+    File(&'w str),
+}
+
+/// What the words of the subcommand `name` ask for, where `order` is the byte order that the words before it chose; or
+/// what is wrong with them, which clap's rules don't see.
+pub fn read_asked<'m, 'w>(
+    order: Order,
+    name: &str,
+    found: &'m ArgMatches<'w>,
+) -> Result<Asked<'m, 'w>, WordFault<'w>>
+    ensures { word_seen asked_view result ≡ asked_of order name.now (rows_of (found_of found.now)) }
+{
+    if name == "status" {
+        return ask_to_look(order, found);
+    }
+    if name == "check" {
+        return ask_to_check(order, found);
+    }
+    ask_to_work(order, name, found)
+}
+
+/// The check that the words of `check` ask for: of the script in a file, if one is given, else of an environment.
+fn ask_to_check<'m, 'w>(
+    order: Order,
+    found: &'m ArgMatches<'w>,
+) -> Result<Asked<'m, 'w>, WordFault<'w>>
+    ensures { word_seen asked_view result ≡ checked_by (first_of (codes "script") (rows_of (found_of found.now))) order (rows_of (found_of found.now)) }
+{
+    match first(found, "script") {
+        None => ask_to_work(order, "check", found),
+        Some(path) => match read_file_check(path, found) {
+            Ok(check) => Ok(Asked::Check(check)),
+            Err(fault) => Err(fault),
+        },
+    }
+}
+
+/// The report that the words of `status` ask for.
+fn ask_to_look<'m, 'w>(
+    order: Order,
+    found: &'m ArgMatches<'w>,
+) -> Result<Asked<'m, 'w>, WordFault<'w>>
+    ensures { word_seen asked_view result ≡ looked (report_of order (rows_of (found_of found.now))) }
+{
+    match read_report(order, found) {
+        Ok(report) => Ok(Asked::Look(report)),
+        Err(fault) => Err(fault),
+    }
+}
+
+/// The work that the words of another subcommand ask for.
+fn ask_to_work<'m, 'w>(
+    order: Order,
+    name: &str,
+    found: &'m ArgMatches<'w>,
+) -> Result<Asked<'m, 'w>, WordFault<'w>>
+    ensures { word_seen asked_view result ≡ worked (call_of order name.now (rows_of (found_of found.now))) }
+{
+    match read_call(order, name, found) {
+        Ok(call) => Ok(Asked::Work(call)),
+        Err(fault) => Err(fault),
+    }
+}
+
+/// A report with its byte order.
+fn read_report<'w>(order: Order, found: &ArgMatches<'w>) -> Result<Report<'w>, WordFault<'w>>
+    ensures { word_seen report_view result ≡ report_of order (rows_of (found_of found.now)) }
+{
+    match read_subject(found) {
+        Ok(subject) => Ok(Report {
+            order: either_order(order, chosen_order(found)),
+            subject,
+        }),
+        Err(fault) => Err(fault),
+    }
+}
+
+/// What a report looks at.
+fn read_subject<'w>(found: &ArgMatches<'w>) -> Result<Subject<'w>, WordFault<'w>>
+    ensures { word_seen subject_view result ≡ subject_of (rows_of (found_of found.now)) }
+{
+    subject_by(
+        is_given(found, "config"),
+        first_or(found, "config", CONFIG),
+        first(found, "file"),
+    )
+}
+
+/// What a report looks at: a configuration's copies or a file, and not both.
+fn subject_by<'w>(
+    given: bool,
+    config: &'w str,
+    file: Option<&'w str>,
+) -> Result<Subject<'w>, WordFault<'w>>
+    ensures { word_seen subject_view result ≡ subject_by given config.now (option_copied file.entry) }
+{
+    match file {
+        None => Ok(Subject::Copies(config)),
+        Some(path) => {
+            if given {
+                Err(WordFault::of(CONFIG_AND_FILE))
+            } else {
+                Ok(Subject::File(path))
+            }
+        }
+    }
+}

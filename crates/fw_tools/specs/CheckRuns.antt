@@ -1,0 +1,34 @@
+-- What is done for a check (docs/dry-runs.md, "Faults found before a run").
+use Rattle.std.specs.Prelude.{◌≡◌, ◌⊎◌, ℕ, List, Option, Some, None}
+use Rattle.clap.specs.Words.{Text}
+use Rattle.env_session.specs.Session.{Held}
+use Rattle.hush_commands.specs.Stubs.{Statuses}
+use Rattle.fw_arguments.specs.Checks.{EnvironmentCheck, FileCheck}
+use Rattle.fw_check.specs.Checking.{Checks, ChecksText}
+use Rattle.fw_engines.specs.Streams.{Writers}
+use Rattle.fw_engines.specs.declared.tool_end.ToolEnd.{ToolEnd}
+use Rattle.fw_tools.specs.Said.{Says, Stops}
+use Rattle.fw_tools.specs.SessionRun.{AreStubsOf}
+
+-- the stand-ins of some text, if a path of them is given
+abbrev pub AreStandInsGiven : Option Text → Option Statuses → Type 0
+AreStandInsGiven None stand_ins = stand_ins ≡ None
+AreStandInsGiven (Some path) stand_ins = (read : Statuses) × AreStubsOf (Some path) read × (stand_ins ≡ Some read)
+
+-- what stopped a check is said, if anything did
+abbrev pub Ends : ToolEnd → Option (List ℕ) → Option (List ℕ) → ℕ → Type 0
+Ends end old new status = Says end.fault old new × (status ≡ end.status)
+
+-- the scripts of an environment are looked at; or before that a file can't be used, or memory runs out
+abbrev pub ChecksOver : EnvironmentCheck → Held → Writers → Writers → ℕ → Type 0
+ChecksOver check session old new status =
+    Stops old new status
+    ⊎ ((stand_ins : Option Statuses) × (end : ToolEnd) × AreStandInsGiven check.stand_ins stand_ins
+    × Checks session.now.env stand_ins check.names old.output new.output end × Ends end old.errors new.errors status)
+
+-- the same of the script in a file
+abbrev pub ChecksFile : FileCheck → Writers → Writers → ℕ → Type 0
+ChecksFile check old new status =
+    Stops old new status
+    ⊎ ((stand_ins : Option Statuses) × (text : List ℕ) × (end : ToolEnd) × AreStandInsGiven check.stand_ins stand_ins
+    × ChecksText stand_ins check.path text old.output new.output end × Ends end old.errors new.errors status)
