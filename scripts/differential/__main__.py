@@ -23,7 +23,7 @@ TOLD = re.compile(
     rb"|^(?:fwenv: .*|## Error: bad image): (\w+)(?: in line \d+)?\n"
     rb"|^fwenv: run ended as (\w+)|^fwenv: .*:\d+:\d+: (\w+): "
     rb"|^[^\n]*:\d+:\d+: error: [^\n]* \((\w+)\)$|(names a variable|no builtin|carriage return|be assigned|no variable)"
-    rb"|(no room|bad name|type check|not defined|Can't \w+|too short|overlap|cannot read|no good copy)",
+    rb"|(no room|bad name|type check|not defined|Can't \w+|too short|overlap|cannot read|no such file|no good copy)",
     re.M,
 )
 

@@ -52,7 +52,7 @@ SIZES = [b"0x4000", b"1000", b"0X100", b"200", b"80", b"0d", b"8", b"100001", b"
 DRY, WHOLE = (b"session", b"run"), (b"session", b"run", b"check")
 CHECKED = [b"r", b"s", b"t", *STARTED, *NAMES]
 OFTEN = {
-    **{name: 0.003 for name in ("too short", "overlap", "cannot read", "no room", "bad name", "type check", "not defined")},
+    **{name: 0.003 for name in ("too short", "overlap", "cannot read", "no such file", "no room", "bad name", "type check", "not defined")},
     **{name: 0.0002 for name in ("Can't create", "Can't delete", "Can't overwrite", "EmptyName", "Undone")},
     **{name: 0.001 for name in ("Exited", "Finished", "Quote", "Missing", "Unexpected", "Substitution", "no good copy")},
     **{name: 0.003 for name in ("names a variable", "no builtin", "carriage return", "be assigned", "no variable")},

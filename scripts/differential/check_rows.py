@@ -435,7 +435,7 @@ def opened():
     yield row("no good copy", arguments(b"check")[1:], blank, b"", WARNING)
     yield row("no good copy, and a name", arguments(b"check", b"p")[1:], blank, lines([NO_VARIABLE % "p"]), WARNING)
     yield row("a default text", arguments(b"check", b"--default", b"text")[1:], blank, usual, WARNING)
-    yield row("a fault after the warning", arguments(b"check", b"--stubs", b"absent")[1:], blank, b"", WARNING + b"fwenv: cannot read absent\n")
+    yield row("a fault after the warning", arguments(b"check", b"--stubs", b"absent")[1:], blank, b"", WARNING + b"fwenv: cannot read absent: no such file\n")
     big = Geometry(2, 64, "big")
     typed = board(single, [single.image(0, b".flags=n:d,o:d\0n=x\0o=1\0")])
     yield row("types in copies", arguments(b"check")[1:], typed, lines([not_typed("n")]))
@@ -464,14 +464,14 @@ def words():
         yield row("a file in another way", given, files, lines(["1:1: error: a quote is not closed (Quote)"], "script"))
     files = board(PAIR, [FIRST, SECOND]) | {b"stand-ins": b""}
     for given, path in ORDER:
-        yield row("the first file", given, files, b"", b"fwenv: cannot read %s\n" % path)
+        yield row("the first file", given, files, b"", b"fwenv: cannot read %s: no such file\n" % path)
     config = files | {CONFIG: b"none 0 a\n"}
-    yield row("a copy first", arguments(b"check", b"--default", b"absent", b"--stubs", b"nothing")[1:], config, b"", b"fwenv: cannot read none\n")
+    yield row("a copy first", arguments(b"check", b"--default", b"absent", b"--stubs", b"nothing")[1:], config, b"", b"fwenv: cannot read none: no such file\n")
     longest, longer = b"#" * (LONGEST - 1) + b"\r", b"#" * (LONGEST + 1)
     told = lines([returned(f"1:{LONGEST}")], "script")
     yield row("the longest script", [b"-f", b"script"], {b"script": longest}, told, seconds=2)
-    yield row("a longer script", [b"-f", b"script"], {b"script": longer}, b"", b"fwenv: cannot read script\n", seconds=2)
-    yield row("longer standard input", [b"-f", b"-"], {}, b"", b"fwenv: cannot read -\n", given=longer, seconds=2)
+    yield row("a longer script", [b"-f", b"script"], {b"script": longer}, b"", b"fwenv: cannot read script: it is longer than 16777216 bytes\n", seconds=2)
+    yield row("longer standard input", [b"-f", b"-"], {}, b"", b"fwenv: cannot read -: it is longer than 16777216 bytes\n", given=longer, seconds=2)
     yield row("no standard input", [b"-f", b"-"], {}, b"")
     yield row("standard input that isn't asked for", [b"--env", b"env"], {b"env": b"a=1\n"}, b"", given=b"'")
     case = row("a path as it is given", [b"-f", b"./script"], {b"script": b"'"}, lines(["1:1: error: a quote is not closed (Quote)"], "./script"))

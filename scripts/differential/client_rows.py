@@ -29,7 +29,9 @@ OVER_GOOD_COPIES = [
     (b"fw_printenv", [b"--no-header", b"q", b"a"], 1, b"b\n", b'## Error: "q" not defined\n'),
     (b"fw_printenv", [b"-n"], 1, b"", NO_NAMES),
     (b"fw_printenv", [b"-f", b"text"], 0, b"a=b\n", b"", SECOND, b"p=1\n"),
-    (b"fw_printenv", [b"--defenv", b"absent"], 1, b"", b"fwenv: cannot read absent\n"),
+    (b"fw_printenv", [b"--defenv", b"absent"], 1, b"", b"fwenv: cannot read absent: no such file\n"),
+    (b"fw_printenv", [b"--defenv", b"/"], 1, b"", b"fwenv: cannot read /: it is a directory\n"),
+    (b"fw_setenv", [b"-s", b"absent"], 1, b"", b"fwenv: cannot read absent: no such file\n"),
     (b"fw_setenv", [b"a"], 0, b"", b"", EMPTIED),
     (b"fw_setenv", [b"a", b""], 0, b"", b"", EMPTIED),
     (b"fw_setenv", [b"a", b"b"], 0, b"", b""),
@@ -112,7 +114,7 @@ def locks():
     for there in (files, files | {b"fw_printenv.lock": b"x"}):
         wanted = 0, b"a=b\n", b"", {b"fw_printenv.lock": b""} | there
         yield row(b"fw_printenv", words, there, wanted)
-    wanted = 1, b"", b"fwenv: cannot lock absent/fw_printenv.lock\n", files
+    wanted = 1, b"", b"fwenv: cannot lock absent/fw_printenv.lock: no such file\n", files
     yield row(b"fw_setenv", [b"-c", CONFIG, b"--lock", b"absent", b"a", b"c"], files, wanted)
 
 

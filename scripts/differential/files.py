@@ -11,7 +11,7 @@ import threading
 from differential.boards import EMPTIED, FIRST
 from differential.running import Case
 from differential.streams import MILLION, at, device, over_copies, read_by, row
-from model.program import CANNOT_READ, CANNOT_WRITE, CANNOT_WRITE_OUTPUT, Answer
+from model.program import CANNOT_READ, CANNOT_WRITE, CANNOT_WRITE_OUTPUT, CHANGED, DENIED, NO_SPACE, Answer, explained
 
 # Configurations: a name, their text, and the message, or none for the variables. The device has 33 bytes
 ABSENT, SHORT = CANNOT_READ % b"absent", b"fwenv: device is too short\n"
@@ -38,6 +38,8 @@ CALLS = [
 NOBODY = ("setpriv", "--reuid=65534", "--regid=65534", "--clear-groups")
 PRINTENV, EXPORT = [b"printenv", b"-c", b"fw.config"], [b"export", b"-c", b"fw.config"]
 SETENV, IMPORT = [b"setenv", b"-c", b"fw.config", b"a"], [b"import", b"-c", b"fw.config", b"../pipe"]
+# Subcommands that say why
+STATUS, RUN = [b"status", b"-c", b"fw.config"], [b"run", b"-c", b"fw.config", b"--write", b"-e", b"setenv a c; saveenv"]
 UNTRIED = []
 if os.getuid() == 0 and not shutil.which("setpriv"):
     UNTRIED.append("a device without the rights of root: setpriv is not installed (Debian: util-linux)")
@@ -132,6 +134,8 @@ def without_rights():
     for name, mode, words, given, output, text in (
         ("a device that may not be written", 0o444, SETENV, b"", b"", CANNOT_WRITE),
         ("a device that may not be read", 0o000, PRINTENV, b"", b"", CANNOT_READ),
+        ("a device that may not be reported on", 0o000, STATUS, b"", b"", explained(CANNOT_READ, DENIED)),
+        ("a run whose device may not be written", 0o444, RUN, b"", b"Saved copy 2\n", explained(CANNOT_WRITE, DENIED)),
         ("a session whose device may not be written", 0o444, session, b".save\n", b"Saved copy 2\n", CANNOT_WRITE),
     ):
         case = row(name, words, given, 1, output, text % b"device", functools.partial(with_mode, mode), over_copies())
@@ -162,6 +166,9 @@ def links():
 def cut_devices():
     """A device that is cut short after its copies were read: the pipe is opened then."""
     case = row("a device that is cut before it is written", IMPORT, b"", 1, b"", CANNOT_WRITE % b"device", through_pipe(cut_to(25), b"a=c\n"), over_copies())
+    case.wanted.files = case.files | {b"device": device()[:25]}
+    yield case
+    case = row("a run whose device is cut", [*RUN[:4], b"-f", b"../pipe"], b"", 1, b"Saved copy 2\n", explained(CANNOT_WRITE, CHANGED) % b"device", through_pipe(cut_to(25), b"saveenv"), over_copies())
     case.wanted.files = case.files | {b"device": device()[:25]}
     yield case
     yield Case("a session whose device is cut", [], check=cut_session, is_modelled=False)
@@ -242,12 +249,14 @@ def on_full_system(runner):
         files = {b"fw.config": f"{folder}/device 0 a\n{folder}/device 8192 a\n".encode()}
         errors = CANNOT_WRITE % f"{folder}/device".encode()
         found = runner.run(Case("", [*SETENV, b"c"], files))
+        explaining = runner.run(Case("", RUN, files))
         with open(f"{folder}/device", "rb") as it:
             left = it.read()
     finally:
         subprocess.run(["umount", folder], check=True)
     is_right = found.is_as(Answer(1, b"", errors, files)) and left == FIRST.ljust(12_288, b"\0")
-    return None if is_right else f"a device on a full file system: {found}, {left[:40]}"
+    is_right = is_right and explaining.is_as(Answer(1, b"Saved copy 2\n", explained(errors, NO_SPACE), files))
+    return None if is_right else f"a device on a full file system: {found}, {explaining}, {left[:40]}"
 
 
 def chunks():

@@ -7,7 +7,7 @@ import os
 from differential.boards import BLANK, EMPTIED, SAVED
 from differential.files import IMPORT, PRINTENV, SETENV, as_it_is, cut_to, through_pipe
 from differential.streams import SESSION, device, over_copies, row
-from model.program import CANNOT_READ, CANNOT_WRITE, WARNING
+from model.program import CANNOT_READ, CANNOT_WRITE, CHANGED, DIRECTORY, LONGER, NO_SUCH_FILE, WARNING, explained
 
 # Each option and argument that names a text
 TEXTS = [
@@ -17,6 +17,26 @@ TEXTS = [
     [b"session", b"-c", b"fw.config", b"--write", b"--stubs"],
     [b"export", b"-c", b"fw.config", b"--default"],
     [b"session", b"-c", b"fw.config", b"--write", b"--default"],
+]
+# The same of subcommands that say why, and what they say of a file that is none
+EXPLAINED = [
+    [b"status"],
+    [b"status", b"-c"],
+    [b"restore", b"-c", b"fw.config"],
+    [b"restore", b"-c", b"fw.config", b"text", b"--default"],
+    [b"run", b"-e", b"true", b"--env"],
+    [b"run", b"-c", b"fw.config", b"-e", b"true", b"--stubs"],
+    [b"run", b"-c", b"fw.config", b"-f"],
+    [b"check", b"-c", b"fw.config", b"--stubs"],
+    [b"check", b"-f"],
+]
+REASONS = [
+    (b"/dev/zero", LONGER),
+    (b"/dev/full", LONGER),
+    (b"../folder", DIRECTORY),
+    (b"absent", NO_SUCH_FILE),
+    (b"../loop", b""),
+    (b"device/inside", b""),
 ]
 
 
@@ -37,14 +57,23 @@ def refused(name, words, errors, files=()):
 
 def none():
     """Files that are none, in the place of each text and device."""
-    for path in (b"/dev/zero", b"/dev/full", b"../folder", b"absent", b"../loop", b"device/inside"):
+    large = {b"large": b"\n" * (2**24 + 1)}
+    for path, reason in REASONS:
+        cannot, because = CANNOT_READ % path, explained(CANNOT_READ % path, reason)
         for words in TEXTS:
-            yield refused(f"{path} after {words}", [*words, path], CANNOT_READ % path)
-        errors = b"fwenv: %s is too short\n" % path if path.startswith(b"/dev") else CANNOT_READ % path
+            yield refused(f"{path} after {words}", [*words, path], cannot)
+        for words in EXPLAINED:
+            yield refused(f"{path} after {words}", [*words, path], because, {b"text": b""})
+        if path.startswith(b"/dev"):
+            cannot = because = b"fwenv: %s is too short\n" % path
         for config in (b"%s 0 a\ndevice 20 a\n" % path, b"device 7 a\n%s 0 a\n" % path):
-            yield refused(f"{path} as a device", PRINTENV, errors, {b"fw.config": config})
+            yield refused(f"{path} as a device", PRINTENV, cannot, {b"fw.config": config})
+            yield refused(f"{path} as a device", [b"status", *PRINTENV[1:]], because, {b"fw.config": config})
     for words in TEXTS:
-        yield refused("16,777,217 newlines", [*words, b"large"], CANNOT_READ % b"large", {b"large": b"\n" * (2**24 + 1)})
+        yield refused("16,777,217 newlines", [*words, b"large"], CANNOT_READ % b"large", large)
+    for words in EXPLAINED[1:]:
+        errors = explained(CANNOT_READ % b"large", LONGER)
+        yield refused("16,777,217 newlines", [*words, b"large"], errors, large | {b"text": b""})
 
 
 def left(case, **copies):
@@ -137,42 +166,43 @@ def overwritten(_runner):
         it.write(b"0123456789")
 
 
-# What is done to the device between what is read and what is written: whether it can be written then, and its bytes afterwards
+# What is done to the device between what is read and what is written: why it can't be written then, if it can't, and its bytes
+# afterwards
 ENDING = device(second=EMPTIED)
 CHANGES = [
-    ("is emptied", cut_to(0), False, b""),
-    ("lacks a byte of a copy", cut_to(29), False, device()[:29]),
-    ("ends with a copy", cut_to(30), True, ENDING[:30]),
-    ("was written by another", overwritten, False, device(b"0123456789")),
-    ("is a folder now", replaced(os.mkdir), False, None),
-    ("is a pipe now", replaced(os.mkfifo), False, None),
-    ("is /dev/full now", replaced(os.symlink, "/dev/full"), False, None),
-    ("is /dev/zero now", replaced(os.symlink, "/dev/zero"), False, None),
-    ("is /dev/null now", replaced(os.symlink, "/dev/null"), False, None),
+    ("is emptied", cut_to(0), CHANGED, b""),
+    ("lacks a byte of a copy", cut_to(29), CHANGED, device()[:29]),
+    ("ends with a copy", cut_to(30), None, ENDING[:30]),
+    ("was written by another", overwritten, CHANGED, device(b"0123456789")),
+    ("is a folder now", replaced(os.mkdir), DIRECTORY, None),
+    ("is a pipe now", replaced(os.mkfifo), b"", None),
+    ("is /dev/full now", replaced(os.symlink, "/dev/full"), CHANGED, None),
+    ("is /dev/zero now", replaced(os.symlink, "/dev/zero"), CHANGED, None),
+    ("is /dev/null now", replaced(os.symlink, "/dev/null"), CHANGED, None),
 ]
 
 
-def changed(name, step, is_written, after, config=None):
-    errors = b"" if is_written else CANNOT_WRITE % b"device"
+def changed(name, step, reason, after, config=None, gone=None):
+    """An import, which doesn't say why, and a restore."""
+    cannot = CANNOT_WRITE % b"device"
     files = over_copies() | (config or {})
-    case = row(name, IMPORT, b"", int(not is_written), b"", errors, through_pipe(step, b"a=\n"), files)
-    case.wanted.files = files | {b"device": after}
-    return case
+    left = {path: text for path, text in (files | {b"device": after}).items() if path != gone}
+    for words, errors in ((IMPORT, cannot), ([b"restore", *IMPORT[1:]], explained(cannot, reason or b""))):
+        status, errors = (0, b"") if reason is None else (1, errors)
+        case = row(name, words, b"", status, b"", errors, through_pipe(step, b"a=\n"), files)
+        case.wanted.files = left
+        yield case
 
 
 def changes():
-    for name, step, is_written, after in CHANGES:
-        yield changed(f"a device that {name}", step, is_written, after)
-    gone = changed("a device that is gone", replaced(), False, None)
-    del gone.wanted.files[b"device"]
-    yield gone
+    for name, step, reason, after in CHANGES:
+        yield from changed(f"a device that {name}", step, reason, after)
+    yield from changed("a device that is gone", replaced(), NO_SUCH_FILE, None, gone=b"device")
     grown = {b"fw.config": b"device -26 a\ndevice -13 a\n"}
     # (its copies, which count from its end, are elsewhere then, also where they are the same there)
     for more in (b"more-bytes", device()[7:]):
-        yield changed("a device that has grown", appended(more), False, device() + more, grown)
-    without = changed("a configuration that is gone", lambda _runner: os.unlink("fw.config"), True, ENDING)
-    del without.wanted.files[b"fw.config"]
-    yield without
+        yield from changed("a device that has grown", appended(more), CHANGED, device() + more, grown)
+    yield from changed("a configuration that is gone", lambda _runner: os.unlink("fw.config"), None, ENDING, gone=b"fw.config")
     cut = through_pipe(cut_to(25), b"device 7 a\ndevice 20 a\n")
     case = row("a device that is cut before it is read", [*TEXTS[0], b"../pipe"], b"", 1, b"", b"fwenv: device is too short\n", cut, over_copies())
     case.wanted.files = case.files | {b"device": device()[:25]}

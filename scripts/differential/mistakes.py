@@ -161,6 +161,8 @@ MISTAKES = {
         "a warning over a whole environment": warned,
         "a second copy that is passed over": errors(rb"( in the first copy, )checksum is wrong", rb"\1list of entries isn't ended"),
         "a whole environment with a configuration": errors(rb"error: the argument '--env <FILE>' cannot.*", b"fwenv: cannot read absent\n"),
+        "another reason": errors(rb"no such file", b"permission denied"),
+        "no reason": errors(rb": no such file", b""),
     },
     "check_rows": {
         "the status of what is found": status(0),

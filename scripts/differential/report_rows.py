@@ -105,9 +105,9 @@ FILES = [
 ]
 # Arguments, the configuration, and what goes to standard error
 FAULTS = [
-    ([b"status", b"-c", b"absent"], b"", b"fwenv: cannot read absent\n"),
-    ([b"status", b"absent"], b"", b"fwenv: cannot read absent\n"),
-    ([b"status", b"-c", CONFIG], b"absent 0 20\n", b"fwenv: cannot read absent\n"),
+    ([b"status", b"-c", b"absent"], b"", b"fwenv: cannot read absent: no such file\n"),
+    ([b"status", b"absent"], b"", b"fwenv: cannot read absent: no such file\n"),
+    ([b"status", b"-c", CONFIG], b"absent 0 20\n", b"fwenv: cannot read absent: no such file\n"),
     ([b"status", b"-c", CONFIG], b"device 0 2000\n", b"fwenv: device is too short\n"),
     ([b"status", b"-c", CONFIG], b"device 0 20\ndevice -0x40 20\n", b"fwenv: copies overlap\n"),
     ([b"status", b"-c", CONFIG], b"device 0\n", b"fwenv: fw.config: NoCopy\n"),

@@ -1,6 +1,8 @@
 """Scripts that are run for their own status, by hand: `fwenv run`, an environment that is a text alone, and copies of which one has
 to be good. Each row is a call, what it prints, and what it leaves."""
 
+import re
+
 from differential.boards import BLANK, CONFIG, EMPTIED, FIRST, PAIR, SAVED, SECOND, arguments, board
 from differential.running import Case
 from model.arguments import ENV_AND, NO_NUMBER, NO_SCRIPT, NO_SIZE, SEVERAL_SCRIPTS, SIZE_ALONE
@@ -284,8 +286,8 @@ NO_ENVIRONMENTS = [
     (b".flags=n:d\nn=x\n", None, b"fwenv: env: BadType in line 2\n"),
     (b"a=1\n=2\n", None, b"fwenv: env: EmptyName in line 2\n"),
     (b"a=1\0\n", None, b"fwenv: env: Nul\n"),
-    (None, None, b"fwenv: cannot read env\n"),
-    (b"\n" * (LONGEST + 1), None, b"fwenv: cannot read env\n"),
+    (None, None, b"fwenv: cannot read env: no such file\n"),
+    (b"\n" * (LONGEST + 1), None, b"fwenv: cannot read env: it is longer than 16777216 bytes\n"),
 ]
 # Subcommands over copies of which none is good, the file `text` being a text for import
 NEED_COPY = [
@@ -392,11 +394,11 @@ def script_files():
     yield over_text("dot lines are none", [b"-f", b"-"], UNKNOWN % b".print", finished(1, 1), given=b".print\n")
     yield over_text("no standard input", [b"-f-"], b"", b"")
     yield over_text("a file of the name run", [b"-f", b"run"], b"", refused(b"run", 1, 1, NO_SCRIPTS[0][3]), {b"run": b"'"})
-    yield over_text("a file that is not there", [b"-f", b"absent"], b"", b"fwenv: cannot read absent\n")
+    yield over_text("a file that is not there", [b"-f", b"absent"], b"", b"fwenv: cannot read absent: no such file\n")
     longest, longer = b"#" * LONGEST, b"#" * (LONGEST + 1)
     yield over_text("the longest script", [b"-f", b"script"], b"", b"", {b"script": longest}, seconds=2)
-    yield over_text("a longer script", [b"-f", b"script"], b"", b"fwenv: cannot read script\n", {b"script": longer}, seconds=2)
-    yield over_text("longer standard input", [b"-f", b"-"], b"", b"fwenv: cannot read -\n", given=longer, seconds=2)
+    yield over_text("a longer script", [b"-f", b"script"], b"", b"fwenv: cannot read script: it is longer than 16777216 bytes\n", {b"script": longer}, seconds=2)
+    yield over_text("longer standard input", [b"-f", b"-"], b"", b"fwenv: cannot read -: it is longer than 16777216 bytes\n", given=longer, seconds=2)
 
 
 def booted():
@@ -467,6 +469,8 @@ def environments():
         files = {} if text is None else {b"env": text}
         sized = [b"--env", b"env"] if size is None else [b"--env", b"env", b"--size=" + size]
         yield row("no environment", [b"run", *sized, b"--stubs", b"absent", b"ok"], files, b"", errors, seconds=2)
+        # (a session doesn't say why a file can't be read)
+        errors = re.sub(rb"(cannot read env): .*", rb"\1", errors)
         yield row("no session over it", [b"session", *sized], files, b"", errors, given=b".print\n", seconds=2)
     given, output = b"setenv a 2\n.save\n.undo\n.print\n", b"[Finished 0 1]\nSaved copy 1\n[Undone]\na=1\n"
     yield row("an undo to it", [b"session", b"--env", b"env", b"--big-endian"], {b"env": b"a=1\n"}, output, b"", given=given)
@@ -504,10 +508,10 @@ def good_copies():
 def order():
     files = board(PAIR, [FIRST, SECOND]) | {b"stand-ins": b""}
     for words, path in ORDER:
-        yield row("the first file", [b"run", *words], files, b"", b"fwenv: cannot read %s\n" % path)
+        yield row("the first file", [b"run", *words], files, b"", b"fwenv: cannot read %s: no such file\n" % path)
     config = board(PAIR, [FIRST, SECOND]) | {CONFIG: b"none 0 a\n"}
     words = arguments(b"run", b"--default", b"absent", b"--stubs", b"nothing", b"-f", b"no")
-    yield row("a copy first", words, config, b"", b"fwenv: cannot read none\n")
+    yield row("a copy first", words, config, b"", b"fwenv: cannot read none: no such file\n")
 
 
 def chunks():

@@ -33,7 +33,7 @@ OVER_GOOD_COPIES = [
     ([b"import", b"text"], 1, b"", b"fwenv: text: Nul\n", SECOND, b"a=b\0\n"),
     ([b"restore", b"text"], 0, b"", b"", PAIR.image(8, b"q=1\0"), b"q=1\n"),
     ([b"restore", b"text"], 1, b"", b'## Error: no room for "q" in line 2\n', SECOND, b"a=b\nq=1\n"),
-    ([b"restore", b"absent"], 1, b"", b"fwenv: cannot read absent\n"),
+    ([b"restore", b"absent"], 1, b"", b"fwenv: cannot read absent: no such file\n"),
 ]
 # The same where no copy is good; the warning comes first, and it is the first copy that is written
 OVER_BLANK_COPIES = [
@@ -45,6 +45,7 @@ OVER_BLANK_COPIES = [
     ([b"import", b"--default", b"text", b"absent"], 1, b"", b"fwenv: cannot read absent\n", BLANK, b"p=1\n"),
     ([b"setenv", b"a", b"b"], 0, b"", b"", PAIR.image(1, b"a=b\0")),
     ([b"restore", b"text"], 0, b"", b"", PAIR.image(1, b"q=1\0"), b"q=1\n"),
+    ([b"restore", b"--default", b"absent", b"text"], 1, b"", b"fwenv: cannot read absent: no such file\n", BLANK, b"q=1\n"),
     ([b"restore", b"--default", b"text", b"text"], 0, b"", b"", PAIR.image(1, b"q=1\0"), b"q=1\n"),
 ]
 # A single image of 64 bytes whose variables have types and accesses: arguments, status, output, errors, and what is changed

@@ -20,6 +20,12 @@ CANNOT_READ_INPUT = b"fwenv: cannot read standard input\n"
 CANNOT_READ = b"fwenv: cannot read %s\n"
 CANNOT_WRITE_OUTPUT = b"fwenv: cannot write standard output\n"
 CANNOT_WRITE = b"fwenv: cannot write %s\n"
+# What follows if the line says why
+NO_SUCH_FILE, LONGER = b"no such file", b"it is longer than %d bytes" % LONGEST
+DIRECTORY, DENIED, NO_SPACE = b"it is a directory", b"permission denied", b"no space is left"
+CHANGED = b"another program changed it"
+# The subcommands that say it
+EXPLAINING = {"status", "run", "check", "restore"}
 TOO_SHORT = b"fwenv: %s is too short\n"
 OVERLAP = b"fwenv: copies overlap\n"
 NO_GOOD_COPY = b"fwenv: no good copy: "
@@ -31,6 +37,11 @@ ONE_NAME = b"## Error: -n takes exactly one name\n"
 REFUSED_LINE = b"%s in line %d\n"
 REFUSED_ENTRIES = b"## Error: %d entries refused\n"
 NO_EXPORT = b'## Error: can\'t export "%s"\n'
+
+
+def explained(line, reason):
+    """The line with the reason at its end, if there is one."""
+    return line.removesuffix(b"\n") + b": " + reason + b"\n" if reason else line
 
 
 @dataclass
@@ -61,6 +72,7 @@ class Program:
     def answer(self, arguments):
         try:
             call = read_arguments(arguments)
+            self.explains = call.tool in EXPLAINING
             status = getattr(self, "call_" + call.tool)(call)
         except Wrong as wrong:
             return Answer(1, b"", wrong.text, self.files)
@@ -93,10 +105,16 @@ class Program:
 
     # Files
 
+    def unreadable(self, path, reason):
+        line = CANNOT_READ % path
+        return Ended(explained(line, reason) if self.explains else line)
+
     def text(self, path):
         found = self.files.get(path)
-        if found is None or len(found) > LONGEST:
-            raise Ended(CANNOT_READ % path)
+        if found is None:
+            raise self.unreadable(path, NO_SUCH_FILE)
+        if len(found) > LONGEST:
+            raise self.unreadable(path, LONGER)
         return found
 
     def parsed(self, path, parse):
@@ -110,7 +128,7 @@ class Program:
         """Where a copy begins, and the bytes of its device from there on."""
         device = self.files.get(place.device)
         if device is None:
-            raise Ended(CANNOT_READ % place.device)
+            raise self.unreadable(place.device, NO_SUCH_FILE)
         start = place.start(size, len(device))
         if start is None:
             raise Ended(TOO_SHORT % place.device)
@@ -242,7 +260,7 @@ class Program:
         if path != b"-":
             return path, self.text(path)
         if len(self.given) > LONGEST:
-            raise Ended(CANNOT_READ % path)
+            raise self.unreadable(path, LONGER)
         return path, self.given
 
     def call_run(self, call):

@@ -11,6 +11,7 @@ use Rattle.fw_tools.specs.declared.changed_copies.Change.{Change}
 use Rattle.fw_tools.specs.declared.copies.ReadCopy.{ReadCopy}
 use Rattle.fw_tools.specs.declared.files.FileFault.{FileFault}
 use Rattle.fw_tools.specs.declared.files.FileFault.TheVariants as file
+use Rattle.fw_tools.specs.declared.reasons.Reason.TheVariants.{Changed}
 use Rattle.fw_tools.specs.declared.source.Source.{Source}
 
 -- two copies of one device share a byte: each begins before the end of the other
@@ -31,9 +32,10 @@ stays old again = (old.start == again.start) && bytes_eq old.bytes.items again.b
 
 -- why a copy may not be written that was read so at the start, and so just before the write
 abbrev pub change_in_reads : ReadCopy → Result ReadCopy FileFault → Option FileFault
-change_in_reads old (Ok again) = if stays old again then None else Some file.CannotWrite
+change_in_reads old (Ok again) = if stays old again then None else Some (file.CannotWrite Changed)
 change_in_reads old (Err file.Memory) = Some file.Memory
-change_in_reads old (Err fault) = Some file.CannotWrite
+change_in_reads old (Err (file.CannotRead why)) = Some (file.CannotWrite why)
+change_in_reads old (Err fault) = Some (file.CannotWrite Changed)
 
 -- a copy is written where its bytes are others than before
 abbrev pub to_write : List ℕ → List ℕ → Option (List ℕ)

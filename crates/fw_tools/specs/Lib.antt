@@ -4,6 +4,7 @@ pub mod CopyReport
 pub mod EntryPoint
 pub mod Files
 pub mod Greeting
+pub mod Reasons
 pub mod Said
 pub mod ScriptRuns
 pub mod SessionRun

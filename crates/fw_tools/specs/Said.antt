@@ -20,6 +20,11 @@ Says (Some fault) err err' = AppendsFront err err' (message_of fault)
 abbrev pub SaysSome : Option (List ℕ) → Option (List ℕ) → Type 0
 SaysSome old new = (text : List ℕ) × Appends old new text
 
+-- this text is said as far as standard error takes it, or some text where none is known
+abbrev pub SaysLine : Option (List ℕ) → Option (List ℕ) → Option (List ℕ) → Type 0
+SaysLine None old new = SaysSome old new
+SaysLine (Some line) old new = AppendsFront old new line
+
 -- nothing on standard output
 abbrev pub SaysOnly : Writers → Writers → Type 0
 SaysOnly old new = (new.output ≡ old.output) × SaysSome old.errors new.errors

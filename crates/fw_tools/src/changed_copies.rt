@@ -5,6 +5,7 @@ ghost use Rattle.fw_tools.specs.Copies.{change_in, change_view, changes, other_f
 
 use crate::copies::{ReadCopy, change_since, to_write, write_copy};
 use crate::files::{say_fault, value_or_say};
+use crate::reasons::Explains;
 use crate::source::Source;
 use env_session::Stored;
 use envcfg_core::Place;
@@ -27,11 +28,12 @@ pub(crate) fn write_back<X: Files + AllocGlobal, E: Write>(
     rt: &X,
     source: &Source,
     stored: &Stored,
+    explains: Explains,
     errors: &mut E,
 ) -> Option<()>
     ensures { MatchOption result (SaysSome (E.contents errors.old) (E.contents errors.new)) (λ _. E.contents errors.new ≡ E.contents errors.old) }
 {
-    write_changes(rt, source, changes(source, stored), errors)
+    write_changes(rt, source, changes(source, stored), explains, errors)
 }
 
 /// The same, but the copy that was current at the start is written after the other, so that one of them is whole at any time.
@@ -40,12 +42,14 @@ pub(crate) fn write_other_first<X: Files + AllocGlobal, E: Write>(
     source: &Source,
     current: Choice,
     stored: &Stored,
+    explains: Explains,
     errors: &mut E,
 ) -> Option<()>
     ensures { MatchOption result (SaysSome (E.contents errors.old) (E.contents errors.new)) (λ _. E.contents errors.new ≡ E.contents errors.old) }
 {
     let [first, second] = changes(source, stored);
-    write_changes(rt, source, other_first(current, first, second), errors)
+    let changes = other_first(current, first, second);
+    write_changes(rt, source, changes, explains, errors)
 }
 
 /// Two changes, that of the copy which was current at the start after the other.
@@ -67,6 +71,7 @@ fn write_changes<X: Files + AllocGlobal, E: Write>(
     rt: &X,
     source: &Source,
     changes: [Option<Change<'_>>; 2],
+    explains: Explains,
     errors: &mut E,
 ) -> Option<()>
     ensures { MatchOption result (SaysSome (E.contents errors.old) (E.contents errors.new)) (λ _. E.contents errors.new ≡ E.contents errors.old) }
@@ -76,12 +81,19 @@ fn write_changes<X: Files + AllocGlobal, E: Write>(
         return Some(());
     }
     let size = source.config.size;
-    find_as_read(rt, &source.config.first, size, &source.first, errors)?;
+    find_as_read(
+        rt,
+        &source.config.first,
+        size,
+        &source.first,
+        explains,
+        errors,
+    )?;
     if let (Some(place), Some(old)) = (&source.config.second, &source.second) {
-        find_as_read(rt, place, size, old, errors)?;
+        find_as_read(rt, place, size, old, explains, errors)?;
     }
-    write_change(rt, one, errors)?;
-    write_change(rt, other, errors)
+    write_change(rt, one, explains, errors)?;
+    write_change(rt, other, explains, errors)
 }
 
 /// Sees that a copy still is what was read. A fault is said on `errors`.
@@ -90,6 +102,7 @@ fn find_as_read<X: Files + AllocGlobal, E: Write>(
     place: &Place,
     size: u32,
     old: &ReadCopy,
+    explains: Explains,
     errors: &mut E,
 ) -> Option<()>
     ensures { MatchOption result (SaysSome (E.contents errors.old) (E.contents errors.new)) (λ _. E.contents errors.new ≡ E.contents errors.old) }
@@ -97,7 +110,7 @@ fn find_as_read<X: Files + AllocGlobal, E: Write>(
     match change_since(rt, place, size, old) {
         None => Some(()),
         Some(fault) => {
-            say_fault(rt.alloc(), errors, place.device.as_str(), fault);
+            say_fault(rt.alloc(), errors, explains, place.device.as_str(), fault);
             None
         }
     }
@@ -107,6 +120,7 @@ fn find_as_read<X: Files + AllocGlobal, E: Write>(
 fn write_change<X: Files + AllocGlobal, E: Write>(
     rt: &X,
     change: Option<Change<'_>>,
+    explains: Explains,
     errors: &mut E,
 ) -> Option<()>
     ensures { MatchOption result (SaysSome (E.contents errors.old) (E.contents errors.new)) (λ _. E.contents errors.new ≡ E.contents errors.old) }
@@ -115,7 +129,8 @@ fn write_change<X: Files + AllocGlobal, E: Write>(
         return Some(());
     };
     let written = write_copy(rt, change.place, change.start, change.bytes);
-    value_or_say(rt.alloc(), errors, change.place.device.as_str(), written)
+    let path = change.place.device.as_str();
+    value_or_say(rt.alloc(), errors, explains, path, written)
 }
 
 /// What is to be written, in this order.

@@ -6,6 +6,7 @@ ghost use Rattle.fw_tools.specs.Said.{SaysSome};
 
 use crate::entry_point::report;
 use crate::files::{FileFault, read_file, read_stand_in_file, value_or_say};
+use crate::reasons::Explains;
 use crate::system::System;
 use crate::task_work::bytes_or_say;
 use env_session::Session;
@@ -66,7 +67,13 @@ fn check_file<X: System + AllocGlobal, W: Write, E: Write>(
         (record { output = W.contents output.new; errors = E.contents errors.new }) (unwrap_or result 1) }
 {
     let stand_ins = stand_ins_or_say(rt, asked.stand_ins, errors)?;
-    let text = value_or_say(rt.alloc(), errors, asked.path, read_script(rt, asked.path))?;
+    let text = value_or_say(
+        rt.alloc(),
+        errors,
+        Explains::Reason,
+        asked.path,
+        read_script(rt, asked.path),
+    )?;
     let end = check_text(
         rt.alloc(),
         stand_ins.as_ref(),
@@ -89,6 +96,7 @@ fn stand_ins_or_say<X: System + AllocGlobal, E: Write>(
     value_or_say(
         rt.alloc(),
         errors,
+        Explains::Reason,
         path.unwrap_or(""),
         stand_ins_given(rt, path),
     )

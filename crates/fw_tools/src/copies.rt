@@ -5,13 +5,14 @@ ghost use Rattle.fw_tools.specs.Copies.{change_in_reads, share_a_byte, stays, to
 ghost use Rattle.fw_tools.specs.Files.{copy_fault};
 
 use crate::files::FileFault;
+use crate::reasons::Reason;
 use crate::system::{Hold, System};
 use envcfg_core::Place;
 use envimg_core::SIZE_MAX;
 use fw_engines::StreamFault;
-use fw_engines::streams::{read_up_to, write_text};
+use fw_engines::streams::read_up_to;
 use std::fs::{self, FileType, OpenFile, OpenOptions};
-use std::io::{ErrorKind, Read, Seek, SeekFrom};
+use std::io::{self, ErrorKind, Read, Seek, SeekFrom, Write};
 use std::os::unix::fs::FileTypeExt;
 use std::rt::Files;
 
@@ -32,23 +33,18 @@ pub(crate) fn read_copy<X: Files + AllocGlobal>(
 {
     let path = place.device.as_str();
     if is_pipe(rt, path) {
-        return Err(FileFault::CannotRead);
+        return Err(FileFault::CannotRead(Reason::Unknown));
     }
-    let Ok(mut device) = OpenOptions::new().read(true).open(rt, path) else {
-        return Err(FileFault::CannotRead);
-    };
-    let Ok(length) = device.seek(SeekFrom::End(0)) else {
-        return Err(FileFault::CannotRead);
+    let mut device = OpenOptions::new().read(true).open(rt, path)?;
+    let length = match device.seek(SeekFrom::End(0)) {
+        Ok(length) => length,
+        Err(error) => return Err(FileFault::CannotRead(why_not_sought(rt, path, error.kind()))),
     };
     let Some(start) = place.start(size, length) else {
         return Err(FileFault::TooShort);
     };
-    let Ok(mut bytes) = vec![in rt.alloc(); 0u8; size as usize] else {
-        return Err(FileFault::Memory);
-    };
-    if device.seek(SeekFrom::Start(start)).is_err() {
-        return Err(FileFault::CannotRead);
-    }
+    let mut bytes = vec![in rt.alloc(); 0u8; size as usize]?;
+    device.seek(SeekFrom::Start(start))?;
     match device.read_exact(&mut bytes) {
         Ok(()) => Ok(ReadCopy { bytes, start }),
         Err(error) => Err(short_or_unreadable(error.kind())),
@@ -62,19 +58,13 @@ fn read_from<X: Files + AllocGlobal>(
     start: u64,
     most: usize,
 ) -> Result<Vec<u8>, FileFault> {
-    let Ok(mut device) = OpenOptions::new()
-        .read(true)
-        .open(rt, place.device.as_str())
-    else {
-        return Err(FileFault::CannotRead);
-    };
-    if device.seek(SeekFrom::Start(start)).is_err() {
-        return Err(FileFault::CannotRead);
-    }
+    let path = place.device.as_str();
+    let mut device = OpenOptions::new().read(true).open(rt, path)?;
+    device.seek(SeekFrom::Start(start))?;
     match read_up_to(rt.alloc(), &mut device, most) {
         Ok(bytes) => Ok(bytes),
         Err(StreamFault::Memory) => Err(FileFault::Memory),
-        Err(_) => Err(FileFault::CannotRead),
+        Err(_) => Err(FileFault::CannotRead(Reason::Unknown)),
     }
 }
 
@@ -143,11 +133,12 @@ fn change_in_reads(old: &ReadCopy, again: Result<ReadCopy, FileFault>) -> Option
             if stays(old, &copy) {
                 None
             } else {
-                Some(FileFault::CannotWrite)
+                Some(FileFault::CannotWrite(Reason::Changed))
             }
         }
         Err(FileFault::Memory) => Some(FileFault::Memory),
-        Err(_) => Some(FileFault::CannotWrite),
+        Err(FileFault::CannotRead(reason)) => Some(FileFault::CannotWrite(reason)),
+        Err(_) => Some(FileFault::CannotWrite(Reason::Changed)),
     }
 }
 
@@ -175,22 +166,28 @@ pub(crate) fn write_copy<X: Files>(
 ) -> Result<(), FileFault> {
     let path = place.device.as_str();
     if is_pipe(rt, path) || is_raw(rt, path) {
-        return Err(FileFault::CannotWrite);
+        return Err(FileFault::CannotWrite(Reason::Unknown));
     }
-    let Ok(mut device) = OpenOptions::new().write(true).open(rt, path) else {
-        return Err(FileFault::CannotWrite);
-    };
-    match device.seek(SeekFrom::End(0)) {
-        Ok(length) if lies_inside(start, bytes.len(), length) => (),
-        _ => return Err(FileFault::CannotWrite),
+    match write_inside(rt, path, start, bytes) {
+        Ok(true) => Ok(()),
+        // it was longer when the copy was read
+        Ok(false) => Err(FileFault::CannotWrite(Reason::Changed)),
+        Err(error) => Err(FileFault::CannotWrite(Reason::by(error.kind()))),
     }
-    if device.seek(SeekFrom::Start(start)).is_err() {
-        return Err(FileFault::CannotWrite);
+}
+
+/// Writes bytes from `start` on and flushes them to storage, and answers whether they lie inside the file; else nothing is
+/// written.
+fn write_inside<X: Files>(rt: &X, path: &str, start: u64, bytes: &[u8]) -> io::Result<bool> {
+    let mut device = OpenOptions::new().write(true).open(rt, path)?;
+    let length = device.seek(SeekFrom::End(0))?;
+    if !lies_inside(start, bytes.len(), length) {
+        return Ok(false);
     }
-    if !write_text(&mut device, bytes) || device.sync_all().is_err() {
-        return Err(FileFault::CannotWrite);
-    }
-    Ok(())
+    device.seek(SeekFrom::Start(start))?;
+    device.write_all(bytes)?;
+    device.sync_all()?;
+    Ok(true)
 }
 
 /// Whether two copies of this size share a byte of one device.
@@ -223,6 +220,14 @@ fn is_raw<X: Files>(rt: &X, path: &str) -> bool {
     matches!(kind_of(rt, path), Some(kind) if kind.is_char_device())
 }
 
+/// Why the end of an open file can't be sought, by the kind of the error: on some file systems a directory has none.
+fn why_not_sought<X: Files>(rt: &X, path: &str, error: ErrorKind) -> Reason {
+    match kind_of(rt, path) {
+        Some(kind) if kind.is_dir() => Reason::Directory,
+        _ => Reason::by(error),
+    }
+}
+
 /// What kind of file a path names, if that can be told.
 fn kind_of<X: Files>(rt: &X, path: &str) -> Option<FileType> {
     match fs::metadata(rt, path) {
@@ -237,7 +242,7 @@ fn short_or_unreadable(kind: ErrorKind) -> FileFault
 {
     match kind {
         ErrorKind::UnexpectedEof => FileFault::TooShort,
-        _ => FileFault::CannotRead,
+        _ => FileFault::CannotRead(Reason::by(kind)),
     }
 }
 

@@ -10,6 +10,7 @@ ghost use Rattle.fw_tools.specs.Source.{IsSourceOf};
 use crate::copies::{ReadCopy, lock_device, lock_path, with_following};
 use crate::entry_point::report;
 use crate::files::{FileFault, read_file, value_or_say};
+use crate::reasons::Explains;
 use crate::source::{Source, config_from, read_source};
 use crate::system::{Hold, System};
 use envcfg_core::{Config, Place};
@@ -63,9 +64,21 @@ fn report_copies<X: System + AllocGlobal, W: Write, E: Write>(
         (record { output = W.contents output.old; errors = E.contents errors.old })
         (record { output = W.contents output.new; errors = E.contents errors.new }) (unwrap_or result 1) }
 {
-    let text = value_or_say(rt.alloc(), errors, path, read_file(rt, path))?;
+    let text = value_or_say(
+        rt.alloc(),
+        errors,
+        Explains::Reason,
+        path,
+        read_file(rt, path),
+    )?;
     let bytes = text.as_slice();
-    let config = value_or_say(rt.alloc(), errors, path, config_from(rt.alloc(), bytes))?;
+    let config = value_or_say(
+        rt.alloc(),
+        errors,
+        Explains::Reason,
+        path,
+        config_from(rt.alloc(), bytes),
+    )?;
     let source = source_or_say(rt, order, config, errors)?;
     let survey = survey_in(path, bytes, &source);
     let end = status(rt.alloc(), &survey, output);
@@ -84,7 +97,13 @@ fn report_file<X: System + AllocGlobal, W: Write, E: Write>(
         (record { output = W.contents output.old; errors = E.contents errors.old })
         (record { output = W.contents output.new; errors = E.contents errors.new }) (unwrap_or result 1) }
 {
-    let bytes = value_or_say(rt.alloc(), errors, path, read_locked(rt, path))?;
+    let bytes = value_or_say(
+        rt.alloc(),
+        errors,
+        Explains::Reason,
+        path,
+        read_locked(rt, path),
+    )?;
     let end = file_status(rt.alloc(), order, path.as_bytes(), &bytes, output);
     Some(report(end, errors))
 }
@@ -106,8 +125,14 @@ fn source_or_say<X: System + AllocGlobal, E: Write>(
         (λ source. IsSourceOf order config source × (E.contents errors.new ≡ E.contents errors.old)) }
 {
     let _lock = lock_device(rt, &config.first, Hold::Shared);
-    let source = read_source(rt, order, config, errors)?;
-    value_or_say(rt.alloc(), errors, "", followed(rt, source))
+    let source = read_source(rt, order, config, Explains::Reason, errors)?;
+    value_or_say(
+        rt.alloc(),
+        errors,
+        Explains::Reason,
+        "",
+        followed(rt, source),
+    )
 }
 
 /// The same copies, each with what follows it in its device.

@@ -1,26 +1,29 @@
 //! Files that are read whole, and why a file can not be used.
-ghost use Rattle.std.specs.Prelude.{◌≡◌, ◌≤◌, ℕ, List, Ok, Some, IfOk, MatchOption, length, map, option_map};
+ghost use Rattle.std.specs.Prelude.{◌≡◌, ◌≤◌, ◌++◌, ℕ, List, Ok, Some, IfErr, IfOk, MatchOption, length, map, option_map};
+ghost use Rattle.std.specs.IoError.{error_kind};
 ghost use Rattle.std.specs.Result.{result_ok};
-ghost use Rattle.fw_tools.specs.Said.{SaysSome};
+ghost use Rattle.fw_tools.specs.Said.{SaysLine, SaysSome};
 ghost use Rattle.envcfg_core.specs.Entries.{entry_view};
 ghost use Rattle.envcfg_core.specs.Import.{import_of};
 ghost use Rattle.envcfg_core.specs.SetScript.{set_script_of};
-ghost use Rattle.fw_tools.specs.Files.{file_limit, name_of, text_fault};
+ghost use Rattle.fw_tools.specs.Files.{fault_line, file_limit, name_of, reason_by, text_fault};
 ghost use Rattle.fw_tools.specs.SessionRun.{AreStubsOf};
-ghost use Rattle.fw_tools.specs.declared.files.FileFault.TheVariants.{Memory};
+ghost use Rattle.fw_tools.specs.declared.files.FileFault.TheVariants.{CannotRead, Memory};
+ghost use Rattle.fw_engines.specs.Streams.{AppendsFront};
 ghost use Rattle.hush_commands.specs.Stubs.{stand_ins_of};
 
 use crate::program_texts::{
     CANNOT_READ_FILE, CANNOT_WRITE_FILE, COLON, FWENV, IN_LINE, NEWLINE, OUT_OF_MEMORY, TOO_SHORT,
 };
+use crate::reasons::{Explains, Reason};
 use envcfg_core::{ConfigFault, TextEntry, TextFault, parse_import, parse_set_script};
 use envvars_core::Refusal;
 use fw_engines::StreamFault;
-use fw_engines::streams::{read_up_to, say, write_decimal, write_text, write_three, write_two};
+use fw_engines::streams::{read_up_to, say, write_decimal, write_three, write_two};
 use hush_run::{StubFault, Stubs};
 use std::alloc::{AllocError, Global};
 use std::fs::OpenOptions;
-use std::io::Write;
+use std::io::{self, Read, Write};
 use std::rt::Files;
 
 /// The most bytes of a file that is read whole.
@@ -30,9 +33,9 @@ const FILE_LIMIT: usize = 16_777_216;
 #[derive(Clone, Copy, Debug)]
 pub(crate) enum FileFault {
     /// It can't be opened or read, or it is longer than a file that is read whole may be.
-    CannotRead,
+    CannotRead(Reason),
     /// It can't be opened for writing, written, or flushed to storage.
-    CannotWrite,
+    CannotWrite(Reason),
     /// The copy doesn't lie wholly inside it.
     TooShort,
     /// Memory ran out.
@@ -55,23 +58,52 @@ impl From<AllocError> for FileFault {
     }
 }
 
+impl From<io::Error> for FileFault {
+    ghost from_gives = { λ error fault. fault ≡ CannotRead (reason_by (error_kind error)) };
+
+    fn from(error: io::Error) -> FileFault {
+        FileFault::CannotRead(Reason::by(error.kind()))
+    }
+}
+
+/// A file that is read, and why its last read failed, if it did.
+#[derive(Drop)]
+struct Reading<F> {
+    file: F,
+    reason: Reason,
+}
+
+impl<F: Read> Read for Reading<F> {
+    fn read(&mut self, buf: &mut [u8]) -> io::Result<usize> {
+        match self.file.read(buf) {
+            Ok(count) => Ok(count),
+            Err(error) => {
+                self.reason = Reason::by(error.kind());
+                Err(error)
+            }
+        }
+    }
+}
+
 /// Reads a whole file of at most 16,777,216 bytes.
 pub(crate) fn read_file<X: Files + AllocGlobal>(rt: &X, path: &str) -> Result<Vec<u8>, FileFault>
     ensures { IfOk result (λ bytes. length bytes.items ≤ file_limit) }
 {
-    let Ok(mut file) = OpenOptions::new().read(true).open(rt, path) else {
-        return Err(FileFault::CannotRead);
+    let file = OpenOptions::new().read(true).open(rt, path)?;
+    let mut reading = Reading {
+        file,
+        reason: Reason::Unknown,
     };
-    match read_up_to(rt.alloc(), &mut file, FILE_LIMIT + 1) {
+    match read_up_to(rt.alloc(), &mut reading, FILE_LIMIT + 1) {
         Ok(bytes) => {
             if bytes.len() <= FILE_LIMIT {
                 Ok(bytes)
             } else {
-                Err(FileFault::CannotRead)
+                Err(FileFault::CannotRead(Reason::TooLong))
             }
         }
         Err(StreamFault::Memory) => Err(FileFault::Memory),
-        Err(_) => Err(FileFault::CannotRead),
+        Err(_) => Err(FileFault::CannotRead(reading.reason)),
     }
 }
 
@@ -89,13 +121,20 @@ pub(crate) fn import_from(alloc: Global, text: &[u8]) -> Result<Vec<TextEntry>, 
 pub(crate) fn entries_or_say<X: Files + AllocGlobal, E: Write>(
     rt: &X,
     path: &str,
+    explains: Explains,
     errors: &mut E,
 ) -> Option<Vec<TextEntry>>
     ensures { MatchOption result (SaysSome (E.contents errors.old) (E.contents errors.new))
         (λ entries. ((text : List ℕ) × (import_of text ≡ Ok (map entry_view entries.items))) × (E.contents errors.new ≡ E.contents errors.old)) }
 {
-    let text = value_or_say(rt.alloc(), errors, path, read_file(rt, path))?;
-    value_or_say(rt.alloc(), errors, path, import_from(rt.alloc(), &text))
+    let text = value_or_say(rt.alloc(), errors, explains, path, read_file(rt, path))?;
+    value_or_say(
+        rt.alloc(),
+        errors,
+        explains,
+        path,
+        import_from(rt.alloc(), &text),
+    )
 }
 
 /// The entries of a set script.
@@ -125,28 +164,40 @@ pub(crate) fn read_stand_ins<X: Files + AllocGlobal>(
 pub(crate) fn value_or_say<T: Drop, E: Write>(
     alloc: Global,
     errors: &mut E,
+    explains: Explains,
     path: &str,
     outcome: Result<T, FileFault>,
 ) -> Option<T>
     ensures value { result ≡ result_ok outcome }
     ensures said { MatchOption result (SaysSome (E.contents errors.old) (E.contents errors.new)) (λ _. E.contents errors.new ≡ E.contents errors.old) }
+    ensures line { IfErr outcome (λ fault. SaysLine (fault_line explains path.now fault) (E.contents errors.old) (E.contents errors.new)) }
 {
     match outcome {
         Ok(value) => Some(value),
         Err(fault) => {
-            say_fault(alloc, errors, path, fault);
+            say_fault(alloc, errors, explains, path, fault);
             None
         }
     }
 }
 
 /// Says on `errors` why a file can not be used, as far as it is taken.
-pub(crate) fn say_fault<E: Write>(alloc: Global, errors: &mut E, path: &str, fault: FileFault)
-    ensures { SaysSome (E.contents errors.old) (E.contents errors.new) }
+pub(crate) fn say_fault<E: Write>(
+    alloc: Global,
+    errors: &mut E,
+    explains: Explains,
+    path: &str,
+    fault: FileFault,
+)
+    ensures { SaysLine (fault_line explains path.now fault) (E.contents errors.old) (E.contents errors.new) }
 {
     match fault {
-        FileFault::CannotRead => say_path(errors, CANNOT_READ_FILE, path, NEWLINE),
-        FileFault::CannotWrite => say_path(errors, CANNOT_WRITE_FILE, path, NEWLINE),
+        FileFault::CannotRead(reason) => {
+            say_path(errors, CANNOT_READ_FILE, path, reason.ending(explains))
+        }
+        FileFault::CannotWrite(reason) => {
+            say_path(errors, CANNOT_WRITE_FILE, path, reason.ending(explains))
+        }
         FileFault::TooShort => say_path(errors, FWENV, path, TOO_SHORT),
         FileFault::Memory => say(errors, OUT_OF_MEMORY),
         FileFault::Config(refused) => match refused.to_string(alloc) {
@@ -199,7 +250,7 @@ fn text_fault(fault: TextFault) -> FileFault
 
 /// Says a text round a path.
 fn say_path<E: Write>(errors: &mut E, front: &[u8], path: &str, back: &[u8])
-    ensures { SaysSome (E.contents errors.old) (E.contents errors.new) }
+    ensures { AppendsFront (E.contents errors.old) (E.contents errors.new) (front.now ++ path.now ++ back.now) }
 {
     let _ = write_three(errors, front, path.as_bytes(), back);
 }

@@ -2,7 +2,7 @@
 //! docs/dry-runs.md state the rules; fw_arguments reads the arguments.
 //!
 //! To read in this order: entry_point, greeting; subcommands, task_work, lock_file, source, default_text, copies, files,
-//! changed_copies; session_run, script_source, script_work, check_work, copy_report; system, program_texts.
+//! reasons, changed_copies; session_run, script_source, script_work, check_work, copy_report; system, program_texts.
 #![tactic(auto)]
 
 mod changed_copies;
@@ -15,6 +15,7 @@ mod files;
 mod greeting;
 mod lock_file;
 mod program_texts;
+mod reasons;
 mod script_source;
 mod script_work;
 mod session_run;

@@ -2,7 +2,8 @@
 ghost use Rattle.std.specs.Prelude.{◌≡◌, MatchOption};
 ghost use Rattle.fw_tools.specs.Said.{SaysSome};
 
-use crate::program_texts::{CANNOT_LOCK, LOCK_FILE, OUT_OF_MEMORY};
+use crate::program_texts::{CANNOT_LOCK, OUT_OF_MEMORY};
+use crate::reasons::{Explains, Reason};
 use crate::system::{Hold, System};
 use fw_engines::streams::{say, write_three};
 use std::fs::OpenOptions;
@@ -26,26 +27,27 @@ pub(crate) fn lock_or_say<X: System + AllocGlobal, E: Write>(
         return None;
     };
     match locked_file(rt, path.as_str()) {
-        Some(file) => Some(Some(file)),
-        None => {
-            let _ = write_three(errors, CANNOT_LOCK, folder.as_bytes(), LOCK_FILE);
+        Ok(file) => Some(Some(file)),
+        Err(reason) => {
+            let ending = reason.ending(Explains::Reason);
+            let _ = write_three(errors, CANNOT_LOCK, path.as_bytes(), ending);
             None
         }
     }
 }
 
 /// A file that is open and locked.
-fn locked_file<X: System>(rt: &X, path: &str) -> Option<X::File> {
+fn locked_file<X: System>(rt: &X, path: &str) -> Result<X::File, Reason> {
     let file = match OpenOptions::new().read(true).open(rt, path) {
         Ok(file) => file,
         Err(_) => match OpenOptions::new().write(true).create(true).open(rt, path) {
             Ok(file) => file,
-            Err(_) => return None,
+            Err(error) => return Err(Reason::by(error.kind())),
         },
     };
     if rt.lock(&file, Hold::Alone) {
-        Some(file)
+        Ok(file)
     } else {
-        None
+        Err(Reason::Unknown)
     }
 }

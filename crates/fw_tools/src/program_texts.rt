@@ -43,10 +43,8 @@ pub(crate) const BAD_CRC_DEFAULT: &[u8] = b"Warning: Bad CRC, using default envi
 /// The default environment of a board's build.
 pub(crate) const INITIAL_ENVIRONMENT: &str = "/etc/u-boot-initial-env";
 
-/// Before the folder of a lock file that can't be opened or locked, and behind it.
+/// Before the path of a lock file that can't be opened or locked.
 pub(crate) const CANNOT_LOCK: &[u8] = b"fwenv: cannot lock ";
-
-pub(crate) const LOCK_FILE: &[u8] = b"/fw_printenv.lock\n";
 
 /// Before the faults of the copies where none is good, and behind them.
 pub(crate) const NO_GOOD_COPY: &[u8] = b"fwenv: no good copy: ";

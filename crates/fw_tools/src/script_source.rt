@@ -9,6 +9,7 @@ ghost use Rattle.fw_tools.specs.ScriptRuns.{IsTextOf, Refuses, name_of_script, q
 
 use crate::files::{FileFault, read_file, value_or_say};
 use crate::program_texts::OUT_OF_MEMORY;
+use crate::reasons::Explains;
 use fw_arguments::{GivenScript, STANDARD_INPUT};
 use fw_engines::say_syntax_fault;
 use fw_engines::streams::say;
@@ -48,6 +49,7 @@ pub(crate) fn text_or_say<X: Files + AllocGlobal, E: Write>(
     value_or_say(
         rt.alloc(),
         errors,
+        Explains::Reason,
         path_of_script(given),
         read_text(rt, given),
     )

@@ -9,6 +9,7 @@ ghost use Rattle.fw_tools.specs.Said.{SaysSome};
 use crate::changed_copies::write_other_first;
 use crate::entry_point::report;
 use crate::files::{FileFault, read_stand_ins, value_or_say};
+use crate::reasons::Explains;
 use crate::script_source::{name_of_script, script_or_say, text_or_say};
 use crate::source::Source;
 use crate::system::System;
@@ -49,7 +50,13 @@ fn stand_ins_or_say<X: System + AllocGlobal, E: Write>(
         (λ stand_ins. AreStandInsOf (script_run_view asked.now) stand_ins × (E.contents errors.new ≡ E.contents errors.old)) }
 {
     let path = asked.dry.stand_ins.unwrap_or("");
-    value_or_say(rt.alloc(), errors, path, stand_ins_of(rt, asked))
+    value_or_say(
+        rt.alloc(),
+        errors,
+        Explains::Reason,
+        path,
+        stand_ins_of(rt, asked),
+    )
 }
 
 /// The stand-ins, of which some boot.
@@ -158,7 +165,14 @@ fn leave<X: System + AllocGlobal, E: Write>(
     if !is_kept(write, end.status) {
         return report(end, errors);
     }
-    match write_other_first(rt, source, current, &session.close(), errors) {
+    match write_other_first(
+        rt,
+        source,
+        current,
+        &session.close(),
+        Explains::Reason,
+        errors,
+    ) {
         None => 1,
         Some(()) => report(end, errors),
     }

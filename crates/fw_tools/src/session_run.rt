@@ -7,6 +7,7 @@ use crate::changed_copies::write_back;
 use crate::copies::lock_device;
 use crate::files::{read_stand_ins, value_or_say};
 use crate::program_texts::{CANNOT_READ, CANNOT_WRITE, OUT_OF_MEMORY, TOO_LONG};
+use crate::reasons::Explains;
 use crate::source::Source;
 use crate::system::{Hold, System};
 use env_session::Session;
@@ -33,6 +34,7 @@ pub(crate) fn talk<X: System + AllocGlobal, R: Read, W: Write, E: Write>(
     let stand_ins = value_or_say(
         rt.alloc(),
         errors,
+        Explains::Nothing,
         run.stand_ins.unwrap_or(""),
         read_stand_ins(rt, run.stand_ins),
     )?;
@@ -56,7 +58,7 @@ fn leave<X: System + AllocGlobal, E: Write>(
         return report_ending(ending, errors);
     }
     let _lock = lock_device(rt, &source.config.first, Hold::Alone);
-    match write_back(rt, source, &end.session.close(), errors) {
+    match write_back(rt, source, &end.session.close(), Explains::Nothing, errors) {
         None => 1,
         Some(()) => report_ending(ending, errors),
     }

@@ -15,6 +15,7 @@ use crate::files::{FileFault, read_file, say_fault, value_or_say};
 use crate::program_texts::{
     BAD_CRC_DEFAULT, COPIES_OVERLAP, IN_FIRST, IN_SECOND, LOOK_AT, NO_GOOD_COPY, OUT_OF_MEMORY,
 };
+use crate::reasons::Explains;
 use env_session::{Session, Stored};
 use envcfg_core::{Config, ConfigFault, Place, parse_config};
 use envimg_core::{Choice, CopyState, Geometry, Layout, Order, check_copy, choose};
@@ -39,11 +40,12 @@ pub(crate) struct Source {
 pub(crate) fn config_or_say<X: Files + AllocGlobal, E: Write>(
     rt: &X,
     path: &str,
+    explains: Explains,
     errors: &mut E,
 ) -> Option<Config>
     ensures { MatchOption result (SaysSome (E.contents errors.old) (E.contents errors.new)) (λ _. E.contents errors.new ≡ E.contents errors.old) }
 {
-    value_or_say(rt.alloc(), errors, path, read_config(rt, path))
+    value_or_say(rt.alloc(), errors, explains, path, read_config(rt, path))
 }
 
 /// Reads the copies that a configuration names. The first fault is said on `errors`.
@@ -51,6 +53,7 @@ pub(crate) fn read_source<X: Files + AllocGlobal, E: Write>(
     rt: &X,
     order: Order,
     config: Config,
+    explains: Explains,
     errors: &mut E,
 ) -> Option<Source>
     ensures { MatchOption result (SaysSome (E.contents errors.old) (E.contents errors.new))
@@ -59,8 +62,8 @@ pub(crate) fn read_source<X: Files + AllocGlobal, E: Write>(
 {
     // there is one: a configuration has no size that its layout refuses
     let geometry = Geometry::with_order(config.layout, config.size, order)?;
-    let first = read_or_say(rt, &config.first, config.size, errors)?;
-    let second = second_or_say(rt, &config, errors)?;
+    let first = read_or_say(rt, &config.first, config.size, explains, errors)?;
+    let second = second_or_say(rt, &config, explains, errors)?;
     if overlap(&config, &first, &second) {
         say(errors, COPIES_OVERLAP);
         return None;
@@ -128,6 +131,7 @@ pub(crate) fn open<X: Files + AllocGlobal, E: Write>(
     rt: &X,
     source: &Source,
     asked: &Defaults<'_>,
+    explains: Explains,
     errors: &mut E,
 ) -> Option<Session>
     ensures { MatchOption result (SaysSome (E.contents errors.old) (E.contents errors.new))
@@ -139,7 +143,13 @@ pub(crate) fn open<X: Files + AllocGlobal, E: Write>(
         Err(fault) => {
             let current = current_of(source);
             warn(asked.whole | lacks_copy(asked, current), current, errors);
-            say_fault(rt.alloc(), errors, asked.path.unwrap_or(""), fault);
+            say_fault(
+                rt.alloc(),
+                errors,
+                explains,
+                asked.path.unwrap_or(""),
+                fault,
+            );
             None
         }
     }
@@ -231,18 +241,20 @@ fn read_or_say<X: Files + AllocGlobal, E: Write>(
     rt: &X,
     place: &Place,
     size: u32,
+    explains: Explains,
     errors: &mut E,
 ) -> Option<ReadCopy>
     ensures { MatchOption result (SaysSome (E.contents errors.old) (E.contents errors.new)) (λ _. E.contents errors.new ≡ E.contents errors.old) }
 {
     let copy = read_copy(rt, place, size);
-    value_or_say(rt.alloc(), errors, place.device.as_str(), copy)
+    value_or_say(rt.alloc(), errors, explains, place.device.as_str(), copy)
 }
 
 /// Reads the second copy, if there is one; a fault is said on `errors`.
 fn second_or_say<X: Files + AllocGlobal, E: Write>(
     rt: &X,
     config: &Config,
+    explains: Explains,
     errors: &mut E,
 ) -> Option<Option<ReadCopy>>
     ensures { MatchOption result (SaysSome (E.contents errors.old) (E.contents errors.new))
@@ -251,7 +263,7 @@ fn second_or_say<X: Files + AllocGlobal, E: Write>(
     match &config.second {
         None => Some(None),
         Some(place) => {
-            let copy = read_or_say(rt, place, config.size, errors)?;
+            let copy = read_or_say(rt, place, config.size, explains, errors)?;
             Some(Some(copy))
         }
     }

@@ -10,6 +10,7 @@ use crate::copies::lock_device;
 use crate::default_text::found_defaults;
 use crate::entry_point::report;
 use crate::lock_file::lock_or_say;
+use crate::reasons::Explains;
 use crate::script_work::run_given;
 use crate::session_run::talk;
 use crate::source::{Source, config_or_say, erased_or_say, open, read_source};
@@ -56,7 +57,7 @@ fn use_files<X: System + AllocGlobal, R: Read, W: Write, E: Write>(
 {
     let (source, _lock) = copies_for(rt, call, errors)?;
     let defaults = found_defaults(rt, call.defaults);
-    let session = open(rt, &source, &defaults, errors)?;
+    let session = open(rt, &source, &defaults, Explains::by(call), errors)?;
     work(rt, &source, session, call, input, output, errors)
 }
 
@@ -87,9 +88,10 @@ fn copies_in_devices<X: System + AllocGlobal, E: Write>(
     ensures { MatchOption result (SaysSome (E.contents errors.old) (E.contents errors.new))
         (λ found. AreCopiesIn None call.now.order found.0 × (E.contents errors.new ≡ E.contents errors.old)) }
 {
-    let config = config_or_say(rt, call.config, errors)?;
+    let explains = Explains::by(call);
+    let config = config_or_say(rt, call.config, explains, errors)?;
     let lock = lock_device(rt, &config.first, hold_for(&call.job));
-    let source = read_source(rt, call.order, config, errors)?;
+    let source = read_source(rt, call.order, config, explains, errors)?;
     Some((source, lock_for_work(lock, &call.job)))
 }
 
@@ -129,7 +131,17 @@ fn work<X: System + AllocGlobal, R: Read, W: Write, E: Write>(
 {
     match &call.job {
         Job::Tool(task) => {
-            use_tool(rt, source, opened, call.only_changes, *task, output, errors)
+            let explains = Explains::by(call);
+            use_tool(
+                rt,
+                source,
+                opened,
+                call.only_changes,
+                *task,
+                explains,
+                output,
+                errors,
+            )
         }
         Job::DryRun(run) => talk(rt, source, opened, run, input, output, errors),
         Job::Script(run) => run_given(rt, source, opened, run, output, errors),
@@ -144,6 +156,7 @@ fn use_tool<X: System + AllocGlobal, W: Write, E: Write>(
     opened: Session,
     only_changes: bool,
     task: Task<'_, '_>,
+    explains: Explains,
     output: &mut W,
     errors: &mut E,
 ) -> Option<u8>
@@ -153,11 +166,11 @@ fn use_tool<X: System + AllocGlobal, W: Write, E: Write>(
 {
     let mut session = opened;
     let current = session.current();
-    let end = act(rt, task, &mut session, output, errors)?;
+    let end = act(rt, task, explains, &mut session, output, errors)?;
     if is_left(only_changes, current, session.touched()) {
         return Some(report(end, errors));
     }
-    finish(rt, source, session, end, errors)
+    finish(rt, source, session, end, explains, errors)
 }
 
 /// Whether the copies are left as they are, of which this was current at the start: where only changes are saved, so many
@@ -177,11 +190,12 @@ fn finish<X: System + AllocGlobal, E: Write>(
     source: &Source,
     session: Session,
     end: ToolEnd,
+    explains: Explains,
     errors: &mut E,
 ) -> Option<u8>
     ensures { Closes end (E.contents errors.old) (E.contents errors.new) (unwrap_or result 1) }
 {
     let stored = session.close();
-    write_back(rt, source, &stored, errors)?;
+    write_back(rt, source, &stored, explains, errors)?;
     Some(report(end, errors))
 }

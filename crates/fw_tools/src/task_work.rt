@@ -14,6 +14,7 @@ ghost use Rattle.fw_engines.specs.Tool.{Printed, Prints};
 use crate::entry_point::stopped;
 use crate::files::{entries_or_say, read_file, script_from, value_or_say};
 use crate::program_texts::OUT_OF_MEMORY;
+use crate::reasons::Explains;
 use crate::system::System;
 use env_session::Session;
 use fw_arguments::{Printing, Task};
@@ -28,6 +29,7 @@ use std::io::Write;
 pub(crate) fn act<X: System + AllocGlobal, W: Write, E: Write>(
     rt: &X,
     task: Task<'_, '_>,
+    explains: Explains,
     session: &mut Session,
     output: &mut W,
     errors: &mut E,
@@ -45,9 +47,9 @@ pub(crate) fn act<X: System + AllocGlobal, W: Write, E: Write>(
         }
         Task::Export => Some(export(rt.alloc(), session, output, errors)),
         Task::Set { name, words } => set(rt.alloc(), session, name, words, errors),
-        Task::SetScript { path } => set_from_file(rt, path, session, errors),
-        Task::Import { path } => import_file(rt, path, session, errors),
-        Task::Restore { path } => restore_file(rt, path, session, errors),
+        Task::SetScript { path } => set_from_file(rt, path, explains, session, errors),
+        Task::Import { path } => import_file(rt, path, explains, session, errors),
+        Task::Restore { path } => restore_file(rt, path, explains, session, errors),
     }
 }
 
@@ -141,6 +143,7 @@ fn set<E: Write>(
 fn set_from_file<X: System + AllocGlobal, E: Write>(
     rt: &X,
     path: &str,
+    explains: Explains,
     session: &mut Session,
     errors: &mut E,
 ) -> Option<ToolEnd>
@@ -149,8 +152,14 @@ fn set_from_file<X: System + AllocGlobal, E: Write>(
         (record { session = session.new; errors = E.contents errors.new }) (script_effect session.old entries)
         (LacksMemory session.old entries 0) end) }
 {
-    let text = value_or_say(rt.alloc(), errors, path, read_file(rt, path))?;
-    let entries = value_or_say(rt.alloc(), errors, path, script_from(rt.alloc(), &text))?;
+    let text = value_or_say(rt.alloc(), errors, explains, path, read_file(rt, path))?;
+    let entries = value_or_say(
+        rt.alloc(),
+        errors,
+        explains,
+        path,
+        script_from(rt.alloc(), &text),
+    )?;
     Some(set_script(session, &entries, errors))
 }
 
@@ -158,6 +167,7 @@ fn set_from_file<X: System + AllocGlobal, E: Write>(
 fn import_file<X: System + AllocGlobal, E: Write>(
     rt: &X,
     path: &str,
+    explains: Explains,
     session: &mut Session,
     errors: &mut E,
 ) -> Option<ToolEnd>
@@ -166,7 +176,7 @@ fn import_file<X: System + AllocGlobal, E: Write>(
         (record { session = session.new; errors = E.contents errors.new }) (import_effect session.old entries)
         (LacksMemoryToImport session.old entries) end) }
 {
-    let entries = entries_or_say(rt, path, errors)?;
+    let entries = entries_or_say(rt, path, explains, errors)?;
     Some(import(session, &entries, errors))
 }
 
@@ -174,6 +184,7 @@ fn import_file<X: System + AllocGlobal, E: Write>(
 fn restore_file<X: System + AllocGlobal, E: Write>(
     rt: &X,
     path: &str,
+    explains: Explains,
     session: &mut Session,
     errors: &mut E,
 ) -> Option<ToolEnd>
@@ -183,7 +194,7 @@ fn restore_file<X: System + AllocGlobal, E: Write>(
         (record { session = session.new; errors = E.contents errors.new }) (restore_effect session.old entries)
         (LacksMemoryToRestore session.old entries) end) }
 {
-    let entries = entries_or_say(rt, path, errors)?;
+    let entries = entries_or_say(rt, path, explains, errors)?;
     Some(restore(rt.alloc(), session, &entries, errors))
 }
 

@@ -5,6 +5,7 @@ mod disk;
 mod file_faults;
 mod files;
 mod locks;
+mod reasons;
 mod running;
 mod upkeep;
 

@@ -163,7 +163,8 @@ fn the_lock_file_is_held_for_the_whole_run(rt: HostRuntime) -> Result<(), Fail> 
     let (status, output, errors) = run_on(&rt, &contents, &words, b"");
     assert_eq!(rt; status, 1);
     assert!(rt; output.is_empty());
-    assert!(rt; errors.as_slice() == b"fwenv: cannot lock folder/fw_printenv.lock\n".as_slice());
+    let said = b"fwenv: cannot lock folder/fw_printenv.lock: no such file\n";
+    assert!(rt; errors.as_slice() == said.as_slice());
     Ok(())
 }
 

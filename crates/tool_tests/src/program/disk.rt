@@ -16,6 +16,8 @@ pub(super) struct Contents {
     pub(super) calls: usize,
     /// The call that fails, from 0.
     pub(super) fails: usize,
+    /// Of which kind its error is.
+    pub(super) kind: io::ErrorKind,
     /// What happened to locks and bytes, a letter each: `s` and `a` for a lock that is shared or held alone, `u` where it is
     /// let go, `r` for a read and `w` for a write.
     pub(super) events: Vec<u8>,
@@ -34,7 +36,7 @@ impl Contents {
             }
         }
         if call == self.fails {
-            return Err(io::Error::from(io::ErrorKind::Other));
+            return Err(io::Error::from(self.kind));
         }
         Ok(())
     }

@@ -4,6 +4,7 @@ use super::disk::Contents;
 use super::files::{CONFIG, ONE, TWO, copy_of, run, run_on};
 use std::alloc::AllocError;
 use std::cell::RefCell;
+use std::io::ErrorKind;
 use std::test::Fail;
 
 /// A disk with these files, and with a good first copy and a second one that was never written; the call `fails` fails.
@@ -22,6 +23,7 @@ fn disk_of(
         files,
         calls: 0,
         fails,
+        kind: ErrorKind::PermissionDenied,
         events: Vec::new(rt.alloc()),
         meddles: None,
     }))

@@ -4,6 +4,7 @@ use super::disk::{Contents, Disk};
 use fw_tools::program;
 use std::alloc::AllocError;
 use std::cell::RefCell;
+use std::io::ErrorKind;
 use std::test::Fail;
 
 /// A configuration of two copies of 32 bytes.
@@ -24,7 +25,7 @@ pub(super) fn copy_of(front: [u8; 8]) -> [u8; 32] {
     bytes
 }
 
-/// A disk with the configuration, a good first copy and a second one that was never written; the call `fails` fails.
+/// A disk with the configuration, a good first copy and a second one that was never written; the call `fails` isn't permitted.
 pub(super) fn disk(rt: &HostRuntime, fails: usize) -> Result<RefCell<Contents>, AllocError> {
     let mut files = Vec::new(rt.alloc());
     files.push(("config", Vec::from_slice(rt.alloc(), CONFIG)?))?;
@@ -34,6 +35,7 @@ pub(super) fn disk(rt: &HostRuntime, fails: usize) -> Result<RefCell<Contents>, 
         files,
         calls: 0,
         fails,
+        kind: ErrorKind::PermissionDenied,
         events: Vec::new(rt.alloc()),
         meddles: None,
     }))

@@ -21,9 +21,9 @@ fn copies_are_reported_as_far_as_they_can_be_read(rt: HostRuntime) -> Result<(),
         let contents = disk(&rt, call)?;
         let (status, output, errors) = run(&rt, &contents, &STATUS);
         let (text, said): (&[u8], &[u8]) = match call {
-            0..=2 => (b"", b"fwenv: cannot read config\n"),
-            4..=7 => (b"", b"fwenv: cannot read first\n"),
-            8..=11 => (b"", b"fwenv: cannot read second\n"),
+            0..=2 => (b"", b"fwenv: cannot read config: permission denied\n"),
+            4..=7 => (b"", b"fwenv: cannot read first: permission denied\n"),
+            8..=11 => (b"", b"fwenv: cannot read second: permission denied\n"),
             _ => (REPORT, b""),
         };
         assert_eq!(rt; status, u8::from(text.is_empty()));
@@ -55,7 +55,7 @@ fn a_whole_file_is_reported(rt: HostRuntime) -> Result<(), Fail> {
               variables    none, no copy is good\n",
             b"",
         ),
-        ("none", 1, b"", b"fwenv: cannot read none\n"),
+        ("none", 1, b"", b"fwenv: cannot read none: no such file\n"),
     ];
     for (path, expected, text, said) in rows {
         let contents = disk(&rt, usize::MAX)?;
