@@ -22,7 +22,7 @@ TOLD = re.compile(
     rb"^\[(Finished|Exited|Steps|Depth|Word|Output|Syntax|Marked|Full|Undone|Gone|Unknown)"
     rb"|^(?:fwenv: .*|## Error: bad image): (\w+)(?: in line \d+)?\n"
     rb"|^fwenv: run ended as (\w+)|^fwenv: .*:\d+:\d+: (\w+): "
-    rb"|^[^\n]*:\d+:\d+: error: [^\n]* \((\w+)\)$|(names a variable|no builtin|carriage return|be assigned|no variable)"
+    rb"|^[^\n]*:\d+:\d+: error: [^\n]* \((\w+)\)$|(variable that is|nothing defines|no builtin|this shell has|carriage return|be assigned|no variable)"
     rb"|(no room|bad name|type check|not defined|Can't \w+|too short|overlap|cannot read|no such file|no good copy)",
     re.M,
 )

@@ -46,7 +46,7 @@ RUNS = [
     b"mmc; echo $?; usb", b"usb || mmc", b"mmc; false", b"saveenv; mmc x; echo a", b"run q", b"run a b", b"printenv -a", b"setenv o 2; setenv n x; saveenv",
     b"echo a\n  'b", b"true\n\nif false; then", b"a=1; fi", b"\xc3\xa9 ${a", b"a & b",
 ]  # fmt: skip
-GIVEN_STAND_INS = [*STAND_INS, *[b"mmc\nusb 1\n"] * 4]
+GIVEN_STAND_INS = [*STAND_INS, *[b"mmc\nusb 1\n"] * 4, b"[\nmmc\nf() 1\n"]
 BOOTS = [b"mmc", b"mmc", b"usb", b"mmcinfo", b"echo", b"", b"\xc3\xa9"]
 SIZES = [b"0x4000", b"1000", b"0X100", b"200", b"80", b"0d", b"8", b"100001", b"4k"]
 DRY, WHOLE = (b"session", b"run"), (b"session", b"run", b"check")
@@ -55,7 +55,8 @@ OFTEN = {
     **{name: 0.003 for name in ("too short", "overlap", "cannot read", "no such file", "no room", "bad name", "type check", "not defined")},
     **{name: 0.0002 for name in ("Can't create", "Can't delete", "Can't overwrite", "EmptyName", "Undone")},
     **{name: 0.001 for name in ("Exited", "Finished", "Quote", "Missing", "Unexpected", "Substitution", "no good copy")},
-    **{name: 0.003 for name in ("names a variable", "no builtin", "carriage return", "be assigned", "no variable")},
+    **{name: 0.003 for name in ("variable that is", "nothing defines", "no builtin", "carriage return", "be assigned", "no variable")},
+    "this shell has": 0.002,
     "status 0": 0.3,
 }
 

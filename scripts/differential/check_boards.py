@@ -5,21 +5,29 @@ import pathlib
 import re
 
 from differential.boards import text_of
-from differential.check_rows import lines, not_assigned, not_called, not_run, place, returned, row, with_stand_ins
+from differential.check_lines import lacked_test, lines, not_assigned, not_called, not_defined, not_run, place, returned, row, with_stand_ins
 from differential.rows import rows
 from differential.running import Case
 from model.texts import import_entries, stand_ins
 
 TOP = pathlib.Path(__file__).parent.parent.parent
-# What is found in boards as they are: a run of the first comes to this, and at the end of the others is a try of it
+# What is found in boards as they are: a run of the first comes to this; at the end of those of swupdate is a try of it; two words
+# of a kernel's arguments, and the place where two boards of RAUC load to, are given by nothing
 FOUND = {
     "no-way-back": [not_run("1:38", "altbootcmd")],
     **{f"swupdate-{name}": [not_assigned("1:239", "ustate")] for name in ("failed", "installed", "tried-in-vain")},
+    "kernel-arguments": [not_defined("1:70", "optargs"), not_defined("1:81", "more")],
+    **{f"rauc-with-{name}-spent": [not_defined("31:18", "loadaddr"), not_defined("31:48", "loadaddr")] for name in ("one-slot", "both-slots")},
 }
 NOT_CLOSED = "%s: error: a quote is not closed (Quote)"
 MISSING = "%s: error: the text ends where more has to follow (Missing)"
 # What stands before the name of a command, and the last word that closes a form
 BEFORE = re.compile(rb"(?:\A|; |&& |\|\| |if |then |else |do |\n *)\Z")
+# A word, the name that an assignment begins with, a substitution, and what stands before an argument of `test`, which may be absent
+WORD = re.compile(rb"(?:'[^']*'|\"[^\"]*\"|[^'\" ;&|\n])+")
+ASSIGNED = re.compile(rb"[A-Za-z_]\w*=")
+SUBSTITUTION = re.compile(rb"\$\w+|\$\{\w+(?=\})")
+TESTED = re.compile(rb"\btest [^;&|\n]*\Z")
 CLOSING = re.compile(rb"(?<=[;\n] )(?:done|fi)(?=[;\n]|\Z)|^(?:done|fi)$", re.M)
 
 
@@ -61,6 +69,23 @@ def misspelt_commands(text, _variables, stubs):
                 yield text[: match.start()] + other + text[match.end() :], not_called(place(text, match.start()), other.decode())
 
 
+def misspelt_substitutions(text, _variables, _stubs):
+    for word in WORD.finditer(text):
+        start, before = word.start(), text[: word.start()]
+        if BEFORE.search(before):
+            start += len((ASSIGNED.match(word[0]) or [b""])[0])
+        for match in SUBSTITUTION.finditer(text, start, word.end()):
+            if not TESTED.search(before):
+                name = match[0].lstrip(b"${").decode() + "_"
+                yield text[: match.end()] + b"_" + text[match.end() :], not_defined(place(text, start), name)
+
+
+def brackets(text, _variables, _stubs):
+    for match in re.finditer(rb"\btest(?= )", text):
+        if BEFORE.search(text[: match.start()]):
+            yield text[: match.start()] + b"[" + text[match.end() :], lacked_test(place(text, match.start()), "[")
+
+
 def lost_quotes(text, _variables, _stubs):
     if text.count(b'"') and b"'" not in text:
         last = text.rfind(b'"')
@@ -79,7 +104,7 @@ def carriage_returns(text, _variables, _stubs):
     yield text[:at] + b"\r" + text[at:], returned(place(text, at))
 
 
-SLIPS = (misspelt_names, misspelt_commands, lost_quotes, lost_endings, carriage_returns)
+SLIPS = (misspelt_names, misspelt_commands, misspelt_substitutions, brackets, lost_quotes, lost_endings, carriage_returns)
 
 
 def slipped(name, variables, stubs, script, slip):

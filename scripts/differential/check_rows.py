@@ -1,10 +1,15 @@
 """Faults of scripts that are found before they run, by hand: `fwenv check` over an environment and over one script. Each row is a
 call and the lines that it prints; with an error among them the status is 1. Nothing is written."""
 
+from differential import check_kinds
 from differential.boards import CONFIG, arguments, board, text_of
+from differential.check_kinds import STAND_INS
+from differential.check_lines import (
+    cut_off, lacked, lines, not_assigned, not_called, not_defined, not_run, not_typed, returned, row, with_stand_ins,
+)  # fmt: skip
 from differential.running import Case
-from differential.script_rows import ENV_AND, LONGEST, NEAR_SCRIPTS, NO_ENVIRONMENTS, NO_SCRIPTS, NO_SIZE, NO_SIZES, NO_STAND_INS, NULS, SIZE_ALONE
-from differential.tool_rows import BLANK, FIRST, PAIR, SECOND
+from differential.script_rows import ENV_AND, LONGEST, NO_ENVIRONMENTS, NO_SIZE, NO_SIZES, SIZE_ALONE
+from differential.tool_rows import FIRST, PAIR, SECOND
 from model.image import Geometry
 from model.program import WARNING, Answer
 
@@ -15,182 +20,6 @@ FILE_AND = (
 )
 
 
-def not_run(place, name):
-    return f"{place}: error: `run {name}` names a variable that is not defined"
-
-
-def not_called(place, name):
-    return f"{place}: error: no builtin and no stand-in is called `{name}`"
-
-
-def no_operator(place, word):
-    return f"{place}: error: `test` has no operator `{word}` here, and is false"
-
-
-def not_assigned(place, name):
-    return f"{place}: warning: `{name}` is an environment variable, so it can not be assigned"
-
-
-def not_typed(name):
-    return f"{name}: error: the value does not have the type that .flags gives it"
-
-
-def returned(place):
-    return f"{place}: warning: a carriage return stands in the script"
-
-
-# Scripts over these variables, and what is found. The variable that holds the script is `s`
-VARIABLES = {b"a": b"1", b"ok": b"echo fine", b"two words": b"true", b"it's": b"true", b"run": b"true", b"\xc3\xa9": b"true", b"x": b"none"}
-STARTS = [
-    (b"run none", [not_run("1:5", "none")]),
-    (b"run ok", []),
-    (b"run s", []),
-    (b"run ok none a lost", [not_run("1:8", "none"), not_run("1:15", "lost")]),
-    (b"run none none", [not_run("1:5", "none"), not_run("1:10", "none")]),
-    (b"run ok; run none", [not_run("1:13", "none")]),
-    (b"echo a\n\n  run none", [not_run("3:7", "none")]),
-    (b"\trun\tnone", [not_run("1:6", "none")]),
-    (b"echo \xc3\xa9; run none", [not_run("1:14", "none")]),
-    (b"true && run n1 || run n2", [not_run("1:13", "n1"), not_run("1:23", "n2")]),
-    (
-        b"if run n1; then run n2; elif run n3\nthen run n4; else run n5; fi",
-        [not_run("1:8", "n1"), not_run("1:21", "n2"), not_run("1:34", "n3"), not_run("2:10", "n4"), not_run("2:23", "n5")],
-    ),
-    (b"while run n1; do run n2; done", [not_run("1:11", "n1"), not_run("1:22", "n2")]),
-    (b"until run n1; do run n2; done", [not_run("1:11", "n1"), not_run("1:22", "n2")]),
-    (b"for i in run none; do run n1; done; run n2", [not_run("1:27", "n1"), not_run("1:41", "n2")]),
-    (b"if true;then " * 64 + b"run none" + b";fi" * 64, [not_run("1:837", "none")]),
-    (b"run 'none'", [not_run("1:5", "none")]),
-    (b'run no"ne"', [not_run("1:5", "none")]),
-    (b"run n\\one", [not_run("1:5", "none")]),
-    (b"run no\\\nne", [not_run("1:5", "none")]),
-    (b"run \\\nnone", [not_run("2:1", "none")]),
-    (b"run ''", [not_run("1:5", "")]),
-    (b"run its", [not_run("1:5", "its")]),
-    (b"run 'it'\\''s' \"two words\" \xc3\xa9 run", []),
-    (b"run two words", [not_run("1:5", "two"), not_run("1:9", "words")]),
-    (b"run -n", [not_run("1:5", "-n")]),
-    (b"run Ok", [not_run("1:5", "Ok")]),
-    (b"run 'n\nm' n2", [not_run("1:5", "n\nm"), not_run("2:4", "n2")]),
-    (b"'run' none", [not_run("1:7", "none")]),
-    (b'r"u"\\n none', [not_run("1:8", "none")]),
-    (b"r\\\nun none", [not_run("2:4", "none")]),
-    (b"env run none; env 'run' ok none", []),
-    (b"run $none ${none} \"$none\" n$x $? $", [not_run("1:34", "$")]),
-    (b"run $x none", [not_run("1:8", "none")]),
-    (b"$run none; ${x} none; \"$run\" none; r$x none", []),
-    (b"env $x none; env x run none; run", []),
-    (b"Run none; echo run none; setenv b run none; b='run none'", []),
-    (b"# run none\nrun ok # none", []),
-    (b"env exists none; env delete none; printenv none", []),
-]
-# Assignments over the same
-ASSIGNED = [
-    (b"a=2", [not_assigned("1:1", "a")]),
-    (b"b=2", []),
-    (b"a=", [not_assigned("1:1", "a")]),
-    (b'a="$b c"', [not_assigned("1:1", "a")]),
-    (b"b=1\n a=2; ok=3", [not_assigned("2:2", "a"), not_assigned("2:7", "ok")]),
-    (b"a=2; a=3", [not_assigned("1:1", "a"), not_assigned("1:6", "a")]),
-    (b"s=2", [not_assigned("1:1", "s")]),
-    (b"\\\n a=2", [not_assigned("2:2", "a")]),
-    (b"a\\\n=2", [not_assigned("1:1", "a")]),
-    (b"true && a=2 || a=3", [not_assigned("1:9", "a"), not_assigned("1:16", "a")]),
-    (b"if a=1; then a=2; else a=3; fi", [not_assigned("1:4", "a"), not_assigned("1:14", "a"), not_assigned("1:24", "a")]),
-    (b"for a in 1 2; do true; done", [not_assigned("1:5", "a")]),
-    (b"for \\\n a in 1 2; do true; done", [not_assigned("2:2", "a")]),
-    (b"for b in a 2; do true; done", []),
-    (b"for a in 1; do a=$a; run n; done", [not_assigned("1:5", "a"), not_assigned("1:16", "a"), not_run("1:26", "n")]),
-    (b"while a=1; do for x in 1; do ok=2; done; done", [not_assigned("1:7", "a"), not_assigned("1:19", "x"), not_assigned("1:30", "ok")]),
-    (b"A=2; aa=2; setenv a 2; setexpr a 2", []),
-    (b"echo a=2; a\\=2; 'a'=2; $a=2; a==2", [not_assigned("1:30", "a")]),
-    (b"# a=2", []),
-]
-# Scripts with these stand-ins, whatever the variables are
-STAND_INS = b"# a board\nmmc\nusb 1\nload 7\n[\n"
-CALLED = [
-    (b"laod mmc 0:1", [not_called("1:1", "laod")]),
-    (b"load mmc 0:1; usb; mmc", []),
-    (b"load\n\t laod mmc", [not_called("2:3", "laod")]),
-    (b"laod; laod", [not_called("1:1", "laod"), not_called("1:7", "laod")]),
-    (b"mmc && laod || laod2 && usb", [not_called("1:8", "laod"), not_called("1:16", "laod2")]),
-    (
-        b"if c1; then c2; elif c3; then c4; else c5; fi",
-        [not_called("1:4", "c1"), not_called("1:13", "c2"), not_called("1:22", "c3"), not_called("1:31", "c4"), not_called("1:40", "c5")],
-    ),
-    (b"for c0 in c1; do c2; done", [not_called("1:18", "c2")]),
-    (b"while c1; do c2; done\nuntil c3; do c4; done", [not_called("1:7", "c1"), not_called("1:14", "c2"), not_called("2:7", "c3"), not_called("2:14", "c4")]),
-    (b"'laod' x", [not_called("1:1", "laod")]),
-    (b"la\\od; l\"ao\"d; l\\\naod", [not_called("1:1", "laod"), not_called("1:8", "laod"), not_called("1:16", "laod")]),
-    (b"'' x; \"\"mmc", [not_called("1:1", "")]),
-    (b"'mmc' dev; l\\oad", []),
-    (b"\xff\xc3\xa9", None),
-    (b"true; false; echo; setenv b c; printenv; saveenv; env print; test; exit", []),
-    (b"setexpr b 1; setexpr.b b 1; setexpr.w b 1; setexpr.l b 1; setexpr.q b 1", []),
-    (b"setexpr.x b 1; setexpr. b 1; True; echo1", [not_called("1:1", "setexpr.x"), not_called("1:16", "setexpr."), not_called("1:30", "True"), not_called("1:36", "echo1")]),
-    (b"env grep laod; env", []),
-    (b"[ a = b ]; [[ a = b ]]", [not_called("1:12", "[[")]),
-    (b"f() { mmc; }", [not_called("1:1", "f()"), not_called("1:12", "}")]),
-    (b"while true; do break; done", [not_called("1:16", "break")]),
-    (b"mmc2; mm; MMC", [not_called("1:1", "mmc2"), not_called("1:7", "mm"), not_called("1:11", "MMC")]),
-    (b"$laod x; \"$mmc\"; l${x}; laod$?; $l", []),
-    (b"echo laod; b=laod; setenv b 'laod'; # laod", []),
-    (b"if then", ["1:4: error: not expected here (Unexpected)"]),
-    (b"laod; 'x", ["1:7: error: a quote is not closed (Quote)"]),
-]
-# Words of `test` that are no operators, with and without stand-ins and variables
-OPERATORS = [
-    (b"test -e mmc 0:1 file", [no_operator("1:6", "-e")]),
-    (b"test -e", [no_operator("1:6", "-e")]),
-    (b"true; test -f x -a -d y", [no_operator("1:12", "-f")]),
-    (b"test ! -d x", [no_operator("1:8", "-d")]),
-    (b"test ! ! -d x", [no_operator("1:10", "-d")]),
-    (b'test "$x" == b', [no_operator("1:11", "==")]),
-    (b"test a =! b; test a => b; test a ~ b", [no_operator("1:8", "=!"), no_operator("1:21", "=>"), no_operator("1:34", "~")]),
-    (b"test a <> b; test a -nt b; test a -Eq b", [no_operator("1:8", "<>"), no_operator("1:21", "-nt"), no_operator("1:35", "-Eq")]),
-    (b"test a -eqx b; test a -x- b; test a -e= b", [no_operator("1:8", "-eqx"), no_operator("1:23", "-x-"), no_operator("1:37", "-e=")]),
-    (b"if test -z a -o -e x; then true; fi", [no_operator("1:17", "-e")]),
-    (b"while test a = b -a c == d; do true; done", [no_operator("1:23", "==")]),
-    (b"test a = b -x c", [no_operator("1:12", "-x")]),
-    (b"test -n a -x", [no_operator("1:11", "-x")]),
-    (b"test -f == x", [no_operator("1:9", "==")]),
-    (b"test -f x y", [no_operator("1:6", "-f")]),
-    (b'test -f "$x" y', [no_operator("1:6", "-f")]),
-    (b"test $x -e y", [no_operator("1:9", "-e")]),
-    (b"test \"-e\" x; test '-'e x; test \\-e x; \"test\" -e x", [no_operator("1:6", "-e"), no_operator("1:19", "-e"), no_operator("1:32", "-e"), no_operator("1:46", "-e")]),
-    (b"test \\\n -e x", [no_operator("2:2", "-e")]),
-    (b"test = y; test a = b = c; test a -a b; test -n a -n b", [no_operator("1:6", "="), no_operator("1:22", "="), no_operator("1:34", "-a"), no_operator("1:50", "-n")]),
-    (b"test -n a; test -z ''; test a = b; test a != b; test a < b; test a > b", []),
-    (b"test 1 -eq 2; test 1 -ne 2; test 1 -lt 2; test 1 -le 2; test 1 -gt 2; test 1 -ge 2", []),
-    (b"test a = b -a c != d -o ! -n e -a ! ! f < g", []),
-    (b"test a = -e; test -n -e; test -z ==; test a = ==; test ! -n -e", []),
-    (b"test -e = x; test == != x; test = = =; test -f -eq 1", []),
-    (b"test; test a; test a b; test a b -e; test a = b c; test a b = c; test -n", []),
-    (b"test -5 -lt 3; test -5; test - x; test -- x; test -1e x; test a -5 b", []),
-    (b'test $e x; test "-$e" x; test a $o b; test a -e$x b; test $a; test $? -eq 0', []),
-    (b"echo test -e x; test2 -e x; Test -e x; $test -e x; env test -e x; t=-e", None),
-    (b"test a = b # -e", []),
-]
-# Carriage returns, with and without stand-ins and variables
-RETURNS = [
-    (b"echo a\r\necho b\r\n", [returned("1:7")]),
-    (b"echo a\n\necho b\r", [returned("3:7")]),
-    (b"echo '\r'", [returned("1:7")]),
-    (b"# a\r\necho", [returned("1:4")]),
-    (b"echo \\\r\n", [returned("1:7")]),
-    (b"echo a\n", []),
-    (b"echo '\\r' \\r", []),
-    (b"echo a\r\n'", [returned("1:7"), "2:1: error: a quote is not closed (Quote)"]),
-    (b"'\r", [returned("1:2"), "1:1: error: a quote is not closed (Quote)"]),
-    (b"if true; then\r\n  echo a\r\nfi\r\n", [returned("1:14"), "4:1: error: the text ends where more has to follow (Missing)"]),
-    (b"if true; then echo a; fi\r\n", [returned("1:25"), "2:1: error: the text ends where more has to follow (Missing)"]),
-]
-# More than one kind in a script: the carriage return first, then the commands in the order of the text
-MIXED = b"laod; run n; a=2\r\nrun s; for ok in a; do usb $none; laod n; done"
-MIXED_FOUND = [
-    returned("1:17"), not_called("1:1", "laod"), not_run("1:11", "n"), not_assigned("1:14", "a"), not_assigned("2:12", "ok"),
-    not_called("2:35", "laod"),
-]  # fmt: skip
 # Variables as a text for import, names, and all that is printed
 FOLLOWED = [
     (b"a=1\n", [], []),
@@ -230,6 +59,28 @@ FOLLOWED = [
     (b"bootcmd=run a; x=1\na=x=2\nx=1\n", [], [not_assigned("bootcmd:1:8", "x"), not_assigned("a:1:1", "x")]),
     (b"bootcmd=echo a\\\n  run n\n", [], [not_run("bootcmd:2:7", "n")]),
     (b".flags=run:sr\n.s=run n\n", [b".s", b".flags"], [not_run(".s:1:5", "n")]),
+]  # fmt: skip
+# The same of substitutions: any script that is looked at may give a name to something
+GIVEN = [
+    (b"bootcmd=echo $n; run b\nb=setenv n 1\n", [], []),
+    (b"bootcmd=run b; echo $n\nb=for n in 1; do true; done\n", [], []),
+    (b"bootcmd=echo $n\npreboot=n=1\n", [], []),
+    (b"bootcmd=run b\nb=run c; echo $n\nc=test $n\n", [], []),
+    (b"bootcmd=echo $n\nb=n=1\n", [], [not_defined("bootcmd:1:6", "n")]),
+    (b"bootcmd=echo $n; env run b\nb=n=1\n", [], [not_defined("bootcmd:1:6", "n")]),
+    (b"bootcmd=echo $n\nb=n=1\n", [b"bootcmd", b"b"], []),
+    (b"bootcmd=echo $n\nb=n=1\n", [b"b", b"bootcmd"], []),
+    (b"bootcmd=run b; echo $n\nb=n=1 '\n", [], [not_defined("bootcmd:1:13", "n"), "b:1:5: error: a quote is not closed (Quote)"]),
+    (
+        b"bootcmd=run b; echo $n\nb=setenv n 1; if\n", [],
+        [not_defined("bootcmd:1:13", "n"), "b:1:15: error: the text ends where more has to follow (Missing)"],
+    ),
+    (b"n=1\nbootcmd=echo $n ${m}\n", [], [not_defined("bootcmd:1:9", "m")]),
+    (b"n=\nbootcmd=echo $n\n", [], [not_defined("bootcmd:1:6", "n")]),
+    (b"bootcmd=run b b; echo $n\nb=echo $n\n", [], [not_defined("bootcmd:1:15", "n"), not_defined("b:1:6", "n")]),
+    (b"bootcmd=echo $none\n", [b"none", b"bootcmd"], [NO_VARIABLE % "none", not_defined("bootcmd:1:6", "none")]),
+    (b"bootcmd=echo $m ${.flags}\n.flags=m:d\n", [], [not_defined("bootcmd:1:6", "m")]),
+    (b"n=x\nbootcmd=echo $m\n.flags=n:d\n", [], [not_defined("bootcmd:1:6", "m"), not_typed("n")]),
 ]  # fmt: skip
 # Variables as a text for import, in which `.flags` comes last, names, and all that is printed: types are looked at after the scripts
 TYPED = [
@@ -296,107 +147,11 @@ ORDER = [
 ]
 
 
-def lines(found, name=None):
-    """The lines of what is found, each in the script of this name if one is given."""
-    before = f"{name}:" if name is not None else ""
-    return b"".join(f"{before}{each}\n".encode() for each in found)
-
-
-def place(text, at):
-    """The line and the column of a byte."""
-    before = text[:at].split(b"\n")
-    return f"{len(before)}:{len(before[-1]) + 1}"
-
-
-def row(name, words, files, output, errors=b"", given=b"", status=None, seconds=0.25):
-    """A check; the status is 1 if an error is found or a fault is told."""
-    if status is None:
-        status = int(b": error: " in output or errors not in (b"", WARNING))
-    return Case(name, [b"check", *words], files, given, wanted=Answer(status, output, errors, files), seconds=seconds)
-
-
-def over(variables, words, output, files=(), **rest):
-    return row("a check of an environment", [b"--env", b"env", *words], {b"env": text_of(variables)} | dict(files), output, **rest)
-
-
-def of_file(script, words, output, files=(), **rest):
-    return row("a check of a script", [b"-f", b"a:1 b", *words], {b"a:1 b": script} | dict(files), output, **rest)
-
-
-def with_stand_ins(words=()):
-    return [*words, b"--stubs", b"stand-ins"]
-
-
-def each_way(script, found):
-    """A script whose findings are the same over an environment and alone, with and without stand-ins."""
-    files = {b"stand-ins": STAND_INS}
-    yield over({b"s": script}, [b"s"], lines(found, "s"))
-    yield of_file(script, [], lines(found, "a:1 b"))
-    yield of_file(script, with_stand_ins(), lines(found, "a:1 b"), files)
-    yield row("a check of standard input", [b"-f", b"-"], {}, lines(found, "-"), given=script)
-
-
-def no_scripts():
-    for script, line, column, said in NO_SCRIPTS:
-        kind, _, sentence = said.decode().partition(": ")
-        at = script.find(b"\r")
-        found = [] if at < 0 else [returned(place(script, at))]
-        yield from each_way(script, [*found, f"{line}:{column}: error: {sentence} ({kind})"])
-    for script, _ in NEAR_SCRIPTS:
-        yield from each_way(script, [])
-    for script, line, column in NULS:
-        yield of_file(script, [], lines([f"{line}:{column}: error: a byte 0 (Nul)"], "a:1 b"))
-    for script, found in RETURNS + [each for each in OPERATORS if each[1] is not None]:
-        yield from each_way(script, found)
-    for script in (script for script, found in OPERATORS if found is None):
-        yield of_file(script, [], b"")
-
-
-def starts():
-    for script, found in STARTS + ASSIGNED:
-        yield over(VARIABLES | {b"s": script}, [b"s"], lines(found, "s"))
-        yield of_file(script, [], b"")
-        if not found:
-            yield over(VARIABLES | {b"s": script}, [b"s", b"ok", b"a"], b"")
-    over_these = {name: value for name, value in VARIABLES.items() if name != b"a"}
-    yield over(over_these | {b"s": b"a=2; for a in b; do run a; done"}, [b"s"], lines([not_run("1:25", "a")], "s"))
-
-
-def calls():
-    files = {b"stand-ins": STAND_INS}
-    for script, found in CALLED:
-        told = lines(found, "a:1 b") if found is not None else b"a:1 b:1:1: error: no builtin and no stand-in is called `%s`\n" % script
-        yield of_file(script, with_stand_ins(), told, files)
-        yield over({b"s": script}, with_stand_ins([b"s"]), told.replace(b"a:1 b:", b"s:"), files)
-        if b"error: no builtin" in told:
-            yield of_file(script, [], b"")
-            yield over({b"s": script}, [b"s"], b"")
-    yield of_file(b"mmc; true", with_stand_ins(), lines([not_called("1:1", "mmc")], "a:1 b"), {b"stand-ins": b""})
-    yield of_file(b"mmc\r\ntrue\r\n", with_stand_ins(), lines([returned("1:4"), not_called("1:1", "mmc\r"), not_called("2:1", "true\r")], "a:1 b"), files)
-    yield over(VARIABLES | {b"s": MIXED}, with_stand_ins([b"s"]), lines(MIXED_FOUND, "s"), files)
-    yield over(VARIABLES | {b"s": MIXED}, [b"s"], lines([each for each in MIXED_FOUND if "stand-in" not in each], "s"), files)
-    yield of_file(MIXED, with_stand_ins(), lines([each for each in MIXED_FOUND if "run" not in each and "assigned" not in each], "a:1 b"), files)
-    for text, errors in NO_STAND_INS:
-        files = {b"stand-ins": text}
-        yield over(VARIABLES, with_stand_ins([b"a"]), b"", files, errors=errors)
-        yield of_file(b"'", with_stand_ins(), b"", files, errors=errors)
-
-
 def followed():
-    for text, names, found in FOLLOWED + TYPED:
+    for text, names, found in FOLLOWED + GIVEN + TYPED:
         yield row("scripts that are followed", [b"--env", b"env", *names], {b"env": text}, lines(found))
     many = b"".join(b"v%d=run v%d v%d\n" % (at, at + 1, at * 7 % 500) for at in range(500))
     yield row("a long way", [b"--env", b"env", b"v0"], {b"env": many}, lines([not_run("v499:1:5", "v500")]), seconds=1)
-
-
-def cut_off(found):
-    """What is printed of these lines."""
-    text = b""
-    for line in found:
-        if len(text) >= 65_536:
-            return text + b"more is found, and not printed\n"
-        text += line
-    return text
 
 
 def limits():
@@ -417,6 +172,14 @@ def limits():
     for rest, flags, status in ((b"", b"s", 0), (b"run none\n", b"s", 1), (b"", b"d", 1)):
         files = {b"env": text_of({b"a": b"1", b"n": b"x", b"s": script + rest, b".flags": b"n:" + flags})}
         yield row("many warnings", [b"--env", b"env", b"s"], files, output, status=status, seconds=1)
+    script = b"echo $n\n" * 1_500
+    output = cut_off([lines([not_defined(f"{number}:6", "n")], "s") for number in range(1, 1_501)])
+    for rest, status in ((b"", 0), (b"break\n", 1)):
+        yield row("many substitutions", [b"--env", b"env", b"s"], {b"env": text_of({b"s": script + rest})}, output, status=status, seconds=1)
+    output = cut_off([lines([not_defined("1:6", "n")], "s")] * 1_500)
+    yield row("many in one word", [b"--env", b"env", b"s"], {b"env": b"s=echo " + b"$n" * 1_500 + b"\n"}, output, seconds=1)
+    output = cut_off([lines([lacked(f"{number}:1", "break")], "s") for number in range(1, 2_001)])
+    yield row("many that are lacked", [b"-f", b"s"], {b"s": b"break\n" * 2_000}, output, seconds=1)
     names = [b"name%04d" % number for number in range(1_500)]
     output = cut_off([lines([NO_VARIABLE % name.decode()]) for name in names])
     yield row("many names", [b"--env", b"env", *names], {b"env": b"bootcmd=true\n"}, output, seconds=1)
@@ -432,6 +195,8 @@ def opened():
     yield row("a name in copies", arguments(b"check", b"p")[1:], stored, lines([not_run("p:1:5", "m")]))
     yield row("stand-ins over copies", arguments(b"check", *with_stand_ins())[1:], stored, found)
     yield row("a default text that is not used", arguments(b"check", b"--default", b"text")[1:], stored, found)
+    with_names = board(single, [single.image(0, b"a=1\0preboot=$a b\0bootcmd=$b $n\0")])
+    yield row("substitutions over a copy", arguments(b"check")[1:], with_names, lines([not_defined("bootcmd:1:4", "n")]))
     yield row("no good copy", arguments(b"check")[1:], blank, b"", WARNING)
     yield row("no good copy, and a name", arguments(b"check", b"p")[1:], blank, lines([NO_VARIABLE % "p"]), WARNING)
     yield row("a default text", arguments(b"check", b"--default", b"text")[1:], blank, usual, WARNING)
@@ -480,4 +245,4 @@ def words():
 
 
 def chunks():
-    return [no_scripts, starts, calls, followed, limits, opened, words]
+    return [*check_kinds.chunks(), followed, limits, opened, words]

@@ -1,7 +1,7 @@
 """Inputs that are made to cost much, and those that are as long as they may be, each in bounded time and memory."""
 
 from differential.boards import lines_of
-from differential.check_rows import cut_off
+from differential.check_lines import cut_off
 from differential.running import Case
 from model.image import ERASED, LARGEST, Geometry, entries
 from model.program import TOO_LONG, WARNING, Answer
@@ -118,7 +118,7 @@ def check(name, words, files, found):
 
 
 def checks():
-    """Many findings in one script, a long way from script to script, scripts each of which starts all, and long names."""
+    """Many findings in one script, a long way from script to script, scripts each of which starts all, long names, and many names."""
     unknown = b"%s:1:%d: error: no builtin and no stand-in is called `a`\n"
     script = b"a;" * 500_000
     found = [unknown % (b"s", 2 * at + 1) for at in range(500_000)]
@@ -140,6 +140,14 @@ def checks():
     text = b"bootcmd=run %s\n%s=%s\n" % (long, long, script[:300_000])
     found = [unknown % (long, 2 * at + 1) for at in range(2)]
     yield check("150,000 commands in a script of a long name", [*whole, b"--stubs", b"none"], {b"env": text, b"none": b""}, found)
+    text = b"bootcmd=" + b"$a;" * 300_000 + b"\n"
+    found = [b"bootcmd:1:%d: warning: `${a}` names a variable that nothing defines\n" % (3 * at + 1) for at in range(300_000)]
+    yield check("300,000 substitutions of one name", whole, {b"env": text}, found)
+    text = b"bootcmd=" + b"".join(b"$v%05d v%05d;" % (at, 65_535 - at) for at in range(65_536)) + b"\n"
+    yield check("65,536 names, each given once", whole, {b"env": text}, [])
+    text = b"bootcmd=echo " + b"$%s$b$%s" % (long, long) + b"\n"
+    found = [b"bootcmd:1:6: warning: `${%s}` names a variable that nothing defines\n" % name for name in (long, b"b", long)]
+    yield check("substitutions of a long name", whole, {b"env": text}, found)
 
 
 def chunks():

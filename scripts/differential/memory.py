@@ -116,7 +116,7 @@ CHECKED_TEXT = b"""bootcmd=run a 'a_variable_of_a_long_name' none || laod; for a
 a=if run a_variable_of_a_long_name; then a_command_of_a_long_name; elif run b; then run c; fi
 a_variable_of_a_long_name=run bootcmd; mmc; a_stand_in_of_a_long_name
 b=echo "a
-c=true
+c=test $x; x=$y; echo ${a_name_that_nothing_defines}; [ $z ]; for z in 1; do break; done
 """
 CHECKS = [
     ("a check", [b"check", b"--env", b"text", b"--stubs", b"stand-ins"], CHECKED_TEXT),

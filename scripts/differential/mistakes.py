@@ -88,6 +88,29 @@ def swapped(found, _):
     return replace(found, output=b"".join(lines[1:2] + lines[:1] + lines[2:]))
 
 
+def stubs_of(case):
+    return case.files.get(b"stand-ins", b"") if b"--stubs" in case.arguments else b""
+
+
+def one_more(found, line):
+    return replace(found, output=found.output + line + b": warning: `${none}` names a variable that nothing defines\n")
+
+
+def alone_too(found, case):
+    """Substitutions are looked at without an environment."""
+    return one_more(found, b"a:1 b:1:6") if case.files.get(b"a:1 b") == b"echo $none" else found
+
+
+def given_later(found, case):
+    """The scripts that are looked at later give nothing."""
+    return one_more(found, b"bootcmd:1:6") if case.files.get(b"env", b"").endswith(b"\npreboot=n=1\n") else found
+
+
+def tested(found, case):
+    """A `test` of a name gives it nothing."""
+    return one_more(found, b"s:1:9") if b"test -n \"$none\"" in case.files.get(b"env", b"") else found
+
+
 MISTAKES = {
     "images": {
         "the last newline is missing": output(rb"\n\Z", b""),
@@ -179,6 +202,19 @@ MISTAKES = {
         "a variable is looked at twice": output(rb"\A(b:1:5: [^\n]*\n)\Z", rb"\1\1"),
         "findings over copies that are not good": lambda found, _: replace(found, output=b"") if found.errors == WARNING else found,
         "a head of a for is passed over": output(rb"^[^\n]*:1:5: warning: `a`[^\n]*\n", b""),
+        "a substitution in double quotes is passed over": output(rb"\A(s:1:6: [^\n]*\n)s:1:14: warning: [^\n]*\n\Z", rb"\1"),
+        "a substitution is told without its braces": output(rb"`\$\{(\w+)\}`", rb"`$\1`"),
+        "a name is told once for each word": output(rb"^(s:1:6: )([^\n]*\n)(\1[^\n]*\n)\1\2", rb"\1\2\3"),
+        "a substitution that nothing defines is an error": output(b": warning: `\\$", b": error: `$"),
+        "the place of an assignment for that of its value": output(rb"\A(s:1:)3(: warning: `\$\{)", rb"\g<1>1\2"),
+        "substitutions before what is refused": lambda found, case: swapped(found, case) if b"nothing defines" in found.output else found,
+        "a substitution in a script alone": alone_too,
+        "what a later script gives is not known": given_later,
+        "a tested name is one that nothing defines": tested,
+        "a command that is lacked is an unknown one": output(rb"this shell has no (`\w+`)$", rb"no builtin and no stand-in is called \1"),
+        "a lacked command is also an unknown one": output(rb"^([^\n]* error: )this shell has no (`\w+`)\n", rb"\g<0>\1no builtin and no stand-in is called \2\n"),
+        "functions are passed over": output(rb"^[^\n]* no functions\n", b""),
+        "a stand-in of a lacked name is passed over": lambda found, case: replace(found, status=1) if b"\nbreak\n" in stubs_of(case) else found,
         "an unknown command without stand-ins": lambda found, case: replace(found, status=1) if b"laod" in b"".join(case.files.values()) else found,
     },
 }

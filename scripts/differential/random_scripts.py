@@ -11,7 +11,7 @@ VALUES = [b"0", b"1", b"9", b"1 2", b" a  b ", b"ff", b"x\ty", b"a b c", b"-n", 
 FLAGS = [b"n:d", b"n:x,x:sr", b"b:so", b"a:sc,boot:sr,b:sc", b"i:b, n : da ,,x", b"r:so", b"a:i", b"a:m,a:sc"]
 STAND_IN_FILES = [b"mmc\nusb 1\nload 7\n", b"mmc 3\r\n# a board\n\n\tload 007 \n", b"usb", b""]
 BAD_STAND_IN_FILES = [b"echo\n", b"mmc\nmmc 1\n", b"usb 256\n", b"mmc 0 0\n", b"usb -1\n", b"# \0\n", b"mmc\nsetexpr.b 1"]
-STAND_INS = [b"mmc", b"usb", b"load", b"reset", b"[", b""]
+STAND_INS = [b"mmc", b"mmc", b"usb", b"usb", b"load", b"load", b"reset", b"[", b"break", b"f()", b""]
 OPERATORS = [b"=", b"!=", b"<", b">", b"-eq", b"-ne", b"-lt", b"-le", b"-gt", b"-ge", b"x"]
 
 

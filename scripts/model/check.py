@@ -24,6 +24,18 @@ NO_TARGET = b"`run %s` names a variable that is not defined"
 NO_COMMAND = b"no builtin and no stand-in is called `%s`"
 NO_OPERATOR = b"`test` has no operator `%s` here, and is false"
 NOT_ASSIGNED = b"`%s` is an environment variable, so it can not be assigned"
+NOT_GIVEN = b"`${%s}` names a variable that nothing defines"
+# What other shells have and this one lacks
+LACKED = {
+    **{name: b"this shell has no `%s`: write `test`" % name for name in (b"[", b"[[")},
+    **{name: b"this shell has no `%s`" % name for name in (b"break", b"continue", b"return", b"case", b"function")},
+}
+NO_FUNCTIONS = b"this shell has no functions"
+# What U-Boot and its commands set by themselves
+SET_BY_UBOOT = {
+    b"bootcount", b"bootfile", b"dnsip", b"domain", b"ethact", b"ethaddr", b"fdtaddr", b"fdtcontroladdr", b"fileaddr", b"filesize",
+    b"gatewayip", b"hostname", b"ipaddr", b"mtdids", b"mtdparts", b"netmask", b"partition", b"rootpath", b"serverip", b"ver",
+}  # fmt: skip
 # No further line is added once there are so many bytes; then it is told that there is more
 MOST = 65_536
 MORE = b"more is found, and not printed\n"
@@ -44,10 +56,11 @@ class Finding:
 @dataclass
 class Known:
     """The values of the environment, or None where only one script is looked at; the stand-ins, or None where there is no file of
-    them."""
+    them; and the names that a substitution may have."""
 
     values: dict = None
     stand_ins: dict = None
+    defined: set = frozenset()
 
 
 @dataclass
@@ -106,11 +119,39 @@ def literal(word):
     return bytes(part[1] for part in word if part[0] != "mark")
 
 
+def called(command):
+    """The name of a simple command, if it is literal."""
+    return literal(command[1][0]) if command[0] == "simple" else None
+
+
 def targets(command):
     """The names that a command starts whatever its variables are: literal arguments of `run`, with their places."""
-    if command[0] != "simple" or literal(command[1][0]) != b"run":
+    if called(command) != b"run":
         return []
     return [(word.place, literal(word)) for word in command[1][1:] if literal(word) is not None]
+
+
+def substituted(words):
+    """The names that words substitute, in order, each with the place of its word."""
+    return [(word.place, part[1]) for word in words for part in word if part[0] == "name"]
+
+
+def words_of(command):
+    """The words of a command itself, without those of the lists inside it."""
+    if command[0] == "assign":
+        return [command[2]]
+    if command[0] == "for":
+        return command[2]
+    return command[1] if command[0] == "simple" else []
+
+
+def given(command):
+    """The names that a command assigns, gives to a command, or tests."""
+    if command[0] in ("assign", "for"):
+        return {command[1]}
+    arguments = words_of(command)[1:]
+    tested = substituted(arguments) if called(command) == b"test" else []
+    return {literal(word) for word in arguments} - {None} | {name for _, name in tested}
 
 
 # The kinds of findings in a text
@@ -130,12 +171,23 @@ def no_script(fault):
 # The kinds of findings in a command
 
 
+def lacked(name):
+    """What is said of a command that this shell lacks; None of another."""
+    return NO_FUNCTIONS if name.endswith(b"()") else LACKED.get(name)
+
+
+def lacked_command(command, known):
+    """A command that other shells have, unless a stand-in answers it."""
+    name = called(command)
+    if name is None or lacked(name) is None or name in (known.stand_ins or {}):
+        return []
+    return [Finding(command[1][0].place, ERROR, lacked(name))]
+
+
 def unknown_command(command, known):
     """A command that only hardware has and that no stand-in answers."""
-    if command[0] != "simple" or known.stand_ins is None:
-        return []
-    name = literal(command[1][0])
-    if name is None or name in BUILTINS or name in known.stand_ins:
+    name = called(command)
+    if name is None or lacked(name) is not None or known.stand_ins is None or name in BUILTINS or name in known.stand_ins:
         return []
     return [Finding(command[1][0].place, ERROR, NO_COMMAND % name)]
 
@@ -182,13 +234,20 @@ def no_operator(words):
 
 def unknown_operator(command, _known):
     """A `test` that is false whatever it is to compare."""
-    if command[0] != "simple" or literal(command[1][0]) != b"test":
+    if called(command) != b"test":
         return []
     word = no_operator(command[1][1:])
     return [] if word is None else [Finding(word.place, ERROR, NO_OPERATOR % literal(word))]
 
 
-KINDS = (unknown_command, undefined_target, unknown_operator, refused_assignment)
+def undefined_substitution(command, known):
+    """A substitution of a name that nothing defines."""
+    if known.values is None:
+        return []
+    return [Finding(place, WARNING, NOT_GIVEN % name) for place, name in substituted(words_of(command)) if name not in known.defined]
+
+
+KINDS = (lacked_command, unknown_command, unknown_operator, undefined_target, refused_assignment, undefined_substitution)
 
 
 # Scripts
@@ -229,6 +288,11 @@ def visited(values, names):
     return found
 
 
+def given_by(scripts, values):
+    """The names that the commands of these variables give to something; what is no script has none."""
+    return {name for script in scripts for command in commands(tree_of(values[script])[0] or []) for name in given(command)}
+
+
 def not_typed(values):
     """The variables whose values don't have the types that `.flags` gives them."""
     given = attributes(values.get(b".flags", b""))
@@ -241,8 +305,9 @@ def of_environment(values, stand_ins, names):
     for name in names:
         if name not in values:
             report.add_line(NOT_DEFINED % name, True)
-    known = Known(values, stand_ins)
-    for name in visited(values, names or STARTED):
+    scripts = visited(values, names or STARTED)
+    known = Known(values, stand_ins, values.keys() | given_by(scripts, values) | SET_BY_UBOOT)
+    for name in scripts:
         report.add(name, values[name], findings(values[name], known))
     for name in not_typed(values):
         report.add_line(NOT_TYPED % name, True)

@@ -1,13 +1,13 @@
 """The tree of a script (docs/scripts.md, "Grammar").
 
-A command is ("simple", words), ("assign", name, parts, place), ("if", branches, list or None), ("for", name, words, list, place),
+A command is ("simple", words), ("assign", name, word, place), ("if", branches, list or None), ("for", name, words, list, place),
 ("while", list, list) or ("until", list, list). A list is a list of chains, a chain a list of (operator, command). The place is that
 of the name.
 """
 
 import functools
 
-from model.words import NAME, Fault, Lexer
+from model.words import NAME, Fault, Lexer, Word
 
 RESERVED = {b"if", b"then", b"elif", b"else", b"fi", b"for", b"while", b"until", b"do", b"done"}
 NESTING = 64
@@ -95,8 +95,12 @@ class Parser:
             self.take()
             if self.peek().kind == "word":
                 raise Fault("Assignment", self.peek().place)
-            return ("assign", name, token.parts[len(name) + 1 :], token.place)
+            return ("assign", name, self.value(token, name), token.place)
         return ("simple", self.words())
+
+    def value(self, token, name):
+        """What an assignment assigns; it begins right after the `=`."""
+        return Word(token.parts[len(name) + 1 :], self.lexer.text.index(b"=", token.place) + 1)
 
     def words(self):
         words = []

@@ -134,7 +134,7 @@ fn a_run_of_a_name_that_is_not_defined_is_an_error(rt: HostRuntime) -> Result<()
         ),
         (
             b"preboot=run \"\"\naltbootcmd=run $x a",
-            b"altbootcmd:1:8: error: `run a` names a variable that is not defined\npreboot:1:5: error: `run ` names a variable that is not defined\n",
+            b"altbootcmd:1:8: error: `run a` names a variable that is not defined\naltbootcmd:1:5: warning: `${x}` names a variable that nothing defines\npreboot:1:5: error: `run ` names a variable that is not defined\n",
             1,
         ),
     ];
@@ -251,6 +251,149 @@ fn an_operator_that_test_does_not_have_is_an_error(rt: HostRuntime) -> Result<()
         let (printed, status) = found_in(rt.alloc(), text, None)?;
         assert_eq!(rt; printed.as_slice(), lines);
         assert_eq!(rt; status, if lines.is_empty() { 0 } else { 1 });
+    }
+    Ok(())
+}
+
+#[test]
+fn a_substitution_of_a_name_that_nothing_defines_is_a_warning(rt: HostRuntime) -> Result<(), Fail> {
+    let rows: [(&[u8], &[u8]); 20] = [
+        (
+            b"bootcmd=echo $a ${b}",
+            b"bootcmd:1:6: warning: `${a}` names a variable that nothing defines\nbootcmd:1:9: warning: `${b}` names a variable that nothing defines\n",
+        ),
+        (
+            b"bootcmd=echo \"${a}x$b\"$a",
+            b"bootcmd:1:6: warning: `${a}` names a variable that nothing defines\nbootcmd:1:6: warning: `${b}` names a variable that nothing defines\nbootcmd:1:6: warning: `${a}` names a variable that nothing defines\n",
+        ),
+        (
+            b"bootcmd=$a; echo $b\na=true",
+            b"bootcmd:1:10: warning: `${b}` names a variable that nothing defines\n",
+        ),
+        (
+            b"bootcmd=x=$y; echo $x",
+            b"bootcmd:1:3: warning: `${y}` names a variable that nothing defines\n",
+        ),
+        (
+            b"bootcmd=for i in 1 $j; do echo $i; done",
+            b"bootcmd:1:12: warning: `${j}` names a variable that nothing defines\n",
+        ),
+        (
+            b"bootcmd=x; echo $x",
+            b"bootcmd:1:9: warning: `${x}` names a variable that nothing defines\n",
+        ),
+        (
+            b"bootcmd=$t \"$a\"",
+            b"bootcmd:1:1: warning: `${t}` names a variable that nothing defines\nbootcmd:1:4: warning: `${a}` names a variable that nothing defines\n",
+        ),
+        (
+            b"bootcmd=echo -n \"$a\" $a",
+            b"bootcmd:1:9: warning: `${a}` names a variable that nothing defines\nbootcmd:1:14: warning: `${a}` names a variable that nothing defines\n",
+        ),
+        (
+            b"bootcmd=setenv x$y 1; echo $x",
+            b"bootcmd:1:8: warning: `${y}` names a variable that nothing defines\nbootcmd:1:20: warning: `${x}` names a variable that nothing defines\n",
+        ),
+        (
+            b"bootcmd=echo $a; run c\nc=a=1; fi",
+            b"bootcmd:1:6: warning: `${a}` names a variable that nothing defines\nc:1:6: error: not expected here (Unexpected)\n",
+        ),
+        (
+            b"bootcmd=echo $a\nc=a=1",
+            b"bootcmd:1:6: warning: `${a}` names a variable that nothing defines\n",
+        ),
+        (
+            b"bootcmd=echo ${file} $ip ${eth1addr}",
+            b"bootcmd:1:6: warning: `${file}` names a variable that nothing defines\nbootcmd:1:14: warning: `${ip}` names a variable that nothing defines\nbootcmd:1:18: warning: `${eth1addr}` names a variable that nothing defines\n",
+        ),
+        (
+            b"bootcmd=run c $d",
+            b"bootcmd:1:5: error: `run c` names a variable that is not defined\nbootcmd:1:7: warning: `${d}` names a variable that nothing defines\n",
+        ),
+        (
+            b"bootcmd=a=$b; for a in $b; do true; done\na=0",
+            b"bootcmd:1:1: warning: `a` is an environment variable, so it can not be assigned\nbootcmd:1:3: warning: `${b}` names a variable that nothing defines\nbootcmd:1:11: warning: `a` is an environment variable, so it can not be assigned\nbootcmd:1:16: warning: `${b}` names a variable that nothing defines\n",
+        ),
+        (b"bootcmd=echo $a $?; run c\nc=a=1", b""),
+        (
+            b"bootcmd=run c\nc=a=1; run d\nd=echo $a ${b}; for b in 1; do true; done",
+            b"",
+        ),
+        (
+            b"bootcmd=setexpr x 1 + 2; part uuid mmc 0:1 'y'; env exists z; echo $x $y $z",
+            b"",
+        ),
+        (
+            b"bootcmd=echo $a; test -n \"$a\" -a x${b} = x || echo ${b}",
+            b"",
+        ),
+        (
+            b"bootcmd=echo ${bootfile} ${dnsip} ${domain} ${fdtcontroladdr} ${fileaddr} ${filesize} ${gatewayip}",
+            b"",
+        ),
+        (
+            b"bootcmd=echo $hostname $ipaddr $netmask $rootpath $serverip '$a'",
+            b"",
+        ),
+    ];
+    for (text, lines) in rows {
+        let (printed, _) = found(rt.alloc(), text, None, &[])?;
+        assert_eq!(rt; printed.as_slice(), lines);
+    }
+    Ok(())
+}
+
+#[test]
+fn a_command_that_this_shell_lacks_is_an_error(rt: HostRuntime) -> Result<(), Fail> {
+    let some = Stubs::parse(rt.alloc(), b"break\nf()\n")?;
+    let rows: [(&[u8], Option<&Stubs>, &[u8], u8); 7] = [
+        (
+            b"[ -n \"$x\" ]",
+            None,
+            b"x.sh:1:1: error: this shell has no `[`: write `test`\n",
+            1,
+        ),
+        (
+            b"if [[ a = b ]]; then true; fi",
+            None,
+            b"x.sh:1:4: error: this shell has no `[[`: write `test`\n",
+            1,
+        ),
+        (
+            b"while true; do break; continue; done; return 1; case x; function f",
+            None,
+            b"x.sh:1:16: error: this shell has no `break`\nx.sh:1:23: error: this shell has no `continue`\nx.sh:1:39: error: this shell has no `return`\nx.sh:1:49: error: this shell has no `case`\nx.sh:1:57: error: this shell has no `function`\n",
+            1,
+        ),
+        (
+            b"f(); 'break'; echo a() break [",
+            None,
+            b"x.sh:1:1: error: this shell has no functions\nx.sh:1:6: error: this shell has no `break`\n",
+            1,
+        ),
+        (
+            b"]; [x; breaks; f( ); ()x; $x break; for i in [ break; do exit; done",
+            None,
+            b"",
+            0,
+        ),
+        (
+            b"break; [ a; f(); breaks; [[",
+            Some(&some),
+            b"x.sh:1:8: error: this shell has no `[`: write `test`\nx.sh:1:18: error: no builtin and no stand-in is called `breaks`\nx.sh:1:26: error: this shell has no `[[`: write `test`\n",
+            1,
+        ),
+        (
+            b"return; true; f()",
+            Some(&some),
+            b"x.sh:1:1: error: this shell has no `return`\n",
+            1,
+        ),
+    ];
+    for (text, stubs, lines, status) in rows {
+        let (printed, ended) = found_in(rt.alloc(), text, stubs)?;
+        assert_eq!(rt; printed.as_slice(), lines);
+        assert_eq!(rt; ended, status);
     }
     Ok(())
 }

@@ -25,7 +25,7 @@ module _ (at : At) where
   none-are : Are at [] [] 0
   none-are = record { known = tt; same = refl; size = omega arith }
 
-  -- one more in front
+  -- one more before them
   one-more : (id : NodeId) (ids : List NodeId) (s : Subtree) (more : List Statement) (size : ℕ) → at id ≡ Some s → Are at ids more size →
       Are at (id ∷ ids) (of_subtree (Some s) ++ more) (size_of (Some s) + size)
   one-more id ids s more size e rest = record {

@@ -4,3 +4,4 @@ mod LiteralLemmas
 mod NameLemmas
 mod TypeLemmas
 mod VisitLemmas
+pub mod Rows

@@ -7,11 +7,12 @@ use Rattle.std.specs.declared.cmp.Ordering.TheVariants.{Less, Equal, Greater}
 use Rattle.std.specs.declared.alloc.Global.{Global}
 use Rattle.std.specs.BTreeSet.{insert_key}
 use Rattle.std.specs.Cmp.Lexicographic.{nat_list_cmp_total}
+use Rattle.std.proofs.lemmas.Grind.{fold-append}
 use Rattle.std.proofs.lemmas.List.{map-append}
 use Rattle.std.proofs.lemmas.List.Folds.{list_any-append}
 use Rattle.envimg_core.specs.Environment.{bytes_cmp}
 use Rattle.fw_check.specs.Checking.{is_among}
-use Rattle.fw_check.specs.Found.{AreSame}
+use Rattle.fw_check.specs.NameSets.{AreSame, also, is_key, no_names, with_all}
 
 abbrev key_order : Vec ℕ Global → Vec ℕ Global → Ordering
 key_order x y = bytes_cmp x.items y.items
@@ -67,14 +68,32 @@ among-more names new name =
     list_any-append (eq_by_cmp bytes_cmp name) names (new ∷ [])
     ∙ ap (λ (b : Bool). is_among names name || b) (or-false (eq_by_cmp bytes_cmp name new))
 
-pub same-more : (names more : List (List ℕ)) (keys with : List (Vec ℕ Global)) (k : Vec ℕ Global) → AreSame names keys → with ≡ insert_key key_order keys k → more ≡ names ++ k.items ∷ [] → AreSame more with
-same-more names more keys with k same inserted behind name =
-    ap (list_any (is_called name)) inserted ∙ called-insert name keys k ∙ ap (λ (b : Bool). b || is_called name k) (same name)
-    ∙ sym (among-more names k.items name) ∙ ap (λ (ns : List (List ℕ)). is_among ns name) (sym behind)
+-- one more key
+pub key-more : (keys with : List (Vec ℕ Global)) (k : Vec ℕ Global) (name : List ℕ) → with ≡ insert_key key_order keys k → k.items ≡ name → is_key with ≡ also (is_key keys) name
+key-more keys with k name inserted called =
+    ap is_key inserted ∙ (λ i n. called-insert n keys k i) ∙ ap (also (is_key keys)) called
 
--- a name behind the others, as it lies in memory
-pub items-more : (old new : List (Vec ℕ Global)) (v k : Vec ℕ Global) (name : List ℕ) → new ≡ old ++ v ∷ [] → v.items ≡ name → k.items ≡ name →
-    map (λ n. n.items) new ≡ map (λ n. n.items) old ++ k.items ∷ []
-items-more old new v k name put v_is k_is =
+pub same-more : (names more : List (List ℕ)) (set with : List ℕ → Bool) (new : List ℕ) → AreSame set names → with ≡ also set new → more ≡ names ++ new ∷ [] → AreSame with more
+same-more names more set with new same added last name =
+    (λ i. added i name) ∙ ap (λ (b : Bool). b || eq_by_cmp bytes_cmp name new) (same name)
+    ∙ sym (among-more names new name) ∙ ap (λ (ns : List (List ℕ)). is_among ns name) (sym last)
+
+-- a name after the others, as it is in memory
+pub items-more : (old new : List (Vec ℕ Global)) (v : Vec ℕ Global) (name : List ℕ) → new ≡ old ++ v ∷ [] → v.items ≡ name →
+    map (λ n. n.items) new ≡ map (λ n. n.items) old ++ name ∷ []
+items-more old new v name put v_is =
     ap (map (λ n. n.items)) put ∙ map-append (λ (n : Vec ℕ Global). n.items) old (v ∷ [])
-    ∙ ap (λ (bs : List ℕ). map (λ n. n.items) old ++ bs ∷ []) (v_is ∙ sym k_is)
+    ∙ ap (λ (bs : List ℕ). map (λ n. n.items) old ++ bs ∷ []) v_is
+
+-- ---- many names
+
+with-all : (set : List ℕ → Bool) (names : List (List ℕ)) (name : List ℕ) → with_all set names name ≡ (set name || is_among names name)
+with-all set [] name = sym (or-false (set name))
+with-all set (x ∷ names) name =
+    with-all (also set x) names name ∙ sym (or-assoc (set name) (eq_by_cmp bytes_cmp name x) (is_among names name))
+
+pub all-among : (names : List (List ℕ)) → with_all no_names names ≡ is_among names
+all-among names = λ i name. with-all no_names names name i
+
+pub with-append : (set : List ℕ → Bool) (xs ys : List (List ℕ)) → with_all (with_all set xs) ys ≡ with_all set (xs ++ ys)
+with-append set xs ys = sym (fold-append also set xs ys)

@@ -1,44 +1,115 @@
--- A script's reading, and one visit after the other.
-use Rattle.std.proofs.Common.{◌≡◌, ℕ, suc, ◌+◌, List, [], ◌∷◌, ◌++◌, Option, Some, None, refl, sym, ap, ◌∙◌, arith, subst}
-use Rattle.std.specs.Prelude.{◌≢◌, slice_get, OnOk, Result, Ok, Err}
+-- A script's reading, and the visits of all.
+use Rattle.std.proofs.Common.{◌≡◌, ℕ, zero, suc, ◌+◌, ◌&&◌, Bool, true, false, not, List, [], ◌∷◌, ◌++◌, take, Vec, Option, Some, None, refl, sym, ap, ◌∙◌, arith, subst, append_assoc, append-nil, if◌then◌else◌}
+use Rattle.std.specs.Prelude.{◌≢◌, slice_get, option_map, OnOk, Result, Ok, Err}
+use Rattle.std.specs.declared.alloc.Global.{Global}
 use Rattle.std.specs.List.{fold}
+use Rattle.std.proofs.lemmas.Grind.{flat_map-append}
 use Rattle.envimg_core.specs.Environment.{Environment}
 use Rattle.hush_syntax.specs.FirstFault.{IsFirstFault}
 use Rattle.hush_syntax.specs.Reading.{read}
 use Rattle.hush_syntax.specs.declared.faults.FaultKind.TheVariants.{Memory}
 use Rattle.hush_syntax.specs.declared.faults.SyntaxFault.{SyntaxFault}
 use Rattle.hush_commands.specs.Stubs.{Statuses}
-use Rattle.fw_check.specs.Checking.{AreVisits, ComesTo, Faulty, Script, Visit, after_visit, reading_findings, value_in}
-use Rattle.fw_check.specs.Findings.{Report, error_at, fault_sentence, return_findings}
+use Rattle.fw_check.specs.Checking.{AreVisited, Faulty, Reports, Script, Visit, after_visit, given_by_all, is_among, is_set, known_after, reading_findings, value_in, with_name, with_names}
+use Rattle.fw_check.specs.Findings.{Known, Report, error_at, fault_sentence, return_findings}
 use Rattle.fw_check.specs.Found.{Found, found_more}
+use Rattle.fw_check.specs.NameSets.{no_names, with_all}
+use Rattle.fw_check.specs.Naming.{given_in, run_in}
 use Rattle.fw_check.specs.Reports.{GoesOn, Reads, ReadsItems}
 use Rattle.fw_check.proofs.FoundLemmas.{found-append}
+use Rattle.fw_check.proofs.NameLemmas.{all-among, with-append}
 
-module _ (env : Option Environment) (stubs : Option Statuses) where
+module _ (known : Option Known) (stubs : Option Statuses) where
   -- a script, and a text that is none
-  pub read-script : {E : Type 0} (r : Result (Unit {0}) E) (source text : List ℕ) (old new : Found) (names more : List (List ℕ)) → source ≡ text → OnOk r (ReadsItems env stubs source old new names more) → OnOk r (Reads env stubs text old new names more)
-  read-script (Ok u) source text old new names more same h = subst (λ t. Reads env stubs t old new names more) same (Script h.0, h.1, h.2, h.3)
-  read-script (Err e) source text old new names more same h = tt
+  pub read-script : {E : Type 0} (r : Result (Unit {0}) E) (source text : List ℕ) (old new : Found) → source ≡ text → OnOk r (ReadsItems known stubs source old new) → OnOk r (Reads known stubs text old new)
+  read-script (Ok u) source text old new same h = subst (λ t. Reads known stubs t old new) same (Script h.0, h.1, h.2)
+  read-script (Err e) source text old new same h = tt
 
-  pub read-fault : {E : Type 0} (r : Result (Unit {0}) E) (source text : List ℕ) (fault : SyntaxFault) (old new : Found) (names : List (List ℕ)) → source ≡ text → (fault.kind ≢ Memory → read source ≡ None) →
+  pub read-fault : {E : Type 0} (r : Result (Unit {0}) E) (source text : List ℕ) (fault : SyntaxFault) (old new : Found) → source ≡ text → (fault.kind ≢ Memory → read source ≡ None) →
       (fault.kind ≢ Memory → IsFirstFault source fault) →
-      OnOk r ((fault.kind ≢ Memory) × (new ≡ found_more old (error_at fault.place (fault_sentence fault.kind) ∷ []))) → OnOk r (Reads env stubs text old new names names)
-  read-fault (Ok u) source text fault old new names same unread first h =
-      (Faulty fault, (h.0, ap read (sym same) ∙ unread h.0, subst (λ t. IsFirstFault t fault) same (first h.0)), h.1, refl)
-  read-fault (Err e) source text fault old new names same unread first h = tt
+      OnOk r ((fault.kind ≢ Memory) × (new ≡ found_more old (error_at fault.place (fault_sentence fault.kind) ∷ []))) → OnOk r (Reads known stubs text old new)
+  read-fault (Ok u) source text fault old new same unread first h =
+      (Faulty fault, (h.0, ap read (sym same) ∙ unread h.0, subst (λ t. IsFirstFault t fault) same (first h.0)), h.1)
+  read-fault (Err e) source text fault old new same unread first h = tt
 
-  pub script-checked : (name text : List ℕ) (report after : Report) (first second third : Found) (names more : List (List ℕ)) → first ≡ record { name = name; text = text; report = report } →
-      second ≡ found_more first (return_findings first.text) → Reads env stubs text second third names more → after ≡ third.report → GoesOn env stubs name text report after names more
-  script-checked name text report after first second third names more begun returned h done =
-      let ys = reading_findings env stubs text h.0 in
+  pub script-checked : (name text : List ℕ) (report after : Report) (first second third : Found) → first ≡ record { name = name; text = text; report = report } →
+      second ≡ found_more first (return_findings first.text) → Reads known stubs text second third → after ≡ third.report → GoesOn known stubs name text report after
+  script-checked name text report after first second third begun returned h done =
+      let ys = reading_findings known stubs text h.0 in
       let two = h.2 ∙ ap (λ (f : Found). found_more f ys) returned ∙ found-append first (return_findings first.text) ys
       ∙ ap (λ (f : Found). found_more f (return_findings f.text ++ ys)) begun in
-      (h.0, h.1, done ∙ ap (λ (f : Found). f.report) two, h.3)
+      (h.0, h.1, done ∙ ap (λ (f : Found). f.report) two)
 
   -- a visit, and then the others
-  pub visit-first : (names more : List (List ℕ)) (index : ℕ) (report after final : Report) (name : List ℕ) → slice_get names index ≡ Some name → GoesOn env stubs name (value_in env name) report after names more →
-      ComesTo env stubs more (index + 1) after final → ComesTo env stubs names index report final
-  visit-first names more index report after final name here h rest =
+  pub report-first : (env : Environment) (name : List ℕ) (names : List (List ℕ)) (report after final : Report) → GoesOn known stubs name (value_in env name) report after →
+      Reports env known stubs names after final → Reports env known stubs (name ∷ names) report final
+  report-first env name names report after final h rest =
       let v : Visit = record { name = name; reading = h.0 } in
-      let others = subst (λ ns. AreVisits env ns (suc index) rest.0) h.3 (subst (λ (n : ℕ). AreVisits env more n rest.0) (let e : index + 1 ≡ suc index = omega arith in e) rest.1) in
-      (v ∷ rest.0, (here, h.1, others), ap (λ (r : Report). fold (after_visit env stubs) r rest.0) (sym h.2) ∙ rest.2)
+      (v ∷ rest.0, ap (λ (ns : List (List ℕ)). name ∷ ns) rest.1, (h.1, rest.2), ap (λ (r : Report). fold (after_visit env known stubs) r rest.0) (sym h.2) ∙ rest.3)
+
+-- ---- the names that are visited
+
+-- those that are followed stay first
+one-or : (b : Bool) (names : List (List ℕ)) (name : List ℕ) → (rest : List (List ℕ)) × ((if b then names ++ name ∷ [] else names) ≡ names ++ rest)
+one-or true names name = (name ∷ [], refl)
+one-or false names name = ([], sym (append-nil names))
+
+longer : (env : Environment) (names more : List (List ℕ)) → (rest : List (List ℕ)) × (with_names env names more ≡ names ++ rest)
+longer env names [] = ([], sym (append-nil names))
+longer env names (x ∷ xs) =
+    let one = one-or (is_set env x && not (is_among names x)) names x in
+    let others = longer env (with_name env names x) xs in
+    (one.0 ++ others.0, others.1 ∙ ap (λ (ns : List (List ℕ)). ns ++ others.0) one.1 ∙ append_assoc names one.0 others.0)
+
+take-next : (names rest : List (List ℕ)) (index : ℕ) (name : List ℕ) → slice_get names index ≡ Some name → take (suc index) (names ++ rest) ≡ take index names ++ name ∷ []
+take-next [] rest index name e = absurd (let no : ◌≡◌ {A = Option (List ℕ)} None (Some name) = e in cc)
+take-next (x ∷ names) rest zero name e = let same : x ≡ name = cc in ap (λ (n : List ℕ). n ∷ []) same
+take-next (x ∷ names) rest (suc index) name e = ap (λ (ns : List (List ℕ)). x ∷ ns) (take-next names rest index name e)
+
+take-whole : (names : List (List ℕ)) (index : ℕ) → slice_get names index ≡ None → take index names ≡ names
+take-whole [] zero e = refl
+take-whole [] (suc index) e = refl
+take-whole (x ∷ names) zero e = absurd (let no : ◌≡◌ {A = Option (List ℕ)} (Some x) None = e in cc)
+take-whole (x ∷ names) (suc index) e = ap (λ (ns : List (List ℕ)). x ∷ ns) (take-whole names index e)
+
+-- from these names on the first ones were visited, and this is the set of the names that their scripts give
+pub record Follows (env : Environment) (first now : List (List ℕ)) (index : ℕ) (given : List ℕ → Bool) : Type 0 where
+  pub visited : (rest : List (List ℕ)) → AreVisited env now index rest → AreVisited env first 0 (take index now ++ rest)
+  pub gives : given ≡ with_all no_names (given_by_all env (take index now))
+
+pub follows-none : (env : Environment) (names : List (List ℕ)) (given : List ℕ → Bool) → given ≡ no_names → Follows env names names 0 given
+follows-none env names given none = record { visited = λ rest h. h; gives = none }
+
+module _ (env : Environment) (first now more : List (List ℕ)) (index : ℕ) (name : List ℕ) (here : slice_get now index ≡ Some name) (followed : more ≡ with_names env now (run_in (value_in env name))) where
+  next-visited : take (index + 1) more ≡ take index now ++ name ∷ []
+  next-visited =
+      let l = longer env now (run_in (value_in env name)) in
+      (λ i. take (let e : index + 1 ≡ suc index = omega arith in e i) ((followed ∙ l.1) i)) ∙ take-next now l.0 index name here
+
+  next-given : given_by_all env (take (index + 1) more) ≡ given_by_all env (take index now) ++ given_in (value_in env name)
+  next-given =
+      ap (given_by_all env) next-visited ∙ flat_map-append (λ n. given_in (value_in env n)) (take index now) (name ∷ [])
+      ∙ ap (λ (ns : List (List ℕ)). given_by_all env (take index now) ++ ns) (append-nil (given_in (value_in env name)))
+
+  pub follows-next : (old new : List ℕ → Bool) → Follows env first now index old → new ≡ with_all old (given_in (value_in env name)) → Follows env first more (index + 1) new
+  follows-next old new so_far added = record {
+    visited = λ rest h.
+        let after = subst (λ (n : ℕ). AreVisited env more n rest) (let e : index + 1 ≡ suc index = omega arith in e) h in
+        let all = so_far.visited (name ∷ rest) (here, subst (λ ns. AreVisited env ns (suc index) rest) followed after) in
+        subst (AreVisited env first 0) (sym (append_assoc (take index now) (name ∷ []) rest) ∙ ap (λ (ns : List (List ℕ)). ns ++ rest) (sym next-visited)) all;
+    gives =
+        added ∙ ap (λ (set : List ℕ → Bool). with_all set (given_in (value_in env name))) so_far.gives
+        ∙ with-append no_names (given_by_all env (take index now)) (given_in (value_in env name))
+        ∙ ap (with_all no_names) (sym next-given);
+  }
+
+pub no-more : (names : List (List ℕ)) (index : ℕ) (o : Option (Vec ℕ Global)) → option_map (λ v. v.items) o ≡ slice_get names index → ((v : Vec ℕ Global) → o ≡ Some v → ⊥) → slice_get names index ≡ None
+no-more names index None e none = sym e
+no-more names index (Some v) e none = absurd (none v refl)
+
+module _ (env : Environment) (first now : List (List ℕ)) (index : ℕ) (end : slice_get now index ≡ None) where
+  pub visited-all : (given : List ℕ → Bool) → Follows env first now index given → AreVisited env first 0 now
+  visited-all given f = subst (AreVisited env first 0) (append-nil (take index now) ∙ take-whole now index end) (f.visited [] end)
+
+  pub given-all : (given : List ℕ → Bool) → Follows env first now index given → given ≡ (known_after env now).given
+  given-all given f = f.gives ∙ ap (λ (ns : List (List ℕ)). with_all no_names (given_by_all env ns)) (take-whole now index end) ∙ all-among (given_by_all env now)

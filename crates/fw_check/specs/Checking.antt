@@ -1,6 +1,6 @@
 -- What a check of an environment, or of one script, prints (docs/tools.md, "Checks of scripts").
-use Rattle.std.specs.Prelude.{◌≡◌, ◌≢◌, ◌⊎◌, ℕ, suc, ◌&&◌, Bool, not, List, [], ◌∷◌, ◌++◌, map, fold, slice_get, codes, Option, Some, None, unwrap_or, if◌then◌else◌}
-use Rattle.std.specs.List.{flat_map, list_any}
+use Rattle.std.specs.Prelude.{◌≡◌, ◌≢◌, ◌⊎◌, ℕ, suc, ◌&&◌, Bool, not, List, [], ◌∷◌, ◌++◌, map, fold, slice_get, codes, Option, Some, None, is_some, unwrap_or, if◌then◌else◌}
+use Rattle.std.specs.List.{AllByRecursion, flat_map, list_any}
 use Rattle.std.specs.Ordering.{eq_by_cmp}
 use Rattle.std.specs.FinMap.{entries, get}
 use Rattle.std.specs.Io.KnownBytes.{Keeps}
@@ -18,8 +18,8 @@ use Rattle.fw_engines.specs.declared.tool_end.ToolEnd.{ToolEnd}
 use Rattle.fw_engines.specs.declared.tool_end.StreamFault.TheVariants as stream
 use Rattle.fw_check.specs.declared.items.Item.{Item}
 use Rattle.fw_check.specs.Statements.{AreItemsOf}
-use Rattle.fw_check.specs.Targets.{Target}
-use Rattle.fw_check.specs.Findings.{Finding, error_at, fault_sentence, return_findings, item_findings, item_targets, is_defined, is_undefined, Report, no_lines, report_end, with_error, with_findings}
+use Rattle.fw_check.specs.Naming.{given_in, run_in}
+use Rattle.fw_check.specs.Findings.{Finding, Known, error_at, fault_sentence, return_findings, item_findings, Report, no_lines, report_end, with_error, with_findings}
 
 -- ---- one script
 
@@ -34,18 +34,13 @@ abbrev pub IsReading : List ℕ → Reading → Type 0
 IsReading text (Faulty fault) = (fault.kind ≢ Memory) × (read text ≡ None) × IsFirstFault text fault
 IsReading text (Script items) = AreItemsOf text items
 
-abbrev pub reading_findings : Option Environment → Option Statuses → List ℕ → Reading → List Finding
-reading_findings env stubs text (Faulty fault) = error_at fault.place (fault_sentence fault.kind) ∷ []
-reading_findings env stubs text (Script items) = flat_map (item_findings env stubs (written text)) items
+abbrev pub reading_findings : Option Known → Option Statuses → List ℕ → Reading → List Finding
+reading_findings known stubs text (Faulty fault) = error_at fault.place (fault_sentence fault.kind) ∷ []
+reading_findings known stubs text (Script items) = flat_map (item_findings known stubs (written text)) items
 
--- the first carriage return, and what is found from the front of the script on
-abbrev pub findings : Option Environment → Option Statuses → List ℕ → Reading → List Finding
-findings env stubs text reading = return_findings text ++ reading_findings env stubs text reading
-
--- the arguments of `run` without a substitution
-abbrev pub targets : List ℕ → Reading → List Target
-targets text (Faulty fault) = []
-targets text (Script items) = flat_map (item_targets (written text)) items
+-- the first carriage return, and what is found from the start of the script on
+abbrev pub findings : Option Known → Option Statuses → List ℕ → Reading → List Finding
+findings known stubs text reading = return_findings text ++ reading_findings known stubs text reading
 
 -- ---- what is printed
 
@@ -64,59 +59,73 @@ LacksMemory old new end = (end.fault ≡ Some stream.Memory) × Keeps old new ×
 abbrev pub is_among : List (List ℕ) → List ℕ → Bool
 is_among names name = list_any (eq_by_cmp bytes_cmp name) names
 
--- a name is put behind those that are there already, if it is defined and not among them
-abbrev pub with_name : Option Environment → List (List ℕ) → List ℕ → List (List ℕ)
-with_name env names name = if is_defined env name && not (is_among names name) then names ++ name ∷ [] else names
+abbrev pub is_set : Environment → List ℕ → Bool
+is_set env name = is_some (get env name)
 
-abbrev pub with_names : Option Environment → List (List ℕ) → List (List ℕ) → List (List ℕ)
+-- a name is put after those that are there already, if it is defined and not among them
+abbrev pub with_name : Environment → List (List ℕ) → List ℕ → List (List ℕ)
+with_name env names name = if is_set env name && not (is_among names name) then names ++ name ∷ [] else names
+
+abbrev pub with_names : Environment → List (List ℕ) → List (List ℕ) → List (List ℕ)
 with_names env names more = fold (with_name env) names more
-
-abbrev pub with_targets : Option Environment → List (List ℕ) → List Target → List (List ℕ)
-with_targets env names ts = with_names env names (map (λ t. t.name) ts)
 
 -- where a check begins that is given no names
 abbrev pub usual_names : List (List ℕ)
 usual_names = codes "bootcmd" ∷ codes "altbootcmd" ∷ codes "preboot" ∷ []
 
-abbrev pub first_names : Option Environment → List (List ℕ) → List (List ℕ)
+abbrev pub first_names : Environment → List (List ℕ) → List (List ℕ)
 first_names env [] = with_names env [] usual_names
 first_names env (name ∷ names) = with_names env [] (name ∷ names)
 
 abbrev pub undefined_line : List ℕ → List ℕ
 undefined_line name = name ++ codes ": error: no variable of this name is defined\n"
 
-abbrev pub with_given : Option Environment → Report → List ℕ → Report
-with_given env report name =
-    if is_undefined env name then with_error report (undefined_line name) else report
+abbrev pub with_given : Environment → Report → List ℕ → Report
+with_given env report name = if is_set env name then report else with_error report (undefined_line name)
 
 -- a line for each given name that isn't defined
-abbrev pub first_report : Option Environment → List (List ℕ) → Report
+abbrev pub first_report : Environment → List (List ℕ) → Report
 first_report env names = fold (with_given env) no_lines names
+
+abbrev pub value_in : Environment → List ℕ → List ℕ
+value_in env name = unwrap_or (get env name) []
+
+-- from the name of this index on these names are visited: those that the script of each runs come after all others
+abbrev pub AreVisited : Environment → List (List ℕ) → ℕ → List (List ℕ) → Type 0
+AreVisited env names index [] = slice_get names index ≡ None
+AreVisited env names index (v ∷ vs) =
+    (slice_get names index ≡ Some v) × AreVisited env (with_names env names (run_in (value_in env v))) (suc index) vs
+
+-- the names that the scripts of all these give to something
+abbrev pub given_by_all : Environment → List (List ℕ) → List (List ℕ)
+given_by_all env visited = flat_map (λ name. given_in (value_in env name)) visited
+
+abbrev pub known_after : Environment → List (List ℕ) → Known
+known_after env visited = record { env = env; given = is_among (given_by_all env visited) }
 
 -- the script that a variable is
 pub record Visit : Type 0 where
   pub name : List ℕ
   pub reading : Reading
 
-abbrev pub value_in : Option Environment → List ℕ → List ℕ
-value_in None name = []
-value_in (Some env) name = unwrap_or (get env name) []
+abbrev pub IsVisit : Environment → Visit → Type 0
+IsVisit env v = IsReading (value_in env v.name) v.reading
 
-abbrev pub after_visit : Option Environment → Option Statuses → Report → Visit → Report
-after_visit env stubs report v =
-    with_findings v.name (value_in env v.name) report (findings env stubs (value_in env v.name) v.reading)
+abbrev pub after_visit : Environment → Option Known → Option Statuses → Report → Visit → Report
+after_visit env known stubs report v =
+    with_findings v.name (value_in env v.name) report (findings known stubs (value_in env v.name) v.reading)
 
--- from the name of this index on each name is visited, and those that its script runs come behind all others
-abbrev pub AreVisits : Option Environment → List (List ℕ) → ℕ → List Visit → Type 0
-AreVisits env names index [] = slice_get names index ≡ None
-AreVisits env names index (v ∷ vs) =
-    (slice_get names index ≡ Some v.name) × IsReading (value_in env v.name) v.reading
-    × AreVisits env (with_targets env names (targets (value_in env v.name) v.reading)) (suc index) vs
+-- with what is found in the scripts of these names a report that was this one is that one
+abbrev pub Reports : Environment → Option Known → Option Statuses → List (List ℕ) → Report → Report → Type 0
+Reports env known stubs names report final =
+    (visits : List Visit) × (map (λ v. v.name) visits ≡ names) × AllByRecursion (IsVisit env) visits
+    × (fold (after_visit env known stubs) report visits ≡ final)
 
--- from there on a check that has this report comes to that one
-abbrev pub ComesTo : Option Environment → Option Statuses → List (List ℕ) → ℕ → Report → Report → Type 0
-ComesTo env stubs names index report final =
-    (visits : List Visit) × AreVisits env names index visits × (fold (after_visit env stubs) report visits ≡ final)
+-- a check that begins with these names and this report comes to that one
+abbrev pub ComesTo : Environment → Option Statuses → List (List ℕ) → Report → Report → Type 0
+ComesTo env stubs names report final =
+    (visited : List (List ℕ)) × AreVisited env names 0 visited
+    × Reports env (Some (known_after env visited)) stubs visited report final
 
 -- ---- values without their types
 
@@ -135,7 +144,7 @@ with_types env report = fold (with_typed env) report (entries env)
 -- a check of an environment from these names on
 abbrev pub Checks : Environment → Option Statuses → List (List ℕ) → Option (List ℕ) → Option (List ℕ) → ToolEnd → Type 0
 Checks env stubs names old new end =
-    ((report : Report) × ComesTo (Some env) stubs (first_names (Some env) names) 0 (first_report (Some env) names) report
+    ((report : Report) × ComesTo env stubs (first_names env names) (first_report env names) report
     × PrintsReport old new (with_types env report) end)
     ⊎ LacksMemory old new end
 

@@ -1,21 +1,22 @@
 -- What is found in a script, and the lines that say so (docs/tools.md, "Checks of scripts").
-use Rattle.std.specs.Prelude.{ℕ, ◌==◌, ◌||◌, ◌&&◌, nat_le, Bool, true, false, List, [], ◌∷◌, ◌++◌, length, fold, codes, Option, Some, None, is_none, is_some, if◌then◌else◌}
+use Rattle.std.specs.Prelude.{ℕ, ◌==◌, ◌||◌, nat_le, not, Bool, true, false, List, [], ◌∷◌, ◌++◌, length, fold, codes, Option, Some, None, is_none, is_some, if◌then◌else◌}
 use Rattle.std.specs.Fmt.{decimal}
 use Rattle.std.specs.List.{concat, flat_map, fold, list_any, position_or_len}
-use Rattle.std.specs.Str.{bytes_eq}
 use Rattle.std.specs.FinMap.{get}
 use Rattle.hush_words.specs.Parts.{Written, word_atoms}
 use Rattle.hush_words.specs.declared.parts.Word.{Word}
 use Rattle.hush_syntax.specs.declared.faults.FaultKind.{FaultKind}
 use Rattle.hush_syntax.specs.declared.faults.FaultKind.TheVariants as fault
-use Rattle.hush_commands.specs.Builtins.{builtin_of}
-use Rattle.hush_commands.specs.Stubs.{Statuses, status_of_name}
+use Rattle.hush_commands.specs.Stubs.{Statuses}
 use Rattle.envimg_core.specs.Environment.{Environment}
 use Rattle.fw_engines.specs.ScriptRun.{place_of}
 use Rattle.fw_engines.specs.declared.text_places.Place.{Place}
-use Rattle.fw_check.specs.Literals.{literal_of}
+use Rattle.fw_check.specs.Commands.{command_fault, command_sentence}
+use Rattle.fw_check.specs.Literals.{is_word_of, literal_of, substituted}
+use Rattle.fw_check.specs.Naming.{is_run, is_test}
 use Rattle.fw_check.specs.Operators.{ATerm, Expected, after_word, wrong_in}
-use Rattle.fw_check.specs.Targets.{Target, target}
+use Rattle.fw_check.specs.Targets.{Target}
+use Rattle.fw_check.specs.declared.commands.CommandFault.{CommandFault}
 use Rattle.fw_check.specs.declared.findings.Severity.{Severity}
 use Rattle.fw_check.specs.declared.findings.Severity.TheVariants as severity
 use Rattle.fw_check.specs.declared.items.Item.{Item}
@@ -117,52 +118,47 @@ return_sentence = codes "a carriage return stands in the script"
 abbrev pub return_findings : List ℕ → List Finding
 return_findings text = if list_any is_return text then warning_at (position_or_len is_return text) return_sentence ∷ [] else []
 
--- ---- names: what is defined is known where there is an environment
+-- ---- variables
 
-abbrev pub is_defined : Option Environment → List ℕ → Bool
+-- where there is an environment: it, and whether a script that is looked at gives a name to something
+pub record Known : Type 0 where
+  pub env : Environment
+  pub given : List ℕ → Bool
+
+abbrev pub is_defined : Option Known → List ℕ → Bool
 is_defined None name = false
-is_defined (Some env) name = is_some (get env name)
+is_defined (Some known) name = is_some (get known.env name)
 
-abbrev pub is_undefined : Option Environment → List ℕ → Bool
+abbrev pub is_undefined : Option Known → List ℕ → Bool
 is_undefined None name = false
-is_undefined (Some env) name = is_none (get env name)
+is_undefined (Some known) name = is_none (get known.env name)
 
--- which commands there are is known where there are stand-ins
-abbrev pub is_unknown : Option Statuses → List ℕ → Bool
-is_unknown None name = false
-is_unknown (Some stubs) name = is_none (builtin_of name) && is_none (status_of_name stubs name)
+-- the variables that U-Boot and its commands set by themselves
+abbrev pub set_by_commands : List (List ℕ)
+set_by_commands =
+    codes "bootcount" ∷ codes "bootfile" ∷ codes "dnsip" ∷ codes "domain" ∷ codes "ethact" ∷ codes "ethaddr"
+    ∷ codes "fdtaddr" ∷ codes "fdtcontroladdr" ∷ codes "fileaddr" ∷ codes "filesize" ∷ codes "gatewayip" ∷ codes "hostname"
+    ∷ codes "ipaddr" ∷ codes "mtdids" ∷ codes "mtdparts" ∷ codes "netmask" ∷ codes "partition" ∷ codes "rootpath"
+    ∷ codes "serverip" ∷ codes "ver" ∷ []
+
+-- nothing that is known defines a variable of this name
+abbrev pub is_lacking : Option Known → List ℕ → Bool
+is_lacking None name = false
+is_lacking (Some known) name = not (is_some (get known.env name) || is_word_of set_by_commands name || known.given name)
 
 -- ---- simple commands
 
--- the arguments of `run` without a substitution
-abbrev pub targets_at : ℕ → Option (List ℕ) → List Target
-targets_at count None = []
-targets_at count (Some name) = target count name ∷ []
-
-abbrev pub word_targets : Written → Word → List Target
-word_targets text word = targets_at word.start (literal_of (word_atoms text word))
-
-abbrev pub is_run : Option (List ℕ) → Bool
-is_run None = false
-is_run (Some name) = bytes_eq (codes "run") name
-
-abbrev pub call_targets : Written → List Word → List Target
-call_targets text [] = []
-call_targets text (word ∷ words) =
-    if is_run (literal_of (word_atoms text word)) then flat_map (word_targets text) words else []
-
-abbrev pub undefined_sentence : List ℕ → List ℕ
-undefined_sentence name = codes "`run " ++ name ++ codes "` names a variable that is not defined"
-
-abbrev pub target_findings : Option Environment → Target → List Finding
-target_findings env t = if is_undefined env t.name then error_at t.count (undefined_sentence t.name) ∷ [] else []
-
-abbrev pub unknown_sentence : List ℕ → List ℕ
-unknown_sentence name = codes "no builtin and no stand-in is called `" ++ name ++ codes "`"
+abbrev pub fault_findings : ℕ → (name : List ℕ) → Option CommandFault → List Finding
+fault_findings count name None = []
+fault_findings count name (Some fault) = error_at count (command_sentence fault name) ∷ []
 
 abbrev pub called_findings : Option Statuses → ℕ → Option (List ℕ) → List Finding
 called_findings stubs count None = []
-called_findings stubs count (Some name) = if is_unknown stubs name then error_at count (unknown_sentence name) ∷ [] else []
+called_findings stubs count (Some name) = fault_findings count name (command_fault stubs name)
+
+abbrev pub command_findings : Option Statuses → Written → List Word → List Finding
+command_findings stubs text [] = []
+command_findings stubs text (word ∷ words) = called_findings stubs word.start (literal_of (word_atoms text word))
 
 abbrev pub operator_sentence : List ℕ → List ℕ
 operator_sentence name = codes "`test` has no operator `" ++ name ++ codes "` here, and is false"
@@ -178,36 +174,55 @@ after_field text expected word = after_word expected word.start (literal_of (wor
 abbrev pub test_findings : Written → List Word → List Finding
 test_findings text words = wrong_findings (wrong_in (fold (after_field text) ATerm words))
 
-abbrev pub is_test : Option (List ℕ) → Bool
-is_test None = false
-is_test (Some name) = bytes_eq (codes "test") name
-
 abbrev pub operator_findings : Written → List Word → List Finding
 operator_findings text [] = []
 operator_findings text (word ∷ words) = if is_test (literal_of (word_atoms text word)) then test_findings text words else []
 
-abbrev pub command_findings : Option Statuses → Written → List Word → List Finding
-command_findings stubs text [] = []
-command_findings stubs text (word ∷ words) = called_findings stubs word.start (literal_of (word_atoms text word))
+abbrev pub undefined_sentence : List ℕ → List ℕ
+undefined_sentence name = codes "`run " ++ name ++ codes "` names a variable that is not defined"
+
+abbrev pub target_findings : Option Known → ℕ → Option (List ℕ) → List Finding
+target_findings known count None = []
+target_findings known count (Some name) =
+    if is_undefined known name then error_at count (undefined_sentence name) ∷ [] else []
+
+abbrev pub argument_findings : Option Known → Written → Word → List Finding
+argument_findings known text word = target_findings known word.start (literal_of (word_atoms text word))
+
+-- what is found in the arguments of `run`
+abbrev pub run_findings : Option Known → Written → List Word → List Finding
+run_findings known text [] = []
+run_findings known text (word ∷ words) =
+    if is_run (literal_of (word_atoms text word)) then flat_map (argument_findings known text) words else []
+
+-- ---- substitutions
+
+abbrev pub lacking_sentence : List ℕ → List ℕ
+lacking_sentence name = codes "`${" ++ name ++ codes "}` names a variable that nothing defines"
+
+abbrev pub name_findings : Option Known → ℕ → List ℕ → List Finding
+name_findings known count name = if is_lacking known name then warning_at count (lacking_sentence name) ∷ [] else []
+
+abbrev pub word_findings : Option Known → Written → Word → List Finding
+word_findings known text word = flat_map (name_findings known word.start) (substituted (word_atoms text word))
 
 -- ---- assignments and the heads of `for`
 
 abbrev pub refused_sentence : List ℕ → List ℕ
 refused_sentence name = codes "`" ++ name ++ codes "` is an environment variable, so it can not be assigned"
 
-abbrev pub assigned_findings : Option Environment → ℕ → Option (List ℕ) → List Finding
-assigned_findings env count None = []
-assigned_findings env count (Some name) = if is_defined env name then warning_at count (refused_sentence name) ∷ [] else []
+abbrev pub assigned_findings : Option Known → ℕ → Option (List ℕ) → List Finding
+assigned_findings known count None = []
+assigned_findings known count (Some name) =
+    if is_defined known name then warning_at count (refused_sentence name) ∷ [] else []
 
 -- ---- a whole script
 
-abbrev pub item_targets : Written → Item → List Target
-item_targets text (item.Call words) = call_targets text words.now
-item_targets text (item.Assignment name value) = []
-item_targets text (item.Binding name words) = []
-
-abbrev pub item_findings : Option Environment → Option Statuses → Written → Item → List Finding
-item_findings env stubs text (item.Call words) =
-    command_findings stubs text words.now ++ operator_findings text words.now ++ flat_map (target_findings env) (call_targets text words.now)
-item_findings env stubs text (item.Assignment name value) = assigned_findings env name.start (literal_of (word_atoms text name))
-item_findings env stubs text (item.Binding name words) = assigned_findings env name.start (literal_of (word_atoms text name))
+abbrev pub item_findings : Option Known → Option Statuses → Written → Item → List Finding
+item_findings known stubs text (item.Call words) =
+    command_findings stubs text words.now ++ operator_findings text words.now ++ run_findings known text words.now
+    ++ flat_map (word_findings known text) words.now
+item_findings known stubs text (item.Assignment name value) =
+    assigned_findings known name.start (literal_of (word_atoms text name)) ++ word_findings known text value
+item_findings known stubs text (item.Binding name words) =
+    assigned_findings known name.start (literal_of (word_atoms text name)) ++ flat_map (word_findings known text) words.now

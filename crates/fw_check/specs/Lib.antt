@@ -1,12 +1,15 @@
 -- What the public calls promise.
 pub mod Statements
 pub mod Literals
+pub mod Naming
 pub mod Targets
 pub mod Operators
+pub mod Commands
 pub mod Findings
 pub mod Checking
 -- What the steps of the code do: no promise speaks of these.
 pub mod Gathering
+pub mod NameSets
 pub mod Found
 pub mod Looking
 pub mod Expecting

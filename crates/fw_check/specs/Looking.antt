@@ -1,13 +1,18 @@
 -- What names are looked up in, as the code has it.
 use Rattle.std.specs.Prelude.{Bool, true, false, Option, option_map}
 use Rattle.hush_commands.specs.Stubs.{Statuses}
-use Rattle.envimg_core.specs.Environment.{Environment}
 use Rattle.envvars_core.specs.declared.refusals.Refusal.{Refusal}
 use Rattle.envvars_core.specs.declared.refusals.Refusal.TheVariants as refusal
+use Rattle.fw_check.specs.Findings.{Known}
+use Rattle.fw_check.specs.NameSets.{set_of}
 use Rattle.fw_check.specs.declared.lookups.Lookups.{Lookups}
+use Rattle.fw_check.specs.declared.lookups.Variables.{Variables}
 
-abbrev pub env_in : Lookups → Option Environment
-env_in l = option_map (λ vars. vars.now.env) l.vars
+abbrev pub known_view : Variables → Known
+known_view v = record { env = v.vars.now.env; given = set_of v.given.now }
+
+abbrev pub known_in : Lookups → Option Known
+known_in l = option_map known_view l.variables
 
 abbrev pub stubs_in : Lookups → Option Statuses
 stubs_in l = option_map (λ stubs. stubs.now) l.stubs

@@ -1,9 +1,9 @@
 -- Words of `test` where an operator has to be, and that aren't one (docs/tools.md, "Checks of scripts").
 use Rattle.std.specs.Prelude.{ℕ, ◌==◌, ◌&&◌, ◌||◌, Bool, false, not, List, [], ◌∷◌, length, codes, map, Option, Some, None, if◌then◌else◌}
 use Rattle.std.specs.Char.{is_ascii_alphabetic}
-use Rattle.std.specs.List.{list_all, list_any}
-use Rattle.std.specs.Str.{bytes_eq}
+use Rattle.std.specs.List.{list_all}
 use Rattle.hush_calc.specs.Test.{comparisons, spelling}
+use Rattle.fw_check.specs.Literals.{is_word_of}
 use Rattle.fw_check.specs.Targets.{Target, target}
 
 abbrev pub begins_option : List ℕ → Bool
@@ -17,9 +17,6 @@ is_sign b = b == 61 || b == 33 || b == 60 || b == 62 || b == 126
 -- written as operators are: a `-` and a letter first, or bytes of `=!<>~` alone
 abbrev pub looks_like_operator : List ℕ → Bool
 looks_like_operator bytes = begins_option bytes || not (length bytes == 0) && list_all is_sign bytes
-
-abbrev pub is_word_of : List (List ℕ) → List ℕ → Bool
-is_word_of texts word = list_any (λ text. bytes_eq text word) texts
 
 abbrev pub is_comparison : List ℕ → Bool
 is_comparison word = is_word_of (map spelling comparisons) word

@@ -3,6 +3,7 @@ use Rattle.std.specs.Prelude.{◌≡◌, ℕ, List, [], ◌∷◌, ◌++◌, map
 use Rattle.hush_words.specs.Words.{Atom}
 use Rattle.hush_words.specs.Parts.{Written, written, word_atoms}
 use Rattle.hush_syntax.specs.Grammar.{Command, Simple, Assign, If, For, While, Until, Branches, Elif, Else, Fi, Chain, First, Links, End, Link, Chains, Last, More, SpellsText}
+use Rattle.hush_syntax.specs.Reading.{read}
 use Rattle.hush_syntax.specs.Trees.{words_in, name_in}
 use Rattle.fw_check.specs.declared.items.Item.{Item}
 use Rattle.fw_check.specs.declared.items.Item.TheVariants as item
@@ -41,6 +42,14 @@ abbrev mutual
 abbrev pub of_script : Option Chains → List Statement
 of_script None = []
 of_script (Some cs) = of_list cs
+
+abbrev pub of_reading : Option (Option Chains) → List Statement
+of_reading None = []
+of_reading (Some tree) = of_script tree
+
+-- those of the script that a text is; a text that is no script has none
+abbrev pub statements_in : List ℕ → List Statement
+statements_in text = of_reading (read text)
 
 -- what an item of the code, whose words are ranges of the text, stands for
 abbrev pub statement_of : Written → Item → Statement

@@ -82,12 +82,12 @@ impl Report {
     }
 
     /// One more error, in a line that begins with a name.
-    pub(crate) fn add_error(&mut self, name: &[u8], behind: &[u8]) -> Result<(), AllocError>
-        ensures { OnOk result (self.new ≡ with_error self.old (name.now ++ behind.now)) }
+    pub(crate) fn add_error(&mut self, name: &[u8], after: &[u8]) -> Result<(), AllocError>
+        ensures { OnOk result (self.new ≡ with_error self.old (name.now ++ after.now)) }
     {
         if self.has_line(true) {
             self.text.extend_from_slice(name)?;
-            self.text.extend_from_slice(behind)?;
+            self.text.extend_from_slice(after)?;
         }
         Ok(())
     }
@@ -138,14 +138,14 @@ impl<'s> Findings<'s> {
         &mut self,
         count: usize,
         severity: Severity,
-        front: &[u8],
+        before: &[u8],
         name: &[u8],
-        behind: &[u8],
+        after: &[u8],
     ) -> Result<(), AllocError>
         ensures { OnOk result (self.new ≡ found_more self.old (record {
           count = count;
           severity = severity;
-          sentence = front.now ++ name.now ++ behind.now;
+          sentence = before.now ++ name.now ++ after.now;
         } ∷ [])) }
     {
         if !self.report.has_line(severity.is_severe()) {
@@ -155,7 +155,7 @@ impl<'s> Findings<'s> {
         let text = &mut self.report.text;
         push_place(text, self.name, place)?;
         text.extend_from_slice(severity.text())?;
-        push_three(text, front, name, behind)?;
+        push_three(text, before, name, after)?;
         text.extend_from_slice(b"\n")
     }
 
@@ -200,15 +200,15 @@ fn push_place(text: &mut Vec<u8>, name: &[u8], place: Place) -> Result<(), Alloc
 /// Appends three texts.
 pub(crate) fn push_three(
     text: &mut Vec<u8>,
-    front: &[u8],
+    before: &[u8],
     name: &[u8],
-    behind: &[u8],
+    after: &[u8],
 ) -> Result<(), AllocError>
-    ensures { OnOk result (text.new.items ≡ text.old.items ++ front.now ++ name.now ++ behind.now) }
+    ensures { OnOk result (text.new.items ≡ text.old.items ++ before.now ++ name.now ++ after.now) }
 {
-    text.extend_from_slice(front)?;
+    text.extend_from_slice(before)?;
     text.extend_from_slice(name)?;
-    text.extend_from_slice(behind)
+    text.extend_from_slice(after)
 }
 
 /// What keeps a text from being a script.

@@ -1,11 +1,10 @@
 //! The names whose scripts are looked at.
-ghost use Rattle.std.specs.Prelude.{◌≡◌, ◌<◌, [], ◌∷◌, ◌++◌, IfOk, OnOk, OnSome, slice_get, option_map, if◌then◌else◌};
+ghost use Rattle.std.specs.Prelude.{◌≡◌, ◌<◌, [], ◌∷◌, ◌++◌, IfOk, OnOk, OnSome, map, slice_get, option_map, if◌then◌else◌};
 ghost use Rattle.fw_check.specs.Checking.{is_among, with_name};
-ghost use Rattle.fw_check.specs.Looking.{env_in};
 
-use crate::lookups::Lookups;
+use crate::name_set::NameSet;
+use envvars_core::Vars;
 use std::alloc::{AllocError, Global};
-use std::collections::BTreeSet;
 use std::marker::Model;
 
 /// Names in the order in which they were met, each once.
@@ -13,18 +12,18 @@ use std::marker::Model;
 pub(crate) struct Names {
     order: Vec<Vec<u8>>,
     /// The same in the order of their bytes.
-    met: BTreeSet<Vec<u8>>,
+    met: NameSet,
 }
 
 impl Model for Names {
-    ghost use Rattle.std.specs.Prelude.{◌≡◌, ℕ, List, map};
-    ghost use Rattle.fw_check.specs.Found.{AreSame};
+    ghost use Rattle.std.specs.Prelude.{ℕ, List, map};
+    ghost use Rattle.fw_check.specs.NameSets.{AreSame, set_of};
 
     ghost Value = { List (List ℕ) };
 
     ghost view = { λ a. map (λ n. n.items) a.order.items };
 
-    ghost invariant = { λ a. AreSame (map (λ n. n.items) a.order.items) a.met.keys };
+    ghost invariant = { λ a. AreSame (set_of a.met) (map (λ n. n.items) a.order.items) };
 }
 
 impl Names {
@@ -34,8 +33,15 @@ impl Names {
     {
         Names {
             order: Vec::new(alloc),
-            met: BTreeSet::new(alloc),
+            met: NameSet::new(alloc),
         }
+    }
+
+    /// All of them.
+    pub(crate) fn all(&self) -> &[Vec<u8>]
+        ensures { map (λ n. n.items) result.now ≡ self.now }
+    {
+        self.order.as_slice()
     }
 
     /// A copy of the name of this index, if there are so many.
@@ -49,29 +55,33 @@ impl Names {
         }
     }
 
-    /// Puts a name behind the others, if it is defined and not one of them.
-    pub(crate) fn follow(&mut self, lookups: &Lookups<'_>, name: &[u8]) -> Result<(), AllocError>
-        ensures { OnOk result (self.new ≡ with_name (env_in lookups.now) self.old name.now) }
+    /// Puts a name after the others, if it is defined and not one of them.
+    pub(crate) fn follow(
+        &mut self,
+        alloc: Global,
+        vars: &Vars,
+        name: &[u8],
+    ) -> Result<(), AllocError>
+        ensures { OnOk result (self.new ≡ with_name vars.now.env self.old name.now) }
     {
-        if lookups.is_defined(name) {
-            self.add(lookups.alloc, name)?;
+        if vars.get(name).is_some() {
+            self.add(alloc, name)?;
         }
         Ok(())
     }
 
-    /// Puts a name behind the others, unless it is one of them.
+    /// Puts a name after the others, unless it is one of them.
     fn add(&mut self, alloc: Global, name: &[u8]) -> Result<(), AllocError>
         ensures { OnOk result
             (self.new ≡ (if is_among self.old name.now then self.old else self.old ++ name.now ∷ [])) }
     {
-        if self.met.contains(name) {
+        if self.met.has(name) {
             return Ok(());
         }
-        let behind = Vec::from_slice(alloc, name)?;
-        let key = Vec::from_slice(alloc, name)?;
+        let last = Vec::from_slice(alloc, name)?;
         self.order.reserve(1)?;
-        self.met.insert(key)?;
-        self.order.push_reserved(behind);
+        self.met.add(alloc, name)?;
+        self.order.push_reserved(last);
         Ok(())
     }
 }

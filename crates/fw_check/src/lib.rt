@@ -1,19 +1,26 @@
 //! A check of boot scripts that runs nothing: what is wrong with a script, or with those of an environment from some
 //! names on, as lines. docs/tools.md states the rules.
 //!
-//! To read in this order: items, literals, lookups; findings; followed, operators, statements;
-//! script_check, typed_values, visits.
+//! To read in this order: items, literals, substitutions, name_set, commands, lookups; findings; operators,
+//! variables, statements, script_check; followed, runs, gives, follow; typed_values, visits.
 #![tactic(auto)]
 
+mod commands;
 mod findings;
+mod follow;
 mod followed;
+mod gives;
 mod items;
 mod literals;
 mod lookups;
+mod name_set;
 mod operators;
+mod runs;
 mod script_check;
 mod statements;
+mod substitutions;
 mod typed_values;
+mod variables;
 mod visits;
 
 pub use script_check::check_text;

@@ -1,9 +1,11 @@
 //! Words that are one text whatever the variables are.
-ghost use Rattle.std.specs.Prelude.{◌≡◌, IfOk, option_copied, option_map};
+ghost use Rattle.std.specs.Prelude.{◌≡◌, IfOk, map, option_copied, option_map};
+ghost use Rattle.hush_syntax.specs.Trees.{name_in};
 ghost use Rattle.hush_words.specs.Parts.{part_atoms, word_atoms};
 ghost use Rattle.hush_words.specs.Ranges.{Fits};
-ghost use Rattle.fw_check.specs.Literals.{literal_of};
+ghost use Rattle.fw_check.specs.Literals.{is_called, is_word_of, literal_of};
 
+use hush_calc::is_text;
 use hush_syntax::{Part, Text, Word};
 use std::alloc::{AllocError, Global};
 
@@ -34,4 +36,39 @@ fn literal_part(text: &Text, part: Part) -> Option<&[u8]>
         Part::Value(_, _) => None,
         Part::Status(_) => None,
     }
+}
+
+/// The name that a word is; no bytes where it is none.
+pub(crate) fn name_in(alloc: Global, text: &Text, word: Word) -> Result<Vec<u8>, AllocError>
+    ensures { IfOk result (λ name. name.items ≡ name_in text.now word) }
+{
+    if !word.is_name(text) {
+        return Ok(Vec::new(alloc));
+    }
+    match literal(alloc, text, word)? {
+        Some(name) => Ok(name),
+        None => Ok(Vec::new(alloc)),
+    }
+}
+
+/// Whether a word without a substitution is this text.
+pub(crate) fn is_called(called: &Option<Vec<u8>>, text: &[u8]) -> bool
+    ensures { result ≡ is_called text.now (option_map (λ v. v.items) called.now) }
+{
+    match called {
+        Some(name) => is_text(name, text),
+        None => false,
+    }
+}
+
+/// Whether a word is one of these texts.
+pub(crate) fn is_word_of(texts: &[&[u8]], word: &[u8]) -> bool
+    ensures { result ≡ is_word_of (map (λ t. t.now) texts.now) word.now }
+{
+    for text in texts {
+        if is_text(word, text) {
+            return true;
+        }
+    }
+    false
 }

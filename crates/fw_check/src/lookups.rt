@@ -1,19 +1,65 @@
 //! What the names in a script are looked up in.
-ghost use Rattle.std.specs.Prelude.{◌≡◌};
-ghost use Rattle.fw_check.specs.Checking.{value_in};
-ghost use Rattle.fw_check.specs.Findings.{is_defined, is_undefined, is_unknown};
-ghost use Rattle.fw_check.specs.Looking.{env_in, stubs_in};
+ghost use Rattle.std.specs.Prelude.{◌≡◌, Some};
+ghost use Rattle.fw_check.specs.Commands.{command_fault, has_stand_in, is_unknown};
+ghost use Rattle.fw_check.specs.Findings.{is_defined, is_lacking, is_undefined};
+ghost use Rattle.fw_check.specs.Looking.{known_in, known_view, stubs_in};
 
+use crate::commands::{CommandFault, lack_of};
+use crate::literals::is_word_of;
+use crate::name_set::NameSet;
 use envvars_core::Vars;
 use hush_commands::{Stubs, is_builtin};
 use std::alloc::Global;
+
+/// What the names of variables are looked up in.
+#[derive(Clone, Copy)]
+pub(crate) struct Variables<'k> {
+    pub(crate) vars: &'k Vars,
+    /// The names that the scripts give to something.
+    pub(crate) given: &'k NameSet,
+}
+
+/// The variables that U-Boot and its commands set by themselves.
+const SET_BY_COMMANDS: [&[u8]; 20] = [
+    b"bootcount",
+    b"bootfile",
+    b"dnsip",
+    b"domain",
+    b"ethact",
+    b"ethaddr",
+    b"fdtaddr",
+    b"fdtcontroladdr",
+    b"fileaddr",
+    b"filesize",
+    b"gatewayip",
+    b"hostname",
+    b"ipaddr",
+    b"mtdids",
+    b"mtdparts",
+    b"netmask",
+    b"partition",
+    b"rootpath",
+    b"serverip",
+    b"ver",
+];
+
+impl<'k> Variables<'k> {
+    /// Whether nothing defines a variable of this name.
+    fn lacks(&self, name: &[u8]) -> bool
+        ensures { result ≡ is_lacking (Some (known_view self.now)) name.now }
+    {
+        !(self.vars.get(name).is_some()
+            || is_word_of(&SET_BY_COMMANDS, name)
+            || self.given.has(name))
+    }
+}
 
 /// What the names in a script are looked up in, and the memory that this takes.
 #[derive(Clone, Copy)]
 pub(crate) struct Lookups<'k> {
     pub(crate) alloc: Global,
-    /// The environment; none where names of variables aren't looked up.
-    pub(crate) vars: Option<&'k Vars>,
+    /// None where names of variables aren't looked up.
+    pub(crate) variables: Option<Variables<'k>>,
     /// The stand-ins; none where names of commands aren't looked up.
     pub(crate) stubs: Option<&'k Stubs>,
 }
@@ -21,36 +67,60 @@ pub(crate) struct Lookups<'k> {
 impl<'k> Lookups<'k> {
     /// Whether the environment has a variable of this name.
     pub(crate) fn is_defined(&self, name: &[u8]) -> bool
-        ensures { result ≡ is_defined (env_in self.now) name.now }
+        ensures { result ≡ is_defined (known_in self.now) name.now }
     {
-        match self.vars {
-            Some(vars) => vars.get(name).is_some(),
+        match self.variables {
+            Some(variables) => variables.vars.get(name).is_some(),
             None => false,
         }
     }
 
     /// Whether the environment lacks it.
     pub(crate) fn is_undefined(&self, name: &[u8]) -> bool
-        ensures { result ≡ is_undefined (env_in self.now) name.now }
+        ensures { result ≡ is_undefined (known_in self.now) name.now }
     {
-        match self.vars {
-            Some(vars) => vars.get(name).is_none(),
+        match self.variables {
+            Some(variables) => variables.vars.get(name).is_none(),
             None => false,
         }
     }
 
-    /// The value of a variable; no bytes where there is none.
-    pub(crate) fn value(&self, name: &[u8]) -> &[u8]
-        ensures { result.now ≡ value_in (env_in self.now) name.now }
+    /// Whether neither the environment nor anything else defines it.
+    pub(crate) fn is_lacking(&self, name: &[u8]) -> bool
+        ensures { result ≡ is_lacking (known_in self.now) name.now }
     {
-        match self.vars {
-            Some(vars) => vars.get(name).unwrap_or(b""),
-            None => b"",
+        match self.variables {
+            Some(variables) => variables.lacks(name),
+            None => false,
+        }
+    }
+
+    /// What is wrong with a command of this name.
+    pub(crate) fn command_fault(&self, name: &[u8]) -> Option<CommandFault>
+        ensures { result ≡ command_fault (stubs_in self.now) name.now }
+    {
+        if self.has_stand_in(name) {
+            return None;
+        }
+        match lack_of(name) {
+            Some(fault) => Some(fault),
+            None if self.is_unknown(name) => Some(CommandFault::Unknown),
+            None => None,
+        }
+    }
+
+    /// Whether a stand-in is called so.
+    fn has_stand_in(&self, name: &[u8]) -> bool
+        ensures { result ≡ has_stand_in (stubs_in self.now) name.now }
+    {
+        match self.stubs {
+            Some(stubs) => stubs.status(name).is_some(),
+            None => false,
         }
     }
 
     /// Whether no builtin and no stand-in is called so.
-    pub(crate) fn is_unknown(&self, name: &[u8]) -> bool
+    fn is_unknown(&self, name: &[u8]) -> bool
         ensures { result ≡ is_unknown (stubs_in self.now) name.now }
     {
         match self.stubs {

@@ -1,12 +1,11 @@
 //! Words of `test` where an operator has to be, and that aren't one.
-ghost use Rattle.std.specs.Prelude.{◌≡◌, ◌==◌, ◌&&◌, not, fold, length, map, IfOk, option_map};
+ghost use Rattle.std.specs.Prelude.{◌≡◌, ◌==◌, ◌&&◌, not, fold, length, IfOk, option_map};
 ghost use Rattle.std.specs.List.{list_all};
 ghost use Rattle.fw_check.specs.Expecting.{expected_view, suspect_view};
 ghost use Rattle.fw_check.specs.Findings.{after_field};
-ghost use Rattle.fw_check.specs.Operators.{ATerm, Joint, Operator, after_word, begins_option, ends_at, is_sign, is_word_of, looks_like_operator, or_first, suspect, wrong_in};
+ghost use Rattle.fw_check.specs.Operators.{ATerm, Joint, Operator, after_word, begins_option, ends_at, is_sign, looks_like_operator, or_first, suspect, wrong_in};
 
-use crate::literals::literal;
-use hush_calc::is_text;
+use crate::literals::{is_word_of, literal};
 use hush_syntax::{Text, Word};
 use std::alloc::{AllocError, Global};
 
@@ -191,16 +190,4 @@ fn is_sign(b: u8) -> bool
     ensures { result ≡ is_sign b }
 {
     b == b'=' || b == b'!' || b == b'<' || b == b'>' || b == b'~'
-}
-
-/// Whether a word is one of these texts.
-fn is_word_of(texts: &[&[u8]], word: &[u8]) -> bool
-    ensures { result ≡ is_word_of (map (λ t. t.now) texts.now) word.now }
-{
-    for text in texts {
-        if is_text(word, text) {
-            return true;
-        }
-    }
-    false
 }

@@ -7,11 +7,10 @@ ghost use Rattle.fw_engines.specs.declared.tool_end.StreamFault.TheVariants as s
 ghost use Rattle.fw_check.specs.Checking.{ChecksText, PrintsReport};
 ghost use Rattle.fw_check.specs.Findings.{error_at, fault_sentence, report_end};
 ghost use Rattle.fw_check.specs.Found.{found_more};
-ghost use Rattle.fw_check.specs.Looking.{env_in, stubs_in};
+ghost use Rattle.fw_check.specs.Looking.{known_in, stubs_in};
 ghost use Rattle.fw_check.specs.Reports.{GoesOn, Reads, ReadsItems};
 
 use crate::findings::{Findings, Report};
-use crate::followed::Names;
 use crate::items::items_of;
 use crate::lookups::Lookups;
 use crate::statements::check_items;
@@ -39,11 +38,10 @@ pub fn check_text<W: Write>(
 {
     let lookups = Lookups {
         alloc,
-        vars: None,
+        variables: None,
         stubs,
     };
-    let mut names = Names::new(alloc);
-    match check_script(&lookups, Report::new(alloc), name, text, &mut names) {
+    match check_script(&lookups, Report::new(alloc), name, text) {
         Err(_) => lacks_memory(),
         Ok(report) => print_report(&report, output),
     }
@@ -86,37 +84,33 @@ pub(crate) fn lacks_memory() -> ToolEnd
     }
 }
 
-/// Goes on with a report by what is found in the script of this name and text, and adds the names that it runs to those
-/// that are followed.
+/// Goes on with a report by what is found in the script of this name and text.
 pub(crate) fn check_script(
     lookups: &Lookups<'_>,
     report: Report,
     name: &[u8],
     text: &[u8],
-    names: &mut Names,
 ) -> Result<Report, AllocError>
-    ensures { IfOk result (λ after. GoesOn (env_in lookups.now) (stubs_in lookups.now) name.now text.now
-        report after names.old names.new) }
+    ensures { IfOk result (λ after. GoesOn (known_in lookups.now) (stubs_in lookups.now) name.now text.now
+        report after) }
 {
     let mut found = Findings::new(report, name, text);
     found.add_return()?;
-    check_reading(lookups, text, &mut found, names)?;
+    check_reading(lookups, text, &mut found)?;
     Ok(found.report())
 }
 
-/// Adds what is found in what a text is read as, and the names that it runs.
+/// Adds what is found in what a text is read as.
 fn check_reading(
     lookups: &Lookups<'_>,
     text: &[u8],
     found: &mut Findings<'_>,
-    names: &mut Names,
 ) -> Result<(), AllocError>
-    ensures { OnOk result (Reads (env_in lookups.now) (stubs_in lookups.now) text.now found.old found.new
-        names.old names.new) }
+    ensures { OnOk result (Reads (known_in lookups.now) (stubs_in lookups.now) text.now found.old found.new) }
 {
     let source = Vec::from_slice(lookups.alloc, text)?;
     match Script::parse(lookups.alloc, source) {
-        Ok(script) => check_parsed(lookups, &script, found, names),
+        Ok(script) => check_parsed(lookups, &script, found),
         Err(fault) => add_fault(fault, found),
     }
 }
@@ -126,14 +120,13 @@ fn check_parsed(
     lookups: &Lookups<'_>,
     script: &Script,
     found: &mut Findings<'_>,
-    names: &mut Names,
 ) -> Result<(), AllocError>
     requires { SpellsText (tree_of script.now) (source_of script.now) }
-    ensures { OnOk result (ReadsItems (env_in lookups.now) (stubs_in lookups.now) (source_of script.now)
-        found.old found.new names.old names.new) }
+    ensures { OnOk result (ReadsItems (known_in lookups.now) (stubs_in lookups.now) (source_of script.now)
+        found.old found.new) }
 {
     let items = items_of(lookups.alloc, script)?;
-    check_items(lookups, script.text(), &items, found, names)
+    check_items(lookups, script.text(), &items, found)
 }
 
 /// Adds the fault of a text that is no script; memory that was refused is no finding.

@@ -1,38 +1,35 @@
-//! What is found in the statements of a script, and which names they run.
-ghost use Rattle.std.specs.Prelude.{◌≡◌, ◌++◌, [], if◌then◌else◌, IfOk, OnOk, option_map};
+//! What is found in the statements of a script.
+ghost use Rattle.std.specs.Prelude.{◌≡◌, ◌++◌, [], ◌∷◌, if◌then◌else◌, OnOk, option_map};
 ghost use Rattle.std.specs.List.{flat_map};
 ghost use Rattle.hush_words.specs.Parts.{word_atoms};
-ghost use Rattle.fw_check.specs.Checking.{with_targets};
-ghost use Rattle.fw_check.specs.Findings.{assigned_findings, call_targets, called_findings, command_findings, is_run, is_test, item_findings, item_targets, operator_findings, target_findings, targets_at, test_findings, word_targets};
+ghost use Rattle.fw_check.specs.Commands.{command_sentence};
+ghost use Rattle.fw_check.specs.Findings.{argument_findings, assigned_findings, called_findings, command_findings, error_at, item_findings, operator_findings, run_findings, target_findings, test_findings, word_findings};
 ghost use Rattle.fw_check.specs.Found.{found_more};
 ghost use Rattle.fw_check.specs.Literals.{literal_of};
-ghost use Rattle.fw_check.specs.Looking.{env_in, stubs_in};
+ghost use Rattle.fw_check.specs.Looking.{known_in, stubs_in};
 
+use crate::commands::CommandFault;
 use crate::findings::{Findings, Severity};
-use crate::followed::Names;
 use crate::items::Item;
-use crate::literals::literal;
+use crate::literals::{is_called, literal};
 use crate::lookups::Lookups;
 use crate::operators::wrong_operator;
-use hush_calc::is_text;
+use crate::variables::{check_word, check_words};
 use hush_syntax::{Text, Word};
 use std::alloc::AllocError;
 
-/// Adds what is found in these items, and the names that they run to those that are followed.
+/// Adds what is found in these items.
 pub(crate) fn check_items(
     lookups: &Lookups<'_>,
     text: &Text,
     items: &[Item<'_>],
     findings: &mut Findings<'_>,
-    names: &mut Names,
 ) -> Result<(), AllocError>
-    ensures findings { OnOk result (findings.new ≡ found_more findings.old
-        (flat_map (item_findings (env_in lookups.now) (stubs_in lookups.now) text.now) items.now)) }
-    ensures names { OnOk result (names.new ≡ with_targets (env_in lookups.now) names.old
-        (flat_map (item_targets text.now) items.now)) }
+    ensures { OnOk result (findings.new ≡ found_more findings.old
+        (flat_map (item_findings (known_in lookups.now) (stubs_in lookups.now) text.now) items.now)) }
 {
     for item in items {
-        check_item(lookups, text, *item, findings, names)?;
+        check_item(lookups, text, *item, findings)?;
     }
     Ok(())
 }
@@ -43,17 +40,20 @@ fn check_item(
     text: &Text,
     item: Item<'_>,
     findings: &mut Findings<'_>,
-    names: &mut Names,
 ) -> Result<(), AllocError>
-    ensures findings { OnOk result (findings.new ≡ found_more findings.old
-        (item_findings (env_in lookups.now) (stubs_in lookups.now) text.now item.entry)) }
-    ensures names { OnOk result
-        (names.new ≡ with_targets (env_in lookups.now) names.old (item_targets text.now item.entry)) }
+    ensures { OnOk result (findings.new ≡ found_more findings.old
+        (item_findings (known_in lookups.now) (stubs_in lookups.now) text.now item.entry)) }
 {
     match item {
-        Item::Call(words) => check_call(lookups, text, words, findings, names),
-        Item::Assignment { name, .. } => check_assigned(lookups, text, name, findings),
-        Item::Binding { name, .. } => check_assigned(lookups, text, name, findings),
+        Item::Call(words) => check_call(lookups, text, words, findings),
+        Item::Assignment { name, value } => {
+            check_assigned(lookups, text, name, findings)?;
+            check_word(lookups, text, value, findings)
+        }
+        Item::Binding { name, words } => {
+            check_assigned(lookups, text, name, findings)?;
+            check_words(lookups, text, words, findings)
+        }
     }
 }
 
@@ -63,52 +63,76 @@ fn check_call(
     text: &Text,
     words: &[Word],
     findings: &mut Findings<'_>,
-    names: &mut Names,
 ) -> Result<(), AllocError>
-    ensures findings { OnOk result (findings.new ≡ found_more findings.old
+    ensures { OnOk result (findings.new ≡ found_more findings.old
         (command_findings (stubs_in lookups.now) text.now words.now ++ operator_findings text.now words.now
-        ++ flat_map (target_findings (env_in lookups.now)) (call_targets text.now words.now))) }
-    ensures names { OnOk result
-        (names.new ≡ with_targets (env_in lookups.now) names.old (call_targets text.now words.now)) }
+        ++ run_findings (known_in lookups.now) text.now words.now
+        ++ flat_map (word_findings (known_in lookups.now) text.now) words.now)) }
 {
     if words.is_empty() {
         return Ok(());
     }
     let called = literal(lookups.alloc, text, words[0])?;
-    let (runs, tests) = check_called(lookups, words[0], called, findings)?;
+    check_called(lookups, words[0], &called, findings)?;
+    let (runs, tests) = (is_called(&called, b"run"), is_called(&called, b"test"));
     check_operators(lookups, text, tests, &words[1..], findings)?;
-    if runs {
-        check_targets(lookups, text, &words[1..], findings, names)?;
-    }
-    Ok(())
+    check_targets(lookups, text, runs, &words[1..], findings)?;
+    check_words(lookups, text, words, findings)
 }
 
-/// Adds what is found in the name of a command, and answers whether it is `run`, and whether `test`.
+/// Adds what is found in the name of a command.
 fn check_called(
     lookups: &Lookups<'_>,
     word: Word,
-    called: Option<Vec<u8>>,
+    called: &Option<Vec<u8>>,
     findings: &mut Findings<'_>,
-) -> Result<(bool, bool), AllocError>
-    ensures findings { OnOk result (findings.new ≡ found_more findings.old
-        (called_findings (stubs_in lookups.now) word.start (option_map (λ v. v.items) called))) }
-    ensures runs { IfOk result (λ r. r.0 ≡ is_run (option_map (λ v. v.items) called)) }
-    ensures tests { IfOk result (λ r. r.1 ≡ is_test (option_map (λ v. v.items) called)) }
+) -> Result<(), AllocError>
+    ensures { OnOk result (findings.new ≡ found_more findings.old
+        (called_findings (stubs_in lookups.now) word.start (option_map (λ v. v.items) called.now))) }
 {
-    match called {
-        Some(name) => {
-            if lookups.is_unknown(&name) {
-                findings.add(
-                    word.start as usize,
-                    Severity::Error,
-                    b"no builtin and no stand-in is called `",
-                    &name,
-                    b"`",
-                )?;
-            }
-            Ok((is_text(&name, b"run"), is_text(&name, b"test")))
+    let Some(name) = called else {
+        return Ok(());
+    };
+    match lookups.command_fault(name) {
+        Some(fault) => add_command(word.start as usize, fault, name, findings),
+        None => Ok(()),
+    }
+}
+
+/// Before the name of a command that this shell lacks.
+const LACKING: &[u8] = b"this shell has no `";
+
+/// Adds the fault of a command of this name.
+fn add_command(
+    count: usize,
+    fault: CommandFault,
+    name: &[u8],
+    findings: &mut Findings<'_>,
+) -> Result<(), AllocError>
+    ensures { OnOk result (findings.new ≡ found_more findings.old
+        (error_at count (command_sentence fault name.now) ∷ [])) }
+{
+    match fault {
+        CommandFault::Bracket => {
+            findings.add(count, Severity::Error, LACKING, name, b"`: write `test`")
         }
-        None => Ok((false, false)),
+        CommandFault::Word => findings.add(count, Severity::Error, LACKING, name, b"`"),
+        CommandFault::Function => {
+            findings.add(
+                count,
+                Severity::Error,
+                b"this shell has no functions",
+                b"",
+                b"",
+            )
+        }
+        CommandFault::Unknown => findings.add(
+            count,
+            Severity::Error,
+            b"no builtin and no stand-in is called `",
+            name,
+            b"`",
+        ),
     }
 }
 
@@ -138,22 +162,23 @@ fn check_operators(
     }
 }
 
-/// Adds what is found in the arguments of `run`, and the names that these are.
+/// Adds what is found in arguments, if they are those of a `run`.
 fn check_targets(
     lookups: &Lookups<'_>,
     text: &Text,
+    runs: bool,
     words: &[Word],
     findings: &mut Findings<'_>,
-    names: &mut Names,
 ) -> Result<(), AllocError>
-    ensures findings { OnOk result (findings.new ≡ found_more findings.old
-        (flat_map (target_findings (env_in lookups.now)) (flat_map (word_targets text.now) words.now))) }
-    ensures names { OnOk result (names.new ≡ with_targets (env_in lookups.now) names.old
-        (flat_map (word_targets text.now) words.now)) }
+    ensures { OnOk result (findings.new ≡ found_more findings.old
+        (if runs then flat_map (argument_findings (known_in lookups.now) text.now) words.now else [])) }
 {
+    if !runs {
+        return Ok(());
+    }
     for word in words {
         let target = literal(lookups.alloc, text, *word)?;
-        check_target(lookups, *word, target, findings, names)?;
+        check_target(lookups, *word, target, findings)?;
     }
     Ok(())
 }
@@ -164,13 +189,9 @@ fn check_target(
     word: Word,
     target: Option<Vec<u8>>,
     findings: &mut Findings<'_>,
-    names: &mut Names,
 ) -> Result<(), AllocError>
-    ensures findings { OnOk result (findings.new ≡ found_more findings.old
-        (flat_map (target_findings (env_in lookups.now))
-        (targets_at word.start (option_map (λ v. v.items) target)))) }
-    ensures names { OnOk result (names.new ≡ with_targets (env_in lookups.now) names.old
-        (targets_at word.start (option_map (λ v. v.items) target))) }
+    ensures { OnOk result (findings.new ≡ found_more findings.old
+        (target_findings (known_in lookups.now) word.start (option_map (λ v. v.items) target))) }
 {
     let Some(name) = target else {
         return Ok(());
@@ -184,7 +205,7 @@ fn check_target(
             b"` names a variable that is not defined",
         )?;
     }
-    names.follow(lookups, &name)
+    Ok(())
 }
 
 /// Adds what is found where a value is given to a name.
@@ -195,7 +216,7 @@ fn check_assigned(
     findings: &mut Findings<'_>,
 ) -> Result<(), AllocError>
     ensures { OnOk result (findings.new ≡ found_more findings.old
-        (assigned_findings (env_in lookups.now) word.start (literal_of (word_atoms text.now word)))) }
+        (assigned_findings (known_in lookups.now) word.start (literal_of (word_atoms text.now word)))) }
 {
     let Some(name) = literal(lookups.alloc, text, word)? else {
         return Ok(());

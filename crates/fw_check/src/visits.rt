@@ -1,11 +1,14 @@
 //! What is found in the scripts of an environment.
 ghost use Rattle.std.specs.Prelude.{◌≡◌, ◌⊎◌, [], IfOk, OnOk, map, option_map};
-ghost use Rattle.fw_check.specs.Checking.{Checks, ComesTo, LacksMemory, PrintsReport, first_names, first_report, with_given, with_names, with_types};
-ghost use Rattle.fw_check.specs.Looking.{env_in, stubs_in};
+ghost use Rattle.fw_check.specs.Checking.{AreVisited, Checks, ComesTo, LacksMemory, PrintsReport, Reports, first_names, first_report, known_after, value_in, with_given, with_names, with_types};
+ghost use Rattle.fw_check.specs.Looking.{known_in, stubs_in};
+ghost use Rattle.fw_check.specs.NameSets.{set_of};
 
 use crate::findings::Report;
+use crate::follow::follow_text;
 use crate::followed::Names;
-use crate::lookups::Lookups;
+use crate::lookups::{Lookups, Variables};
+use crate::name_set::NameSet;
 use crate::script_check::{check_script, lacks_memory, print_report};
 use crate::typed_values::check_types;
 use envvars_core::Vars;
@@ -23,8 +26,9 @@ const UNDEFINED: &[u8] = b": error: no variable of this name is defined\n";
 /// Prints on `output` what is found in the scripts of an environment: in those of the given names, without names in
 /// those of `bootcmd`, `altbootcmd` and `preboot`, and in each that one of them runs by an argument without a
 /// substitution. Each is looked at once, in the order in which they are met. With stand-ins a command that is neither a
-/// builtin nor one of them is an error. Then comes a line for each variable of the environment whose value doesn't have
-/// the type that `.flags` gives it. The status is 1 if an error was found, else 0. docs/tools.md has the texts.
+/// builtin nor one of them is an error. A substitution of a name that neither the environment nor one of these scripts
+/// defines is a warning. Then comes a line for each variable of the environment whose value doesn't have the type that
+/// `.flags` gives it. The status is 1 if an error was found, else 0. docs/tools.md has the texts.
 ///
 /// At the fault `Memory` nothing is printed.
 pub fn check<W: Write>(
@@ -37,12 +41,7 @@ pub fn check<W: Write>(
     ensures { Checks vars.now.env (option_map (λ s. s.now) stubs.entry) (map (λ n. n.now) names.now)
         (W.contents output.old) (W.contents output.new) result }
 {
-    let lookups = Lookups {
-        alloc,
-        vars: Some(vars),
-        stubs,
-    };
-    match check_all(&lookups, names) {
+    match check_all(alloc, vars, stubs, names) {
         Err(_) => lacks_memory(),
         Ok(report) => print_typed(vars, report, output),
     }
@@ -60,73 +59,111 @@ fn print_typed<W: Write>(vars: &Vars, report: Report, output: &mut W) -> ToolEnd
 }
 
 /// The report on the scripts from these names on.
-fn check_all(lookups: &Lookups<'_>, names: &[&[u8]]) -> Result<Report, AllocError>
-    ensures { IfOk result (λ report. ComesTo (env_in lookups.now) (stubs_in lookups.now)
-        (first_names (env_in lookups.now) (map (λ n. n.now) names.now)) 0
-        (first_report (env_in lookups.now) (map (λ n. n.now) names.now)) report) }
+fn check_all(
+    alloc: Global,
+    vars: &Vars,
+    stubs: Option<&Stubs>,
+    names: &[&[u8]],
+) -> Result<Report, AllocError>
+    ensures { IfOk result (λ report. ComesTo vars.now.env (option_map (λ s. s.now) stubs.entry)
+        (first_names vars.now.env (map (λ n. n.now) names.now))
+        (first_report vars.now.env (map (λ n. n.now) names.now)) report) }
 {
-    let report = report_given(lookups, names)?;
-    let followed = first_names(lookups, names)?;
-    follow(lookups, followed, report)
-}
-
-/// The names that a check begins with.
-fn first_names(lookups: &Lookups<'_>, names: &[&[u8]]) -> Result<Names, AllocError>
-    ensures { IfOk result
-        (λ followed. followed ≡ first_names (env_in lookups.now) (map (λ n. n.now) names.now)) }
-{
-    if names.is_empty() {
-        names_in(lookups, &USUAL)
-    } else {
-        names_in(lookups, names)
-    }
-}
-
-/// Those of these names that are defined, each once.
-fn names_in(lookups: &Lookups<'_>, names: &[&[u8]]) -> Result<Names, AllocError>
-    ensures { IfOk result
-        (λ followed. followed ≡ with_names (env_in lookups.now) [] (map (λ n. n.now) names.now)) }
-{
-    let mut followed = Names::new(lookups.alloc);
-    for name in names {
-        followed.follow(lookups, name)?;
-    }
-    Ok(followed)
+    let report = report_given(alloc, vars, names)?;
+    let mut visited = first_names(alloc, vars, names)?;
+    let given = follow_all(alloc, vars, &mut visited)?;
+    let lookups = Lookups {
+        alloc,
+        variables: Some(Variables {
+            vars,
+            given: &given,
+        }),
+        stubs,
+    };
+    report_all(&lookups, vars, visited.all(), report)
 }
 
 /// A line for each given name that isn't defined.
-fn report_given(lookups: &Lookups<'_>, names: &[&[u8]]) -> Result<Report, AllocError>
+fn report_given(alloc: Global, vars: &Vars, names: &[&[u8]]) -> Result<Report, AllocError>
     ensures { IfOk result
-        (λ report. report ≡ first_report (env_in lookups.now) (map (λ n. n.now) names.now)) }
+        (λ report. report ≡ first_report vars.now.env (map (λ n. n.now) names.now)) }
 {
-    let mut report = Report::new(lookups.alloc);
+    let mut report = Report::new(alloc);
     for name in names {
-        report_name(lookups, name, &mut report)?;
+        report_name(vars, name, &mut report)?;
     }
     Ok(report)
 }
 
 /// A line for a given name, if it isn't defined.
-fn report_name(lookups: &Lookups<'_>, name: &[u8], report: &mut Report) -> Result<(), AllocError>
-    ensures { OnOk result (report.new ≡ with_given (env_in lookups.now) report.old name.now) }
+fn report_name(vars: &Vars, name: &[u8], report: &mut Report) -> Result<(), AllocError>
+    ensures { OnOk result (report.new ≡ with_given vars.now.env report.old name.now) }
 {
-    if !lookups.is_undefined(name) {
+    if vars.get(name).is_some() {
         return Ok(());
     }
     report.add_error(name, UNDEFINED)
 }
 
-/// Goes on with a report by what is found in the scripts of these names, and of those that they run.
-fn follow(lookups: &Lookups<'_>, names: Names, report: Report) -> Result<Report, AllocError>
+/// The names that a check begins with.
+fn first_names(alloc: Global, vars: &Vars, names: &[&[u8]]) -> Result<Names, AllocError>
     ensures { IfOk result
-        (λ final. ComesTo (env_in lookups.now) (stubs_in lookups.now) names 0 report final) }
+        (λ followed. followed ≡ first_names vars.now.env (map (λ n. n.now) names.now)) }
 {
-    let mut followed = names;
-    let mut so_far = report;
+    if names.is_empty() {
+        names_in(alloc, vars, &USUAL)
+    } else {
+        names_in(alloc, vars, names)
+    }
+}
+
+/// Those of these names that are defined, each once.
+fn names_in(alloc: Global, vars: &Vars, names: &[&[u8]]) -> Result<Names, AllocError>
+    ensures { IfOk result
+        (λ followed. followed ≡ with_names vars.now.env [] (map (λ n. n.now) names.now)) }
+{
+    let mut followed = Names::new(alloc);
+    for name in names {
+        followed.follow(alloc, vars, name)?;
+    }
+    Ok(followed)
+}
+
+/// Adds the names that the scripts of these names run, and theirs, to the end. Which names all these scripts give to
+/// something is the answer.
+fn follow_all(alloc: Global, vars: &Vars, names: &mut Names) -> Result<NameSet, AllocError>
+    ensures visited { OnOk result (AreVisited vars.now.env names.old 0 names.new) }
+    ensures given { IfOk result (λ given. set_of given ≡ (known_after vars.now.env names.new).given) }
+{
+    let mut given = NameSet::new(alloc);
     let mut index = 0;
-    while let Some(name) = followed.copy(lookups.alloc, index)? {
-        so_far = check_script(lookups, so_far, &name, lookups.value(&name), &mut followed)?;
+    while let Some(name) = names.copy(alloc, index)? {
+        follow_text(alloc, vars, value(vars, &name), names, &mut given)?;
         index += 1;
     }
+    Ok(given)
+}
+
+/// Goes on with a report by what is found in the scripts of these names.
+fn report_all(
+    lookups: &Lookups<'_>,
+    vars: &Vars,
+    names: &[Vec<u8>],
+    report: Report,
+) -> Result<Report, AllocError>
+    ensures { IfOk result (λ final. Reports vars.now.env (known_in lookups.now) (stubs_in lookups.now)
+        (map (λ n. n.items) names.now) report final) }
+{
+    let mut so_far = report;
+    for name in names {
+        so_far = check_script(lookups, so_far, name, value(vars, name))?;
+    }
     Ok(so_far)
+}
+
+/// The value of a variable; no bytes where there is none.
+fn value<'v>(vars: &'v Vars, name: &[u8]) -> &'v [u8]
+    ensures { result.now ≡ value_in vars.now.env name.now }
+{
+    vars.get(name).unwrap_or(b"")
 }

@@ -1,5 +1,5 @@
 -- The status of a check.
-use Rattle.std.proofs.Common.{◌≡◌, ◌≤◌, ◌++◌, ℕ, Bool, true, false, List, Option, Some, None, inl, inr, arith}
+use Rattle.std.proofs.Common.{◌≡◌, ◌≤◌, ◌++◌, ℕ, Bool, true, false, List, Option, Some, None, inl, inr, arith, subst}
 use Rattle.std.specs.Prelude.{MatchOption, if◌then◌else◌}
 use Rattle.std.specs.Io.KnownBytes.{Appends}
 use Rattle.env_session.specs.Session.{Held}
@@ -13,7 +13,8 @@ use Rattle.fw_engines.specs.declared.tool_end.StreamFault.{StreamFault}
 use Rattle.fw_engines.specs.declared.tool_end.StreamFault.TheVariants.{Write}
 use Rattle.fw_engines.specs.declared.tool_end.ToolEnd.{ToolEnd}
 use Rattle.fw_arguments.specs.Checks.{EnvironmentCheck, FileCheck}
-use Rattle.fw_tools.specs.CheckRuns.{ChecksFile, ChecksOver}
+use Rattle.fw_tools.specs.CheckRuns.{AreStandInsGiven, ChecksFile, ChecksOver}
+use Rattle.fw_tools.specs.Said.{Says}
 
 -- 1 where there is an error, else 0
 flag_small : (failed : Bool) → (if failed then 1 else 0) ≤ 1
@@ -50,3 +51,13 @@ pub file_check_small : (check : FileCheck) (old new : Writers) (status : ℕ) �
 file_check_small check old new status (inl stopped) = omega (arith, stopped.1)
 file_check_small check old new status (inr (stand_ins, text, end, given, checks, ends)) =
     omega (arith, ends.1, file_checks_small stand_ins check.path text old.output new.output end checks)
+
+-- a check whose environment, stand-ins and names are these, with nothing said before it
+pub checks-over : (check : EnvironmentCheck) (session : Held) (old new : Writers) (status : ℕ) (stand_ins seen : Option Statuses) (env : Environment) (names : List (List ℕ)) (end : ToolEnd) (said : Option (List ℕ)) →
+    AreStandInsGiven check.stand_ins stand_ins → Checks env seen names old.output new.output end → env ≡ session.now.env → seen ≡ stand_ins → names ≡ check.names →
+    status ≡ end.status → Says end.fault said new.errors → said ≡ old.errors → ChecksOver check session old new status
+checks-over check session old new status stand_ins seen env names end said given checks same_env same_stubs same_names ended says silent =
+    let one = subst (λ e. Checks e seen names old.output new.output end) same_env checks in
+    let two = subst (λ s. Checks session.now.env s names old.output new.output end) same_stubs one in
+    let three = subst (λ ns. Checks session.now.env stand_ins ns old.output new.output end) same_names two in
+    inr (stand_ins, end, given, three, (subst (λ e. Says end.fault e new.errors) silent says, ended))

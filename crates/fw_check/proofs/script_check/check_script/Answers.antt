@@ -1,9 +1,9 @@
-use Rattle.fw_check.specs.Looking.{env_in, stubs_in}
+use Rattle.fw_check.specs.Looking.{known_in, stubs_in}
 use Rattle.fw_check.proofs.VisitLemmas.{script-checked}
 use Rattle.fw_check.proofs.script_check.check_script.Goals as goal
 
 pub returns : goal.returns
 returns c =
     let l = c.args.lookups.now in
-    script-checked (env_in l) (stubs_in l) c.args.name.now c.args.text.now c.args.report c.report.result c.new-found.result c.add_return.new.self c.check_reading.new.found c.args.names.now c.check_reading.new.names
+    script-checked (known_in l) (stubs_in l) c.args.name.now c.args.text.now c.args.report c.report.result c.new-found.result c.add_return.new.self c.check_reading.new.found
     c.new-found.ensures c.in_ok-add_return.ensures c.in_ok-check_reading.ensures c.report.ensures

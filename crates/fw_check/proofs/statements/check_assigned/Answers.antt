@@ -4,23 +4,23 @@ use Rattle.hush_words.specs.Parts.{word_atoms}
 use Rattle.fw_check.specs.Findings.{is_defined, refused_sentence, warning_at}
 use Rattle.fw_check.specs.Found.{found_more}
 use Rattle.fw_check.specs.Literals.{literal_of}
-use Rattle.fw_check.specs.Looking.{env_in}
+use Rattle.fw_check.specs.Looking.{known_in}
 use Rattle.fw_check.proofs.FoundLemmas.{assigned-yes, assigned-no}
 use Rattle.fw_check.proofs.statements.check_assigned.Goals as goal
 use Rattle.fw_check.proofs.statements.check_assigned.Goals.{then-is_defined+in_ok-add, else-is_defined}
 
 pub returns : goal.returns
 returns c =
-    let env = env_in c.args.lookups.now in
+    let known = known_in c.args.lookups.now in
     let count = c.args.word.start in
     let literal = literal_of (word_atoms c.args.text.now c.args.word) in
     let name = c.in-Some.name.items in
     let old = c.args.findings.now in
     let new = c.if-is_defined.findings in
     let named = sym (ap (option_map (λ v. v.items)) c.in-Some.is) ∙ c.in_ok-name.ensures in
-    let told = c.is_defined.ensures ∙ ap (is_defined env) c.deref.ensures.value in
+    let told = c.is_defined.ensures ∙ ap (is_defined known) c.deref.ensures.value in
     elim c.if-is_defined.branch [
-      | then-is_defined+in_ok-add w ↦ assigned-yes env count literal name named old new c.is_defined.result told w.if-is_defined.true
+      | then-is_defined+in_ok-add w ↦ assigned-yes known count literal name named old new c.is_defined.result told w.if-is_defined.true
           (w.findings-is ∙ w.in_ok-add.ensures ∙ ap (λ n. found_more old (warning_at count (refused_sentence n) ∷ [])) w.deref-then-is_defined.ensures.value)
-      | else-is_defined w ↦ assigned-no env count literal name named old new c.is_defined.result told w.if-is_defined.false w.findings-is
+      | else-is_defined w ↦ assigned-no known count literal name named old new c.is_defined.result told w.if-is_defined.false w.findings-is
     ]

@@ -1,0 +1,89 @@
+-- Small scripts, read and looked at by the definitions alone.
+use Rattle.std.proofs.Common.{◌≡◌, ℕ, ◌||◌, true, false, not, List, [], ◌∷◌, map, codes, refl, ap, Option, Some, None, if◌then◌else◌}
+use Rattle.std.specs.Prelude.{is_some}
+use Rattle.std.specs.List.{flat_map}
+use Rattle.std.specs.FinMap.{empty, get-empty}
+use Rattle.envimg_core.specs.Environment.{bytes_cmp}
+use Rattle.hush_words.specs.Words.{Atom}
+use Rattle.hush_words.specs.Words.Atom.{Plain, Quoted, Mark, Value, Status}
+use Rattle.hush_syntax.specs.Grammar.{Command, Simple, Assign, For, Chains, First, End, Last, More}
+use Rattle.fw_check.specs.Checking.{is_among}
+use Rattle.fw_check.specs.Findings.{Finding, Known, called_findings, error_at, lacking_sentence, name_findings, set_by_commands, warning_at}
+use Rattle.fw_check.specs.Literals.{is_word_of, literal_of, substituted}
+use Rattle.fw_check.specs.Naming.{given_names, run_names}
+use Rattle.fw_check.specs.Statements.{of_script}
+
+abbrev word : List ℕ → List Atom
+word text = map Plain text
+
+abbrev value : List ℕ → List Atom
+value name = Mark ∷ Value name true ∷ Mark ∷ []
+
+abbrev more : Command → Chains → Chains
+more c cs = More (First c End) cs
+
+abbrev alone : Command → Chains
+alone c = Last (First c End)
+
+-- `for i in 1; do test -n "$a"; part uuid mmc "y"; done; x="$b"; $e "$f"; run c "$d"`
+abbrev body : Chains
+body =
+    more (Simple (word (codes "test") ∷ word (codes "-n") ∷ value (codes "a") ∷ []))
+    (alone (Simple (word (codes "part") ∷ word (codes "uuid") ∷ word (codes "mmc") ∷ (Mark ∷ Quoted 121 ∷ Mark ∷ []) ∷ [])))
+
+abbrev script : Chains
+script =
+    more (For (codes "i") (word (codes "1") ∷ []) body)
+    (more (Assign (codes "x") (value (codes "b")))
+    (more (Simple (value (codes "e") ∷ value (codes "f") ∷ []))
+    (alone (Simple (word (codes "run") ∷ word (codes "c") ∷ value (codes "d") ∷ [])))))
+
+given_row : flat_map given_names (of_script (Some script))
+    ≡ codes "i" ∷ codes "-n" ∷ codes "a" ∷ codes "uuid" ∷ codes "mmc" ∷ codes "y" ∷ codes "x" ∷ codes "c" ∷ []
+given_row = refl
+
+run_row : flat_map run_names (of_script (Some script)) ≡ codes "c" ∷ []
+run_row = refl
+
+-- `${a}x$?"$b"$a`
+abbrev mixed : List Atom
+mixed = Value (codes "a") false ∷ Plain 120 ∷ Status false ∷ Mark ∷ Value (codes "b") true ∷ Mark ∷ Value (codes "a") false ∷ []
+
+names_row : substituted mixed ≡ codes "a" ∷ codes "b" ∷ codes "a" ∷ []
+names_row = refl
+
+mixed_row : literal_of mixed ≡ None
+mixed_row = refl
+
+-- an empty environment, where a script gives `a` to something
+abbrev known : Known
+known = record { env = empty; given = is_among (codes "a" ∷ []) }
+
+-- by what the environment has
+abbrev found : List ℕ → Option (List ℕ) → List Finding
+found name o =
+    if not (is_some o || is_word_of set_by_commands name || is_among (codes "a" ∷ []) name) then warning_at 5 (lacking_sentence name) ∷ [] else []
+
+given_name_row : name_findings (Some known) 5 (codes "a") ≡ []
+given_name_row = ap (found (codes "a")) (get-empty bytes_cmp (codes "a"))
+
+lacking_row : name_findings (Some known) 5 (codes "b") ≡ warning_at 5 (codes "`${b}` names a variable that nothing defines") ∷ []
+lacking_row = ap (found (codes "b")) (get-empty bytes_cmp (codes "b"))
+
+set_row : name_findings (Some known) 5 (codes "fileaddr") ≡ []
+set_row = ap (found (codes "fileaddr")) (get-empty bytes_cmp (codes "fileaddr"))
+
+unknown_row : name_findings None 5 (codes "b") ≡ []
+unknown_row = refl
+
+bracket_row : called_findings None 3 (Some (codes "[[")) ≡ error_at 3 (codes "this shell has no `[[`: write `test`") ∷ []
+bracket_row = refl
+
+break_row : called_findings None 3 (Some (codes "break")) ≡ error_at 3 (codes "this shell has no `break`") ∷ []
+break_row = refl
+
+function_row : called_findings None 3 (Some (codes "f()")) ≡ error_at 3 (codes "this shell has no functions") ∷ []
+function_row = refl
+
+other_row : called_findings None 3 (Some (codes "breaks")) ≡ []
+other_row = refl

@@ -1,0 +1,11 @@
+use Rattle.std.proofs.Common.{◌≡◌, drop, map}
+use Rattle.std.specs.List.{flat_map}
+use Rattle.fw_check.specs.Findings.{name_findings, word_findings}
+use Rattle.fw_check.specs.Found.{found_more}
+use Rattle.fw_check.specs.Looking.{known_in}
+use Rattle.fw_check.proofs.variables.check_word.Given as goal
+
+abbrev pub invariant-loop-name : goal.invariant-loop-name
+invariant-loop-name l =
+    found_more l.findings (flat_map (name_findings (known_in l.lookups) l.fn.word.start) (map (λ n. n.now) (drop l.name-index l.name-items)))
+    ≡ found_more l.initial.findings (word_findings (known_in l.lookups) l.text l.fn.word)

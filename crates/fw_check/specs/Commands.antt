@@ -1,0 +1,49 @@
+-- Names of commands that nothing carries out (docs/tools.md, "Checks of scripts").
+use Rattle.std.specs.Prelude.{ℕ, ◌==◌, ◌&&◌, Bool, false, List, [], ◌∷◌, ◌++◌, codes, Option, Some, None, is_none, is_some, if◌then◌else◌}
+use Rattle.std.specs.List.{ends_with}
+use Rattle.hush_commands.specs.Builtins.{builtin_of}
+use Rattle.hush_commands.specs.Stubs.{Statuses, status_of_name}
+use Rattle.fw_check.specs.Literals.{is_word_of}
+use Rattle.fw_check.specs.declared.commands.CommandFault.{CommandFault}
+use Rattle.fw_check.specs.declared.commands.CommandFault.TheVariants as command
+
+-- what other shells have, and this one lacks
+abbrev pub brackets : List (List ℕ)
+brackets = codes "[" ∷ codes "[[" ∷ []
+
+abbrev pub lacking_words : List (List ℕ)
+lacking_words = codes "break" ∷ codes "continue" ∷ codes "return" ∷ codes "case" ∷ codes "function" ∷ []
+
+-- `f()`, as the head of a function is written
+abbrev pub ends_in_parentheses : List ℕ → Bool
+ends_in_parentheses name = ends_with (λ a b. a == b) name (codes "()")
+
+abbrev pub lack_of : List ℕ → Option CommandFault
+lack_of name =
+    if is_word_of brackets name then Some command.Bracket
+    else if is_word_of lacking_words name then Some command.Word
+    else if ends_in_parentheses name then Some command.Function
+    else None
+
+abbrev pub has_stand_in : Option Statuses → List ℕ → Bool
+has_stand_in None name = false
+has_stand_in (Some stubs) name = is_some (status_of_name stubs name)
+
+-- which commands there are is known where there are stand-ins
+abbrev pub is_unknown : Option Statuses → List ℕ → Bool
+is_unknown None name = false
+is_unknown (Some stubs) name = is_none (builtin_of name) && is_none (status_of_name stubs name)
+
+abbrev pub or_unknown : (unknown : Bool) → Option CommandFault → Option CommandFault
+or_unknown unknown None = if unknown then Some command.Unknown else None
+or_unknown unknown (Some fault) = Some fault
+
+-- what is wrong with a command of this name; a stand-in carries out any name
+abbrev pub command_fault : Option Statuses → List ℕ → Option CommandFault
+command_fault stubs name = if has_stand_in stubs name then None else or_unknown (is_unknown stubs name) (lack_of name)
+
+abbrev pub command_sentence : CommandFault → List ℕ → List ℕ
+command_sentence command.Bracket name = codes "this shell has no `" ++ name ++ codes "`: write `test`"
+command_sentence command.Word name = codes "this shell has no `" ++ name ++ codes "`"
+command_sentence command.Function name = codes "this shell has no functions"
+command_sentence command.Unknown name = codes "no builtin and no stand-in is called `" ++ name ++ codes "`"

@@ -1,0 +1,64 @@
+//! What the script of a text runs, and what it gives to something.
+ghost use Rattle.std.specs.Prelude.{◌≡◌, ◌≢◌, OnOk};
+ghost use Rattle.hush_syntax.specs.Scripts.{tree_of};
+ghost use Rattle.hush_syntax.specs.declared.faults.FaultKind.TheVariants as kind;
+ghost use Rattle.std.specs.List.{flat_map};
+ghost use Rattle.fw_check.specs.Checking.{with_names};
+ghost use Rattle.fw_check.specs.NameSets.{set_of, with_all};
+ghost use Rattle.fw_check.specs.Naming.{given_in, given_names, run_in, run_names};
+ghost use Rattle.fw_check.specs.Statements.{of_script};
+
+use crate::followed::Names;
+use crate::gives::gather_items;
+use crate::items::items_of;
+use crate::name_set::NameSet;
+use crate::runs::follow_items;
+use envvars_core::Vars;
+use hush_syntax::{FaultKind, Script, SyntaxFault};
+use std::alloc::{AllocError, Global};
+
+/// Adds the names that the script of a text runs to those that are followed, and those that it gives to the given ones.
+pub(crate) fn follow_text(
+    alloc: Global,
+    vars: &Vars,
+    text: &[u8],
+    names: &mut Names,
+    given: &mut NameSet,
+) -> Result<(), AllocError>
+    ensures names { OnOk result (names.new ≡ with_names vars.now.env names.old (run_in text.now)) }
+    ensures given { OnOk result (set_of given.new ≡ with_all (set_of given.old) (given_in text.now)) }
+{
+    let source = Vec::from_slice(alloc, text)?;
+    match Script::parse(alloc, source) {
+        Ok(script) => follow_script(alloc, vars, &script, names, given),
+        Err(fault) => no_script(fault),
+    }
+}
+
+/// The same of a script.
+fn follow_script(
+    alloc: Global,
+    vars: &Vars,
+    script: &Script,
+    names: &mut Names,
+    given: &mut NameSet,
+) -> Result<(), AllocError>
+    ensures names { OnOk result (names.new ≡ with_names vars.now.env names.old
+        (flat_map run_names (of_script (tree_of script.now)))) }
+    ensures given { OnOk result (set_of given.new ≡ with_all (set_of given.old)
+        (flat_map given_names (of_script (tree_of script.now)))) }
+{
+    let items = items_of(alloc, script)?;
+    follow_items(alloc, vars, script.text(), &items, names)?;
+    gather_items(alloc, script.text(), &items, given)
+}
+
+/// Nothing is added where a text is no script, unless memory was refused.
+fn no_script(fault: SyntaxFault) -> Result<(), AllocError>
+    ensures { OnOk result (fault.kind ≢ kind.Memory) }
+{
+    match fault.kind {
+        FaultKind::Memory => Err(AllocError),
+        _ => Ok(()),
+    }
+}

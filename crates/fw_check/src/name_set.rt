@@ -1,0 +1,40 @@
+//! Sets of names.
+ghost use Rattle.std.specs.Prelude.{◌≡◌, OnErr, OnOk};
+ghost use Rattle.fw_check.specs.NameSets.{also, no_names, set_of};
+
+use std::alloc::{AllocError, Global};
+use std::collections::BTreeSet;
+
+/// Names, each once.
+#[derive(Drop)]
+pub(crate) struct NameSet {
+    names: BTreeSet<Vec<u8>>,
+}
+
+impl NameSet {
+    /// No names. It takes no memory.
+    pub(crate) fn new(alloc: Global) -> NameSet
+        ensures { set_of result ≡ no_names }
+    {
+        NameSet {
+            names: BTreeSet::new(alloc),
+        }
+    }
+
+    /// Whether a name is one of them.
+    pub(crate) fn has(&self, name: &[u8]) -> bool
+        ensures { result ≡ set_of self.now name.now }
+    {
+        self.names.contains(name)
+    }
+
+    /// Adds a name, which may be one of them.
+    pub(crate) fn add(&mut self, alloc: Global, name: &[u8]) -> Result<(), AllocError>
+        ensures added { OnOk result (set_of self.new ≡ also (set_of self.old) name.now) }
+        ensures kept { OnErr result (set_of self.new ≡ set_of self.old) }
+    {
+        let key = Vec::from_slice(alloc, name)?;
+        self.names.insert(key)?;
+        Ok(())
+    }
+}

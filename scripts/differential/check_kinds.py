@@ -1,0 +1,366 @@
+"""What `fwenv check` finds in a script, by hand: each kind, with what is near to it. Each row is a script and the lines that tell of it,
+over an environment and alone, with stand-ins and without."""
+
+from differential.check_lines import (
+    lacked, lacked_test, lines, no_functions, no_operator, not_assigned, not_called, not_defined, not_run, of_file, over, place, returned, row,
+    with_stand_ins, without,
+)  # fmt: skip
+from differential.script_rows import NEAR_SCRIPTS, NO_SCRIPTS, NO_STAND_INS, NULS
+
+# Scripts over these variables, and what is found. The variable that holds the script is `s`
+VARIABLES = {b"a": b"1", b"ok": b"echo fine", b"two words": b"true", b"it's": b"true", b"run": b"true", b"\xc3\xa9": b"true", b"x": b"none"}
+STARTS = [
+    (b"run none", [not_run("1:5", "none")]),
+    (b"run ok", []),
+    (b"run s", []),
+    (b"run ok none a lost", [not_run("1:8", "none"), not_run("1:15", "lost")]),
+    (b"run none none", [not_run("1:5", "none"), not_run("1:10", "none")]),
+    (b"run ok; run none", [not_run("1:13", "none")]),
+    (b"echo a\n\n  run none", [not_run("3:7", "none")]),
+    (b"\trun\tnone", [not_run("1:6", "none")]),
+    (b"echo \xc3\xa9; run none", [not_run("1:14", "none")]),
+    (b"true && run n1 || run n2", [not_run("1:13", "n1"), not_run("1:23", "n2")]),
+    (
+        b"if run n1; then run n2; elif run n3\nthen run n4; else run n5; fi",
+        [not_run("1:8", "n1"), not_run("1:21", "n2"), not_run("1:34", "n3"), not_run("2:10", "n4"), not_run("2:23", "n5")],
+    ),
+    (b"while run n1; do run n2; done", [not_run("1:11", "n1"), not_run("1:22", "n2")]),
+    (b"until run n1; do run n2; done", [not_run("1:11", "n1"), not_run("1:22", "n2")]),
+    (b"for i in run none; do run n1; done; run n2", [not_run("1:27", "n1"), not_run("1:41", "n2")]),
+    (b"if true;then " * 64 + b"run none" + b";fi" * 64, [not_run("1:837", "none")]),
+    (b"run 'none'", [not_run("1:5", "none")]),
+    (b'run no"ne"', [not_run("1:5", "none")]),
+    (b"run n\\one", [not_run("1:5", "none")]),
+    (b"run no\\\nne", [not_run("1:5", "none")]),
+    (b"run \\\nnone", [not_run("2:1", "none")]),
+    (b"run ''", [not_run("1:5", "")]),
+    (b"run its", [not_run("1:5", "its")]),
+    (b"run 'it'\\''s' \"two words\" \xc3\xa9 run", []),
+    (b"run two words", [not_run("1:5", "two"), not_run("1:9", "words")]),
+    (b"run -n", [not_run("1:5", "-n")]),
+    (b"run Ok", [not_run("1:5", "Ok")]),
+    (b"run 'n\nm' n2", [not_run("1:5", "n\nm"), not_run("2:4", "n2")]),
+    (b"'run' none", [not_run("1:7", "none")]),
+    (b'r"u"\\n none', [not_run("1:8", "none")]),
+    (b"r\\\nun none", [not_run("2:4", "none")]),
+    (b"env run none; env 'run' ok none", []),
+    (
+        b"run $none ${none} \"$none\" n$x $? $",
+        [not_run("1:34", "$"), not_defined("1:5", "none"), not_defined("1:11", "none"), not_defined("1:19", "none")],
+    ),
+    (b"run $x none", [not_run("1:8", "none")]),
+    (b"$run none; ${x} none; \"$run\" none; r$x none", []),
+    (b"env $x none; env x run none; run", []),
+    (b"Run none; echo run none; setenv b run none; b='run none'", []),
+    (b"# run none\nrun ok # none", []),
+    (b"env exists none; env delete none; printenv none", []),
+]
+# Assignments over the same
+ASSIGNED = [
+    (b"a=2", [not_assigned("1:1", "a")]),
+    (b"b=2", []),
+    (b"a=", [not_assigned("1:1", "a")]),
+    (b'a="$b c"', [not_assigned("1:1", "a"), not_defined("1:3", "b")]),
+    (b"b=1\n a=2; ok=3", [not_assigned("2:2", "a"), not_assigned("2:7", "ok")]),
+    (b"a=2; a=3", [not_assigned("1:1", "a"), not_assigned("1:6", "a")]),
+    (b"s=2", [not_assigned("1:1", "s")]),
+    (b"\\\n a=2", [not_assigned("2:2", "a")]),
+    (b"a\\\n=2", [not_assigned("1:1", "a")]),
+    (b"true && a=2 || a=3", [not_assigned("1:9", "a"), not_assigned("1:16", "a")]),
+    (b"if a=1; then a=2; else a=3; fi", [not_assigned("1:4", "a"), not_assigned("1:14", "a"), not_assigned("1:24", "a")]),
+    (b"for a in 1 2; do true; done", [not_assigned("1:5", "a")]),
+    (b"for \\\n a in 1 2; do true; done", [not_assigned("2:2", "a")]),
+    (b"for b in a 2; do true; done", []),
+    (b"for a in 1; do a=$a; run n; done", [not_assigned("1:5", "a"), not_assigned("1:16", "a"), not_run("1:26", "n")]),
+    (b"while a=1; do for x in 1; do ok=2; done; done", [not_assigned("1:7", "a"), not_assigned("1:19", "x"), not_assigned("1:30", "ok")]),
+    (b"A=2; aa=2; setenv a 2; setexpr a 2", []),
+    (b"echo a=2; a\\=2; 'a'=2; $a=2; a==2", [not_assigned("1:30", "a")]),
+    (b"# a=2", []),
+]
+# Scripts with these stand-ins
+STAND_INS = b"# a board\nmmc\nusb 1\nload 7\n[\n"
+CALLED = [
+    (b"laod mmc 0:1", [not_called("1:1", "laod")]),
+    (b"load mmc 0:1; usb; mmc", []),
+    (b"load\n\t laod mmc", [not_called("2:3", "laod")]),
+    (b"laod; laod", [not_called("1:1", "laod"), not_called("1:7", "laod")]),
+    (b"mmc && laod || laod2 && usb", [not_called("1:8", "laod"), not_called("1:16", "laod2")]),
+    (
+        b"if c1; then c2; elif c3; then c4; else c5; fi",
+        [not_called("1:4", "c1"), not_called("1:13", "c2"), not_called("1:22", "c3"), not_called("1:31", "c4"), not_called("1:40", "c5")],
+    ),
+    (b"for c0 in c1; do c2; done", [not_called("1:18", "c2")]),
+    (b"while c1; do c2; done\nuntil c3; do c4; done", [not_called("1:7", "c1"), not_called("1:14", "c2"), not_called("2:7", "c3"), not_called("2:14", "c4")]),
+    (b"'laod' x", [not_called("1:1", "laod")]),
+    (b"la\\od; l\"ao\"d; l\\\naod", [not_called("1:1", "laod"), not_called("1:8", "laod"), not_called("1:16", "laod")]),
+    (b"'' x; \"\"mmc", [not_called("1:1", "")]),
+    (b"'mmc' dev; l\\oad", []),
+    (b"\xff\xc3\xa9", [not_called("1:1", "\udcff\xe9")]),
+    (b"true; false; echo; setenv b c; printenv; saveenv; env print; test; exit", []),
+    (b"setexpr b 1; setexpr.b b 1; setexpr.w b 1; setexpr.l b 1; setexpr.q b 1", []),
+    (b"setexpr.x b 1; setexpr. b 1; True; echo1", [not_called("1:1", "setexpr.x"), not_called("1:16", "setexpr."), not_called("1:30", "True"), not_called("1:36", "echo1")]),
+    (b"env grep laod; env", []),
+    (b"mmc2; mm; MMC", [not_called("1:1", "mmc2"), not_called("1:7", "mm"), not_called("1:11", "MMC")]),
+    (b"$laod x; \"$mmc\"; l${x}; laod$?; $l", [not_defined("1:1", "laod"), not_defined("1:10", "mmc"), not_defined("1:33", "l")]),
+    (b"echo laod; b=laod; setenv b 'laod'; # laod", []),
+    (b"if then", ["1:4: error: not expected here (Unexpected)"]),
+    (b"laod; 'x", ["1:7: error: a quote is not closed (Quote)"]),
+]
+# Words of `test` that are no operators, with and without stand-ins and variables
+OPERATORS = [
+    (b"test -e mmc 0:1 file", [no_operator("1:6", "-e")]),
+    (b"test -e", [no_operator("1:6", "-e")]),
+    (b"true; test -f x -a -d y", [no_operator("1:12", "-f")]),
+    (b"test ! -d x", [no_operator("1:8", "-d")]),
+    (b"test ! ! -d x", [no_operator("1:10", "-d")]),
+    (b'test "$x" == b', [no_operator("1:11", "==")]),
+    (b"test a =! b; test a => b; test a ~ b", [no_operator("1:8", "=!"), no_operator("1:21", "=>"), no_operator("1:34", "~")]),
+    (b"test a <> b; test a -nt b; test a -Eq b", [no_operator("1:8", "<>"), no_operator("1:21", "-nt"), no_operator("1:35", "-Eq")]),
+    (b"test a -eqx b; test a -x- b; test a -e= b", [no_operator("1:8", "-eqx"), no_operator("1:23", "-x-"), no_operator("1:37", "-e=")]),
+    (b"if test -z a -o -e x; then true; fi", [no_operator("1:17", "-e")]),
+    (b"while test a = b -a c == d; do true; done", [no_operator("1:23", "==")]),
+    (b"test a = b -x c", [no_operator("1:12", "-x")]),
+    (b"test -n a -x", [no_operator("1:11", "-x")]),
+    (b"test -f == x", [no_operator("1:9", "==")]),
+    (b"test -f x y", [no_operator("1:6", "-f")]),
+    (b'test -f "$x" y', [no_operator("1:6", "-f")]),
+    (b"test $x -e y", [no_operator("1:9", "-e")]),
+    (b"test \"-e\" x; test '-'e x; test \\-e x; \"test\" -e x", [no_operator("1:6", "-e"), no_operator("1:19", "-e"), no_operator("1:32", "-e"), no_operator("1:46", "-e")]),
+    (b"test \\\n -e x", [no_operator("2:2", "-e")]),
+    (b"test = y; test a = b = c; test a -a b; test -n a -n b", [no_operator("1:6", "="), no_operator("1:22", "="), no_operator("1:34", "-a"), no_operator("1:50", "-n")]),
+    (b"test -n a; test -z ''; test a = b; test a != b; test a < b; test a > b", []),
+    (b"test 1 -eq 2; test 1 -ne 2; test 1 -lt 2; test 1 -le 2; test 1 -gt 2; test 1 -ge 2", []),
+    (b"test a = b -a c != d -o ! -n e -a ! ! f < g", []),
+    (b"test a = -e; test -n -e; test -z ==; test a = ==; test ! -n -e", []),
+    (b"test -e = x; test == != x; test = = =; test -f -eq 1", []),
+    (b"test; test a; test a b; test a b -e; test a = b c; test a b = c; test -n", []),
+    (b"test -5 -lt 3; test -5; test - x; test -- x; test -1e x; test a -5 b", []),
+    (b'test $e x; test "-$e" x; test a $o b; test a -e$x b; test $a; test $? -eq 0', []),
+    (b"echo test -e x; test2 -e x; Test -e x; $test -e x; env test -e x; t=-e", None),
+    (b"test a = b # -e", []),
+]
+# Carriage returns, with and without stand-ins and variables
+RETURNS = [
+    (b"echo a\r\necho b\r\n", [returned("1:7")]),
+    (b"echo a\n\necho b\r", [returned("3:7")]),
+    (b"echo '\r'", [returned("1:7")]),
+    (b"# a\r\necho", [returned("1:4")]),
+    (b"echo \\\r\n", [returned("1:7")]),
+    (b"echo a\n", []),
+    (b"echo '\\r' \\r", []),
+    (b"echo a\r\n'", [returned("1:7"), "2:1: error: a quote is not closed (Quote)"]),
+    (b"'\r", [returned("1:2"), "1:1: error: a quote is not closed (Quote)"]),
+    (b"if true; then\r\n  echo a\r\nfi\r\n", [returned("1:14"), "4:1: error: the text ends where more has to follow (Missing)"]),
+    (b"if true; then echo a; fi\r\n", [returned("1:25"), "2:1: error: the text ends where more has to follow (Missing)"]),
+]
+# Commands that this shell lacks, with stand-ins of other names
+LACKED = [
+    (b"[ a = b ]", [lacked_test("1:1", "[")]),
+    (b"[[ a = b ]]", [lacked_test("1:1", "[[")]),
+    (b"[; [[", [lacked_test("1:1", "["), lacked_test("1:4", "[[")]),
+    (b"if [ $x = 1 ]; then true; fi", [lacked_test("1:4", "[")]),
+    (b"until [[ a ]]; do true; done", [lacked_test("1:7", "[[")]),
+    (b"true && [ a ] || [[ b ]]", [lacked_test("1:9", "["), lacked_test("1:18", "[[")]),
+    (b"while true; do break; done", [lacked("1:16", "break")]),
+    (b"for i in 1 2; do if test $i = 1; then continue; fi; done", [lacked("1:39", "continue")]),
+    (b"return", [lacked("1:1", "return")]),
+    (b"echo a\n\treturn 1", [lacked("2:2", "return")]),
+    (b"case $x in a) echo; ;; esac", [lacked("1:1", "case"), not_called("1:24", "esac")]),
+    (b"function f { true; }", [lacked("1:1", "function"), not_called("1:20", "}")]),
+    (b"f() { mmc; }", [no_functions("1:1"), not_called("1:12", "}")]),
+    (b"f()\n{\nmmc\n}", [no_functions("1:1"), not_called("2:1", "{"), not_called("4:1", "}")]),
+    (b"(); break(); [()", [no_functions("1:1"), no_functions("1:5"), no_functions("1:14")]),
+    (b"'break'; br\\eak; \"break\"; br\\\neak", [lacked("1:1", "break"), lacked("1:10", "break"), lacked("1:18", "break"), lacked("1:27", "break")]),
+    (b"'['; f'()'; \"f(\"\\)", [lacked_test("1:1", "["), no_functions("1:6"), no_functions("1:13")]),
+    (b"break; break", [lacked("1:1", "break"), lacked("1:8", "break")]),
+    (b"break; laod; return", [lacked("1:1", "break"), not_called("1:8", "laod"), lacked("1:14", "return")]),
+    (b"return $none; continue", [lacked("1:1", "return"), not_defined("1:8", "none"), lacked("1:15", "continue")]),
+    (b"break; '", ["1:8: error: a quote is not closed (Quote)"]),
+    (b"break\r\n[\r", [returned("1:6"), not_called("1:1", "break\r"), not_called("2:1", "[\r")]),
+    (b"echo break continue [ [[ return case function f()", []),
+    (b"setenv break '['; b=return; for b in case; do true; done; for continue in 1; do true; done", []),
+    (b"break=1; case=; function='['; # break", []),
+    (b"run break", [not_run("1:5", "break")]),
+    (
+        b"Break; break2; breaks; b; ]; [a; [[[",
+        [
+            not_called("1:1", "Break"), not_called("1:8", "break2"), not_called("1:16", "breaks"), not_called("1:24", "b"),
+            not_called("1:27", "]"), not_called("1:30", "[a"), not_called("1:34", "[[["),
+        ],
+    ),
+    (b"f () { mmc; }", [not_called("1:1", "f"), not_called("1:13", "}")]),
+    (
+        b"f()x; f(){ mmc; }; f(; a)",
+        [not_called("1:1", "f()x"), not_called("1:7", "f(){"), not_called("1:17", "}"), not_called("1:20", "f("), not_called("1:24", "a)")],
+    ),
+    (b"esac; in; eval; {; !", [not_called("1:1", "esac"), not_called("1:7", "in"), not_called("1:11", "eval"), not_called("1:17", "{"), not_called("1:20", "!")]),
+    (b"$b; br${x}; \"[$x\"; f$x(); $x()", [not_defined("1:1", "b")]),
+]  # fmt: skip
+# Stand-ins of other names, and of those that are lacked
+OTHERS, THESE = b"mmc\n", b"mmc\n[\n[[ 1\nbreak\ncontinue\nreturn\ncase\nfunction\nf()\n()\nbreak()\n[()\n"
+# Substitutions over the variables above
+SUBSTITUTED = [
+    (b"echo $none", [not_defined("1:6", "none")]),
+    (b"echo ${none}", [not_defined("1:6", "none")]),
+    (b'echo "$none" a"b ${none}"', [not_defined("1:6", "none"), not_defined("1:14", "none")]),
+    (b"echo $none ${none}\n echo none2", [not_defined("1:6", "none"), not_defined("1:12", "none")]),
+    (b"echo $n1$n2${n1}", [not_defined("1:6", "n1"), not_defined("1:6", "n2"), not_defined("1:6", "n1")]),
+    (b"$none; \"$none\" a; l$none", [not_defined("1:1", "none"), not_defined("1:8", "none"), not_defined("1:19", "none")]),
+    (b"echo a; echo b$none", [not_defined("1:14", "none")]),
+    (b"echo a\n\n\techo $none", [not_defined("3:7", "none")]),
+    (b"echo \xc3\xa9 $none", [not_defined("1:9", "none")]),
+    (b"echo \\\n $none a\\\n$none", [not_defined("2:2", "none"), not_defined("2:8", "none")]),
+    (b"echo ${a-b} ${#} ${?}", [not_defined("1:6", "a-b"), not_defined("1:13", "#"), not_defined("1:18", "?")]),
+    (b"b=$none; c=; d='$none'; e=a\"$none\"", [not_defined("1:3", "none"), not_defined("1:27", "none")]),
+    (b"b\\\n=$none", [not_defined("2:2", "none")]),
+    (b"b=\\\n$none", [not_defined("1:3", "none")]),
+    (b"b==$none; c=a=$none", [not_defined("1:3", "none"), not_defined("1:13", "none")]),
+    (b"for b in a $none 'x'$none; do true; done", [not_defined("1:12", "none"), not_defined("1:18", "none")]),
+    (
+        b"if echo $n1; then echo $n2; elif echo $n3\nthen b=$n4; else echo $n5; fi",
+        [not_defined("1:9", "n1"), not_defined("1:24", "n2"), not_defined("1:39", "n3"), not_defined("2:8", "n4"), not_defined("2:23", "n5")],
+    ),
+    (
+        b"while echo $n1; do echo $n2; done; until echo $n3; do for b in $n4; do echo $n5; done; done",
+        [not_defined("1:12", "n1"), not_defined("1:25", "n2"), not_defined("1:47", "n3"), not_defined("1:64", "n4"), not_defined("1:77", "n5")],
+    ),
+    (b"true && echo $n1 || echo $n2", [not_defined("1:14", "n1"), not_defined("1:26", "n2")]),
+    (b"laod $none", [not_called("1:1", "laod"), not_defined("1:6", "none")]),
+    (b"run $none lost", [not_run("1:11", "lost"), not_defined("1:5", "none")]),
+    (b"a=$none", [not_assigned("1:1", "a"), not_defined("1:3", "none")]),
+    (b"for a in $none; do echo $lost; done", [not_assigned("1:5", "a"), not_defined("1:10", "none"), not_defined("1:25", "lost")]),
+    (b"echo $none; laod", [not_defined("1:6", "none"), not_called("1:13", "laod")]),
+    (b"echo $none '", ["1:12: error: a quote is not closed (Quote)"]),
+    (b"echo $none\r\n", [returned("1:11"), not_defined("1:6", "none")]),
+    # a name near to what is defined, or defined elsewhere
+    (b"none; echo $none", [not_called("1:1", "none"), not_defined("1:12", "none")]),
+    (b"'none' a; echo ${none}", [not_called("1:1", "none"), not_defined("1:16", "none")]),
+    (b"echo nones non None none= $none", [not_defined("1:27", "none")]),
+    (b"echo 'none x' none$x none$? \"none\"$a $none", [not_defined("1:38", "none")]),
+    (b"for b in none; do echo $none; done", [not_defined("1:24", "none")]),
+    (b"b=none; echo $none", [not_defined("1:14", "none")]),
+    (b"test2 $none; echo $none", [not_called("1:1", "test2"), not_defined("1:7", "none"), not_defined("1:19", "none")]),
+    (b"$test -n $none", [not_defined("1:1", "test"), not_defined("1:10", "none")]),
+    (b"env test $none; Test $none", [not_defined("1:10", "none"), not_called("1:17", "Test"), not_defined("1:22", "none")]),
+    (b"test -n '$none' \\$none; echo $none", [not_defined("1:30", "none")]),
+    (b"b=$none; test $b; for c in $none; do test $c; done", [not_defined("1:3", "none"), not_defined("1:28", "none")]),
+    (b"setenv b 'setenv none 1; none=2'; echo $none", [not_defined("1:40", "none")]),
+    (b"# none=1\necho $none", [not_defined("2:6", "none")]),
+    (b"setenv none\r\necho $none", [returned("1:12"), not_defined("2:6", "none")]),
+    (b"echo $A $ok2 ${two} $Run", [not_defined("1:6", "A"), not_defined("1:9", "ok2"), not_defined("1:14", "two"), not_defined("1:21", "Run")]),
+    (
+        b"echo $ethBddr $loadaddr $Filesize $filesize_ $ip ${file.size}",
+        [
+            not_defined("1:6", "ethBddr"), not_defined("1:15", "loadaddr"), not_defined("1:25", "Filesize"), not_defined("1:35", "filesize_"),
+            not_defined("1:46", "ip"), not_defined("1:50", "file.size"),
+        ],
+    ),
+    (b"part uuid mmc 0:1 none; echo $none", [not_called("1:1", "part")]),
+    (b"run none; echo $none", [not_run("1:5", "none")]),
+    (b"test -e \"$none\"; echo $none", [no_operator("1:6", "-e")]),
+]  # fmt: skip
+# Of these each is defined
+DEFINED = [
+    b"echo $a ${x} $s$run ${\xc3\xa9}",
+    b"echo '$none' \\$none \"\\$none\" $ $, $? \"$?\"",
+    b"none=1; echo $none",
+    b"echo $none; none=",
+    b"none=a$none",
+    b"for none in 1; do echo $none; done; echo $none",
+    b"for none in $none; do true; done",
+    b"setenv none 1; echo $none",
+    b"echo $none; setenv none",
+    b"setenv -f none 1; b=$none",
+    b"setexpr none 1 + 2; echo $none",
+    b"env exists none && echo $none",
+    b"echo $none none",
+    b"echo ${none}; printenv none",
+    b"setenv 'none' 1; echo $none",
+    b"setenv no\"n\"\\e 1; echo $none",
+    b"setenv $a none; echo $none",
+    b"$x none; $none",
+    b"test -n \"$none\"; echo $none",
+    b"echo $none; if test a = b${none}; then true; fi",
+    b"'test' $none; te\\st $other; echo $none$other",
+    b"if false; then while false; do for b in 1; do setenv none; done; done; fi; echo $none",
+    b"echo $bootfile $dnsip $domain $fdtcontroladdr $fileaddr $filesize",
+    b"echo $bootcount $ethact $ethaddr $fdtaddr $mtdids $mtdparts $partition $ver",
+    b"$gatewayip $hostname $ipaddr; b=$netmask; for b in $rootpath; do echo \"${serverip}\"; done",
+]
+# More than one kind in a script: the carriage return first, then the commands in the order of the text
+MIXED = b"laod; run n; a=2\r\nrun s; for ok in a; do usb $none; laod n; done"
+MIXED_FOUND = [
+    returned("1:17"), not_called("1:1", "laod"), not_run("1:11", "n"), not_assigned("1:14", "a"), not_assigned("2:12", "ok"),
+    not_defined("2:28", "none"), not_called("2:35", "laod"),
+]  # fmt: skip
+
+
+def each_way(script, found):
+    """A script whose findings are the same over an environment and alone, with and without stand-ins."""
+    files = {b"stand-ins": STAND_INS}
+    yield over({b"a": b"1", b"s": script}, [b"s"], lines(found, "s"))
+    yield of_file(script, [], lines(found, "a:1 b"))
+    yield of_file(script, with_stand_ins(), lines(found, "a:1 b"), files)
+    yield row("a check of standard input", [b"-f", b"-"], {}, lines(found, "-"), given=script)
+
+
+def every_way(script, found, stand_ins=STAND_INS):
+    """A script of whose findings some are found with stand-ins alone, and some over an environment alone."""
+    files = {b"stand-ins": stand_ins}
+    for words, seen in ((with_stand_ins(), found), ([], without(found, "stand-in"))):
+        yield over(VARIABLES | {b"s": script}, [b"s", *words], lines(seen, "s"), files)
+        yield of_file(script, words, lines(without(seen, "`run ", "be assigned", "nothing defines"), "a:1 b"), files)
+
+
+def no_scripts():
+    for script, line, column, said in NO_SCRIPTS:
+        kind, _, sentence = said.decode().partition(": ")
+        at = script.find(b"\r")
+        found = [] if at < 0 else [returned(place(script, at))]
+        yield from each_way(script, [*found, f"{line}:{column}: error: {sentence} ({kind})"])
+    for script, _ in NEAR_SCRIPTS:
+        yield from each_way(script, [])
+    for script, line, column in NULS:
+        yield of_file(script, [], lines([f"{line}:{column}: error: a byte 0 (Nul)"], "a:1 b"))
+    for script, found in RETURNS + [each for each in OPERATORS if each[1] is not None]:
+        yield from each_way(script, found)
+    for script in (script for script, found in OPERATORS if found is None):
+        yield of_file(script, [], b"")
+
+
+def starts():
+    for script, found in STARTS + ASSIGNED:
+        yield over(VARIABLES | {b"s": script}, [b"s"], lines(found, "s"))
+        yield of_file(script, [], b"")
+        if not found:
+            yield over(VARIABLES | {b"s": script}, [b"s", b"ok", b"a"], b"")
+    over_these = {name: value for name, value in VARIABLES.items() if name != b"a"}
+    yield over(over_these | {b"s": b"a=2; for a in b; do run a; done"}, [b"s"], lines([not_run("1:25", "a")], "s"))
+
+
+def calls():
+    files = {b"stand-ins": STAND_INS}
+    for script, found in [*CALLED, (MIXED, MIXED_FOUND)]:
+        yield from every_way(script, found)
+    yield of_file(b"mmc; true", with_stand_ins(), lines([not_called("1:1", "mmc")], "a:1 b"), {b"stand-ins": b""})
+    yield of_file(b"mmc\r\ntrue\r\n", with_stand_ins(), lines([returned("1:4"), not_called("1:1", "mmc\r"), not_called("2:1", "true\r")], "a:1 b"), files)
+    for text, errors in NO_STAND_INS:
+        files = {b"stand-ins": text}
+        yield over(VARIABLES, with_stand_ins([b"a"]), b"", files, errors=errors)
+        yield of_file(b"'", with_stand_ins(), b"", files, errors=errors)
+
+
+def lacked_commands():
+    for script, found in LACKED:
+        yield from every_way(script, found, OTHERS)
+        there = without(found, "this shell has no", "nothing defines", "`run ")
+        yield of_file(script, with_stand_ins(), lines(there, "a:1 b"), {b"stand-ins": THESE})
+
+
+def substitutions():
+    for script, found in [*SUBSTITUTED, *((script, []) for script in DEFINED)]:
+        yield from every_way(script, found)
+
+
+def chunks():
+    return [no_scripts, starts, calls, lacked_commands, substitutions]
