@@ -31,13 +31,19 @@ fn run(rt: &HostRuntime, words: &[String]) -> u8 {
     }
     greet(words, &mut rt.stderr());
     if talks(words) {
-        let mut lines = Prompted {
-            input,
-            errors: rt.stderr(),
-        };
-        return program(rt, words, &mut lines, &mut rt.stdout(), &mut rt.stderr());
+        return run_prompted(rt, words, input);
     }
     program(rt, words, &mut input, &mut rt.stdout(), &mut rt.stderr())
+}
+
+/// The same, with a prompt for each line. It isn't compiled into `main`, of which every run has the frame.
+#[inline(never)]
+fn run_prompted(rt: &HostRuntime, words: &[String], input: Stdin) -> u8 {
+    let mut lines = Prompted {
+        input,
+        errors: rt.stderr(),
+    };
+    program(rt, words, &mut lines, &mut rt.stdout(), &mut rt.stderr())
 }
 
 /// A terminal that is asked for each of its lines.
