@@ -38,112 +38,87 @@ is_current() {
     [ -z "$(find "${sources[@]}" -newer "$program" -print -quit)" ]
 }
 
-# most_at_once: how many crates are proved at once: one for each processor, as far as there are 2 GB of memory for each.
-most_at_once() {
-    local memory
-    memory=$(awk '$1 == "MemAvailable:" { print int($2 / 2097152) }' /proc/meminfo)
-    most=$(nproc)
-    [ "${memory:-1}" -ge "$most" ] || most=${memory:-1}
-    [ "$most" -ge 1 ] || most=1
-}
-
-# is_ready NAME: whether all crates of this repository that a crate uses are built.
-is_ready() {
-    local library
-    for library in ${libraries_of[$1]}; do
-        if [ -n "${libraries_of[$library]+x}" ] && [ -z "${built[$library]+x}" ]; then return 1; fi
-    done
-}
-
-# start_crate NAME: begins to prove and build a crate, in a session of its own, so that it and all that it starts can be stopped.
-start_crate() {
-    local log=$top/crates/$1/out/build.log command=(rt lib)
-    if [ "$1" = fwenv ]; then command=(rt run -- --help); fi
-    mkdir -p "$top/crates/$1/out"
-    [ -t 2 ] || echo "[$((${#built[@]} + ${#provers[@]} + 1))/${#crates[@]}] $1: proving and building" >&2
-    (cd "$top/crates/$1" && exec setsid "${command[@]}") </dev/null >"$log" 2>&1 &
-    provers[$1]=$!
-    begun[$1]=$SECONDS
-}
-
-# stop_provers: ends all that is being proved.
-stop_provers() {
-    local name
-    for name in "${!provers[@]}"; do
-        kill -TERM -- "-${provers[$name]}" 2>/dev/null || kill "${provers[$name]}" 2>/dev/null
-    done
-}
-
 # say LINE: a line on standard error, on a terminal in the place of the one that tells the progress.
 say() {
     if [ -t 2 ]; then printf '\r\033[K' >&2; fi
     printf '%s\n' "$1" >&2
 }
 
-# show_progress: on a terminal, how many crates are built, and which are being proved, each with how many of its functions are.
-show_progress() {
-    local name counts line="[${#built[@]}/${#crates[@]}]"
-    [ -t 2 ] || return 0
-    for name in "${!provers[@]}"; do
-        counts=$(sed -n 's/^so far: \([0-9]*\) of \([0-9]*\) functions.*/ \1\/\2/p' "$top/crates/$name/out/build.log" | tail -n 1)
-        line+=" $name$counts $((SECONDS - begun[$name])) s;"
+# copy_crates FOLDER: copies what the toolchain reads of the program's crates, without what it made of them.
+copy_crates() {
+    local crate part
+    cp "$top/HANDLES" "$1"
+    for crate in "${crates[@]}"; do
+        mkdir -p "$1/crates/$crate"
+        for part in "$top/crates/$crate"/*; do
+            [ "${part##*/}" = out ] || cp -R "$part" "$1/crates/$crate"
+        done
+        echo "$crate:${libraries_of[$crate]:+ ${libraries_of[$crate]}}" >>"$1/crates.txt"
     done
+}
+
+# show_progress: says which crates are proved since it was called last; on a terminal also how many there are, and which can be
+# proved now, as those that they use are.
+show_progress() {
+    local crate library line next=
+    while read -r crate; do
+        [ -z "${proved[$crate]+x}" ] || continue
+        proved[$crate]=yes
+        say "[${#proved[@]}/${#crates[@]}] $crate: proved after $((SECONDS - begun)) s"
+    done < <(sed -nE 's/^rt: ([a-z0-9_]+) (proved|is kept: .*)$/\1/p' "$log")
+    [ -t 2 ] || return 0
+    for crate in "${crates[@]}"; do
+        for library in ${libraries_of[$crate]}; do
+            if [ -n "${libraries_of[$library]+x}" ] && [ -z "${proved[$library]+x}" ]; then continue 2; fi
+        done
+        [ -n "${proved[$crate]+x}" ] || next+=" $crate"
+    done
+    line="${next:+[${#proved[@]}/${#crates[@]}] $((SECONDS - begun)) s, proving$next}"
     printf '\r\033[K%s' "${line:0:$((${COLUMNS:-80} - 1))}" >&2
 }
 
-# take_ended: takes note of the crates whose proof has ended, in $built or in $failed.
-take_ended() {
-    local name
-    for name in "${!provers[@]}"; do
-        if kill -0 "${provers[$name]}" 2>/dev/null; then continue; fi
-        if wait "${provers[$name]}"; then
-            built[$name]=yes
-            say "$name: proved and built in $((SECONDS - begun[$name])) s"
-        else
-            failed+=("$name")
-        fi
-        unset "provers[$name]"
+# prove FOLDER: has the toolchain prove the crates there, as many at once as there are processors and memory for, and build the
+# program. What it has proved it keeps for later runs, those of scripts/test among them.
+prove() {
+    local prover status begun=$SECONDS
+    local -A proved=()
+    (cd "$1" && exec setsid rt ci) </dev/null >"$log" 2>&1 &
+    prover=$!
+    # what runs in a session of its own doesn't hear of Ctrl-C; rt ends all that it has started
+    trap 'kill "$prover"; rm -rf "$room"; exit 130' INT TERM
+    while kill -0 "$prover" 2>/dev/null; do
+        show_progress
+        sleep 0.3
     done
+    wait "$prover"
+    status=$?
+    trap - INT TERM
+    show_progress
+    return $status
 }
 
-# start_ready: begins with the crates that can be proved now, unless one has failed.
-start_ready() {
-    local crate
-    [ ${#failed[@]} = 0 ] || return 0
-    for crate in "${crates[@]}"; do
-        [ ${#provers[@]} -lt "$most" ] || return 0
-        if [ -z "${built[$crate]+x}${provers[$crate]+x}" ] && is_ready "$crate"; then start_crate "$crate"; fi
-    done
-}
-
-# build: proves and builds each crate of the program as soon as those that it uses are built. Where one fails, the others that are being
-# proved are waited for, and then the end of what the toolchain said of it is printed.
+# build: proves the program's crates and builds the program, both in a folder of its own that holds these crates alone.
 build() {
-    local most crate failed=()
-    local -A built=() provers=() begun=()
+    local room made status=1 log=$top/crates/fwenv/out/build.log
     if ! command -v rt >/dev/null; then
         echo "the toolchain's command rt is not on PATH" >&2
         return 1
     fi
+    echo 'fwenv is missing or older than its sources: proving and building it takes a quarter of an hour or more the first time' >&2
+    room=$(mktemp -d) || return 1
+    made=$room/crates/fwenv/out/fwenv
     crates_of_program
-    most_at_once
-    echo 'fwenv is missing or older than its sources: proving and building it takes up to half an hour the first time' >&2
-    # what runs in a session of its own doesn't hear of Ctrl-C
-    trap 'stop_provers; exit 130' INT TERM
-    while [ ${#built[@]} -lt ${#crates[@]} ]; do
-        take_ended
-        start_ready
-        [ ${#provers[@]} -gt 0 ] || break
-        show_progress
-        sleep 0.3
-    done
-    trap - INT TERM
-    for crate in "${failed[@]}"; do
-        say "$(tail -n 40 "$top/crates/$crate/out/build.log")"
-        say "$crate: not built; $top/crates/$crate/out/build.log has all that the toolchain said"
-    done
-    [ ${#failed[@]} = 0 ] || return 1
-    touch "$program"
+    mkdir -p "${log%/*}"
+    copy_crates "$room" && prove "$room" && {
+        # a program that an earlier run kept comes without its object file, which link_static needs: one of another source is built
+        [ -e "$made.o" ] || { echo '// built once more' >>"$room/crates/fwenv/src/main.rt" && prove "$room"; }
+    } && cp "$made" "$made.o" "${program%/*}" && touch "$program" && status=0
+    if [ $status != 0 ]; then
+        say "$(tail -n 40 "$log")"
+        say "fwenv is not built; $log has all that the toolchain said"
+    fi
+    rm -rf "$room"
+    return $status
 }
 
 # link_static: links the built program once more, in one piece with the C library, as $static_program: it runs on any Linux of this

@@ -7,6 +7,8 @@ mod images;
 #[cfg(test)]
 mod keeping;
 #[cfg(test)]
+mod session_requests;
+#[cfg(test)]
 mod sessions;
 #[cfg(test)]
 mod store;
