@@ -5,7 +5,7 @@ use Rattle.std.specs.declared.alloc.Global.{Global}
 use Rattle.std.specs.List.{fold}
 use Rattle.std.proofs.lemmas.Grind.{flat_map-append}
 use Rattle.envimg_core.specs.Environment.{Environment}
-use Rattle.hush_syntax.specs.FirstFault.{IsFirstFault}
+use Rattle.hush_syntax.specs.FaultPlaces.{IsFaultOf}
 use Rattle.hush_syntax.specs.Reading.{read}
 use Rattle.hush_syntax.specs.declared.faults.FaultKind.TheVariants.{Memory}
 use Rattle.hush_syntax.specs.declared.faults.SyntaxFault.{SyntaxFault}
@@ -26,10 +26,10 @@ module _ (known : Option Known) (stubs : Option Statuses) where
   read-script (Err e) source text old new same h = tt
 
   pub read-fault : {E : Type 0} (r : Result (Unit {0}) E) (source text : List ℕ) (fault : SyntaxFault) (old new : Found) → source ≡ text → (fault.kind ≢ Memory → read source ≡ None) →
-      (fault.kind ≢ Memory → IsFirstFault source fault) →
+      (fault.kind ≢ Memory → IsFaultOf source fault) →
       OnOk r ((fault.kind ≢ Memory) × (new ≡ found_more old (error_at fault.place (fault_sentence fault.kind) ∷ []))) → OnOk r (Reads known stubs text old new)
   read-fault (Ok u) source text fault old new same unread first h =
-      (Faulty fault, (h.0, ap read (sym same) ∙ unread h.0, subst (λ t. IsFirstFault t fault) same (first h.0)), h.1)
+      (Faulty fault, (h.0, ap read (sym same) ∙ unread h.0, subst (λ t. IsFaultOf t fault) same (first h.0)), h.1)
   read-fault (Err e) source text fault old new same unread first h = tt
 
   pub script-checked : (name text : List ℕ) (report after : Report) (first second third : Found) → first ≡ record { name = name; text = text; report = report } →

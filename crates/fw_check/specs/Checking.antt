@@ -5,7 +5,7 @@ use Rattle.std.specs.Ordering.{eq_by_cmp}
 use Rattle.std.specs.FinMap.{entries, get}
 use Rattle.std.specs.Io.KnownBytes.{Keeps}
 use Rattle.hush_words.specs.Parts.{written}
-use Rattle.hush_syntax.specs.FirstFault.{IsFirstFault}
+use Rattle.hush_syntax.specs.FaultPlaces.{IsFaultOf}
 use Rattle.hush_syntax.specs.Reading.{read}
 use Rattle.hush_syntax.specs.declared.faults.FaultKind.TheVariants.{Memory}
 use Rattle.hush_syntax.specs.declared.faults.SyntaxFault.{SyntaxFault}
@@ -31,7 +31,7 @@ pub data Reading : Type 0 where
 -- a text with a fault is no script, and that is where a fault of this kind is; which of its tokens is not expected, and
 -- whether one is before the fault of a word, is not said here
 abbrev pub IsReading : List ℕ → Reading → Type 0
-IsReading text (Faulty fault) = (fault.kind ≢ Memory) × (read text ≡ None) × IsFirstFault text fault
+IsReading text (Faulty fault) = (fault.kind ≢ Memory) × (read text ≡ None) × IsFaultOf text fault
 IsReading text (Script items) = AreItemsOf text items
 
 abbrev pub reading_findings : Option Known → Option Statuses → List ℕ → Reading → List Finding

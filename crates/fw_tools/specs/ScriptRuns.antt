@@ -4,7 +4,7 @@ use Rattle.std.specs.List.{flat_map}
 use Rattle.clap.specs.Words.{Text}
 use Rattle.env_session.specs.Session.{Held}
 use Rattle.hush_syntax.specs.Grammar.{Chains}
-use Rattle.hush_syntax.specs.FirstFault.{IsFirstFault}
+use Rattle.hush_syntax.specs.FaultPlaces.{IsFaultOf}
 use Rattle.hush_syntax.specs.Reading.{read}
 use Rattle.hush_syntax.specs.declared.faults.SyntaxFault.{SyntaxFault}
 use Rattle.hush_commands.specs.Stubs.{Statuses, with_boot}
@@ -44,7 +44,7 @@ name_of_script (File path) = path
 abbrev pub Refuses : (name text : List ℕ) → Option (List ℕ) → Option (List ℕ) → Type 0
 Refuses name text old new =
     AppendsFront old new (message_of Memory)
-    ⊎ ((fault : SyntaxFault) × (read text ≡ None) × IsFirstFault text fault ×
+    ⊎ ((fault : SyntaxFault) × (read text ≡ None) × IsFaultOf text fault ×
     AppendsFront old new (fault_line name text fault.place fault.kind))
 
 -- the copies are written back where that was asked for and the status is 0

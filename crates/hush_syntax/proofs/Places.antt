@@ -26,7 +26,7 @@ use Rattle.hush_syntax.specs.Faults.{word_kind, word_fault, first_fault, fault_a
 use Rattle.hush_syntax.specs.Grammar.{begins}
 use Rattle.hush_syntax.specs.Keywords.{keyword_of}
 use Rattle.hush_syntax.specs.Reading.{is_word, is_closing, keyword_at}
-use Rattle.hush_syntax.specs.FirstFault.{HasFault, BeginsToken, IsFirstFault}
+use Rattle.hush_syntax.specs.FaultPlaces.{HasFault, BeginsToken, IsFaultOf}
 
 -- the fault of a word or of an operator
 pub word-stops : (text : List ℕ) (kind : words.FaultKind) (place : ℕ) → token_fault text ≡ Some (record { kind = kind; place = place }) →
@@ -149,11 +149,11 @@ word-follows text c f (passed, p, a, assignment, e, ends) there same =
 
 -- the fault of a text: its first byte 0, or that of its tokens
 pub nul-first : (text : List ℕ) (nul : Fault) (f : SyntaxFault) → has_no_nul text ≡ false → nul ≡ first_nul text → f ≡ word_fault nul →
-    IsFirstFault text f
+    IsFaultOf text f
 nul-first text nul f has same e = (λ _. e ∙ ap word_fault same, λ none. absurd (both_ways (has_no_nul text) has none))
 
 pub tokens-first : {T : Type 0} (text : Written) (r : Result T SyntaxFault) → has_no_nul text.source ≡ true → IfErr r (HasFaultOf text) →
-    IfErr r (λ f. f.kind ≢ fault.Memory → IsFirstFault text.source f)
+    IfErr r (λ f. f.kind ≢ fault.Memory → IsFaultOf text.source f)
 tokens-first text (Ok t) none h = tt
 tokens-first text (Err f) none h = λ known. (λ has. absurd (both_ways (has_no_nul text.source) has none), λ _. h)
 

@@ -14,4 +14,4 @@ pub returns-in-Err : goal.returns-in-Err
 returns-in-Err c =
     let l = c.args.lookups.now in
     read-fault (known_in l) (stubs_in l) c.add_fault.result c.in_ok-source.source.items c.args.text.now c.in-Err.fault c.args.found.now c.add_fault.new.found
-    c.in_ok-source.ensures.items c.in-Err.ensures.unread c.in-Err.ensures.first c.add_fault.ensures
+    c.in_ok-source.ensures.items c.in-Err.ensures.unread c.in-Err.ensures.fits c.add_fault.ensures

@@ -9,11 +9,11 @@ use Rattle.hush_syntax.proofs.script.read_text.Goals as goal
 pub returns-in-Some-clause-built : goal.returns-in-Some-clause-built
 returns-in-Some-clause-built c = refuses_always c.from.result.kind (read_stopped c.args.text.now.source (nul-read c.args.text.now.source c.in-Some.ensures.found))
 
-pub returns-in-Some-clause-first : goal.returns-in-Some-clause-first
-returns-in-Some-clause-first c = λ known. nul-first c.args.text.now.source c.in-Some.nul c.from.result c.in-Some.ensures.found c.in-Some.ensures.first c.from.ensures
+pub returns-in-Some-clause-fits : goal.returns-in-Some-clause-fits
+returns-in-Some-clause-fits c = λ known. nul-first c.args.text.now.source c.in-Some.nul c.from.result c.in-Some.ensures.found c.in-Some.ensures.first c.from.ensures
 
-pub returns-in-None-clause-first : goal.returns-in-None-clause-first
-returns-in-None-clause-first c = tokens-first c.args.text.now c.script.result c.in-None.ensures.found c.script.ensures.first
+pub returns-in-None-clause-fits : goal.returns-in-None-clause-fits
+returns-in-None-clause-fits c = tokens-first c.args.text.now c.script.result c.in-None.ensures.found c.script.ensures.first
 
 pub returns-in-Some-clause-memory : goal.returns-in-Some-clause-memory
 returns-in-Some-clause-memory c = λ known. absurd (word-not-memory c.in-Some.nul.kind (sym (ap (λ (f : SyntaxFault). f.kind) c.from.ensures) ∙ known))

@@ -1,6 +1,6 @@
--- Which fault a text has first, and where: what is answered of a text that is no script (docs/scripts.md, "Faults"). A byte 0
--- precedes all else, and the faults of words and operators precede each other from the left. Which token can't be where it
--- is, and so whether one precedes the fault of a word, is not said here.
+-- Which fault a text has, and where: what is answered of a text that is no script (docs/scripts.md, "Faults"). A byte 0
+-- precedes all else, and the faults of words and operators precede each other from the left. Of a token that can't be where
+-- it is only its place is said: not that it is the first, nor that it precedes the fault of a word.
 use Rattle.std.specs.Prelude.{◌≡◌, ℕ, true, false, List, [], ◌∷◌, ◌++◌, Some, is_some, length}
 use Rattle.hush_words.specs.Words.{Atom}
 use Rattle.hush_words.specs.Tokens.{Token, has_no_nul}
@@ -56,8 +56,8 @@ HasFault text fault.Assignment place = FollowsAssignment text place
 HasFault text fault.Nul place = ⊥
 HasFault text fault.Memory place = place ≡ 0
 
--- the first byte 0 is the fault of a text that has one, and else the tokens have it
-abbrev pub IsFirstFault : List ℕ → SyntaxFault → Type 0
-IsFirstFault text fault =
+-- the first byte 0 is the fault of a text that has one, and else it is one that the tokens have
+abbrev pub IsFaultOf : List ℕ → SyntaxFault → Type 0
+IsFaultOf text fault =
     (has_no_nul text ≡ false → fault ≡ word_fault (first_nul text)) ×
     (has_no_nul text ≡ true → HasFault text fault.kind fault.place)
