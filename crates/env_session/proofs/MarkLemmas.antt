@@ -195,6 +195,11 @@ pub held_write : {E : Type 0} (r : Result (Unit {0}) E) (stored : Stored) (defau
 held_write (Ok u) stored defaults vars vars' current spans spans' k n new h within a b is = held_written stored defaults vars vars' current spans spans' k n new within a b ∙ ap (λ x. written x n new) is
 held_write (Err e) stored defaults vars vars' current spans spans' k n new h within a b is = tt
 
+pub unwritten : {E : Type 0} (r : Result (Unit {0}) E) (stored : Stored) (defaults vars vars' : Contents) (current : Choice) (spans spans' : List Span) (k : ℕ) (h : Held) → OnErr r (vars' ≡ vars) → OnErr r (spans' ≡ spans) → held_of stored defaults vars current spans k ≡ h → OnErr r (held_of stored defaults vars' current spans' k ≡ h)
+unwritten (Ok u) stored defaults vars vars' current spans spans' k h a b is = tt
+unwritten (Err e) stored defaults vars vars' current spans spans' k h a b is =
+    ap (λ (v : Contents). held_of stored defaults v current spans' k) a ∙ ap (λ (ss : List Span). held_of stored defaults vars current ss k) b ∙ is
+
 -- a mark
 pub back-empty : (s : Span) (now : State) → IsEmptySpan s → back (beginning now.current s) now ≡ now
 back-empty s now b = λ i. record { env = (ap (restored now.env) b.olds ∙ restored-empty now.env) i; first = ap (λ o. unwrap_or (bytes_of o) now.first) b.first i; second = ap (λ o. second_back (bytes_of o) now.second) b.second i; current = now.current }

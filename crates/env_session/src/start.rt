@@ -53,15 +53,18 @@ impl Session {
             Ok((vars, current)) => {
                 // for the proof: the variables fit
                 let _size = vars.used();
-                Ok(Session {
-                    alloc,
-                    stored,
-                    defaults,
-                    vars,
-                    current,
-                    spans: new_spans(alloc, current),
-                    marks: 0,
-                })
+                match new_spans(alloc, current) {
+                    Ok(spans) => Ok(Session {
+                        alloc,
+                        stored,
+                        defaults,
+                        vars,
+                        current,
+                        spans,
+                        marks: 0,
+                    }),
+                    Err(Memory) => Err((stored, StartFault::Memory)),
+                }
             }
             Err(Memory) => Err((stored, StartFault::Memory)),
         }
@@ -89,14 +92,17 @@ fn has_second(layout: Layout, size: usize, stored: &Stored) -> bool
 }
 
 /// The spans of a session that begins: the opening's is new, and the others are for marks to come.
-fn new_spans(alloc: Global, current: Choice) -> [Span; SPANS]
-    ensures first { (d : _) → IsNewSpan current (slice_index_or result 0 d) }
-    ensures empty { AllByRecursion IsEmptySpan result }
-    ensures many { length result ≡ most_marks + 1 }
+fn new_spans(alloc: Global, current: Choice) -> Result<Vec<Span>, Memory>
+    ensures first { IfOk result (λ spans. (d : _) → IsNewSpan current (slice_index_or spans.items 0 d)) }
+    ensures empty { IfOk result (λ spans. AllByRecursion IsEmptySpan spans.items) }
+    ensures many { IfOk result (λ spans. length spans.items ≡ most_marks + 1) }
 {
     let mut spans = empty_spans(alloc);
     begin(&mut spans, 0, current);
-    spans
+    match Vec::from_array(alloc, spans) {
+        Ok(spans) => Ok(spans),
+        Err(_) => Err(Memory),
+    }
 }
 
 /// Spans in which nothing is kept.
