@@ -106,23 +106,87 @@ type Stop = (&'static [u8], [u32; 4], &'static [u8]);
 
 /// Runs that a limit stops, in a text that was started or in the script itself.
 const STOPS: [Stop; 17] = [
-    (b"setenv a 'echo 1; echo 2'; run a", [4, 2, 20, 99], b"Steps in \"a\" after 4"),
-    (b"setenv a 'run b'; setenv b 'echo 1'; run a", [3, 2, 20, 99], b"Steps after 3"),
-    (b"setenv a 'run b'; setenv b 'echo 1'; run a", [4, 2, 20, 99], b"Steps in \"a\" after 4"),
-    (b"setenv a 'run b'; setenv b 'echo 1'; run a", [5, 2, 20, 99], b"Steps in \"a\" after 5"),
-    (b"setenv a 'run b'; setenv b 'echo 1'; run a", [6, 2, 20, 99], b"Steps in \"b\" after 6"),
-    (b"setenv a 'run b; echo 1'; setenv b 'echo 2'; run a", [7, 2, 20, 99], b"Steps in \"a\" after 7"),
-    (b"setenv a 'echo 2'; run a; echo 3", [4, 2, 20, 99], b"Steps after 4"),
-    (b"setenv a 'echo 1'; setenv b 'echo 2'; run a b", [5, 2, 20, 99], b"Steps after 5"),
-    (b"setenv a 'echo 1'; setenv b 'echo 2'; run a b", [6, 2, 20, 99], b"Steps in \"b\" after 6"),
-    (b"setenv r run r; run r", [99, 1, 20, 99], b"Depth in \"r\" after 4"),
+    (
+        b"setenv a 'echo 1; echo 2'; run a",
+        [4, 2, 20, 99],
+        b"Steps in \"a\" after 4",
+    ),
+    (
+        b"setenv a 'run b'; setenv b 'echo 1'; run a",
+        [3, 2, 20, 99],
+        b"Steps after 3",
+    ),
+    (
+        b"setenv a 'run b'; setenv b 'echo 1'; run a",
+        [4, 2, 20, 99],
+        b"Steps in \"a\" after 4",
+    ),
+    (
+        b"setenv a 'run b'; setenv b 'echo 1'; run a",
+        [5, 2, 20, 99],
+        b"Steps in \"a\" after 5",
+    ),
+    (
+        b"setenv a 'run b'; setenv b 'echo 1'; run a",
+        [6, 2, 20, 99],
+        b"Steps in \"b\" after 6",
+    ),
+    (
+        b"setenv a 'run b; echo 1'; setenv b 'echo 2'; run a",
+        [7, 2, 20, 99],
+        b"Steps in \"a\" after 7",
+    ),
+    (
+        b"setenv a 'echo 2'; run a; echo 3",
+        [4, 2, 20, 99],
+        b"Steps after 4",
+    ),
+    (
+        b"setenv a 'echo 1'; setenv b 'echo 2'; run a b",
+        [5, 2, 20, 99],
+        b"Steps after 5",
+    ),
+    (
+        b"setenv a 'echo 1'; setenv b 'echo 2'; run a b",
+        [6, 2, 20, 99],
+        b"Steps in \"b\" after 6",
+    ),
+    (
+        b"setenv r run r; run r",
+        [99, 1, 20, 99],
+        b"Depth in \"r\" after 4",
+    ),
     (b"setenv r run r; run r", [99, 0, 20, 99], b"Depth after 2"),
-    (b"setenv a 'run b'; setenv b true; run a", [99, 1, 20, 99], b"Depth in \"a\" after 5"),
-    (b"setenv a 'echo $x$x'; x=1234567; run a", [99, 2, 10, 99], b"Word in \"a\" after 4"),
-    (b"setenv a 'echo 12345'; run a", [99, 2, 20, 3], b"Output in \"a\" after 3"),
-    (b"setenv a 'run b'; run a", [99, 2, 20, 3], b"Output in \"a\" after 4"),
-    (b"setenv 'a \"b' 'echo 1; echo 2'; run 'a \"b'", [4, 2, 20, 99], b"Steps in \"a \"b\" after 4"),
-    (b"setenv a exit 7; run a", [99, 2, 20, 99], b"Exited with status 7 after 4"),
+    (
+        b"setenv a 'run b'; setenv b true; run a",
+        [99, 1, 20, 99],
+        b"Depth in \"a\" after 5",
+    ),
+    (
+        b"setenv a 'echo $x$x'; x=1234567; run a",
+        [99, 2, 10, 99],
+        b"Word in \"a\" after 4",
+    ),
+    (
+        b"setenv a 'echo 12345'; run a",
+        [99, 2, 20, 3],
+        b"Output in \"a\" after 3",
+    ),
+    (
+        b"setenv a 'run b'; run a",
+        [99, 2, 20, 3],
+        b"Output in \"a\" after 4",
+    ),
+    (
+        b"setenv 'a \"b' 'echo 1; echo 2'; run 'a \"b'",
+        [4, 2, 20, 99],
+        b"Steps in \"a \"b\" after 4",
+    ),
+    (
+        b"setenv a exit 7; run a",
+        [99, 2, 20, 99],
+        b"Exited with status 7 after 4",
+    ),
 ];
 
 #[test]

@@ -53,13 +53,7 @@ fn print_outcome<W: Write, E: Write>(
     if is_well(outcome.ending, outcome.status) {
         return ToolEnd::done(0);
     }
-    if !write_ending(
-        outcome.ending,
-        place,
-        outcome.status,
-        outcome.steps,
-        errors,
-    ) {
+    if !write_ending(outcome.ending, place, outcome.status, outcome.steps, errors) {
         return ToolEnd::stopped(StreamFault::Write);
     }
     ToolEnd::done(1)
