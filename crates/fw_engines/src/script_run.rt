@@ -45,7 +45,8 @@ fn print_outcome<W: Write, E: Write>(
     errors: &mut E,
 ) -> ToolEnd
     ensures { Prints (record { output = W.contents output.old; errors = E.contents errors.old })
-        (record { output = W.contents output.new; errors = E.contents errors.new }) (outcome_texts outcome.now place.now) result }
+        (record { output = W.contents output.new; errors = E.contents errors.new })
+        (outcome_texts outcome.now place.now) result }
 {
     if !write_text(output, &outcome.text) {
         return ToolEnd::stopped(StreamFault::Write);

@@ -44,7 +44,7 @@ pub fn run(
 ) -> Outcome
     ensures { Runs (rules stand_ins.now limits.now) (tree_of script.now) session.old session.new result }
 {
-    let (outcome, _ends_in) = run_with_place(alloc, session, script, stand_ins, limits);
+    let (outcome, _place) = run_with_place(alloc, session, script, stand_ins, limits);
     outcome
 }
 
@@ -56,8 +56,10 @@ pub fn run_with_place(
     stand_ins: &Stubs,
     limits: &Limits,
 ) -> (Outcome, Option<StartedName>)
-    ensures runs { Runs (rules stand_ins.now limits.now) (tree_of script.now) session.old session.new result.0 }
-    ensures place { EndsIn (rules stand_ins.now limits.now) (tree_of script.now) session.old result.0 result.1 }
+    ensures runs { Runs (rules stand_ins.now limits.now) (tree_of script.now) session.old session.new
+        result.0 }
+    ensures place { EndsIn (rules stand_ins.now limits.now) (tree_of script.now) session.old result.0
+        result.1 }
 {
     let given = Given {
         alloc,
@@ -67,7 +69,7 @@ pub fn run_with_place(
     // Does nothing: it tells the prover that the depth is at most MOST_DEPTH.
     let _depth = limits.depth();
     let mut progress = Progress::new(&given);
-    let (ending, ends_in) = run_script(&given, session, &mut progress, script);
+    let (ending, place) = run_script(&given, session, &mut progress, script);
     let Progress {
         locals: _,
         status,
@@ -82,7 +84,7 @@ pub fn run_with_place(
         steps,
         text: output.into_text(),
     };
-    (outcome, ends_in)
+    (outcome, place)
 }
 
 /// Runs a script from where the session and the progress are: how it ended, and in which variable's text.

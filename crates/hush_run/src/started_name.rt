@@ -6,7 +6,7 @@ use crate::frames::{Frame, Frames};
 use hush_commands::FieldQueue;
 use std::marker::Model;
 
-/// The name of a variable whose text `run` started. It takes no memory of its own: the names that `run` was given are in it.
+/// The name of a variable whose text `run` started. It takes no memory: it owns the names that `run` was given.
 #[derive(Drop)]
 pub struct StartedName {
     names: FieldQueue,
