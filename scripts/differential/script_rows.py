@@ -22,8 +22,9 @@ def exited(status, steps):
     return b"fwenv: run ended as Exited with status %d after %d steps\n" % (status, steps)
 
 
-def stopped(limit, steps):
-    return b"fwenv: run ended as %s after %d steps\n" % (limit, steps)
+def stopped(limit, steps, place=None):
+    where = b"" if place is None else b' in "%s"' % place
+    return b"fwenv: run ended as %s%s after %d steps\n" % (limit, where, steps)
 
 
 # Variables that hold scripts, as a text for import
@@ -69,12 +70,15 @@ NAMES = [
     ([b"ok", b"absent"], b"fine\n" + NOT_DEFINED % b"absent", finished(1, 4)),
     ([b"leaves", b"ok"], b"", exited(3, 3)),
     ([b"quits", b"bad"], b"a\n", b""),
-    ([b"loop"], b"", stopped(b"Depth", 17)),
+    ([b"loop"], b"", stopped(b"Depth", 17, b"loop")),
     ([b"--depth", b"0", b"ok"], b"", stopped(b"Depth", 1)),
     ([b"--depth", b"1", b"ok"], b"fine\n", b""),
-    ([b"--depth", b"1", b"loop"], b"", stopped(b"Depth", 3)),
+    ([b"--depth", b"1", b"loop"], b"", stopped(b"Depth", 3, b"loop")),
     ([b"--word", b"1", b"ok"], b"", stopped(b"Word", 0)),
-    ([b"ok", b"--steps", b"2"], b"", stopped(b"Steps", 2)),
+    ([b"ok", b"--steps", b"2"], b"", stopped(b"Steps", 2, b"ok")),
+    ([b"ok", b"bad", b"--steps", b"4"], b"fine\n", stopped(b"Steps", 4, b"bad")),
+    ([b"ok", b"bad", b"--steps", b"3"], b"fine\n", stopped(b"Steps", 3)),
+    ([b"x\"\\y", b"--output", b"3"], b"", stopped(b"Output", 2, b"x\"\\y")),
 ]
 # A script among the words, the text, and what is said, if the status isn't 0
 SCRIPTS = [

@@ -30,6 +30,7 @@ class Outcome:
     status: int
     steps: int
     text: bytes
+    place: bytes | None = None  # the variable in whose text that was
 
 
 def option_of(words, option):
@@ -50,7 +51,7 @@ class Run:
         self.locals = {}
         self.status = 0
         self.steps = 0
-        self.depth = 0
+        self.running = []  # the variables whose texts run, the innermost last
         self.text = b""
 
     def begin(self):
@@ -304,7 +305,7 @@ class Run:
         if name not in self.environment.values:
             self.done(1, NOT_DEFINED % name)
             return
-        if self.depth == self.max_depth:
+        if len(self.running) == self.max_depth:
             raise Stop("Depth")
         try:
             tree = parse(self.environment.values[name])
@@ -312,9 +313,9 @@ class Run:
             self.done(1, NO_SCRIPT % name)
             return
         self.done(0)
-        self.depth += 1
+        self.running.append(name)
         self.chains(tree)
-        self.depth -= 1
+        self.running.pop()
 
 
 def run(session, tree, stand_ins, limits, boots=frozenset()):
@@ -325,4 +326,4 @@ def run(session, tree, stand_ins, limits, boots=frozenset()):
         made.chains(tree)
     except Stop as stop:
         ending = stop.args[0]
-    return Outcome(ending, made.status, made.steps, made.text)
+    return Outcome(ending, made.status, made.steps, made.text, made.running[-1] if made.running else None)

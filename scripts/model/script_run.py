@@ -36,6 +36,9 @@ def is_well(outcome):
 
 
 def ended(outcome):
-    """What is said of a run that didn't end well: its status tells nothing where a limit stopped it."""
-    status = b" with status %d" % outcome.status if outcome.ending in BY_ITSELF else b""
-    return b"fwenv: run ended as %s%s after %d steps\n" % (outcome.ending.encode(), status, outcome.steps)
+    """What is said of a run that didn't end well: its status tells nothing if a limit stopped it, but the variable does."""
+    if outcome.ending in BY_ITSELF:
+        more = b" with status %d" % outcome.status
+    else:
+        more = b"" if outcome.place is None else b' in "%s"' % outcome.place
+    return b"fwenv: run ended as %s%s after %d steps\n" % (outcome.ending.encode(), more, outcome.steps)

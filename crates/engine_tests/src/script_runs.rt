@@ -61,7 +61,7 @@ fn a_run_has_the_status_of_its_script(rt: HostRuntime) -> Result<(), Fail> {
             b"setenv r run r; run r",
             99,
             b"",
-            b"fwenv: run ended as Depth after 6 steps\n",
+            b"fwenv: run ended as Depth in \"r\" after 6 steps\n",
             1,
         ),
         (
@@ -97,6 +97,121 @@ fn a_run_has_the_status_of_its_script(rt: HostRuntime) -> Result<(), Fail> {
                 fault: None
             }
         );
+    }
+    Ok(())
+}
+
+/// A script, its limits (steps, depth, word and output), and what is said of it.
+type Stop = (&'static [u8], [u32; 4], &'static [u8]);
+
+/// Runs that a limit stops, in a text that was started or in the script itself.
+const STOPS: [Stop; 17] = [
+    (
+        b"setenv a 'echo 1; echo 2'; run a",
+        [4, 2, 20, 99],
+        b"Steps in \"a\" after 4",
+    ),
+    (
+        b"setenv a 'run b'; setenv b 'echo 1'; run a",
+        [3, 2, 20, 99],
+        b"Steps after 3",
+    ),
+    (
+        b"setenv a 'run b'; setenv b 'echo 1'; run a",
+        [4, 2, 20, 99],
+        b"Steps in \"a\" after 4",
+    ),
+    (
+        b"setenv a 'run b'; setenv b 'echo 1'; run a",
+        [5, 2, 20, 99],
+        b"Steps in \"a\" after 5",
+    ),
+    (
+        b"setenv a 'run b'; setenv b 'echo 1'; run a",
+        [6, 2, 20, 99],
+        b"Steps in \"b\" after 6",
+    ),
+    (
+        b"setenv a 'run b; echo 1'; setenv b 'echo 2'; run a",
+        [7, 2, 20, 99],
+        b"Steps in \"a\" after 7",
+    ),
+    (
+        b"setenv a 'echo 2'; run a; echo 3",
+        [4, 2, 20, 99],
+        b"Steps after 4",
+    ),
+    (
+        b"setenv a 'echo 1'; setenv b 'echo 2'; run a b",
+        [5, 2, 20, 99],
+        b"Steps after 5",
+    ),
+    (
+        b"setenv a 'echo 1'; setenv b 'echo 2'; run a b",
+        [6, 2, 20, 99],
+        b"Steps in \"b\" after 6",
+    ),
+    (
+        b"setenv r run r; run r",
+        [99, 1, 20, 99],
+        b"Depth in \"r\" after 4",
+    ),
+    (b"setenv r run r; run r", [99, 0, 20, 99], b"Depth after 2"),
+    (
+        b"setenv a 'run b'; setenv b true; run a",
+        [99, 1, 20, 99],
+        b"Depth in \"a\" after 5",
+    ),
+    (
+        b"setenv a 'echo $x$x'; x=1234567; run a",
+        [99, 2, 10, 99],
+        b"Word in \"a\" after 4",
+    ),
+    (
+        b"setenv a 'echo 12345'; run a",
+        [99, 2, 20, 3],
+        b"Output in \"a\" after 3",
+    ),
+    (
+        b"setenv a 'run b'; run a",
+        [99, 2, 20, 3],
+        b"Output in \"a\" after 4",
+    ),
+    (
+        b"setenv 'a \"b' 'echo 1; echo 2'; run 'a \"b'",
+        [4, 2, 20, 99],
+        b"Steps in \"a \"b\" after 4",
+    ),
+    (
+        b"setenv a exit 7; run a",
+        [99, 2, 20, 99],
+        b"Exited with status 7 after 4",
+    ),
+];
+
+#[test]
+fn a_limit_is_said_with_the_variable_in_which_it_was_met(rt: HostRuntime) -> Result<(), Fail> {
+    let stubs = Stubs::parse(rt.alloc(), b"")?;
+    for (text, [steps, depth, word, output], said) in STOPS {
+        let mut session = started(rt.alloc())?;
+        let script = script_of(rt.alloc(), text)?;
+        let limits = Limits::new(steps, depth, word, output).ok_or("no limits")?;
+        let mut printed = Vec::new(rt.alloc());
+        let mut errors = Vec::new(rt.alloc());
+        let end = run(
+            rt.alloc(),
+            &mut session,
+            &script,
+            &stubs,
+            &limits,
+            &mut printed,
+            &mut errors,
+        );
+        let mut line = Vec::from_slice(rt.alloc(), b"fwenv: run ended as ")?;
+        line.extend_from_slice(said)?;
+        line.extend_from_slice(b" steps\n")?;
+        assert_eq!(rt; errors.as_slice(), line.as_slice());
+        assert_eq!(rt; end.status, 1);
     }
     Ok(())
 }

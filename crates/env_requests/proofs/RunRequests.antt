@@ -20,7 +20,7 @@ use Rattle.hush_commands.specs.Stubs.{Statuses}
 use Rattle.hush_commands.specs.Carrying.{Done, done_of, deletion_of}
 use Rattle.hush_commands.proofs.LeavingLemmas.{Leaves, done_leaves, deletion_leaves}
 use Rattle.hush_commands.specs.Following.{follow_of}
-use Rattle.hush_run.specs.Meaning.{Rules, Begin, State, Out, Goes, Ends, ◌>>=◌, ◌then◌, Effect, Does, Exits, Stops, done, step, with_status, carries, fails, goes_on, turns, if_ok, in_turn, deletions, follows, simple, bindings, for, joins, has_variable, fields_of, exiting, effect, assigned_to, assigned, command, otherwise, chain, linked, chains, script, start, looked_up, entered, ended, meaning, within}
+use Rattle.hush_run.specs.Meaning.{Rules, Begin, State, Out, Goes, Ends, ◌>>=◌, ◌then◌, Effect, Does, Exits, Stops, done, step, with_status, carries, fails, goes_on, turns, if_ok, in_turn, deletions, follows, simple, bindings, for, joins, has_variable, fields_of, exiting, effect, assigned_to, assigned, command, otherwise, chain, linked, chains, script, start, looked_up, in_text, entered, ended, meaning, within}
 use Rattle.env_requests.specs.Laws.{run_left, writes_or_saves, RunIsRequests, RunKeepsMarks}
 
 -- writes and saves, each of which was done, lead from the one session to the other
@@ -45,18 +45,18 @@ both h mid after a b = record {
 -- to where it goes on, or to where it ends
 abbrev Comes : Held → Out → Type 0
 Comes h (Goes t) = Leads h t.held
-Comes h (Ends e t) = Leads h t.held
+Comes h (Ends e place t) = Leads h t.held
 
 abbrev Changes : (State → Out) → Type 0
 Changes p = (s : State) → Comes s.held (p s)
 
 comes_from : (h mid : Held) (o : Out) → Leads h mid → Comes mid o → Comes h o
 comes_from h mid (Goes t) a b = both h mid t.held a b
-comes_from h mid (Ends e t) a b = both h mid t.held a b
+comes_from h mid (Ends e place t) a b = both h mid t.held a b
 
 bind_comes : (h : Held) (o : Out) (f : State → Out) → Comes h o → Changes f → Comes h (o >>= f)
 bind_comes h (Goes t) f a c = comes_from h t.held (f t) a (c t)
-bind_comes h (Ends e t) f a c = a
+bind_comes h (Ends e place t) f a c = a
 
 then_changes : (p q : State → Out) → Changes p → Changes q → Changes (p then q)
 then_changes p q a b s = bind_comes s.held (p s) q (a s) b
@@ -205,9 +205,13 @@ looked_up_changes rules enter name a s =
       | Some text ↦ a text s
     ]
 
+in_text_comes : (h : Held) (name : List ℕ) (o : Out) → Comes h o → Comes h (in_text name o)
+in_text_comes h name (Goes t) a = a
+in_text_comes h name (Ends e place t) a = a
+
 entered_changes : (rules : Rules) (run : Option Chains → State → Out) (name : List ℕ) → ((tree : Option Chains) → Changes (run tree)) → (o : Option (Option Chains)) → Changes (entered rules run name o)
 entered_changes rules run name a None = step_changes rules (fails NoScript name) (λ t. fails_acts NoScript name t)
-entered_changes rules run name a (Some tree) = then_changes _ _ (step_changes rules (λ s. Does (with_status 0 s)) (λ s. nothing s.held)) (a tree)
+entered_changes rules run name a (Some tree) = then_changes _ _ (step_changes rules (λ s. Does (with_status 0 s)) (λ s. nothing s.held)) (λ s. in_text_comes s.held name (run tree s) (a tree s))
 
 start_changes : (rules : Rules) (levels : ℕ) (name : List ℕ) → Changes (start rules levels name)
 unfolding start
@@ -217,7 +221,7 @@ start_changes rules (suc levels) name = looked_up_changes rules _ name (λ text.
 -- a run
 ended_leads : (h : Held) (o : Out) → Comes h o → Leads h (ended o).1.held
 ended_leads h (Goes s) a = a
-ended_leads h (Ends e s) a = a
+ended_leads h (Ends e place s) a = a
 
 pub run_leads : (rules : Rules) (tree : Option Chains) (h : Held) → Leads h (run_left rules tree h)
 unfolding meaning

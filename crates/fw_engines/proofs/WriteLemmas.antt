@@ -81,15 +81,15 @@ three_more a b c d x y z p q r =
     r ∙ ap (λ t. t ++ z) (q ∙ ap (λ t. t ++ y) p ∙ append_assoc a x y) ∙ append_assoc a (x ++ y) z
 
 -- what is said of a run that this limit stopped
-limit_here : (e limit : Ending) (status steps : ℕ) (name : List ℕ) → e ≡ limit → ended_by_limit (ending_name limit) steps ≡ ended_so limit status steps → name ≡ ending_name e →
-    ended_by_limit name steps ≡ ended_so e status steps
-limit_here e limit status steps name is said named =
-    ap (λ n. ended_by_limit n steps) named ∙ ap (λ x. ended_by_limit (ending_name x) steps) is ∙ said ∙ sym (ap (λ x. ended_so x status steps) is)
+limit_here : (e limit : Ending) (place : Option (List ℕ)) (status steps : ℕ) (name : List ℕ) → e ≡ limit → ended_by_limit (ending_name limit) place steps ≡ ended_so limit place status steps → name ≡ ending_name e →
+    ended_by_limit name place steps ≡ ended_so e place status steps
+limit_here e limit place status steps name is said named =
+    ap (λ n. ended_by_limit n place steps) named ∙ ap (λ x. ended_by_limit (ending_name x) place steps) is ∙ said ∙ sym (ap (λ x. ended_so x place status steps) is)
 
 -- and of one that any limit stopped
-pub limit_is : (e : Ending) (status steps : ℕ) (name : List ℕ) → (e ≡ ending.Steps) ⊎ ((e ≡ ending.Depth) ⊎ ((e ≡ ending.Word) ⊎ (e ≡ ending.Output))) → name ≡ ending_name e →
-    ended_by_limit name steps ≡ ended_so e status steps
-limit_is e status steps name (inl is) named = limit_here e ending.Steps status steps name is refl named
-limit_is e status steps name (inr (inl is)) named = limit_here e ending.Depth status steps name is refl named
-limit_is e status steps name (inr (inr (inl is))) named = limit_here e ending.Word status steps name is refl named
-limit_is e status steps name (inr (inr (inr is))) named = limit_here e ending.Output status steps name is refl named
+pub limit_is : (e : Ending) (place : Option (List ℕ)) (status steps : ℕ) (name : List ℕ) → (e ≡ ending.Steps) ⊎ ((e ≡ ending.Depth) ⊎ ((e ≡ ending.Word) ⊎ (e ≡ ending.Output))) → name ≡ ending_name e →
+    ended_by_limit name place steps ≡ ended_so e place status steps
+limit_is e place status steps name (inl is) named = limit_here e ending.Steps place status steps name is refl named
+limit_is e place status steps name (inr (inl is)) named = limit_here e ending.Depth place status steps name is refl named
+limit_is e place status steps name (inr (inr (inl is))) named = limit_here e ending.Word place status steps name is refl named
+limit_is e place status steps name (inr (inr (inr is))) named = limit_here e ending.Output place status steps name is refl named

@@ -11,7 +11,7 @@ use crate::streams::{write_parts, write_text};
 use crate::tool_end::{StreamFault, ToolEnd};
 use crate::tool_texts::OUT_OF_MEMORY;
 use env_session::Session;
-use hush_run::{Ending, Limits, Outcome, Stubs, run as run_over};
+use hush_run::{Ending, Limits, Outcome, StartedName, Stubs, run_with_place};
 use hush_syntax::Script;
 use itoa::Buffer;
 use std::alloc::Global;
@@ -33,14 +33,20 @@ pub fn run<W: Write, E: Write>(
         (record { output = W.contents output.old; errors = E.contents errors.old })
         (record { output = W.contents output.new; errors = E.contents errors.new }) result }
 {
-    let outcome = run_over(alloc, session, script, stubs, limits);
-    print_outcome(&outcome, output, errors)
+    let (outcome, place) = run_with_place(alloc, session, script, stubs, limits);
+    print_outcome(&outcome, &place, output, errors)
 }
 
 /// Prints the text of a run, and how it ended if it didn't end well.
-fn print_outcome<W: Write, E: Write>(outcome: &Outcome, output: &mut W, errors: &mut E) -> ToolEnd
+fn print_outcome<W: Write, E: Write>(
+    outcome: &Outcome,
+    place: &Option<StartedName>,
+    output: &mut W,
+    errors: &mut E,
+) -> ToolEnd
     ensures { Prints (record { output = W.contents output.old; errors = E.contents errors.old })
-        (record { output = W.contents output.new; errors = E.contents errors.new }) (outcome_texts outcome.now) result }
+        (record { output = W.contents output.new; errors = E.contents errors.new })
+        (outcome_texts outcome.now place.now) result }
 {
     if !write_text(output, &outcome.text) {
         return ToolEnd::stopped(StreamFault::Write);
@@ -48,7 +54,7 @@ fn print_outcome<W: Write, E: Write>(outcome: &Outcome, output: &mut W, errors: 
     if is_well(outcome.ending, outcome.status) {
         return ToolEnd::done(0);
     }
-    if !write_ending(outcome.ending, outcome.status, outcome.steps, errors) {
+    if !write_ending(outcome.ending, place, outcome.status, outcome.steps, errors) {
         return ToolEnd::stopped(StreamFault::Write);
     }
     ToolEnd::done(1)
@@ -65,15 +71,22 @@ fn is_well(ending: Ending, status: u8) -> bool
 }
 
 /// Says how a run ended that didn't end well.
-fn write_ending<E: Write>(ending: Ending, status: u8, steps: u32, errors: &mut E) -> bool
-    ensures { MatchBool result (Appends (E.contents errors.old) (E.contents errors.new) (ended_so ending status steps))
-        (AppendsPart (E.contents errors.old) (E.contents errors.new) (ended_so ending status steps)) }
+fn write_ending<E: Write>(
+    ending: Ending,
+    place: &Option<StartedName>,
+    status: u8,
+    steps: u32,
+    errors: &mut E,
+) -> bool
+    ensures { MatchBool result
+        (Appends (E.contents errors.old) (E.contents errors.new) (ended_so ending place.now status steps))
+        (AppendsPart (E.contents errors.old) (E.contents errors.new) (ended_so ending place.now status steps)) }
 {
     match ending {
         Ending::Finished | Ending::Exited => write_own_ending(ending.name(), status, steps, errors),
         Ending::Memory => write_text(errors, OUT_OF_MEMORY),
         Ending::Steps | Ending::Depth | Ending::Word | Ending::Output => {
-            write_limit(ending.name(), steps, errors)
+            write_limit(ending.name(), place, steps, errors)
         }
     }
 }
@@ -99,20 +112,41 @@ fn write_own_ending<E: Write>(name: &[u8], status: u8, steps: u32, errors: &mut 
     )
 }
 
-/// Says at which limit a run was stopped.
-fn write_limit<E: Write>(name: &[u8], steps: u32, errors: &mut E) -> bool
-    ensures { MatchBool result (Appends (E.contents errors.old) (E.contents errors.new) (ended_by_limit name.now steps))
-        (AppendsPart (E.contents errors.old) (E.contents errors.new) (ended_by_limit name.now steps)) }
+/// Says at which limit a run was stopped, and in which variable's text.
+fn write_limit<E: Write>(
+    name: &[u8],
+    place: &Option<StartedName>,
+    steps: u32,
+    errors: &mut E,
+) -> bool
+    ensures { MatchBool result
+        (Appends (E.contents errors.old) (E.contents errors.new) (ended_by_limit name.now place.now steps))
+        (AppendsPart (E.contents errors.old) (E.contents errors.new) (ended_by_limit name.now place.now steps)) }
 {
     let mut digits = Buffer::new();
-    write_parts(
-        errors,
-        &[
-            b"fwenv: run ended as ",
-            name,
-            b" after ",
-            digits.format(steps).as_bytes(),
-            b" steps\n",
-        ],
-    )
+    let steps = digits.format(steps).as_bytes();
+    match place {
+        None => write_parts(
+            errors,
+            &[
+                b"fwenv: run ended as ",
+                name,
+                b" after ",
+                steps,
+                b" steps\n",
+            ],
+        ),
+        Some(variable) => write_parts(
+            errors,
+            &[
+                b"fwenv: run ended as ",
+                name,
+                b" in \"",
+                variable.as_bytes(),
+                b"\" after ",
+                steps,
+                b" steps\n",
+            ],
+        ),
+    }
 }

@@ -154,9 +154,9 @@ either_small : (b : Bool) (x y : Texts) → x.status ≤ 1 → y.status ≤ 1 �
 either_small true x y p q = p
 either_small false x y p q = q
 
-texts_small : (e : Ending) (status steps : ℕ) (text : List ℕ) → (run_texts e status steps text).status ≤ 1
-texts_small e status steps text =
-    either_small (is_well e status) (record { output = text; errors = []; status = 0 }) (record { output = text; errors = ended_so e status steps; status = 1 }) (omega arith) (omega arith)
+texts_small : (e : Ending) (place : Option (List ℕ)) (status steps : ℕ) (text : List ℕ) → (run_texts e place status steps text).status ≤ 1
+texts_small e place status steps text =
+    either_small (is_well e status) (record { output = text; errors = []; status = 0 }) (record { output = text; errors = ended_so e place status steps; status = 1 }) (omega arith) (omega arith)
 
 run_closes_small : (kept : Bool) (end : ToolEnd) (old new : Option (List ℕ)) (status : ℕ) → end.status ≤ 1 → ClosesRun kept end old new status → status ≤ 1
 run_closes_small true end old new status small (inl failed) = omega (arith, failed.1)
@@ -168,7 +168,7 @@ script_run_small run session old new status (inl stopped) = omega (arith, stoppe
 script_run_small run session old new status (inr (stand_ins, text, stand, is, inl refused)) = omega (arith, refused.2)
 script_run_small run session old new status (inr (stand_ins, text, stand, is, inr (tree, reads, r))) =
     run_closes_small (ScriptRuns.is_kept run.dry.write r.2.status) r.2 r.1 new.errors status
-    (run_small r.2.fault r.2.status old (record { output = new.output; errors = r.1 }) (outcome_texts r.3.0) (texts_small r.3.0.ending r.3.0.status r.3.0.steps r.3.0.text.items) r.3.2) r.4
+    (run_small r.2.fault r.2.status old (record { output = new.output; errors = r.1 }) (outcome_texts r.3.0 r.3.1) (texts_small r.3.0.ending r.3.1 r.3.0.status r.3.0.steps r.3.0.text.items) r.3.4) r.4
 
 job_small : (job : Job) (session : Held) (old new : Streams) (status : ℕ) → DoesJob job session old new status → status ≤ 1
 job_small (Tool task) session old new status (unread, uses) = tool_small task session _ _ status uses

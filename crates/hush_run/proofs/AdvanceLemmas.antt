@@ -1,5 +1,5 @@
 -- Steps one behind the other.
-use Rattle.std.proofs.Common.{◌≡◌, ℕ, suc, ◌+◌, ◌-◌, ◌≤◌, Bool, true, false, if◌then◌else◌, List, [], ◌∷◌, length, Option, Some, None, Result, Ok, Err, refl, sym, ap, subst, ◌∙◌, arith, is_some, IfOk}
+use Rattle.std.proofs.Common.{◌≡◌, ℕ, suc, ◌+◌, ◌-◌, ◌≤◌, Bool, true, false, if◌then◌else◌, List, [], ◌∷◌, length, get_or, drop, Option, Some, None, Result, Ok, Err, refl, sym, ap, subst, ◌∙◌, arith, is_some, IfOk}
 use Rattle.hush_syntax.specs.declared.nodes.NodeId.{NodeId}
 use Rattle.hush_syntax.specs.Scripts.{Parsed, tree_of, subtree_at, RootIs}
 use Rattle.hush_syntax.specs.Nodes.{Subtree, OfChains, OfCommand}
@@ -11,24 +11,29 @@ use Rattle.hush_run.specs.declared.due.Due.{Due}
 use Rattle.hush_run.specs.declared.due.Due.TheVariants as due
 use Rattle.hush_run.specs.declared.ending.Ending.{Ending}
 use Rattle.hush_run.specs.Runs.{reason_of}
-use Rattle.hush_run.specs.Meaning.{Rules, Reason, Begin, State, Out, Goes, ◌>>=◌, ◌then◌, with_status, if_ok, in_turn, bindings, deletions, ended, script, chains, start, run_from, within}
-use Rattle.hush_run.specs.Resume.{begin_in, at_in, behind, levels, resume, subtree_does, room, at_command, of_for, Leads}
+use Rattle.hush_run.specs.Meaning.Reason.{Steps}
+use Rattle.hush_run.specs.Meaning.{Rules, Reason, Begin, State, Out, Goes, ◌>>=◌, ◌then◌, with_status, if_ok, in_turn, bindings, deletions, ended, script, in_text, chains, start, run_from, within}
+use Rattle.hush_run.specs.Resume.{begin_in, at_in, behind, levels, place_of, resume, subtree_does, room, at_command, of_for, Leads}
 use Rattle.hush_run.specs.Turns.{IsDue, IsPart, due_does, due_room}
 use Rattle.hush_run.specs.Rises.{IsLeft}
 use Rattle.hush_run.specs.Steps.{Did, NotDone, Started, NotStarted}
-use Rattle.hush_run.specs.Advances.{IsReady, Advances, EndsSo, Ran, due_left}
+use Rattle.hush_run.specs.Advances.{IsReady, Advances, EndsAt, EndsSo, Ran, due_left}
 use Rattle.hush_run.specs.Stacks.{script_frames, frame_limit}
-use Rattle.hush_run.proofs.Parts.{bind_goes, bind_assoc}
+use Rattle.hush_run.proofs.PlaceLemmas.{ends_at}
 use Rattle.hush_run.proofs.Descends.{stack-frame}
 use Rattle.hush_run.proofs.Halting.{due-halts, chains-halt}
 
+-- what is left ends as what is left later
+ended_alike : (o p : Out) (e : Reason) (t : State) (place : Option (List ℕ)) → o ≡ p → EndsAt p e t place → EndsAt o e t place
+ended_alike o p e t place same = subst (λ (x : Out). EndsAt x e t place) (sym same)
+
 -- with no step left the state stays
 halted : (rules : Rules) (calls : List Parsed) (old : List Frame) (d : Due) (s : State) → IsDue (at_in calls) d → IsPart d → (ended (due_left (within s.steps rules) calls old d s)).1 ≡ s
-halted rules calls old d s is part = ap (λ (o : Out). (ended (o >>= resume (within s.steps rules) calls old)).1) (due-halts (within s.steps rules) (levels (within s.steps rules) calls) (at_in calls) d is part s (omega arith))
+halted rules calls old d s is part = ap (λ (x : Reason × State). x.1) (ends_at (within s.steps rules) calls old _ Steps s (due-halts (within s.steps rules) (levels (within s.steps rules) calls) (at_in calls) d is part s (omega arith))).0
 
 -- a step that stops
-pub stopped : (rules : Rules) (calls : List Parsed) (old : List Frame) (d : Due) (s t : State) (o : Option Reason) → IsDue (at_in calls) d → IsPart d → NotDone rules (λ r begin. due_does r begin (at_in calls) d) s t o → EndsSo rules calls old d s t o
-stopped rules calls old d s t (Some e) is part did = ap (λ (o : Out). ended (o >>= resume rules calls old)) (did (begin_in rules calls))
+pub stopped : (rules : Rules) (calls : List Parsed) (old : List Frame) (d : Due) (s t : State) (o : Option Reason) → IsDue (at_in calls) d → IsPart d → NotDone rules (λ r begin. due_does r begin (at_in calls) d) s t o → EndsSo rules calls old d s old t o
+stopped rules calls old d s t (Some e) is part did = ends_at rules calls old _ e t (did (begin_in rules calls))
 stopped rules calls old d s t None is part did = (ap (λ (x : State). x.steps) did, halted rules calls old d s is part ∙ sym did)
 
 -- a node
@@ -40,11 +45,11 @@ module _ (rules : Rules) (top : Parsed) (rest : List Parsed) (old new : List Fra
         record { stack = m.0; is_due = is; some = ready.some; calls_fit = ready.calls_fit; frames_fit = omega (arith, m.1, fits); capacity_fits = same ∙ ready.capacity_fits },
         λ n more.
             down.2 (within n rules) rest s (omega (arith, more))
-            ∙ ap (λ (o : Out). o >>= resume (within n rules) (top ∷ rest) new) (did.1 n (begin_in (within n rules) (top ∷ rest)) more),
+            ∙ ap (λ (o : Out). resume (within n rules) (top ∷ rest) new o) (did.1 n (begin_in (within n rules) (top ∷ rest)) more),
       )
 
-  node-stops : (o : Option Reason) → NotDone rules (λ r begin. subtree_does r begin (subtree_at top node)) s t o → EndsSo rules (top ∷ rest) old (due.Node id) s t o
-  node-stops (Some e) did = ap ended (down.2 rules rest s le ∙ ap (λ (o : Out). o >>= resume rules (top ∷ rest) new) (did (begin_in rules (top ∷ rest))))
+  node-stops : (o : Option Reason) → NotDone rules (λ r begin. subtree_does r begin (subtree_at top node)) s t o → EndsSo rules (top ∷ rest) old (due.Node id) s new t o
+  node-stops (Some e) did = ended_alike _ _ e t (place_of new) (down.2 rules rest s le) (ends_at rules (top ∷ rest) new _ e t (did (begin_in rules (top ∷ rest))))
   node-stops None did = (ap (λ (x : State). x.steps) did, halted rules (top ∷ rest) old (due.Node id) s ready.is_due tt ∙ sym did)
 
 pub node_advances : (rules : Rules) (calls : List Parsed) (top : Parsed) (old new : List Frame) (capacity after : ℕ) (id node : NodeId) (s t : State) (result : Result Due Ending) → calls ≡ top ∷ behind calls → IsReady rules calls old capacity (due.Node id) → s.steps ≤ rules.limits.steps → after ≡ capacity → Leads top old new id node → Did rules (λ r begin. subtree_does r begin (subtree_at top node)) (λ d r begin. due_does r begin (subtree_at top) d) s t result → IfOk result (λ (d : Due). IsDue (subtree_at top) d × (due_room (subtree_at top) d ≤ room (subtree_at top node))) → Advances rules calls old (due.Node id) s calls new after t result
@@ -62,25 +67,25 @@ delete_goes rules calls old capacity force failed again name names left next s t
   did.0,
   record { stack = ready.stack; is_due = isdue; some = ready.some; calls_fit = ready.calls_fit; frames_fit = omega (arith, ready.frames_fit, none); capacity_fits = ready.capacity_fits },
   λ n more.
-      ap (λ (ns : List (List ℕ)). deletions (within n rules) force failed ns s >>= resume (within n rules) calls old) is
-      ∙ ap (λ (o : Out). o >>= resume (within n rules) calls old) (did.1 n (begin_in (within n rules) calls) more ∙ same (within n rules) (begin_in (within n rules) calls) t),
+      ap (λ (ns : List (List ℕ)). resume (within n rules) calls old (deletions (within n rules) force failed ns s)) is
+      ∙ ap (λ (o : Out). resume (within n rules) calls old o) (did.1 n (begin_in (within n rules) calls) more ∙ same (within n rules) (begin_in (within n rules) calls) t),
 )
 
 pub delete_over : (r : Rules) (force again : Bool) (left : List (List ℕ)) (u : State) → length left ≡ 0 → deletions r force again left u ≡ Goes u
 delete_over r force again [] u e = refl
 delete_over r force again (n ∷ ns) u e = absurd (omega (arith, e))
 
-pub delete_stops_so : (rules : Rules) (calls : List Parsed) (old : List Frame) (force failed : Bool) (name : List ℕ) (names left : List (List ℕ)) (s t : State) (o : Option Reason) → names ≡ name ∷ left → IsDue (at_in calls) (due.Delete force failed names) → NotDone rules (λ r begin. deletions r force failed (name ∷ left)) s t o → EndsSo rules calls old (due.Delete force failed names) s t o
+pub delete_stops_so : (rules : Rules) (calls : List Parsed) (old : List Frame) (force failed : Bool) (name : List ℕ) (names left : List (List ℕ)) (s t : State) (o : Option Reason) → names ≡ name ∷ left → IsDue (at_in calls) (due.Delete force failed names) → NotDone rules (λ r begin. deletions r force failed (name ∷ left)) s t o → EndsSo rules calls old (due.Delete force failed names) s old t o
 delete_stops_so rules calls old force failed name names left s t o is isdue did =
     stopped rules calls old (due.Delete force failed names) s t o isdue tt (subst (λ (ns : List (List ℕ)). NotDone rules (λ r begin. deletions r force failed ns) s t o) (sym is) did)
 
 -- a binding
 module _ (rules : Rules) (top : Parsed) (rest : List Parsed) (old : List Frame) (capacity : ℕ) (node body : NodeId) (name field : List ℕ) (words fields left : List (List ℕ)) (ws : List (List Atom)) (d : Chains) (s t : State) (e : subtree_at top node ≡ Some (OfCommand (For name ws d))) (eb : subtree_at top body ≡ Some (OfChains d)) (is : fields ≡ field ∷ left) (ready : IsReady rules (top ∷ rest) old capacity (due.Binding node fields)) where
   -- what is left before it
-  first : (r : Rules) → due_left r (top ∷ rest) old (due.Binding node fields) s ≡ (bindings r name (chains r (begin_in r (top ∷ rest)) d) (field ∷ left) s >>= resume r (top ∷ rest) old)
+  first : (r : Rules) → due_left r (top ∷ rest) old (due.Binding node fields) s ≡ resume r (top ∷ rest) old (bindings r name (chains r (begin_in r (top ∷ rest)) d) (field ∷ left) s)
   first r =
-      ap (λ (o : Option Subtree). at_command Goes (of_for r (begin_in r (top ∷ rest)) fields) o s >>= resume r (top ∷ rest) old) e
-      ∙ ap (λ (xs : List (List ℕ)). bindings r name (chains r (begin_in r (top ∷ rest)) d) xs s >>= resume r (top ∷ rest) old) is
+      ap (λ (o : Option Subtree). resume r (top ∷ rest) old (at_command Goes (of_for r (begin_in r (top ∷ rest)) fields) o s)) e
+      ∙ ap (λ (xs : List (List ℕ)). resume r (top ∷ rest) old (bindings r name (chains r (begin_in r (top ∷ rest)) d) xs s)) is
 
   pub bound_goes : Did rules (λ r begin. bindings r name (chains r begin d) (field ∷ left)) (λ bound r begin. if bound then (chains r begin d then bindings r name (chains r begin d) left) else Goes) s t (Ok true) → Advances rules (top ∷ rest) old (due.Binding node fields) s (top ∷ rest) (frame.Bindings node left ∷ old) capacity t (Ok (due.Node body))
   bound_goes did = (
@@ -88,21 +93,20 @@ module _ (rules : Rules) (top : Parsed) (rest : List Parsed) (old : List Frame) 
     record { stack = stack-frame (top ∷ rest) (frame.Bindings node left) old refl (omega arith) (ap (λ (o : Option Subtree). is_some o) e) ready.frames_fit ready.stack; is_due = ap (λ (o : Option Subtree). is_some o) eb; some = ready.some; calls_fit = ready.calls_fit; frames_fit = omega (arith, ready.frames_fit, ap room e, ap room eb); capacity_fits = ready.capacity_fits },
     λ n more.
         first (within n rules)
-        ∙ ap (λ (o : Out). o >>= resume (within n rules) (top ∷ rest) old) (did.1 n (begin_in (within n rules) (top ∷ rest)) more)
-        ∙ bind_assoc (chains (within n rules) (begin_in (within n rules) (top ∷ rest)) d t) (bindings (within n rules) name (chains (within n rules) (begin_in (within n rules) (top ∷ rest)) d) left) (resume (within n rules) (top ∷ rest) old)
-        ∙ ap (λ (o : Option Subtree). chains (within n rules) (begin_in (within n rules) (top ∷ rest)) d t >>= (at_command Goes (of_for (within n rules) (begin_in (within n rules) (top ∷ rest)) left) o then resume (within n rules) (top ∷ rest) old)) (sym e)
-        ∙ ap (λ (o : Option Subtree). subtree_does (within n rules) (begin_in (within n rules) (top ∷ rest)) o t >>= resume (within n rules) (top ∷ rest) (frame.Bindings node left ∷ old)) (sym eb),
+        ∙ ap (λ (o : Out). resume (within n rules) (top ∷ rest) old o) (did.1 n (begin_in (within n rules) (top ∷ rest)) more)
+        ∙ ap (λ (o : Option Subtree). resume (within n rules) (top ∷ rest) old (chains (within n rules) (begin_in (within n rules) (top ∷ rest)) d t >>= at_command Goes (of_for (within n rules) (begin_in (within n rules) (top ∷ rest)) left) o)) (sym e)
+        ∙ ap (λ (o : Option Subtree). resume (within n rules) (top ∷ rest) (frame.Bindings node left ∷ old) (subtree_does (within n rules) (begin_in (within n rules) (top ∷ rest)) o t)) (sym eb),
   )
 
   pub bound_not : Did rules (λ r begin. bindings r name (chains r begin d) (field ∷ left)) (λ bound r begin. if bound then (chains r begin d then bindings r name (chains r begin d) left) else Goes) s t (Ok false) → Advances rules (top ∷ rest) old (due.Binding node fields) s (top ∷ rest) old capacity t (Ok due.Over)
   bound_not did = (
     did.0,
     record { stack = ready.stack; is_due = tt; some = ready.some; calls_fit = ready.calls_fit; frames_fit = omega (arith, ready.frames_fit); capacity_fits = ready.capacity_fits },
-    λ n more. first (within n rules) ∙ ap (λ (o : Out). o >>= resume (within n rules) (top ∷ rest) old) (did.1 n (begin_in (within n rules) (top ∷ rest)) more),
+    λ n more. first (within n rules) ∙ ap (λ (o : Out). resume (within n rules) (top ∷ rest) old o) (did.1 n (begin_in (within n rules) (top ∷ rest)) more),
   )
 
-  pub bound_stops : (o : Option Reason) → NotDone rules (λ r begin. bindings r name (chains r begin d) (field ∷ left)) s t o → EndsSo rules (top ∷ rest) old (due.Binding node fields) s t o
-  bound_stops (Some x) did = ap ended (first rules ∙ ap (λ (o : Out). o >>= resume rules (top ∷ rest) old) (did (begin_in rules (top ∷ rest))))
+  pub bound_stops : (o : Option Reason) → NotDone rules (λ r begin. bindings r name (chains r begin d) (field ∷ left)) s t o → EndsSo rules (top ∷ rest) old (due.Binding node fields) s old t o
+  bound_stops (Some x) did = ended_alike _ _ x t (place_of old) (first rules) (ends_at rules (top ∷ rest) old _ x t (did (begin_in rules (top ∷ rest))))
   bound_stops None did = (ap (λ (x : State). x.steps) did, halted rules (top ∷ rest) old (due.Binding node fields) s ready.is_due tt ∙ sym did)
 
 -- a start
@@ -111,10 +115,10 @@ levels_are rules [] some = absurd (omega (arith, some))
 levels_are rules (p ∷ ps) some = omega arith
 
 module _ (rules : Rules) (calls : List Parsed) (old : List Frame) (capacity : ℕ) (name : List ℕ) (names left : List (List ℕ)) (s t : State) (is : names ≡ name ∷ left) (ready : IsReady rules calls old capacity (due.Start names)) where
-  first_start : (n : ℕ) → due_left (within n rules) calls old (due.Start names) s ≡ (start (within n rules) (rules.limits.depth + 1 - length calls) name s >>= if_ok (in_turn (begin_in (within n rules) calls) left) Goes >>= resume (within n rules) calls old)
+  first_start : (n : ℕ) → due_left (within n rules) calls old (due.Start names) s ≡ resume (within n rules) calls old (start (within n rules) (rules.limits.depth + 1 - length calls) name s >>= if_ok (in_turn (begin_in (within n rules) calls) left) Goes)
   first_start n =
-      ap (λ (ns : List (List ℕ)). in_turn (begin_in (within n rules) calls) ns s >>= resume (within n rules) calls old) is
-      ∙ ap (λ (k : ℕ). start (within n rules) k name s >>= if_ok (in_turn (begin_in (within n rules) calls) left) Goes >>= resume (within n rules) calls old) (sym (levels_are rules calls ready.some))
+      ap (λ (ns : List (List ℕ)). resume (within n rules) calls old (in_turn (begin_in (within n rules) calls) ns s)) is
+      ∙ ap (λ (k : ℕ). resume (within n rules) calls old (start (within n rules) k name s >>= if_ok (in_turn (begin_in (within n rules) calls) left) Goes)) (sym (levels_are rules calls ready.some))
 
   pub not_started : Started rules (rules.limits.depth + 1 - length calls) name s t (Ok None) → Advances rules calls old (due.Start names) s calls old capacity t (Ok due.Over)
   not_started b = (
@@ -122,42 +126,42 @@ module _ (rules : Rules) (calls : List Parsed) (old : List Frame) (capacity : �
     record { stack = ready.stack; is_due = tt; some = ready.some; calls_fit = ready.calls_fit; frames_fit = omega (arith, ready.frames_fit); capacity_fits = ready.capacity_fits },
     λ n le.
         first_start n
-        ∙ ap (λ (o : Out). o >>= if_ok (in_turn (begin_in (within n rules) calls) left) Goes >>= resume (within n rules) calls old) (b.2 n le)
-        ∙ ap (λ (c : Bool). (if c then in_turn (begin_in (within n rules) calls) left t else Goes t) >>= resume (within n rules) calls old) b.1,
+        ∙ ap (λ (o : Out). resume (within n rules) calls old (o >>= if_ok (in_turn (begin_in (within n rules) calls) left) Goes)) (b.2 n le)
+        ∙ ap (λ (c : Bool). resume (within n rules) calls old (if c then in_turn (begin_in (within n rules) calls) left t else Goes t)) b.1,
   )
 
-  ready_on : (p : Parsed) (below : ℕ) (next : Due) → rules.limits.depth + 1 - length calls ≡ suc below → IsDue (subtree_at p) next → due_room (subtree_at p) next ≤ script_frames → IsReady rules (p ∷ calls) (frame.Started left ∷ old) capacity next
+  ready_on : (p : Parsed) (below : ℕ) (next : Due) → rules.limits.depth + 1 - length calls ≡ suc below → IsDue (subtree_at p) next → due_room (subtree_at p) next ≤ script_frames → IsReady rules (p ∷ calls) (frame.Started names ∷ old) capacity next
   ready_on p below next opens isdue fits = record { stack = (ready.some, tt, ready.frames_fit, ready.stack); is_due = isdue; some = omega arith; calls_fit = omega (arith, opens); frames_fit = omega (arith, ready.frames_fit, fits); capacity_fits = ready.capacity_fits }
 
   below_is : (n below : ℕ) (p : Parsed) → rules.limits.depth + 1 - length calls ≡ suc below → levels (within n rules) (p ∷ calls) ≡ below
   below_is n below p opens = omega (arith, opens, ready.some)
 
-  started_left : (n : ℕ) (p : Parsed) → suc s.steps ≤ n → (b : Started rules (rules.limits.depth + 1 - length calls) name s t (Ok (Some p))) → due_left (within n rules) calls old (due.Start names) s ≡ (script (within n rules) (begin_in (within n rules) (p ∷ calls)) (tree_of p) t >>= resume (within n rules) (p ∷ calls) (frame.Started left ∷ old))
+  started_left : (n : ℕ) (p : Parsed) → suc s.steps ≤ n → (b : Started rules (rules.limits.depth + 1 - length calls) name s t (Ok (Some p))) → due_left (within n rules) calls old (due.Start names) s ≡ resume (within n rules) (p ∷ calls) (frame.Started names ∷ old) (script (within n rules) (begin_in (within n rules) (p ∷ calls)) (tree_of p) t)
   started_left n p le b =
       first_start n
-      ∙ ap (λ (o : Out). o >>= if_ok (in_turn (begin_in (within n rules) calls) left) Goes >>= resume (within n rules) calls old) (b.3 n le)
-      ∙ bind_assoc (script (within n rules) (start (within n rules) b.1) (tree_of p) t) (if_ok (in_turn (begin_in (within n rules) calls) left) Goes) (resume (within n rules) calls old)
-      ∙ ap (λ (k : ℕ). script (within n rules) (start (within n rules) k) (tree_of p) t >>= (if_ok (in_turn (begin_in (within n rules) calls) left) Goes then resume (within n rules) calls old)) (sym (below_is n b.1 p b.2))
+      ∙ ap (λ (o : Out). resume (within n rules) calls old (o >>= if_ok (in_turn (begin_in (within n rules) calls) left) Goes)) (b.3 n le)
+      ∙ ap (λ (k : ℕ). resume (within n rules) calls old (in_text name (script (within n rules) (start (within n rules) k) (tree_of p) t) >>= if_ok (in_turn (begin_in (within n rules) calls) left) Goes)) (sym (below_is n b.1 p b.2))
+      ∙ ap (λ (ns : List (List ℕ)). resume (within n rules) calls old (in_text (get_or ns 0 []) (script (within n rules) (begin_in (within n rules) (p ∷ calls)) (tree_of p) t) >>= if_ok (in_turn (begin_in (within n rules) calls) (drop 1 ns)) Goes)) (sym is)
 
-  pub started_empty : (p : Parsed) → Started rules (rules.limits.depth + 1 - length calls) name s t (Ok (Some p)) → RootIs p None → Advances rules calls old (due.Start names) s (p ∷ calls) (frame.Started left ∷ old) capacity t (Ok due.Over)
+  pub started_empty : (p : Parsed) → Started rules (rules.limits.depth + 1 - length calls) name s t (Ok (Some p)) → RootIs p None → Advances rules calls old (due.Start names) s (p ∷ calls) (frame.Started names ∷ old) capacity t (Ok due.Over)
   started_empty p b none = (
     b.0,
     ready_on p b.1 due.Over b.2 tt (omega arith),
-    λ n le. started_left n p le b ∙ ap (λ (o : Option Chains). script (within n rules) (begin_in (within n rules) (p ∷ calls)) o t >>= resume (within n rules) (p ∷ calls) (frame.Started left ∷ old)) none,
+    λ n le. started_left n p le b ∙ ap (λ (o : Option Chains). resume (within n rules) (p ∷ calls) (frame.Started names ∷ old) (script (within n rules) (begin_in (within n rules) (p ∷ calls)) o t)) none,
   )
 
-  pub started_root : (p : Parsed) (root : NodeId) → Started rules (rules.limits.depth + 1 - length calls) name s t (Ok (Some p)) → RootIs p (Some root) → Advances rules calls old (due.Start names) s (p ∷ calls) (frame.Started left ∷ old) capacity t (Ok (due.Node root))
+  pub started_root : (p : Parsed) (root : NodeId) → Started rules (rules.limits.depth + 1 - length calls) name s t (Ok (Some p)) → RootIs p (Some root) → Advances rules calls old (due.Start names) s (p ∷ calls) (frame.Started names ∷ old) capacity t (Ok (due.Node root))
   started_root p root b r = (
     b.0,
     ready_on p b.1 (due.Node root) b.2 (ap (λ (o : Option Subtree). is_some o) r.1) (omega (arith, ap room r.1, r.3)),
     λ n le.
         started_left n p le b
-        ∙ ap (λ (o : Option Chains). script (within n rules) (begin_in (within n rules) (p ∷ calls)) o t >>= resume (within n rules) (p ∷ calls) (frame.Started left ∷ old)) r.2
-        ∙ ap (λ (o : Option Subtree). subtree_does (within n rules) (begin_in (within n rules) (p ∷ calls)) o t >>= resume (within n rules) (p ∷ calls) (frame.Started left ∷ old)) (sym r.1),
+        ∙ ap (λ (o : Option Chains). resume (within n rules) (p ∷ calls) (frame.Started names ∷ old) (script (within n rules) (begin_in (within n rules) (p ∷ calls)) o t)) r.2
+        ∙ ap (λ (o : Option Subtree). resume (within n rules) (p ∷ calls) (frame.Started names ∷ old) (subtree_does (within n rules) (begin_in (within n rules) (p ∷ calls)) o t)) (sym r.1),
   )
 
-  pub start_stops : (o : Option Reason) → NotStarted rules (rules.limits.depth + 1 - length calls) name s t o → EndsSo rules calls old (due.Start names) s t o
-  start_stops (Some x) b = ap ended (first_start rules.limits.steps ∙ ap (λ (o : Out). o >>= if_ok (in_turn (begin_in rules calls) left) Goes >>= resume rules calls old) b)
+  pub start_stops : (o : Option Reason) → NotStarted rules (rules.limits.depth + 1 - length calls) name s t o → EndsSo rules calls old (due.Start names) s old t o
+  start_stops (Some x) b = ended_alike _ _ x t (place_of old) (first_start rules.limits.steps) (ends_at rules calls old _ x t (ap (λ (o : Out). o >>= if_ok (in_turn (begin_in rules calls) left) Goes) b))
   start_stops None b = (ap (λ (x : State). x.steps) b.0, halted rules calls old (due.Start names) s ready.is_due tt ∙ sym b.0)
 
 -- what is due where something is over, and its step
@@ -165,19 +169,19 @@ pub rise_then : (rules : Rules) (calls calls1 calls2 : List Parsed) (old frames1
 rise_then rules calls calls1 calls2 old frames1 new status1 capacity due1 s t (Ok d) le l a = (a.0, a.1, λ n h. l.5 (within n rules) s (omega (arith, h)) ∙ a.2 n h)
 rise_then rules calls calls1 calls2 old frames1 new status1 capacity due1 s t (Err x) le l a = so (reason_of x) a
   where
-    so : (o : Option Reason) → EndsSo rules calls1 frames1 due1 (with_status status1 s) t o → EndsSo rules calls old due.Over s t o
-    so (Some e) h = ap ended (l.5 rules s le) ∙ h
+    so : (o : Option Reason) → EndsSo rules calls1 frames1 due1 (with_status status1 s) new t o → EndsSo rules calls old due.Over s new t o
+    so (Some e) h = ended_alike _ _ e t (place_of new) (l.5 rules s le) h
     so None h = (h.0, ap (λ (o : Out). (ended o).1) (l.5 (within s.steps rules) s (omega arith)) ∙ h.1)
 
 -- the run from a state is what is due, and the frames behind it
 abbrev pub Same : Rules → Option Chains → State → List Parsed → List Frame → Due → State → Type 0
 Same rules tree s calls frames d now = (n : ℕ) → now.steps ≤ n → script (within n rules) (start (within n rules) rules.limits.depth) tree s ≡ due_left (within n rules) calls frames d now
 
-pub same_ends : (rules : Rules) (tree : Option Chains) (s now t : State) (calls after : List Parsed) (frames new : List Frame) (capacity : ℕ) (d : Due) (e : Ending) → now.steps ≤ rules.limits.steps → Same rules tree s calls frames d now → Advances rules calls frames d now after new capacity t (Err e) → Ran rules tree s t (reason_of e)
+pub same_ends : (rules : Rules) (tree : Option Chains) (s now t : State) (calls after : List Parsed) (frames new : List Frame) (capacity : ℕ) (d : Due) (e : Ending) → now.steps ≤ rules.limits.steps → Same rules tree s calls frames d now → Advances rules calls frames d now after new capacity t (Err e) → Ran rules tree s t (place_of new) (reason_of e)
 same_ends rules tree s now t calls after frames new capacity d e le same a = so (reason_of e) a
   where
-    so : (o : Option Reason) → EndsSo rules calls frames d now t o → Ran rules tree s t o
-    so (Some r) h = ap ended (same rules.limits.steps le) ∙ h
+    so : (o : Option Reason) → EndsSo rules calls frames d now new t o → Ran rules tree s t (place_of new) o
+    so (Some r) h = ended_alike _ _ r t (place_of new) (same rules.limits.steps le) h
     so None h = (omega (arith, h.0, le), ap (λ (n : ℕ). (run_from (within n rules) tree s).1) h.0 ∙ ap (λ (o : Out). (ended o).1) (same now.steps (omega arith)) ∙ h.1)
 
 pub same_on : (rules : Rules) (tree : Option Chains) (s now t : State) (calls after : List Parsed) (frames new : List Frame) (capacity : ℕ) (d next : Due) → Same rules tree s calls frames d now → Advances rules calls frames d now after new capacity t (Ok next) → Same rules tree s after new next t
@@ -188,7 +192,6 @@ same_root rules p root s r n le =
     ap (λ (o : Option Chains). script (within n rules) (start (within n rules) rules.limits.depth) o s) r.2
     ∙ ap (λ (k : ℕ). chains (within n rules) (start (within n rules) k) r.0 s) (let e : rules.limits.depth ≡ rules.limits.depth - 0 = omega arith in e)
     ∙ ap (λ (o : Option Subtree). subtree_does (within n rules) (begin_in (within n rules) (p ∷ [])) o s) (sym r.1)
-    ∙ sym (bind_goes (subtree_does (within n rules) (begin_in (within n rules) (p ∷ [])) (subtree_at p root) s))
 
 pub same_empty : (rules : Rules) (p : Parsed) (s : State) → RootIs p None → Same rules (tree_of p) s (p ∷ []) [] due.Over s
 same_empty rules p s r n le = ap (λ (o : Option Chains). script (within n rules) (start (within n rules) rules.limits.depth) o s) r
@@ -200,6 +203,6 @@ pub ready_empty : (rules : Rules) (p : Parsed) → IsReady rules (p ∷ []) [] (
 ready_empty rules p = record { stack = tt; is_due = tt; some = omega arith; calls_fit = omega arith; frames_fit = omega arith; capacity_fits = refl }
 
 -- before the first step
-pub none_counted : (rules : Rules) (tree : Option Chains) (s : State) → s.steps ≤ rules.limits.steps → Ran rules tree s s None
-none_counted rules None s le = (le, refl)
-none_counted rules (Some cs) s le = (le, ap (λ (o : Out). (ended o).1) (chains-halt (within s.steps rules) (start (within s.steps rules) rules.limits.depth) cs s (omega arith)))
+pub none_counted : (rules : Rules) (tree : Option Chains) (s : State) (place : Option (List ℕ)) → s.steps ≤ rules.limits.steps → Ran rules tree s s place None
+none_counted rules None s place le = (le, refl)
+none_counted rules (Some cs) s place le = (le, ap (λ (o : Out). (ended o).1) (chains-halt (within s.steps rules) (start (within s.steps rules) rules.limits.depth) cs s (omega arith)))

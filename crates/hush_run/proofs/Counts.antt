@@ -9,21 +9,21 @@ use Rattle.hush_commands.specs.declared.follow.Follow.TheVariants as follow
 use Rattle.hush_commands.specs.Following.{follow_of}
 use Rattle.hush_commands.specs.declared.messages.Message.TheVariants.{NotDefined}
 use Rattle.hush_syntax.specs.Reading.{read}
-use Rattle.hush_run.specs.Meaning.{Rules, Begin, State, Out, Goes, Ends, ◌>>=◌, ◌then◌, Effect, Does, Exits, Stops, done, step, with_status, goes_on, turns, if_ok, in_turn, deletions, follows, simple, bindings, for, joins, has_variable, fields_of, effect, fails, command, otherwise, chain, linked, chains, script, start, looked_up, entered}
+use Rattle.hush_run.specs.Meaning.{Rules, Begin, State, Out, Goes, Ends, ◌>>=◌, ◌then◌, Effect, Does, Exits, Stops, done, step, with_status, goes_on, turns, if_ok, in_turn, deletions, follows, simple, bindings, for, joins, has_variable, fields_of, effect, fails, command, otherwise, chain, linked, chains, script, start, looked_up, in_text, entered}
 use Rattle.hush_run.specs.Resume.{looks}
 
 pub within_bind : (low next high : ℕ) (o : Out) (f : State → Out) → Within low high o → ((t : State) → low ≤ t.steps → t.steps ≤ high → Within next high (f t)) → Within next high (o >>= f)
 within_bind low next high (Goes t) f w h = h t w.0 w.1
-within_bind low next high (Ends e t) f w h = tt
+within_bind low next high (Ends e p t) f w h = tt
 
 pub within_less : (low low' high : ℕ) (o : Out) → low' ≤ low → Within low high o → Within low' high o
 within_less low low' high (Goes t) le w = (omega (arith, w.0), w.1)
-within_less low low' high (Ends e t) le w = tt
+within_less low low' high (Ends e p t) le w = tt
 
 -- two ways to go on that agree at each state to which it may come
 bind_same : (low high : ℕ) (o : Out) (f g : State → Out) → Within low high o → ((t : State) → low ≤ t.steps → t.steps ≤ high → f t ≡ g t) → (o >>= f) ≡ (o >>= g)
 bind_same low high (Goes t) f g w h = h t w.0 w.1
-bind_same low high (Ends e t) f g w h = refl
+bind_same low high (Ends e p t) f g w h = refl
 
 pub keeps : (rules : Rules) (p : State → Out) → Counts rules p → Keeps rules p
 keeps rules p c s le = within_less _ _ _ (p s) (omega arith) (c s le)
@@ -34,7 +34,7 @@ done-counts s high (Does t) lt = (omega arith, omega (arith, lt))
 done-counts s high (Exits t) lt = tt
 done-counts s high (Stops e) lt = tt
 
-step_by : (b : Bool) (s : State) (high : ℕ) (e : Effect) → (b ≡ true → s.steps < high) → Within (suc s.steps) high (if b then done s e else Ends Steps s)
+step_by : (b : Bool) (s : State) (high : ℕ) (e : Effect) → (b ≡ true → s.steps < high) → Within (suc s.steps) high (if b then done s e else Ends Steps None s)
 step_by true s high e h = done-counts s high e (h refl)
 step_by false s high e h = tt
 
@@ -171,9 +171,13 @@ looked_up-counts rules enter name c s le =
       | Some text ↦ c text s le
     ]
 
+in_text-within : (low high : ℕ) (name : List ℕ) (o : Out) → Within low high o → Within low high (in_text name o)
+in_text-within low high name (Goes t) w = w
+in_text-within low high name (Ends e p t) w = tt
+
 entered-counts : (rules : Rules) (run : Option Chains → State → Out) (name : List ℕ) → ((tree : Option Chains) → Keeps rules (run tree)) → (o : Option (Option Chains)) → Counts rules (entered rules run name o)
 entered-counts rules run name k None = step-counts rules _
-entered-counts rules run name k (Some tree) = then-counts rules _ _ (step-counts rules _) (k tree)
+entered-counts rules run name k (Some tree) = then-counts rules _ _ (step-counts rules _) (λ s le. in_text-within s.steps rules.limits.steps name (run tree s) (k tree s le))
 
 pub start-counts : (rules : Rules) (levels : ℕ) (name : List ℕ) → Counts rules (start rules levels name)
 unfolding start

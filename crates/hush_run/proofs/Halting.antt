@@ -11,7 +11,7 @@ use Rattle.hush_run.specs.Turns.{due_does, IsDue, IsPart, IsForNode}
 use Rattle.hush_run.proofs.StepLemmas.{step_halts, simple_halts, for_halts, bind_halts, delete_halts, start_halts}
 
 abbrev Halts : Rules → (State → Out) → Type 0
-Halts rules p = (s : State) → rules.limits.steps ≤ s.steps → p s ≡ Ends Steps s
+Halts rules p = (s : State) → rules.limits.steps ≤ s.steps → p s ≡ Ends Steps None s
 
 then-halts : (rules : Rules) (p q : State → Out) → Halts rules p → Halts rules (p then q)
 then-halts rules p q h s le = ap (λ (o : Out). o >>= q) (h s le)

@@ -1,6 +1,7 @@
 mod Counts
 mod Parts
 mod TurnLemmas
+mod PlaceLemmas
 mod Descends
 mod RiseLemmas
 mod StepLemmas

@@ -15,7 +15,7 @@ use Rattle.hush_commands.specs.Limits.{bounds}
 use Rattle.hush_commands.specs.declared.stand_ins.Role.{Role}
 use Rattle.hush_commands.specs.Stubs.{Statuses}
 use Rattle.hush_run.specs.Meaning.Reason.{Finished, Exited, Steps, Depth, Word, Output}
-use Rattle.hush_run.specs.Meaning.{Reason, Rules, State, step, effect, turns, start, looked_up, meaning}
+use Rattle.hush_run.specs.Meaning.{Reason, Rules, State, step, effect, turns, start, looked_up, meaning, place}
 
 -- what a run tells: ending, status, counted steps and text
 abbrev Told : Type 0
@@ -34,6 +34,10 @@ usual = under 1000 4 256 4096
 -- what the run of a text comes to, where the text is a script
 abbrev comes_to : Rules → Held → List ℕ → Option Told
 comes_to rules held text = option_map (λ tree. told (meaning rules tree held)) (read text)
+
+-- the variable in whose text that run ends
+abbrev ends_in : Rules → Held → List ℕ → Option (Option (List ℕ))
+ends_in rules held text = option_map (λ tree. place rules tree held) (read text)
 
 -- a text without a command
 no_command : (held : Held) → comes_to usual held (codes "# nothing") ≡ Some (Finished, 0, 0, [])
@@ -139,6 +143,16 @@ starts_itself held h = simp (h, looked_up)
 first_that_fails : (held : Held) → get held.now.env (codes "a") ≡ Some (codes "echo 1; false") → comes_to usual held (codes "run a b; echo $?") ≡ Some (Finished, 0, 5, codes "1\n1\n")
 unfolding read tokens_of lexeme_at passed_at piece_at is_bare ends_word is_special is_blank command keyword_of is_plain name_of assignment_of begins_name is_in_name dollar_at follows_dollar digits start meaning step builtin_of effect fields
 first_that_fails held h = simp (h, looked_up)
+
+-- where a limit is met in a text that was started, that is its place
+place_of_a_start : (held : Held) → get held.now.env (codes "r") ≡ Some (codes "run r") → ends_in (under 1000 1 256 4096) held (codes "run r") ≡ Some (Some (codes "r"))
+unfolding read tokens_of lexeme_at passed_at piece_at is_bare ends_word is_special is_blank command keyword_of is_plain name_of assignment_of begins_name is_in_name start place step builtin_of effect fields
+place_of_a_start held h = simp (h, looked_up)
+
+-- and after it, it's the text that started it
+place_after_a_start : (held : Held) → get held.now.env (codes "a") ≡ Some (codes "echo 1") → ends_in (under 4 4 256 4096) held (codes "run a; echo 2; echo 3") ≡ Some None
+unfolding read tokens_of lexeme_at passed_at piece_at is_bare ends_word is_special is_blank command keyword_of is_plain name_of assignment_of begins_name is_in_name start place step builtin_of effect fields
+place_after_a_start held h = simp (h, looked_up)
 
 -- an exit within a started value
 exit_from_a_start : (held : Held) → get held.now.env (codes "a") ≡ Some (codes "exit 3; echo x") → comes_to usual held (codes "run a; echo y") ≡ Some (Exited, 3, 3, [])

@@ -13,19 +13,15 @@ use Rattle.hush_run.proofs.Counts.{turns-again, chains-count}
 
 pub bind_goes : (o : Out) → (o >>= Goes) ≡ o
 bind_goes (Goes s) = refl
-bind_goes (Ends e s) = refl
+bind_goes (Ends e p s) = refl
 
 pub bind_assoc : (o : Out) (f g : State → Out) → ((o >>= f) >>= g) ≡ (o >>= (f then g))
 bind_assoc (Goes s) f g = refl
-bind_assoc (Ends e s) f g = refl
-
--- what is done as p and then f, and behind it g
-pub onto : (o p : Out) (f g h : State → Out) → o ≡ (p >>= f) → h ≡ (f then g) → (o >>= g) ≡ (p >>= h)
-onto o p f g h e k = ap (λ (x : Out). x >>= g) e ∙ bind_assoc p f g ∙ ap (λ (x : State → Out). p >>= x) (sym k)
+bind_assoc (Ends e p s) f g = refl
 
 pub bind_alike : (o : Out) (f g : State → Out) → ((s : State) → f s ≡ g s) → (o >>= f) ≡ (o >>= g)
 bind_alike (Goes s) f g h = h s
-bind_alike (Ends e s) f g h = refl
+bind_alike (Ends e p s) f g h = refl
 
 -- lists of chains and of links
 pub run_chains-all : (rules : Rules) (begin : Begin) (cs : Chains) (s : State) → chains rules begin cs s ≡ run_chains rules begin (chain_list cs) s

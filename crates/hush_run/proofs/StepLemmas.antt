@@ -24,7 +24,7 @@ use Rattle.hush_run.specs.declared.ending.Ending.{Ending}
 use Rattle.hush_run.specs.declared.ending.Ending.TheVariants as ending
 use Rattle.hush_run.specs.Runs.{reason_of}
 use Rattle.hush_run.specs.Steps.{ending_of_print}
-use Rattle.hush_run.specs.Meaning.{Reason, Rules, Begin, State, Out, Goes, Ends, ◌>>=◌, ◌then◌, Effect, Does, Exits, Stops, done, step, with_status, carries, fails, exiting, effect, simple, follows, fields_of, for, bindings, assigned, assigned_to, has_variable, known_in, deletions, start, script, entered, within}
+use Rattle.hush_run.specs.Meaning.{Reason, Rules, Begin, State, Out, Goes, Ends, ◌>>=◌, ◌then◌, Effect, Does, Exits, Stops, done, step, with_status, carries, fails, exiting, effect, simple, follows, fields_of, for, bindings, assigned, assigned_to, has_variable, known_in, deletions, start, script, in_text, entered, within}
 use Rattle.hush_run.specs.Steps.{Meant, Did, NotDone, Counted, MayStep, FieldsAre, Started, NotStarted, value_of}
 
 -- a state with another count
@@ -36,26 +36,26 @@ unfolding step counting
 step_done rules effect s u k lt does is = (
   (is, omega (arith, lt)),
   λ n le.
-      ap (λ (b : Bool). if b then done s (effect s) else Ends Steps s) (lt-ltb s.steps n (omega (arith, le)))
+      ap (λ (b : Bool). if b then done s (effect s) else Ends Steps None s) (lt-ltb s.steps n (omega (arith, le)))
       ∙ ap (done s) does
       ∙ ap (λ (j : ℕ). Goes (counting j u)) (sym is),
 )
 
-pub step_halts : (rules : Rules) (effect : State → Effect) (s : State) → rules.limits.steps ≤ s.steps → step rules effect s ≡ Ends Steps s
+pub step_halts : (rules : Rules) (effect : State → Effect) (s : State) → rules.limits.steps ≤ s.steps → step rules effect s ≡ Ends Steps None s
 unfolding step
-step_halts rules effect s le = ap (λ (b : Bool). if b then done s (effect s) else Ends Steps s) (le-ltb s.steps rules.limits.steps le)
+step_halts rules effect s le = ap (λ (b : Bool). if b then done s (effect s) else Ends Steps None s) (le-ltb s.steps rules.limits.steps le)
 
-pub step_stopped : (rules : Rules) (effect : State → Effect) (s : State) (e : Reason) → s.steps < rules.limits.steps → effect s ≡ Stops e → step rules effect s ≡ Ends e s
+pub step_stopped : (rules : Rules) (effect : State → Effect) (s : State) (e : Reason) → s.steps < rules.limits.steps → effect s ≡ Stops e → step rules effect s ≡ Ends e None s
 unfolding step
 step_stopped rules effect s e lt stops =
-    ap (λ (b : Bool). if b then done s (effect s) else Ends Steps s) (lt-ltb s.steps rules.limits.steps lt) ∙ ap (done s) stops
+    ap (λ (b : Bool). if b then done s (effect s) else Ends Steps None s) (lt-ltb s.steps rules.limits.steps lt) ∙ ap (done s) stops
 
-pub step_left : (rules : Rules) (effect : State → Effect) (s u : State) (k : ℕ) → s.steps < rules.limits.steps → effect s ≡ Exits u → k ≡ suc s.steps → step rules effect s ≡ Ends Exited (record u { steps = k })
+pub step_left : (rules : Rules) (effect : State → Effect) (s u : State) (k : ℕ) → s.steps < rules.limits.steps → effect s ≡ Exits u → k ≡ suc s.steps → step rules effect s ≡ Ends Exited None (record u { steps = k })
 unfolding step counting
 step_left rules effect s u k lt leaves is =
-    ap (λ (b : Bool). if b then done s (effect s) else Ends Steps s) (lt-ltb s.steps rules.limits.steps lt)
+    ap (λ (b : Bool). if b then done s (effect s) else Ends Steps None s) (lt-ltb s.steps rules.limits.steps lt)
     ∙ ap (done s) leaves
-    ∙ ap (λ (j : ℕ). Ends Exited (counting j u)) (sym is)
+    ∙ ap (λ (j : ℕ). Ends Exited None (counting j u)) (sym is)
 
 -- where a command was carried out
 abbrev pub carried : Done → State → State
@@ -73,10 +73,10 @@ made_fields None m e = absurd (let f : false ≡ true = ap (λ (o : Option Made)
 made_fields (Some fs) m e = ap (λ (o : Option Made). option_map (λ x. x.done) o) e
 
 -- what stops before the step is begun
-pub no_step : {X : Type 0} (rules : Rules) (meant : Meant) (left : X → Meant) (s : State) (e : Ending) → MayStep rules s.steps (Err e) → ((begin : Begin) → rules.limits.steps ≤ s.steps → meant rules begin s ≡ Ends Steps s) → Did rules meant left s s (Err e)
+pub no_step : {X : Type 0} (rules : Rules) (meant : Meant) (left : X → Meant) (s : State) (e : Ending) → MayStep rules s.steps (Err e) → ((begin : Begin) → rules.limits.steps ≤ s.steps → meant rules begin s ≡ Ends Steps None s) → Did rules meant left s s (Err e)
 no_step rules meant left s e may halts = subst (λ (x : Ending). NotDone rules meant s s (reason_of x)) (sym may.0) (λ begin. halts begin may.1)
 
-pub no_fields : {X : Type 0} (rules : Rules) (meant : Meant) (left : X → Meant) (wanted : Option (List (List ℕ))) (s : State) (made : Made) (e : Ending) → FieldsAre rules wanted s made (Err e) → ((begin : Begin) → rules.limits.steps ≤ s.steps → meant rules begin s ≡ Ends Steps s) → ((begin : Begin) → s.steps < rules.limits.steps → wanted ≡ None → meant rules begin s ≡ Ends Word s) → Did rules meant left s s (Err e)
+pub no_fields : {X : Type 0} (rules : Rules) (meant : Meant) (left : X → Meant) (wanted : Option (List (List ℕ))) (s : State) (made : Made) (e : Ending) → FieldsAre rules wanted s made (Err e) → ((begin : Begin) → rules.limits.steps ≤ s.steps → meant rules begin s ≡ Ends Steps None s) → ((begin : Begin) → s.steps < rules.limits.steps → wanted ≡ None → meant rules begin s ≡ Ends Word None s) → Did rules meant left s s (Err e)
 no_fields rules meant left wanted s made ending.Steps are halts large = λ begin. halts begin are
 no_fields rules meant left wanted s made ending.Word are halts large = λ begin. large begin are.0 are.1
 no_fields rules meant left wanted s made ending.Memory are halts large = refl
@@ -86,11 +86,11 @@ no_fields rules meant left wanted s made ending.Depth are halts large = absurd a
 no_fields rules meant left wanted s made ending.Output are halts large = absurd are
 
 -- simple commands
-pub simple_halts : (rules : Rules) (begin : Begin) (fields : Option (List (List ℕ))) (s : State) → rules.limits.steps ≤ s.steps → simple rules begin fields s ≡ Ends Steps s
+pub simple_halts : (rules : Rules) (begin : Begin) (fields : Option (List (List ℕ))) (s : State) → rules.limits.steps ≤ s.steps → simple rules begin fields s ≡ Ends Steps None s
 simple_halts rules begin None s le = step_halts rules _ s le
 simple_halts rules begin (Some fields) s le = ap (λ (o : Out). o >>= follows rules begin (follow_of rules.stand_ins fields)) (step_halts rules (effect rules.stand_ins fields) s le)
 
-pub simple_large : (rules : Rules) (begin : Begin) (fields : Option (List (List ℕ))) (s : State) → s.steps < rules.limits.steps → fields ≡ None → simple rules begin fields s ≡ Ends Word s
+pub simple_large : (rules : Rules) (begin : Begin) (fields : Option (List (List ℕ))) (s : State) → s.steps < rules.limits.steps → fields ≡ None → simple rules begin fields s ≡ Ends Word None s
 simple_large rules begin None s lt e = step_stopped rules _ s Word lt refl
 simple_large rules begin (Some fields) s lt e = absurd (let f : true ≡ false = ap (λ (o : Option (List (List ℕ))). is_some o) e in cc)
 
@@ -124,7 +124,7 @@ module _ (rules : Rules) (words : List (List Atom)) (s : State) (fields : List (
       )
       )
 
-  pub simple_left : (status k : ℕ) → Carries d s.held after s.printed new (Ok status) → k ≡ suc s.steps → follow_of rules.stand_ins fields ≡ follow.End → (begin : Begin) → simple rules begin (fields_of rules words s) s ≡ Ends Exited (record { held = after; locals = s.locals; status = status; printed = new; steps = k })
+  pub simple_left : (status k : ℕ) → Carries d s.held after s.printed new (Ok status) → k ≡ suc s.steps → follow_of rules.stand_ins fields ≡ follow.End → (begin : Begin) → simple rules begin (fields_of rules words s) s ≡ Ends Exited None (record { held = after; locals = s.locals; status = status; printed = new; steps = k })
   unfolding effect
   simple_left status k c is end begin =
       rw (c.1, c.2, c.3) (
@@ -149,17 +149,17 @@ told rules message name s new k lt p is =
     let d : Done = (answer 1 (text_of message name), s.held) in
     rw p.1 (let did = step_done rules (fails message name) s (carried d s) k lt (fits d s p.0) is in (did.0, λ n begin le. did.1 n le))
 
-pub untold : {X : Type 0} (rules : Rules) (meant : Meant) (left : X → Meant) (message : Message) (name : List ℕ) (s : State) (new : Printed) (fault : PrintFault) → PrintsWhole (text_of message name) s.printed new (Err fault) → ((begin : Begin) → fails message name s ≡ Stops Output → meant rules begin s ≡ Ends Output s) → Did rules meant left s (record { held = s.held; locals = s.locals; status = s.status; printed = new; steps = s.steps }) (Err (ending_of_print fault))
+pub untold : {X : Type 0} (rules : Rules) (meant : Meant) (left : X → Meant) (message : Message) (name : List ℕ) (s : State) (new : Printed) (fault : PrintFault) → PrintsWhole (text_of message name) s.printed new (Err fault) → ((begin : Begin) → fails message name s ≡ Stops Output → meant rules begin s ≡ Ends Output None s) → Did rules meant left s (record { held = s.held; locals = s.locals; status = s.status; printed = new; steps = s.steps }) (Err (ending_of_print fault))
 untold rules meant left message name s new print.Output p stops = rw p.1 (λ begin. stops begin (too_long (answer 1 (text_of message name), s.held) s p.0))
 untold rules meant left message name s new print.Memory p stops = rw p.1 refl
 
 -- the head of a for
-pub for_halts : (rules : Rules) (name : List ℕ) (fields : Option (List (List ℕ))) (body : State → Out) (s : State) → rules.limits.steps ≤ s.steps → for rules name fields body s ≡ Ends Steps s
+pub for_halts : (rules : Rules) (name : List ℕ) (fields : Option (List (List ℕ))) (body : State → Out) (s : State) → rules.limits.steps ≤ s.steps → for rules name fields body s ≡ Ends Steps None s
 for_halts rules name None body s le = step_halts rules _ s le
 for_halts rules name (Some []) body s le = ap (λ (o : Out). o >>= (λ t. Goes (with_status 0 t))) (step_halts rules Does s le)
 for_halts rules name (Some (f ∷ fs)) body s le = ap (λ (o : Out). o >>= bindings rules name body (f ∷ fs)) (step_halts rules Does s le)
 
-pub for_large : (rules : Rules) (name : List ℕ) (fields : Option (List (List ℕ))) (body : State → Out) (s : State) → s.steps < rules.limits.steps → fields ≡ None → for rules name fields body s ≡ Ends Word s
+pub for_large : (rules : Rules) (name : List ℕ) (fields : Option (List (List ℕ))) (body : State → Out) (s : State) → s.steps < rules.limits.steps → fields ≡ None → for rules name fields body s ≡ Ends Word None s
 for_large rules name None body s lt e = step_stopped rules _ s Word lt refl
 for_large rules name (Some fs) body s lt e = absurd (let f : true ≡ false = ap (λ (o : Option (List (List ℕ))). is_some o) e in cc)
 
@@ -194,7 +194,7 @@ module _ (rules : Rules) (words : List (List Atom)) (name : List ℕ) (body : Me
       heads (f ∷ fs) h r begin = refl
 
 -- an assignment
-pub value_large : (rules : Rules) (name : List ℕ) (word : List Atom) (s : State) → s.steps < rules.limits.steps → value_of rules word s ≡ None → step rules (assigned rules name word) s ≡ Ends Word s
+pub value_large : (rules : Rules) (name : List ℕ) (word : List Atom) (s : State) → s.steps < rules.limits.steps → value_of rules word s ≡ None → step rules (assigned rules name word) s ≡ Ends Word None s
 value_large rules name word s lt e = step_stopped rules (assigned rules name word) s Word lt (ap (λ (o : Option (List ℕ)). assigned_to name o s) (none (expanded_value (known_in s) rules.limits.word word) e))
   where
     none : (o : Option (List ℕ)) → option_map (λ (v : List ℕ). v ∷ []) o ≡ None → o ≡ None
@@ -216,16 +216,16 @@ assign_done rules name word s v e is =
     ap (λ (o : Option (List ℕ)). assigned_to name o s) e
     ∙ ap (λ (b : Bool). if b then fails IsVariable name s else Does (record s { locals = map.insert s.locals name v; status = 0 })) is
 
-pub unprinted : {X : Type 0} (rules : Rules) (meant : Meant) (left : X → Meant) (d : Done) (s : State) (after : Held) (new : Printed) (fault : PrintFault) → Carries d s.held after s.printed new (Err fault) → ((begin : Begin) → carries d s ≡ Stops Output → meant rules begin s ≡ Ends Output s) → Did rules meant left s (record { held = after; locals = s.locals; status = s.status; printed = new; steps = s.steps }) (Err (ending_of_print fault))
+pub unprinted : {X : Type 0} (rules : Rules) (meant : Meant) (left : X → Meant) (d : Done) (s : State) (after : Held) (new : Printed) (fault : PrintFault) → Carries d s.held after s.printed new (Err fault) → ((begin : Begin) → carries d s ≡ Stops Output → meant rules begin s ≡ Ends Output None s) → Did rules meant left s (record { held = after; locals = s.locals; status = s.status; printed = new; steps = s.steps }) (Err (ending_of_print fault))
 unprinted rules meant left d s after new print.Output c stops = rw (c.1, c.2) (λ begin. stops begin (too_long d s c.0))
 unprinted rules meant left d s after new print.Memory c stops = rw (c.0, c.1) refl
 
 -- a name of `env delete`
 module _ (rules : Rules) (name : List ℕ) (rest : List (List ℕ)) (force failed : Bool) (s : State) where
-  pub delete_halts : (begin : Begin) → rules.limits.steps ≤ s.steps → deletions rules force failed (name ∷ rest) s ≡ Ends Steps s
+  pub delete_halts : (begin : Begin) → rules.limits.steps ≤ s.steps → deletions rules force failed (name ∷ rest) s ≡ Ends Steps None s
   delete_halts begin le = ap (λ (o : Out). o >>= (λ t. deletions rules force (not (t.status == 0)) rest t)) (step_halts rules (λ t. carries (deletion_of t.held name force failed) t) s le)
 
-  pub delete_stops : (begin : Begin) → s.steps < rules.limits.steps → carries (deletion_of s.held name force failed) s ≡ Stops Output → deletions rules force failed (name ∷ rest) s ≡ Ends Output s
+  pub delete_stops : (begin : Begin) → s.steps < rules.limits.steps → carries (deletion_of s.held name force failed) s ≡ Stops Output → deletions rules force failed (name ∷ rest) s ≡ Ends Output None s
   delete_stops begin lt e = ap (λ (o : Out). o >>= (λ t. deletions rules force (not (t.status == 0)) rest t)) (step_stopped rules (λ t. carries (deletion_of t.held name force failed) t) s Output lt e)
 
   pub delete_done : (after : Held) (new : Printed) (status k : ℕ) → s.steps < rules.limits.steps → Carries (deletion_of s.held name force failed) s.held after s.printed new (Ok status) → k ≡ suc s.steps → Did rules (λ r begin. deletions r force failed (name ∷ rest)) (λ flag r begin. deletions r force flag rest) s (record { held = after; locals = s.locals; status = status; printed = new; steps = k }) (Ok (not (status == 0)))
@@ -238,10 +238,10 @@ module _ (rules : Rules) (name : List ℕ) (rest : List (List ℕ)) (force faile
 
 -- a binding
 module _ (rules : Rules) (name field : List ℕ) (rest : List (List ℕ)) (body : Meant) (s : State) where
-  pub bind_halts : (begin : Begin) → rules.limits.steps ≤ s.steps → bindings rules name (body rules begin) (field ∷ rest) s ≡ Ends Steps s
+  pub bind_halts : (begin : Begin) → rules.limits.steps ≤ s.steps → bindings rules name (body rules begin) (field ∷ rest) s ≡ Ends Steps None s
   bind_halts begin le = either (has_variable s name)
     where
-      either : (b : Bool) → (if b then step rules (fails IsVariable name) s else (step rules (λ t. Does (record t { locals = map.insert t.locals name field })) s >>= body rules begin >>= bindings rules name (body rules begin) rest)) ≡ Ends Steps s
+      either : (b : Bool) → (if b then step rules (fails IsVariable name) s else (step rules (λ t. Does (record t { locals = map.insert t.locals name field })) s >>= body rules begin >>= bindings rules name (body rules begin) rest)) ≡ Ends Steps None s
       either true = step_halts rules _ s le
       either false = ap (λ (o : Out). o >>= body rules begin >>= bindings rules name (body rules begin) rest) (step_halts rules (λ t. Does (record t { locals = map.insert t.locals name field })) s le)
 
@@ -276,19 +276,19 @@ start-entered : (r : Rules) (levels : ℕ) (name text : List ℕ) (s : State) �
 unfolding start
 start-entered r levels name text s e = ap (λ (o : Option (List ℕ)). elim o [ None ↦ step r (fails NotDefined name) s | Some text ↦ entered r (script r (start r levels)) name (read text) s ]) e
 
-pub start_halts : (rules : Rules) (levels : ℕ) (name : List ℕ) (s : State) → rules.limits.steps ≤ s.steps → start rules levels name s ≡ Ends Steps s
+pub start_halts : (rules : Rules) (levels : ℕ) (name : List ℕ) (s : State) → rules.limits.steps ≤ s.steps → start rules levels name s ≡ Ends Steps None s
 start_halts rules levels name s le = by (map.get s.held.now.env name) levels refl
   where
-    entered-halts : (run : Option Chains → State → Out) (o : Option (Option Chains)) → entered rules run name o s ≡ Ends Steps s
+    entered-halts : (run : Option Chains → State → Out) (o : Option (Option Chains)) → entered rules run name o s ≡ Ends Steps None s
     entered-halts run None = step_halts rules _ s le
-    entered-halts run (Some tree) = ap (λ (o : Out). o >>= run tree) (step_halts rules (λ t. Does (with_status 0 t)) s le)
+    entered-halts run (Some tree) = ap (λ (o : Out). o >>= (λ t. in_text name (run tree t))) (step_halts rules (λ t. Does (with_status 0 t)) s le)
 
-    by : (o : Option (List ℕ)) (l : ℕ) → map.get s.held.now.env name ≡ o → start rules l name s ≡ Ends Steps s
+    by : (o : Option (List ℕ)) (l : ℕ) → map.get s.held.now.env name ≡ o → start rules l name s ≡ Ends Steps None s
     by None l e = start-absent rules l name s e ∙ step_halts rules _ s le
     by (Some text) zero e = start-deep rules name text s e ∙ step_halts rules _ s le
     by (Some text) (suc l) e = start-entered rules l name text s e ∙ entered-halts (script rules (start rules l)) (read text)
 
-pub start_deep : (rules : Rules) (levels : ℕ) (name text : List ℕ) (s : State) → s.steps < rules.limits.steps → levels ≡ 0 → map.get s.held.now.env name ≡ Some text → start rules levels name s ≡ Ends Depth s
+pub start_deep : (rules : Rules) (levels : ℕ) (name text : List ℕ) (s : State) → s.steps < rules.limits.steps → levels ≡ 0 → map.get s.held.now.env name ≡ Some text → start rules levels name s ≡ Ends Depth None s
 start_deep rules levels name text s lt none e = ap (λ (l : ℕ). start rules l name s) none ∙ start-deep rules name text s e ∙ step_stopped rules (λ t. Stops Depth) s Depth lt refl
 
 -- a start that fails with a message
@@ -319,13 +319,13 @@ start_done rules (suc below) name text s p k lt some e reads is =
       λ n le.
           start-entered (within n rules) below name text s e
           ∙ ap (λ (o : Option (Option Chains)). entered (within n rules) (script (within n rules) (start (within n rules) below)) name o s) reads
-          ∙ ap (λ (o : Out). o >>= script (within n rules) (start (within n rules) below) (tree_of p)) (did.1 n le),
+          ∙ ap (λ (o : Out). o >>= (λ t. in_text name (script (within n rules) (start (within n rules) below) (tree_of p) t))) (did.1 n le),
     )
 
 -- a step with another effect that comes to the same
 step-same : (r : Rules) (effect other : State → Effect) (s : State) → effect s ≡ other s → step r effect s ≡ step r other s
 unfolding step
-step-same r effect other s e = ap (λ (x : Effect). if nat_lt s.steps r.limits.steps then done s x else Ends Steps s) e
+step-same r effect other s e = ap (λ (x : Effect). if nat_lt s.steps r.limits.steps then done s x else Ends Steps None s) e
 
 pub as_step : (rules : Rules) (effect other : State → Effect) (s t : State) (result : Result (Unit {0}) Ending) → effect s ≡ other s → Did rules (λ r begin. step r other) (λ (u : Unit {0}) r begin. Goes) s t result → Did rules (λ r begin. step r effect) (λ (u : Unit {0}) r begin. Goes) s t result
 as_step rules effect other s t (Ok u) e did = (did.0, λ n begin le. step-same (within n rules) effect other s e ∙ did.1 n begin le)

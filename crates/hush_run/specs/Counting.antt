@@ -5,7 +5,7 @@ use Rattle.hush_run.specs.Meaning.{Rules, Begin, State, Out, Goes, Ends}
 -- where it goes on, so many steps are counted
 abbrev pub Within : ℕ → ℕ → Out → Type 0
 Within low high (Goes t) = (low ≤ t.steps) × (t.steps ≤ high)
-Within low high (Ends e t) = Unit {0}
+Within low high (Ends e place t) = Unit {0}
 
 -- at each state within the limit, this goes on with more steps; or with no fewer
 abbrev pub Counts : Rules → (State → Out) → Type 0

@@ -1,5 +1,5 @@
 -- What a script comes to (docs/runs.md, "Meaning").
-use Rattle.std.specs.Prelude.{ℕ, zero, suc, ◌==◌, nat_lt, Bool, true, false, not, if◌then◌else◌, List, [], ◌∷◌, ◌++◌, length, Option, Some, None, is_some}
+use Rattle.std.specs.Prelude.{ℕ, zero, suc, ◌==◌, nat_lt, Bool, true, false, not, if◌then◌else◌, List, [], ◌∷◌, ◌++◌, length, Option, Some, None, is_some, unwrap_or}
 use Rattle.std.specs.FinMap as map
 use Rattle.envimg_core.specs.Environment.{Environment}
 use Rattle.env_session.specs.Session.{Held}
@@ -42,16 +42,17 @@ pub data Reason : Type 0 where
   Word : Reason
   Output : Reason
 
--- what a part of a script comes to: it goes on from a state, or the run has ended there
+-- what a part of a script comes to: it goes on from a state, or the run has ended there; its place is the name of the
+-- variable in whose text that was, if this part started one
 pub data Out : Type 0 where
   Goes : State → Out
-  Ends : Reason → State → Out
+  Ends : Reason → (place : Option (List ℕ)) → State → Out
 
 -- first this, and where it goes on, that
 infixl 10 ◌>>=◌
 abbrev pub ◌>>=◌ : Out → (State → Out) → Out
 (Goes s) >>= f = f s
-(Ends e s) >>= f = Ends e s
+(Ends e place s) >>= f = Ends e place s
 
 infixr 12 ◌then◌
 abbrev pub ◌then◌ : (State → Out) → (State → Out) → State → Out
@@ -69,12 +70,12 @@ with_status n s = record s { status = n }
 -- a step that is done counts one
 abbrev pub done : State → Effect → Out
 done s (Does t) = Goes (record t { steps = suc s.steps })
-done s (Exits t) = Ends Exited (record t { steps = suc s.steps })
-done s (Stops reason) = Ends reason s
+done s (Exits t) = Ends Exited None (record t { steps = suc s.steps })
+done s (Stops reason) = Ends reason None s
 
 -- the limit on steps comes before all else in a step
 unfoldable pub step : Rules → (State → Effect) → State → Out
-step rules effect s = if nat_lt s.steps rules.limits.steps then done s (effect s) else Ends Steps s
+step rules effect s = if nat_lt s.steps rules.limits.steps then done s (effect s) else Ends Steps None s
 
 -- a command is carried out where its text fits
 abbrev pub carries : Done → State → Effect
@@ -137,7 +138,7 @@ goes_on false s = not (s.status == 0)
 -- turns of a loop as long as the condition's status is 0, or isn't. Each counts a step, so that there are never more
 -- than the limit, and of one more `turns zero` is never reached; the status is that of the last body
 unfoldable pub turns : ℕ → Bool → (State → Out) → (State → Out) → ℕ → State → Out
-turns zero wanted condition body last s = Ends Steps s
+turns zero wanted condition body last s = Ends Steps None s
 turns (suc n) wanted condition body last s =
     condition s >>= λ t. if goes_on wanted t then (body t >>= λ u. turns n wanted condition body u.status u) else Goes (with_status last t)
 
@@ -222,10 +223,15 @@ looked_up rules enter name s =
       | Some text ↦ enter text s
     ]
 
+-- the text of this variable: an end in it is placed there, if not in a text that was started inside it
+abbrev pub in_text : List ℕ → Out → Out
+in_text name (Goes s) = Goes s
+in_text name (Ends e place s) = Ends e (Some (unwrap_or place name)) s
+
 -- where a text spells a tree, the status becomes 0 and the tree is run
 abbrev pub entered : Rules → (Option Chains → State → Out) → List ℕ → Option (Option Chains) → State → Out
 entered rules run name None = step rules (fails NoScript name)
-entered rules run name (Some tree) = step rules (λ s. Does (with_status 0 s)) then run tree
+entered rules run name (Some tree) = step rules (λ s. Does (with_status 0 s)) then λ s. in_text name (run tree s)
 
 -- a start where so many levels may still be opened
 unfoldable pub start : Rules → (levels : ℕ) → Begin
@@ -235,11 +241,19 @@ start rules (suc levels) name = looked_up rules (λ text. entered rules (script 
 -- how a run ends: a script that goes on to its end is finished
 abbrev pub ended : Out → Reason × State
 ended (Goes s) = (Finished, s)
-ended (Ends e s) = (e, s)
+ended (Ends e place s) = (e, s)
+
+-- the variable in whose text a run ended; none at the end of a script, or in the script that was given
+abbrev pub place_in : Out → Option (List ℕ)
+place_in (Goes s) = None
+place_in (Ends e place s) = place
 
 -- the run of a tree from a state
+abbrev pub run_of : Rules → Option Chains → State → Out
+run_of rules tree s = script rules (start rules rules.limits.depth) tree s
+
 abbrev pub run_from : Rules → Option Chains → State → Reason × State
-run_from rules tree s = ended (script rules (start rules rules.limits.depth) tree s)
+run_from rules tree s = ended (run_of rules tree s)
 
 -- a run begins with status 0, no local variables and no text
 abbrev pub first_state : Rules → Held → State
@@ -247,6 +261,9 @@ first_state rules held = record { held = held; locals = map.empty; status = 0; p
 
 unfoldable pub meaning : Rules → Option Chains → Held → Reason × State
 meaning rules tree held = run_from rules tree (first_state rules held)
+
+unfoldable pub place : Rules → Option Chains → Held → Option (List ℕ)
+place rules tree held = place_in (run_of rules tree (first_state rules held))
 
 -- the same rules with another limit on the steps
 abbrev pub within : ℕ → Rules → Rules

@@ -1,5 +1,6 @@
 -- What is left of a run, by its frames. (How the code goes about it; what a run means stands in Meaning.)
-use Rattle.std.specs.Prelude.{◌≡◌, ℕ, zero, suc, ◌+◌, ◌-◌, ◌*◌, ◌<◌, ◌≤◌, ◌==◌, Bool, true, false, if◌then◌else◌, List, [], ◌∷◌, map, drop, length, Option, Some, None, IsSome}
+use Rattle.std.specs.Prelude.{◌≡◌, ℕ, zero, suc, ◌+◌, ◌-◌, ◌*◌, ◌<◌, ◌≤◌, ◌==◌, Bool, true, false, if◌then◌else◌, List, [], ◌∷◌, map, drop, length, Option, Some, None, IsSome, get_or}
+use Rattle.std.specs.Option.{option_or}
 use Rattle.hush_syntax.specs.declared.nodes.NodeId.{NodeId}
 use Rattle.hush_syntax.specs.declared.nodes.Operator.{Operator}
 use Rattle.hush_run.specs.declared.frames.Frame.{Frame}
@@ -8,7 +9,7 @@ use Rattle.hush_syntax.specs.Scripts.{Parsed, subtree_at}
 use Rattle.hush_syntax.specs.Nodes.{At, Subtree, OfChains, OfChain, OfCommand}
 use Rattle.hush_syntax.specs.Grammar.{Command, Simple, Assign, If, For, While, Until, Branches, Elif, Else, Fi, Chain, First, Links, End, Link, Chains, Last, More, depth, depth_in_chain, depth_inside}
 use Rattle.hush_run.specs.Counting.{Counting}
-use Rattle.hush_run.specs.Meaning.{Rules, Begin, State, Out, Goes, ◌>>=◌, ◌then◌, with_status, goes_on, turns, if_ok, in_turn, bindings, joins, command, otherwise, chain, chains, start}
+use Rattle.hush_run.specs.Meaning.{Rules, Begin, State, Out, Goes, ◌>>=◌, ◌then◌, with_status, goes_on, turns, if_ok, in_turn, bindings, joins, command, otherwise, chain, chains, start, in_text}
 use Rattle.hush_run.specs.Stacks.{script_frames}
 
 abbrev pub subtree_does : Rules → Begin → Option Subtree → State → Out
@@ -115,7 +116,7 @@ frame_does rules begin at (frame.Branch node branch) = at_command Goes (of_if ru
 frame_does rules begin at (frame.Condition node last) = at_command Goes (of_loop rules begin (λ wanted c d. looks rules wanted c d last)) (at node)
 frame_does rules begin at (frame.Body node) = at_command Goes (of_loop rules begin (λ wanted c d. looks_again rules wanted c d)) (at node)
 frame_does rules begin at (frame.Bindings node fields) = at_command Goes (of_for rules begin fields) (at node)
-frame_does rules begin at (frame.Started names) = if_ok (in_turn begin names) Goes
+frame_does rules begin at (frame.Started names) = if_ok (in_turn begin (drop 1 names)) Goes
 
 -- how many levels may still be opened where these scripts run, the innermost first
 abbrev pub levels : Rules → List Parsed → ℕ
@@ -143,11 +144,31 @@ owners (frame.Body node) scripts = scripts
 owners (frame.Bindings node fields) scripts = scripts
 owners (frame.Started names) scripts = behind scripts
 
--- what is left of the run: the frames, the innermost first
-abbrev pub resume : Rules → List Parsed → List Frame → State → Out
-resume rules scripts [] = Goes
-resume rules scripts (f ∷ fs) =
-    frame_does rules (begin_in rules (owners f scripts)) (at_in (owners f scripts)) f then resume rules (owners f scripts) fs
+-- the variable whose text a frame is behind, if any is
+abbrev pub text_above : Frame → Option (List ℕ)
+text_above (frame.List node next) = None
+text_above (frame.Chain node next) = None
+text_above (frame.Branch node branch) = None
+text_above (frame.Condition node last) = None
+text_above (frame.Body node) = None
+text_above (frame.Bindings node fields) = None
+text_above (frame.Started names) = Some (get_or names 0 [])
+
+-- the variable whose text runs above these frames, the innermost first
+abbrev pub place_of : List Frame → Option (List ℕ)
+place_of [] = None
+place_of (f ∷ fs) = option_or (text_above f) (place_of fs)
+
+abbrev pub within_text : Option (List ℕ) → Out → Out
+within_text None o = o
+within_text (Some name) o = in_text name o
+
+-- what a part comes to, and then the frames, the innermost first
+abbrev pub resume : Rules → List Parsed → List Frame → Out → Out
+resume rules scripts [] o = o
+resume rules scripts (f ∷ fs) o =
+    resume rules (owners f scripts) fs
+    (within_text (text_above f) o >>= frame_does rules (begin_in rules (owners f scripts)) (at_in (owners f scripts)) f)
 
 -- how many frames a part may need: three for each level, and for a list three, for a chain two, for a command one
 abbrev pub room : Option Subtree → ℕ
@@ -212,8 +233,8 @@ Leads script old new id step =
     ((scripts : List Parsed) → IsStack (script ∷ scripts) old → length old + room (subtree_at script id) ≤ script_frames * suc (length scripts) →
     IsStack (script ∷ scripts) new × (length new + room (subtree_at script step) ≤ script_frames * suc (length scripts))) ×
     ((rules : Rules) (scripts : List Parsed) (s : State) → s.steps ≤ rules.limits.steps →
-    subtree_does rules (begin_in rules (script ∷ scripts)) (subtree_at script id) s >>= resume rules (script ∷ scripts) old ≡
-    subtree_does rules (begin_in rules (script ∷ scripts)) (subtree_at script step) s >>= resume rules (script ∷ scripts) new)
+    resume rules (script ∷ scripts) old (subtree_does rules (begin_in rules (script ∷ scripts)) (subtree_at script id) s) ≡
+    resume rules (script ∷ scripts) new (subtree_does rules (begin_in rules (script ∷ scripts)) (subtree_at script step) s))
 
 abbrev pub Descends : Parsed → List Frame → List Frame → NodeId → NodeId → Type 0
 Descends script old new id step = IsStep (subtree_at script step) × Leads script old new id step

@@ -4,7 +4,7 @@ use Rattle.hush_run.specs.declared.frames.Frame.{Frame}
 use Rattle.hush_run.specs.declared.due.Due.{Due}
 use Rattle.hush_run.specs.declared.due.Due.TheVariants as due
 use Rattle.hush_syntax.specs.Scripts.{Parsed}
-use Rattle.hush_run.specs.Meaning.{Rules, State, ◌>>=◌, with_status}
+use Rattle.hush_run.specs.Meaning.{Rules, State, Goes, with_status}
 use Rattle.hush_run.specs.Resume.{begin_in, at_in, resume, IsStack}
 use Rattle.hush_run.specs.Turns.{due_does, IsDue, due_room}
 use Rattle.hush_run.specs.Stacks.{script_frames}
@@ -23,8 +23,8 @@ IsLeft scripts frames status scripts' frames' status' due =
     IsStack scripts' frames' × IsDue (at_in scripts') due × (1 ≤ length scripts') × (length scripts' ≤ length scripts)
     × (length frames' + due_room (at_in scripts') due ≤ script_frames * length scripts') ×
     ((rules : Rules) (s : State) → s.steps ≤ rules.limits.steps →
-    resume rules scripts frames (with_status status s)
-    ≡ (due_does rules (begin_in rules scripts') (at_in scripts') due (with_status status' s) >>= resume rules scripts' frames'))
+    resume rules scripts frames (Goes (with_status status s))
+    ≡ resume rules scripts' frames' (due_does rules (begin_in rules scripts') (at_in scripts') due (with_status status' s)))
 
 abbrev pub Rises : List Parsed → List Frame → ℕ → List Parsed → List Frame → ℕ → Due → Type 0
 Rises scripts frames status scripts' frames' status' due =

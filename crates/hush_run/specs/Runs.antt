@@ -7,7 +7,7 @@ use Rattle.hush_commands.specs.Stubs.{Statuses}
 use Rattle.hush_run.specs.declared.ending.Ending.{Ending}
 use Rattle.hush_run.specs.declared.ending.Ending.TheVariants as ending
 use Rattle.hush_run.specs.declared.outcome.Outcome.{Outcome}
-use Rattle.hush_run.specs.Meaning.{Rules, Reason, State, meaning, within}
+use Rattle.hush_run.specs.Meaning.{Rules, Reason, State, meaning, place, within}
 use Rattle.hush_run.specs.Meaning.Reason.{Finished, Exited, Steps, Depth, Word, Output}
 
 -- what a run is given
@@ -58,3 +58,11 @@ RunsBy None rules tree old new outcome = (outcome.steps ≤ rules.limits.steps) 
 
 abbrev pub Runs : Rules → Option Chains → (old new : Held) → Outcome → Type 0
 Runs rules tree old new outcome = RunsBy (reason_of outcome.ending) rules tree old new outcome
+
+-- the variable in whose text the run ended is the meaning's, if memory wasn't refused
+abbrev pub EndsBy : Option Reason → Rules → Option Chains → Held → (ends_in : Option (List ℕ)) → Type 0
+EndsBy (Some reason) rules tree old ends_in = ends_in ≡ place rules tree old
+EndsBy None rules tree old ends_in = Unit {0}
+
+abbrev pub EndsIn : Rules → Option Chains → Held → Outcome → (ends_in : Option (List ℕ)) → Type 0
+EndsIn rules tree old outcome ends_in = EndsBy (reason_of outcome.ending) rules tree old ends_in

@@ -15,7 +15,7 @@ use Rattle.hush_run.specs.declared.ending.Ending.TheVariants as ending
 use Rattle.hush_run.specs.Runs.{reason_of}
 use Rattle.hush_run.specs.declared.progress.Progress.{Progress}
 use Rattle.hush_run.specs.declared.progress.Given.{Given}
-use Rattle.hush_run.specs.Meaning.{Rules, Reason, Begin, State, Out, Goes, Ends, known_in, has_variable, within, start, script}
+use Rattle.hush_run.specs.Meaning.{Rules, Reason, Begin, State, Out, Goes, Ends, known_in, has_variable, within, start, script, in_text}
 
 -- what the code holds of a run
 abbrev pub state_of : Held → Progress → State
@@ -34,7 +34,7 @@ Meant = Rules → Begin → State → Out
 
 -- a step wasn't done: the run has ended so, or nothing has changed
 abbrev pub NotDone : Rules → Meant → State → State → Option Reason → Type 0
-NotDone rules meant old new (Some e) = (begin : Begin) → meant rules begin old ≡ Ends e new
+NotDone rules meant old new (Some e) = (begin : Begin) → meant rules begin old ≡ Ends e None new
 NotDone rules meant old new None = new ≡ old
 
 -- a step was done, and what is left of what is meant is this, under each limit on the steps that lets it count; or it
@@ -68,7 +68,7 @@ value_of rules word s = option_map (λ v. v ∷ []) (expanded_value (known_in s)
 -- nothing was started: the run has ended so; or memory was refused, but to no start beyond the limit on the depth, which
 -- takes none
 abbrev pub NotStarted : Rules → (levels : ℕ) → (name : List ℕ) → State → State → Option Reason → Type 0
-NotStarted rules levels name old new (Some e) = start rules levels name old ≡ Ends e new
+NotStarted rules levels name old new (Some e) = start rules levels name old ≡ Ends e None new
 NotStarted rules levels name old new None = (new ≡ old) × (has_variable old name ≡ true → 0 < levels)
 
 -- a start that failed, or this script is to be run from here, one level deeper; or nothing was started
@@ -78,7 +78,7 @@ Started rules levels name old new (Ok None) =
     × ((n : ℕ) → suc old.steps ≤ n → start (within n rules) levels name old ≡ Goes new)
 Started rules levels name old new (Ok (Some p)) =
     Counted rules old new × (below : ℕ) × (levels ≡ suc below) ×
-    ((n : ℕ) → suc old.steps ≤ n → start (within n rules) levels name old ≡ script (within n rules) (start (within n rules) below) (tree_of p) new)
+    ((n : ℕ) → suc old.steps ≤ n → start (within n rules) levels name old ≡ in_text name (script (within n rules) (start (within n rules) below) (tree_of p) new))
 Started rules levels name old new (Err e) = NotStarted rules levels name old new (reason_of e)
 
 -- the unquoted plain bytes of a word

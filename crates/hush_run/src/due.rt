@@ -173,16 +173,14 @@ fn start_due(
         (state_of session.now progress.old) calls.new frames.new.frames frames.new.capacity
         (state_of session.now progress.new) result }
 {
-    let mut left = names;
-    let Some(name) = left.fields().next() else {
+    let Some(name) = names.fields().next() else {
         unreachable!()
     };
     match start_step(given, session, progress, name, levels_left(given, calls)) {
         Ok(Some(script)) => {
-            left.advance();
             let root = script.root();
             calls.push(script);
-            frames.push(Frame::Started { names: left });
+            frames.push(Frame::Started { names });
             match root {
                 Some(root) => Ok(Due::Node(root)),
                 None => Ok(Due::Over),

@@ -54,7 +54,7 @@ pub enum Frame {
     },
     /// The names that `run` is still to start behind a script that it started.
     Started {
-        /// The names.
+        /// The name of that script, and those names.
         names: FieldQueue,
     },
 }

@@ -1,7 +1,7 @@
 //! Dry runs of boot scripts: a script run over a session under limits, with hardware answered by stand-ins.
 //! docs/runs.md states the rules.
 //!
-//! To read in this order: ending, outcome; progress, frames, due; walk, turns; node_step, steps; laws.
+//! To read in this order: ending, outcome; progress, frames, started_name, due; walk, turns; node_step, steps; laws.
 #![tactic(auto)]
 
 mod due;
@@ -11,10 +11,12 @@ pub mod laws;
 mod node_step;
 mod outcome;
 mod progress;
+mod started_name;
 mod steps;
 mod turns;
 mod walk;
 
 pub use ending::Ending;
 pub use hush_commands::{Limits, MOST_DEPTH, MOST_OUTPUT, MOST_STEPS, MOST_WORD, StubFault, Stubs};
-pub use outcome::{Outcome, run};
+pub use outcome::{Outcome, run, run_with_place};
+pub use started_name::StartedName;

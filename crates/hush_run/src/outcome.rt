@@ -4,13 +4,14 @@ ghost use Rattle.std.specs.Prelude.{◌≡◌, ◌≤◌};
 ghost use Rattle.hush_syntax.specs.Scripts.{tree_of};
 ghost use Rattle.hush_commands.specs.Limits.{most_depth};
 ghost use Rattle.hush_run.specs.Advances.{Ran};
-ghost use Rattle.hush_run.specs.Runs.{rules, Runs, reason_of};
+ghost use Rattle.hush_run.specs.Runs.{rules, EndsIn, Runs, reason_of};
 ghost use Rattle.hush_run.specs.Steps.{state_of, rules_of};
 
 use crate::due::{Due, advance};
 use crate::ending::Ending;
 use crate::frames::{Calls, Frames};
 use crate::progress::{Given, Progress};
+use crate::started_name::{StartedName, running_name};
 use env_session::Session;
 use hush_commands::{Limits, Stubs};
 use hush_syntax::Script;
@@ -43,6 +44,23 @@ pub fn run(
 ) -> Outcome
     ensures { Runs (rules stand_ins.now limits.now) (tree_of script.now) session.old session.new result }
 {
+    let (outcome, _place) = run_with_place(alloc, session, script, stand_ins, limits);
+    outcome
+}
+
+/// The same, and the variable in whose text the run ended: none if that was in the script itself.
+pub fn run_with_place(
+    alloc: Global,
+    session: &mut Session,
+    script: &Script,
+    stand_ins: &Stubs,
+    limits: &Limits,
+) -> (Outcome, Option<StartedName>)
+    ensures runs { Runs (rules stand_ins.now limits.now) (tree_of script.now) session.old session.new
+        result.0 }
+    ensures place { EndsIn (rules stand_ins.now limits.now) (tree_of script.now) session.old result.0
+        result.1 }
+{
     let given = Given {
         alloc,
         stand_ins,
@@ -51,7 +69,7 @@ pub fn run(
     // Does nothing: it tells the prover that the depth is at most MOST_DEPTH.
     let _depth = limits.depth();
     let mut progress = Progress::new(&given);
-    let ending = run_script(&given, session, &mut progress, script);
+    let (ending, place) = run_script(&given, session, &mut progress, script);
     let Progress {
         locals: _,
         status,
@@ -60,30 +78,32 @@ pub fn run(
         fields: _,
         name: _,
     } = progress;
-    Outcome {
+    let outcome = Outcome {
         ending,
         status,
         steps,
         text: output.into_text(),
-    }
+    };
+    (outcome, place)
 }
 
-/// Runs a script from where the session and the progress are: how it ended.
+/// Runs a script from where the session and the progress are: how it ended, and in which variable's text.
 pub(crate) fn run_script(
     given: &Given<'_>,
     session: &mut Session,
     progress: &mut Progress,
     script: &Script,
-) -> Ending
+) -> (Ending, Option<StartedName>)
     requires depth { given.now.limits.depth ≤ most_depth }
     requires steps { progress.old.steps ≤ given.now.limits.steps }
-    ensures { Ran (rules_of given.now) (tree_of script.now) (state_of session.old progress.old) (state_of session.new progress.new) (reason_of result) }
+    ensures { Ran (rules_of given.now) (tree_of script.now) (state_of session.old progress.old)
+        (state_of session.new progress.new) result.1 (reason_of result.0) }
 {
     let Ok(mut frames) = Frames::new(given.alloc, given.limits.depth()) else {
-        return Ending::Memory;
+        return (Ending::Memory, None);
     };
     let Ok(mut calls) = Calls::new(given.alloc, script) else {
-        return Ending::Memory;
+        return (Ending::Memory, None);
     };
     let mut due = match script.root() {
         Some(root) => Due::Node(root),
@@ -92,7 +112,7 @@ pub(crate) fn run_script(
     loop {
         match advance(given, session, progress, &mut calls, &mut frames, due) {
             Ok(next) => due = next,
-            Err(ending) => return ending,
+            Err(ending) => return (ending, running_name(&mut frames)),
         }
     }
 }

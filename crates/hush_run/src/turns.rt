@@ -197,11 +197,13 @@ fn bindings_turn(script: &Script, node: NodeId, fields: FieldQueue, status: u8) 
 fn started_turn(names: FieldQueue, status: u8) -> Turn
     ensures { (at : At) → Turns at (frame.Started names) status result }
 {
-    if status != 0 || names.is_empty() {
+    let mut left = names;
+    left.advance();
+    if status != 0 || left.is_empty() {
         return over(status);
     }
     Turn {
-        due: Due::Start { names },
+        due: Due::Start { names: left },
         behind: None,
         status,
     }

@@ -6,15 +6,15 @@ use Rattle.hush_run.proofs.due.start_due.Goals as goal
 
 pub returns-in-Some-root : goal.returns-in-Some-root
 returns-in-Some-root c =
-    let split : c.args.names ≡ c.in-Some.name.now ∷ c.advance.new.self = search allowed in
+    let split : c.args.names ≡ c.in-Some.name.now ∷ drop 1 c.args.names = search allowed in
     let b = subst (λ (k : ℕ). Started (rules_of c.args.given.now) k c.in-Some.name.now (state_of c.args.session.now c.args.progress.now) (state_of c.args.session.now c.start_step.new.progress) (Ok (Some c.in-Ok-Some.script))) c.levels_left.ensures (rw c.in-Ok-Some.field-0-is at c.in-Ok-Some.ensures) in
-    rw (c.push.ensures, c.push-in-Ok-Some.ensures) (started_root (rules_of c.args.given.now) c.args.calls.now c.args.frames.now.frames c.args.frames.now.capacity c.in-Some.name.now c.args.names c.advance.new.self (state_of c.args.session.now c.args.progress.now) (state_of c.args.session.now c.start_step.new.progress) split c.requires.ready c.in-Ok-Some.script c.in-Some-root.root b c.in-Some-root.ensures)
+    rw (c.push.ensures, c.push-in-Ok-Some.ensures) (started_root (rules_of c.args.given.now) c.args.calls.now c.args.frames.now.frames c.args.frames.now.capacity c.in-Some.name.now c.args.names (drop 1 c.args.names) (state_of c.args.session.now c.args.progress.now) (state_of c.args.session.now c.start_step.new.progress) split c.requires.ready c.in-Ok-Some.script c.in-Some-root.root b c.in-Some-root.ensures)
 
 pub returns-in-None : goal.returns-in-None
 returns-in-None c =
-    let split : c.args.names ≡ c.in-Some.name.now ∷ c.advance.new.self = search allowed in
+    let split : c.args.names ≡ c.in-Some.name.now ∷ drop 1 c.args.names = search allowed in
     let b = subst (λ (k : ℕ). Started (rules_of c.args.given.now) k c.in-Some.name.now (state_of c.args.session.now c.args.progress.now) (state_of c.args.session.now c.start_step.new.progress) (Ok (Some c.in-Ok-Some.script))) c.levels_left.ensures (rw c.in-Ok-Some.field-0-is at c.in-Ok-Some.ensures) in
-    rw (c.push.ensures, c.push-in-Ok-Some.ensures) (started_empty (rules_of c.args.given.now) c.args.calls.now c.args.frames.now.frames c.args.frames.now.capacity c.in-Some.name.now c.args.names c.advance.new.self (state_of c.args.session.now c.args.progress.now) (state_of c.args.session.now c.start_step.new.progress) split c.requires.ready c.in-Ok-Some.script b c.in-None.ensures)
+    rw (c.push.ensures, c.push-in-Ok-Some.ensures) (started_empty (rules_of c.args.given.now) c.args.calls.now c.args.frames.now.frames c.args.frames.now.capacity c.in-Some.name.now c.args.names (drop 1 c.args.names) (state_of c.args.session.now c.args.progress.now) (state_of c.args.session.now c.start_step.new.progress) split c.requires.ready c.in-Ok-Some.script b c.in-None.ensures)
 
 pub returns-in-Err : goal.returns-in-Err
 returns-in-Err c =

@@ -1,4 +1,4 @@
-use Rattle.std.proofs.Common.{rules as allowed, ◌≡◌, ◌+◌, map, subst, sym, ◌∙◌, Err, Ok, add-one}
+use Rattle.std.proofs.Common.{rules as allowed, ◌≡◌, ◌+◌, map, subst, sym, ◌∙◌, Err, Ok, None, add-one}
 use Rattle.hush_words.specs.Parts.{word_atoms}
 use Rattle.hush_run.specs.Steps.{ending_of_print}
 use Rattle.hush_run.specs.Meaning.{Rules, Begin, State, simple, follows, fields_of, Ends}
@@ -40,7 +40,7 @@ returns-in-End c =
     let back : t ≡ s = c.in_ok-expand.ensures.same c.args.session.now in
     let are = subst (λ (u : State). FieldsAre r (fields_of r words u) u c.expand.new.self.fields (Ok tt)) (sym back) c.in_ok-expand.ensures.fields in
     let new : State = record { held = c.carry_out.new.session; locals = c.expand.new.self.locals; status = c.in_ok-carried.carried.0; printed = c.carry_out.new.output; steps = c.expand.new.self.steps + 1 } in
-    subst (λ (u : State). (begin : Begin) → simple r begin (fields_of r words u) u ≡ Ends Exited new) back
+    subst (λ (u : State). (begin : Begin) → simple r begin (fields_of r words u) u ≡ Ends Exited None new) back
     (simple_left r words t c.expand.new.self.fields.done are.0 (made_fields (fields_of r words t) c.expand.new.self.fields are.1) c.carry_out.new.session c.carry_out.new.output c.in_ok-carried.carried.0 (c.expand.new.self.steps + 1) c.in_ok-carried.ensures.carries (add-one _) (sym c.in_ok-carried.ensures.follows ∙ c.in-End.is))
 
 pub returns-in_default : goal.returns-in_default

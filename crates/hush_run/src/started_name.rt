@@ -1,0 +1,45 @@
+//! The variable whose text runs.
+ghost use Rattle.std.specs.Prelude.{◌≡◌};
+ghost use Rattle.hush_run.specs.Resume.{place_of};
+
+use crate::frames::{Frame, Frames};
+use hush_commands::FieldQueue;
+use std::marker::Model;
+
+/// The name of a variable whose text `run` started. It takes no memory: it owns the names that `run` was given.
+#[derive(Drop)]
+pub struct StartedName {
+    names: FieldQueue,
+}
+
+impl Model for StartedName {
+    ghost use Rattle.std.specs.Prelude.{ℕ, List, [], get_or};
+
+    ghost Value = { List ℕ };
+
+    ghost view = { λ a. get_or a.names 0 [] };
+}
+
+impl StartedName {
+    /// Its bytes.
+    pub fn as_bytes(&self) -> &[u8]
+        ensures { result.now ≡ self.now }
+    {
+        match self.names.fields().next() {
+            Some(name) => name,
+            None => &[],
+        }
+    }
+}
+
+/// Takes frames until one is behind a text that `run` started: its name. None if no text was started.
+pub(crate) fn running_name(frames: &mut Frames) -> Option<StartedName>
+    ensures { result ≡ place_of frames.old.frames }
+{
+    while let Some(frame) = frames.pop() {
+        if let Frame::Started { names } = frame {
+            return Some(StartedName { names });
+        }
+    }
+    None
+}
