@@ -1,5 +1,5 @@
 -- What is found in a script, and the lines that say so (docs/tools.md, "Checks of scripts").
-use Rattle.std.specs.Prelude.{ℕ, ◌==◌, ◌||◌, nat_le, not, Bool, true, false, List, [], ◌∷◌, ◌++◌, length, fold, codes, Option, Some, None, is_none, is_some, if◌then◌else◌}
+use Rattle.std.specs.Prelude.{ℕ, ◌==◌, ◌||◌, nat_le, not, Bool, true, false, List, [], ◌∷◌, ◌++◌, length, fold, codes, Option, Some, None, is_some, if◌then◌else◌}
 use Rattle.std.specs.Fmt.{decimal}
 use Rattle.std.specs.List.{concat, flat_map, fold, list_any, position_or_len}
 use Rattle.std.specs.FinMap.{get}
@@ -120,18 +120,20 @@ return_findings text = if list_any is_return text then warning_at (position_or_l
 
 -- ---- variables
 
--- where there is an environment: it, and whether a script that is looked at gives a name to something
+-- where there is an environment: it, and whether a script that is looked at gives a name to something, or foresees it
 pub record Known : Type 0 where
   pub env : Environment
   pub given : List ℕ → Bool
+  pub foreseen : List ℕ → Bool
 
 abbrev pub is_defined : Option Known → List ℕ → Bool
 is_defined None name = false
 is_defined (Some known) name = is_some (get known.env name)
 
+-- no variable of this name is there, and none is foreseen
 abbrev pub is_undefined : Option Known → List ℕ → Bool
 is_undefined None name = false
-is_undefined (Some known) name = is_none (get known.env name)
+is_undefined (Some known) name = not (is_some (get known.env name) || known.foreseen name)
 
 -- the variables that U-Boot and its commands set by themselves
 abbrev pub set_by_commands : List (List ℕ)
