@@ -195,8 +195,10 @@ def limits():
     output = cut_off([lines([not_defined(f"{number}:6", "n")], "s") for number in range(1, 1_501)])
     for rest, status in ((b"", 0), (b"break\n", 1)):
         yield row("many substitutions", [b"--env", b"env", b"s"], {b"env": text_of({b"s": script + rest})}, output, status=status, seconds=1)
-    output = cut_off([lines([not_defined("1:6", "n")], "s")] * 1_500)
-    yield row("many in one word", [b"--env", b"env", b"s"], {b"env": b"s=echo " + b"$n" * 1_500 + b"\n"}, output, seconds=1)
+    output = cut_off([lines([not_defined("1:6", name)], "s") for name in "nm" * 750])
+    yield row("many in one word", [b"--env", b"env", b"s"], {b"env": b"s=echo " + b"$n$m" * 750 + b"\n"}, output, seconds=1)
+    output = lines([not_defined("1:6", "n")], "s")
+    yield row("one many times", [b"--env", b"env", b"s"], {b"env": b"s=echo " + b"$n" * 1_500 + b"\n"}, output, seconds=1)
     output = cut_off([lines([lacked(f"{number}:1", "break")], "s") for number in range(1, 2_001)])
     yield row("many that are lacked", [b"-f", b"s"], {b"s": b"break\n" * 2_000}, output, seconds=1)
     names = [b"name%04d" % number for number in range(1_500)]

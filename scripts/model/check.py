@@ -257,10 +257,11 @@ def unknown_operator(command, _known):
 
 
 def undefined_substitution(command, known):
-    """A substitution of a name that nothing defines."""
+    """A substitution of a name that nothing defines; the same line is not repeated."""
     if known.values is None:
         return []
-    return [Finding(place, WARNING, NOT_GIVEN % name) for place, name in substituted(words_of(command)) if name not in known.defined]
+    found = [Finding(place, WARNING, NOT_GIVEN % name) for place, name in substituted(words_of(command)) if name not in known.defined]
+    return [each for each, before in zip(found, [None, *found]) if each != before]
 
 
 KINDS = (lacked_command, unknown_command, unknown_operator, undefined_target, refused_assignment, undefined_substitution)

@@ -334,7 +334,7 @@ fn an_operator_that_test_does_not_have_is_an_error(rt: HostRuntime) -> Result<()
 
 #[test]
 fn a_substitution_of_a_name_that_nothing_defines_is_a_warning(rt: HostRuntime) -> Result<(), Fail> {
-    let rows: [(&[u8], &[u8]); 20] = [
+    let rows: [(&[u8], &[u8]); 21] = [
         (
             b"bootcmd=echo $a ${b}",
             b"bootcmd:1:6: warning: `${a}` names a variable that nothing defines\nbootcmd:1:9: warning: `${b}` names a variable that nothing defines\n",
@@ -342,6 +342,10 @@ fn a_substitution_of_a_name_that_nothing_defines_is_a_warning(rt: HostRuntime) -
         (
             b"bootcmd=echo \"${a}x$b\"$a",
             b"bootcmd:1:6: warning: `${a}` names a variable that nothing defines\nbootcmd:1:6: warning: `${b}` names a variable that nothing defines\nbootcmd:1:6: warning: `${a}` names a variable that nothing defines\n",
+        ),
+        (
+            b"bootcmd=echo $a$c$a\"${a}$b\"$b$a $a\nc=1",
+            b"bootcmd:1:6: warning: `${a}` names a variable that nothing defines\nbootcmd:1:6: warning: `${b}` names a variable that nothing defines\nbootcmd:1:6: warning: `${a}` names a variable that nothing defines\nbootcmd:1:25: warning: `${a}` names a variable that nothing defines\n",
         ),
         (
             b"bootcmd=$a; echo $b\na=true",

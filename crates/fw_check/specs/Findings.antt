@@ -12,7 +12,7 @@ use Rattle.envimg_core.specs.Environment.{Environment}
 use Rattle.fw_engines.specs.ScriptRun.{place_of}
 use Rattle.fw_engines.specs.declared.text_places.Place.{Place}
 use Rattle.fw_check.specs.Commands.{command_fault, command_sentence}
-use Rattle.fw_check.specs.Literals.{is_word_of, literal_of, substituted}
+use Rattle.fw_check.specs.Literals.{is_called, is_word_of, literal_of, substituted}
 use Rattle.fw_check.specs.Naming.{is_run, is_test}
 use Rattle.fw_check.specs.Operators.{ATerm, Expected, after_word, wrong_in}
 use Rattle.fw_check.specs.Targets.{Target}
@@ -205,8 +205,20 @@ lacking_sentence name = codes "`${" ++ name ++ codes "}` names a variable that n
 abbrev pub name_findings : Option Known → ℕ → List ℕ → List Finding
 name_findings known count name = if is_lacking known name then warning_at count (lacking_sentence name) ∷ [] else []
 
+-- the same line is not repeated: nothing is found of a name if it is the last of which something was
+abbrev pub next_findings : Option Known → ℕ → (last : Option (List ℕ)) → List ℕ → List Finding
+next_findings known count last name = if is_called name last then [] else name_findings known count name
+
+abbrev pub last_lacking : Option Known → (last : Option (List ℕ)) → List ℕ → Option (List ℕ)
+last_lacking known last name = if is_lacking known name then Some name else last
+
+abbrev pub names_findings : Option Known → ℕ → (last : Option (List ℕ)) → List (List ℕ) → List Finding
+names_findings known count last [] = []
+names_findings known count last (name ∷ names) =
+    next_findings known count last name ++ names_findings known count (last_lacking known last name) names
+
 abbrev pub word_findings : Option Known → Written → Word → List Finding
-word_findings known text word = flat_map (name_findings known word.start) (substituted (word_atoms text word))
+word_findings known text word = names_findings known word.start None (substituted (word_atoms text word))
 
 -- ---- assignments and the heads of `for`
 
