@@ -222,7 +222,12 @@ LACKED = [
             not_called("1:27", "]"), not_called("1:30", "[a"), not_called("1:34", "[[["),
         ],
     ),
-    (b"f () { mmc; }", [not_called("1:1", "f"), not_called("1:13", "}")]),
+    (b"f () { mmc; }", [no_functions("1:1"), not_called("1:13", "}")]),
+    (b"f ()\n{ mmc\n}", [no_functions("1:1"), not_called("2:1", "{"), not_called("3:1", "}")]),
+    (b"true; 'f' \"(\"\\) x; f \\\n ()", [no_functions("1:7"), no_functions("1:20")]),
+    (b"echo () x; run s ()", [not_run("1:18", "()")]),
+    (b"g ()x; g x (); g ( ); g '' ()", [not_called("1:1", "g"), not_called("1:8", "g"), not_called("1:16", "g"), not_called("1:23", "g")]),
+    (b"g $x(); g $? (); $x ()", [not_called("1:1", "g"), not_called("1:9", "g")]),
     (
         b"f()x; f(){ mmc; }; f(; a)",
         [not_called("1:1", "f()x"), not_called("1:7", "f(){"), not_called("1:17", "}"), not_called("1:20", "f("), not_called("1:24", "a)")],
@@ -231,7 +236,7 @@ LACKED = [
     (b"$b; br${x}; \"[$x\"; f$x(); $x()", [not_defined("1:1", "b")]),
 ]  # fmt: skip
 # Stand-ins of other names, and of those that are lacked
-OTHERS, THESE = b"mmc\n", b"mmc\n[\n[[ 1\nbreak\ncontinue\nreturn\ncase\nfunction\nf()\n()\nbreak()\n[()\n"
+OTHERS, THESE = b"mmc\n", b"mmc\n[\n[[ 1\nbreak\ncontinue\nreturn\ncase\nfunction\nf\nf()\n()\nbreak()\n[()\n"
 # Substitutions over the variables above
 SUBSTITUTED = [
     (b"echo $none", [not_defined("1:6", "none")]),

@@ -187,23 +187,27 @@ def no_script(fault):
 # The kinds of findings in a command
 
 
-def lacked(name):
+def lacked(command):
     """What is said of a command that this shell lacks; None of another."""
-    return NO_FUNCTIONS if name.endswith(b"()") else LACKED.get(name)
+    name, arguments = called(command), words_of(command)[1:]
+    if name is None or name in LACKED:
+        return LACKED.get(name)
+    is_head = name.endswith(b"()") or (arguments and literal(arguments[0]) == b"()" and name not in BUILTINS)
+    return NO_FUNCTIONS if is_head else None
 
 
 def lacked_command(command, known):
     """A command that other shells have, unless a stand-in answers it."""
     name = called(command)
-    if name is None or lacked(name) is None or name in (known.stand_ins or {}):
+    if lacked(command) is None or name in (known.stand_ins or {}):
         return []
-    return [Finding(command[1][0].place, ERROR, lacked(name))]
+    return [Finding(command[1][0].place, ERROR, lacked(command))]
 
 
 def unknown_command(command, known):
     """A command that only hardware has and that no stand-in answers."""
     name = called(command)
-    if name is None or lacked(name) is not None or known.stand_ins is None or name in BUILTINS or name in known.stand_ins:
+    if name is None or lacked(command) is not None or known.stand_ins is None or name in BUILTINS or name in known.stand_ins:
         return []
     return [Finding(command[1][0].place, ERROR, NO_COMMAND % name)]
 

@@ -427,7 +427,7 @@ fn a_substitution_of_a_name_that_nothing_defines_is_a_warning(rt: HostRuntime) -
 #[test]
 fn a_command_that_this_shell_lacks_is_an_error(rt: HostRuntime) -> Result<(), Fail> {
     let some = Stubs::parse(rt.alloc(), b"break\nf()\n")?;
-    let rows: [(&[u8], Option<&Stubs>, &[u8], u8); 7] = [
+    let rows: [(&[u8], Option<&Stubs>, &[u8], u8); 8] = [
         (
             b"[ -n \"$x\" ]",
             None,
@@ -444,6 +444,12 @@ fn a_command_that_this_shell_lacks_is_an_error(rt: HostRuntime) -> Result<(), Fa
             b"while true; do break; continue; done; return 1; case x; function f",
             None,
             b"x.sh:1:16: error: this shell has no `break`\nx.sh:1:23: error: this shell has no `continue`\nx.sh:1:39: error: this shell has no `return`\nx.sh:1:49: error: this shell has no `case`\nx.sh:1:57: error: this shell has no `function`\n",
+            1,
+        ),
+        (
+            b"echo (); f x (); f () { true; }",
+            None,
+            b"x.sh:1:18: error: this shell has no functions\n",
             1,
         ),
         (

@@ -7,8 +7,9 @@ use Rattle.envimg_core.specs.Environment.{bytes_cmp}
 use Rattle.hush_words.specs.Words.{Atom}
 use Rattle.hush_words.specs.Words.Atom.{Plain, Quoted, Mark, Value, Status}
 use Rattle.hush_syntax.specs.Grammar.{Command, Simple, Assign, For, Chains, First, End, Last, More}
+use Rattle.hush_commands.specs.Builtins.{builtin_of}
 use Rattle.fw_check.specs.Checking.{is_among}
-use Rattle.fw_check.specs.Findings.{Finding, Known, called_findings, error_at, lacking_sentence, name_findings, set_by_commands, target_findings, undefined_sentence, warning_at}
+use Rattle.fw_check.specs.Findings.{Finding, Known, called_findings, error_at, lacking_sentence, name_findings, names_findings, set_by_commands, target_findings, undefined_sentence, warning_at}
 use Rattle.fw_check.specs.Literals.{is_word_of, literal_of, substituted}
 use Rattle.fw_check.specs.Naming.{foreseen_names, given_names, run_names}
 use Rattle.fw_check.specs.Statements.{of_script}
@@ -96,6 +97,10 @@ lacking_row = ap (found (codes "b")) (get-empty bytes_cmp (codes "b"))
 set_row : name_findings (Some known) 5 (codes "fileaddr") ≡ []
 set_row = ap (found (codes "fileaddr")) (get-empty bytes_cmp (codes "fileaddr"))
 
+-- `${b}${b}`
+again_row : names_findings (Some known) 5 None (codes "b" ∷ codes "b" ∷ []) ≡ warning_at 5 (lacking_sentence (codes "b")) ∷ []
+again_row = rw (get-empty bytes_cmp (codes "b")) refl
+
 unknown_row : name_findings None 5 (codes "b") ≡ []
 unknown_row = refl
 
@@ -111,14 +116,22 @@ given_target_row = ap (missed (codes "a")) (get-empty bytes_cmp (codes "a"))
 set_target_row : target_findings (Some known) 5 (Some (codes "fileaddr")) ≡ error_at 5 (codes "`run fileaddr` names a variable that is not defined") ∷ []
 set_target_row = ap (missed (codes "fileaddr")) (get-empty bytes_cmp (codes "fileaddr"))
 
-bracket_row : called_findings None 3 (Some (codes "[[")) ≡ error_at 3 (codes "this shell has no `[[`: write `test`") ∷ []
+bracket_row : called_findings None false 3 (Some (codes "[[")) ≡ error_at 3 (codes "this shell has no `[[`: write `test`") ∷ []
 bracket_row = refl
 
-break_row : called_findings None 3 (Some (codes "break")) ≡ error_at 3 (codes "this shell has no `break`") ∷ []
+break_row : called_findings None false 3 (Some (codes "break")) ≡ error_at 3 (codes "this shell has no `break`") ∷ []
 break_row = refl
 
-function_row : called_findings None 3 (Some (codes "f()")) ≡ error_at 3 (codes "this shell has no functions") ∷ []
+function_row : called_findings None false 3 (Some (codes "f()")) ≡ error_at 3 (codes "this shell has no functions") ∷ []
 function_row = refl
 
-other_row : called_findings None 3 (Some (codes "breaks")) ≡ []
+other_row : called_findings None false 3 (Some (codes "breaks")) ≡ []
 other_row = refl
+
+head_row : called_findings None true 3 (Some (codes "f")) ≡ error_at 3 (codes "this shell has no functions") ∷ []
+unfolding builtin_of
+head_row = refl
+
+echo_row : called_findings None true 3 (Some (codes "echo")) ≡ []
+unfolding builtin_of
+echo_row = refl

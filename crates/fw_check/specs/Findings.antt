@@ -5,13 +5,14 @@ use Rattle.std.specs.List.{concat, flat_map, fold, list_any, position_or_len}
 use Rattle.std.specs.FinMap.{get}
 use Rattle.hush_words.specs.Parts.{Written, word_atoms}
 use Rattle.hush_words.specs.declared.parts.Word.{Word}
+use Rattle.hush_syntax.specs.Trees.{words_in}
 use Rattle.hush_syntax.specs.declared.faults.FaultKind.{FaultKind}
 use Rattle.hush_syntax.specs.declared.faults.FaultKind.TheVariants as fault
 use Rattle.hush_commands.specs.Stubs.{Statuses}
 use Rattle.envimg_core.specs.Environment.{Environment}
 use Rattle.fw_engines.specs.ScriptRun.{place_of}
 use Rattle.fw_engines.specs.declared.text_places.Place.{Place}
-use Rattle.fw_check.specs.Commands.{command_fault, command_sentence}
+use Rattle.fw_check.specs.Commands.{begin_in_parentheses, command_fault, command_sentence}
 use Rattle.fw_check.specs.Literals.{is_called, is_word_of, literal_of, substituted}
 use Rattle.fw_check.specs.Naming.{is_run, is_test}
 use Rattle.fw_check.specs.Operators.{ATerm, Expected, after_word, wrong_in}
@@ -154,13 +155,14 @@ abbrev pub fault_findings : ℕ → (name : List ℕ) → Option CommandFault �
 fault_findings count name None = []
 fault_findings count name (Some fault) = error_at count (command_sentence fault name) ∷ []
 
-abbrev pub called_findings : Option Statuses → ℕ → Option (List ℕ) → List Finding
-called_findings stubs count None = []
-called_findings stubs count (Some name) = fault_findings count name (command_fault stubs name)
+abbrev pub called_findings : Option Statuses → (opens : Bool) → ℕ → Option (List ℕ) → List Finding
+called_findings stubs opens count None = []
+called_findings stubs opens count (Some name) = fault_findings count name (command_fault stubs opens name)
 
 abbrev pub command_findings : Option Statuses → Written → List Word → List Finding
 command_findings stubs text [] = []
-command_findings stubs text (word ∷ words) = called_findings stubs word.start (literal_of (word_atoms text word))
+command_findings stubs text (word ∷ words) =
+    called_findings stubs (begin_in_parentheses (words_in text words)) word.start (literal_of (word_atoms text word))
 
 abbrev pub operator_sentence : List ℕ → List ℕ
 operator_sentence name = codes "`test` has no operator `" ++ name ++ codes "` here, and is false"

@@ -107,14 +107,14 @@ impl<'k> Lookups<'k> {
         }
     }
 
-    /// What is wrong with a command of this name.
-    pub(crate) fn command_fault(&self, name: &[u8]) -> Option<CommandFault>
-        ensures { result ≡ command_fault (stubs_in self.now) name.now }
+    /// What is wrong with a command of this name; `opens` says whether its arguments begin with `()`.
+    pub(crate) fn command_fault(&self, opens: bool, name: &[u8]) -> Option<CommandFault>
+        ensures { result ≡ command_fault (stubs_in self.now) opens name.now }
     {
         if self.has_stand_in(name) {
             return None;
         }
-        match lack_of(name) {
+        match lack_of(opens, name) {
             Some(fault) => Some(fault),
             None if self.is_unknown(name) => Some(CommandFault::Unknown),
             None => None,
