@@ -54,6 +54,40 @@ STARTS = [
     (b"Run none; echo run none; setenv b run none; b='run none'", []),
     (b"# run none\nrun ok # none", []),
     (b"env exists none; env delete none; printenv none", []),
+    # a name that a command sets or `test` substitutes, wherever that is
+    (b"setenv none 1; run none", []),
+    (b"run none none; setenv none 1", []),
+    (b"setenv none; run none", []),
+    (b"setenv -f none 1; run none", []),
+    (b"setenv '-f' n\\one 1; run none", []),
+    (b"s'e'tenv \"none\" 1; run none", []),
+    (b"env set none 1; run none", []),
+    (b"env 'set' -\\f none 1; run none", []),
+    (b"setexpr none 1 + 2; run none", []),
+    (b"setexpr.b n1 1; setexpr.w n2 1; setexpr.l n3 1; setexpr.q n4 1; run n1 n2 n3 n4", []),
+    (b"test -n $none; run none", []),
+    (b"test -n \"${none}\" && run none", []),
+    (b"if 'test' a = b${none}$n2; then true; else run none n2; fi", []),
+    (b"while false; do for b in 1; do setenv none; done; done; run none", []),
+    # near to that
+    (b"setenv b 1; run none", [not_run("1:17", "none")]),
+    (b"setenv none 1; run none n none_", [not_run("1:25", "n"), not_run("1:27", "none_")]),
+    (b"echo none; run none", [not_run("1:16", "none")]),
+    (b"test -n none; run none", [not_run("1:19", "none")]),
+    (b"test -n '$none' \\$none; run none", [not_run("1:29", "none")]),
+    (b"setenv b none; setexpr b none; run none", [not_run("1:36", "none")]),
+    (b"setenv $x none 1; setenv $x; run none", [not_run("1:34", "none")]),
+    (b"setenv n$x 1; run n none", [not_run("1:19", "n"), not_run("1:21", "none")]),
+    (b"setenv -F none 1; setenv -f -f none; run none -F -f", [not_run("1:42", "none")]),
+    (b"setenv $x -f none; setexpr -f none 1; run none", [not_run("1:43", "none")]),
+    (b"env none 1; env set; env -f set none; env $x set none; run none", [not_run("1:60", "none")]),
+    (b"env print none; env exists none; env delete none; env run none; run none", [not_run("1:69", "none")]),
+    (b"Setenv none; setenv2 none; setexpr.x none; setexpr. none; run none", [not_run("1:63", "none")]),
+    (b"$x none; \"$run\" none; echo setenv none; run none", [not_run("1:45", "none")]),
+    (b"env test $x; Test $x none; test2 $none; none=$x; run none", [not_run("1:54", "none")]),
+    (b"for none in 1; do echo $none; done; none=1; run none", [not_run("1:49", "none")]),
+    (b"setenv b 'setenv none 1'; # setenv none\nrun none", [not_run("2:5", "none")]),
+    (b"echo $filesize; run filesize", [not_run("1:21", "filesize")]),
 ]
 # Assignments over the same
 ASSIGNED = [
@@ -188,7 +222,12 @@ LACKED = [
             not_called("1:27", "]"), not_called("1:30", "[a"), not_called("1:34", "[[["),
         ],
     ),
-    (b"f () { mmc; }", [not_called("1:1", "f"), not_called("1:13", "}")]),
+    (b"f () { mmc; }", [no_functions("1:1"), not_called("1:13", "}")]),
+    (b"f ()\n{ mmc\n}", [no_functions("1:1"), not_called("2:1", "{"), not_called("3:1", "}")]),
+    (b"true; 'f' \"(\"\\) x; f \\\n ()", [no_functions("1:7"), no_functions("1:20")]),
+    (b"echo () x; run s ()", [not_run("1:18", "()")]),
+    (b"g ()x; g x (); g ( ); g '' ()", [not_called("1:1", "g"), not_called("1:8", "g"), not_called("1:16", "g"), not_called("1:23", "g")]),
+    (b"g $x(); g $? (); $x ()", [not_called("1:1", "g"), not_called("1:9", "g")]),
     (
         b"f()x; f(){ mmc; }; f(; a)",
         [not_called("1:1", "f()x"), not_called("1:7", "f(){"), not_called("1:17", "}"), not_called("1:20", "f("), not_called("1:24", "a)")],
@@ -197,7 +236,7 @@ LACKED = [
     (b"$b; br${x}; \"[$x\"; f$x(); $x()", [not_defined("1:1", "b")]),
 ]  # fmt: skip
 # Stand-ins of other names, and of those that are lacked
-OTHERS, THESE = b"mmc\n", b"mmc\n[\n[[ 1\nbreak\ncontinue\nreturn\ncase\nfunction\nf()\n()\nbreak()\n[()\n"
+OTHERS, THESE = b"mmc\n", b"mmc\n[\n[[ 1\nbreak\ncontinue\nreturn\ncase\nfunction\nf\nf()\n()\nbreak()\n[()\n"
 # Substitutions over the variables above
 SUBSTITUTED = [
     (b"echo $none", [not_defined("1:6", "none")]),
@@ -205,6 +244,10 @@ SUBSTITUTED = [
     (b'echo "$none" a"b ${none}"', [not_defined("1:6", "none"), not_defined("1:14", "none")]),
     (b"echo $none ${none}\n echo none2", [not_defined("1:6", "none"), not_defined("1:12", "none")]),
     (b"echo $n1$n2${n1}", [not_defined("1:6", "n1"), not_defined("1:6", "n2"), not_defined("1:6", "n1")]),
+    (b"echo $none${none}\"$none\" $none", [not_defined("1:6", "none"), not_defined("1:26", "none")]),
+    (b"echo $none$a-$none$x${none} $none$?", [not_defined("1:6", "none"), not_defined("1:29", "none")]),
+    (b"echo $n1$n1$n2$n2$n1", [not_defined("1:6", "n1"), not_defined("1:6", "n2"), not_defined("1:6", "n1")]),
+    (b"b=$none$none; for b in $none$none$?; do true; done", [not_defined("1:3", "none"), not_defined("1:24", "none")]),
     (b"$none; \"$none\" a; l$none", [not_defined("1:1", "none"), not_defined("1:8", "none"), not_defined("1:19", "none")]),
     (b"echo a; echo b$none", [not_defined("1:14", "none")]),
     (b"echo a\n\n\techo $none", [not_defined("3:7", "none")]),
@@ -247,6 +290,7 @@ SUBSTITUTED = [
     (b"setenv b 'setenv none 1; none=2'; echo $none", [not_defined("1:40", "none")]),
     (b"# none=1\necho $none", [not_defined("2:6", "none")]),
     (b"setenv none\r\necho $none", [returned("1:12"), not_defined("2:6", "none")]),
+    (b"setenv none\r\nrun none", [returned("1:12"), not_run("2:5", "none")]),
     (b"echo $A $ok2 ${two} $Run", [not_defined("1:6", "A"), not_defined("1:9", "ok2"), not_defined("1:14", "two"), not_defined("1:21", "Run")]),
     (
         b"echo $ethBddr $loadaddr $Filesize $filesize_ $ip ${file.size}",

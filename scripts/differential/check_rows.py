@@ -82,6 +82,25 @@ GIVEN = [
     (b"bootcmd=echo $m ${.flags}\n.flags=m:d\n", [], [not_defined("bootcmd:1:6", "m")]),
     (b"n=x\nbootcmd=echo $m\n.flags=n:d\n", [], [not_defined("bootcmd:1:6", "m"), not_typed("n")]),
 ]  # fmt: skip
+# The same of names that `run` starts: any script that is looked at may set their variables, or test them
+FORESEEN = [
+    (b"bootcmd=if test -n ${uenvcmd}; then run uenvcmd; fi\n", [], []),
+    (b"bootcmd=if test -n '${uenvcmd}'; then run uenvcmd; fi\n", [], [not_run("bootcmd:1:35", "uenvcmd")]),
+    (b"bootcmd=if test -n ${uenvcmd}; then run uenvcmb; fi\n", [], [not_run("bootcmd:1:33", "uenvcmb")]),
+    (b"bootcmd=run b; run n\nb=setenv n 1\n", [], []),
+    (b"bootcmd=run n b\nb=run c\nc=test $n\n", [], []),
+    (b"bootcmd=run n\npreboot=setexpr n 1 + 1\n", [], []),
+    (b"bootcmd=run n\nb=setenv n 1\n", [], [not_run("bootcmd:1:5", "n")]),
+    (b"bootcmd=run n\nb=setenv n 1\n", [b"bootcmd", b"b"], []),
+    (b"bootcmd=run n\nb=setenv n 1\n", [b"b", b"bootcmd"], []),
+    (b"bootcmd=run n; env run b\nb=setenv n 1\n", [], [not_run("bootcmd:1:5", "n")]),
+    (b"bootcmd=run n b\nb=setenv n 1 '\n", [], [not_run("bootcmd:1:5", "n"), "b:1:12: error: a quote is not closed (Quote)"]),
+    (b"bootcmd=run n m; setenv n 1\nn=run lost\n", [], [not_run("bootcmd:1:7", "m"), not_run("n:1:5", "lost")]),
+    (b"bootcmd=setenv n 'run lost'; run n\n", [], []),
+    (b"bootcmd=setenv n 'setenv m 1'; run n m\n", [], [not_run("bootcmd:1:30", "m")]),
+    (b"bootcmd=run n\n.flags=n:d\n", [], [not_run("bootcmd:1:5", "n")]),
+    (b"bootcmd=setenv none 1\n", [b"none", b"bootcmd"], [NO_VARIABLE % "none"]),
+]  # fmt: skip
 # Variables as a text for import, in which `.flags` comes last, names, and all that is printed: types are looked at after the scripts
 TYPED = [
     (b"n=x\n.flags=n:d\n", [], [not_typed("n")]),
@@ -148,7 +167,7 @@ ORDER = [
 
 
 def followed():
-    for text, names, found in FOLLOWED + GIVEN + TYPED:
+    for text, names, found in FOLLOWED + GIVEN + FORESEEN + TYPED:
         yield row("scripts that are followed", [b"--env", b"env", *names], {b"env": text}, lines(found))
     many = b"".join(b"v%d=run v%d v%d\n" % (at, at + 1, at * 7 % 500) for at in range(500))
     yield row("a long way", [b"--env", b"env", b"v0"], {b"env": many}, lines([not_run("v499:1:5", "v500")]), seconds=1)
@@ -176,8 +195,10 @@ def limits():
     output = cut_off([lines([not_defined(f"{number}:6", "n")], "s") for number in range(1, 1_501)])
     for rest, status in ((b"", 0), (b"break\n", 1)):
         yield row("many substitutions", [b"--env", b"env", b"s"], {b"env": text_of({b"s": script + rest})}, output, status=status, seconds=1)
-    output = cut_off([lines([not_defined("1:6", "n")], "s")] * 1_500)
-    yield row("many in one word", [b"--env", b"env", b"s"], {b"env": b"s=echo " + b"$n" * 1_500 + b"\n"}, output, seconds=1)
+    output = cut_off([lines([not_defined("1:6", name)], "s") for name in "nm" * 750])
+    yield row("many in one word", [b"--env", b"env", b"s"], {b"env": b"s=echo " + b"$n$m" * 750 + b"\n"}, output, seconds=1)
+    output = lines([not_defined("1:6", "n")], "s")
+    yield row("one many times", [b"--env", b"env", b"s"], {b"env": b"s=echo " + b"$n" * 1_500 + b"\n"}, output, seconds=1)
     output = cut_off([lines([lacked(f"{number}:1", "break")], "s") for number in range(1, 2_001)])
     yield row("many that are lacked", [b"-f", b"s"], {b"s": b"break\n" * 2_000}, output, seconds=1)
     names = [b"name%04d" % number for number in range(1_500)]

@@ -36,6 +36,8 @@ SET_BY_UBOOT = {
     b"bootcount", b"bootfile", b"dnsip", b"domain", b"ethact", b"ethaddr", b"fdtaddr", b"fdtcontroladdr", b"fileaddr", b"filesize",
     b"gatewayip", b"hostname", b"ipaddr", b"mtdids", b"mtdparts", b"netmask", b"partition", b"rootpath", b"serverip", b"ver",
 }  # fmt: skip
+# Commands whose first argument names the variable that they set
+SETTING = {b"setenv", b"setexpr", b"setexpr.b", b"setexpr.w", b"setexpr.l", b"setexpr.q"}
 # No further line is added once there are so many bytes; then it is told that there is more
 MOST = 65_536
 MORE = b"more is found, and not printed\n"
@@ -56,11 +58,12 @@ class Finding:
 @dataclass
 class Known:
     """The values of the environment, or None where only one script is looked at; the stand-ins, or None where there is no file of
-    them; and the names that a substitution may have."""
+    them; the names that a substitution may have; and those that `run` may."""
 
     values: dict = None
     stand_ins: dict = None
     defined: set = frozenset()
+    started: set = frozenset()
 
 
 @dataclass
@@ -154,6 +157,19 @@ def given(command):
     return {literal(word) for word in arguments} - {None} | {name for _, name in tested}
 
 
+def foreseen(command):
+    """The names that a command sets by `setenv`, `env set` or `setexpr`, or substitutes in `test`."""
+    name, arguments = called(command), words_of(command)[1:]
+    if name == b"test":
+        return {tested for _, tested in substituted(arguments)}
+    words = [literal(word) for word in arguments]
+    if name == b"env" and words[:1] == [b"set"]:
+        name, words = b"setenv", words[1:]
+    if name == b"setenv" and words[:1] == [b"-f"]:
+        words = words[1:]
+    return set(words[:1]) - {None} if name in SETTING else set()
+
+
 # The kinds of findings in a text
 
 
@@ -171,23 +187,27 @@ def no_script(fault):
 # The kinds of findings in a command
 
 
-def lacked(name):
+def lacked(command):
     """What is said of a command that this shell lacks; None of another."""
-    return NO_FUNCTIONS if name.endswith(b"()") else LACKED.get(name)
+    name, arguments = called(command), words_of(command)[1:]
+    if name is None or name in LACKED:
+        return LACKED.get(name)
+    is_head = name.endswith(b"()") or (arguments and literal(arguments[0]) == b"()" and name not in BUILTINS)
+    return NO_FUNCTIONS if is_head else None
 
 
 def lacked_command(command, known):
     """A command that other shells have, unless a stand-in answers it."""
     name = called(command)
-    if name is None or lacked(name) is None or name in (known.stand_ins or {}):
+    if lacked(command) is None or name in (known.stand_ins or {}):
         return []
-    return [Finding(command[1][0].place, ERROR, lacked(name))]
+    return [Finding(command[1][0].place, ERROR, lacked(command))]
 
 
 def unknown_command(command, known):
     """A command that only hardware has and that no stand-in answers."""
     name = called(command)
-    if name is None or lacked(name) is not None or known.stand_ins is None or name in BUILTINS or name in known.stand_ins:
+    if name is None or lacked(command) is not None or known.stand_ins is None or name in BUILTINS or name in known.stand_ins:
         return []
     return [Finding(command[1][0].place, ERROR, NO_COMMAND % name)]
 
@@ -196,7 +216,7 @@ def undefined_target(command, known):
     """A start of a variable that isn't there."""
     if known.values is None:
         return []
-    return [Finding(place, ERROR, NO_TARGET % name) for place, name in targets(command) if name not in known.values]
+    return [Finding(place, ERROR, NO_TARGET % name) for place, name in targets(command) if name not in known.started]
 
 
 def refused_assignment(command, known):
@@ -241,10 +261,11 @@ def unknown_operator(command, _known):
 
 
 def undefined_substitution(command, known):
-    """A substitution of a name that nothing defines."""
+    """A substitution of a name that nothing defines; the same line is not repeated."""
     if known.values is None:
         return []
-    return [Finding(place, WARNING, NOT_GIVEN % name) for place, name in substituted(words_of(command)) if name not in known.defined]
+    found = [Finding(place, WARNING, NOT_GIVEN % name) for place, name in substituted(words_of(command)) if name not in known.defined]
+    return [each for each, before in zip(found, [None, *found]) if each != before]
 
 
 KINDS = (lacked_command, unknown_command, unknown_operator, undefined_target, refused_assignment, undefined_substitution)
@@ -288,9 +309,9 @@ def visited(values, names):
     return found
 
 
-def given_by(scripts, values):
-    """The names that the commands of these variables give to something; what is no script has none."""
-    return {name for script in scripts for command in commands(tree_of(values[script])[0] or []) for name in given(command)}
+def names_by(kind, scripts, values):
+    """The names that are given or foreseen by the commands of these variables; what is no script has none."""
+    return {name for script in scripts for command in commands(tree_of(values[script])[0] or []) for name in kind(command)}
 
 
 def not_typed(values):
@@ -306,7 +327,8 @@ def of_environment(values, stand_ins, names):
         if name not in values:
             report.add_line(NOT_DEFINED % name, True)
     scripts = visited(values, names or STARTED)
-    known = Known(values, stand_ins, values.keys() | given_by(scripts, values) | SET_BY_UBOOT)
+    defined = values.keys() | names_by(given, scripts, values) | SET_BY_UBOOT
+    known = Known(values, stand_ins, defined, values.keys() | names_by(foreseen, scripts, values))
     for name in scripts:
         report.add(name, values[name], findings(values[name], known))
     for name in not_typed(values):

@@ -147,6 +147,83 @@ fn a_run_of_a_name_that_is_not_defined_is_an_error(rt: HostRuntime) -> Result<()
 }
 
 #[test]
+fn a_run_of_a_name_that_a_script_foresees_is_no_error(rt: HostRuntime) -> Result<(), Fail> {
+    let rows: [&[u8]; 8] = [
+        b"bootcmd=if test -n ${uenvcmd}; then run uenvcmd; fi",
+        b"bootcmd=setenv x 'echo hi'; run x",
+        b"bootcmd=run x; setenv -f x 1",
+        b"bootcmd=env set x 1; env set '-f' y 1; run x y",
+        b"bootcmd=setexpr x 1 + 2; setexpr.b y 1; run x y",
+        b"bootcmd=run a; run x\na=if false; then setenv x $y; fi\ny=1",
+        b"bootcmd=run x y; test a = b$x -o \"${y}z\" != c",
+        b"bootcmd=setenv x; run x",
+    ];
+    for text in rows {
+        let (printed, status) = found(rt.alloc(), text, None, &[])?;
+        assert!(rt; printed.is_empty());
+        assert_eq!(rt; status, 0);
+    }
+    Ok(())
+}
+
+#[test]
+fn a_run_of_a_name_near_to_a_foreseen_one_is_an_error(rt: HostRuntime) -> Result<(), Fail> {
+    let rows: [Row; 9] = [
+        (
+            b"bootcmd=setenv y 1; run x",
+            b"bootcmd:1:17: error: `run x` names a variable that is not defined\n",
+            1,
+        ),
+        (
+            b"bootcmd=echo x; run x",
+            b"bootcmd:1:13: error: `run x` names a variable that is not defined\n",
+            1,
+        ),
+        (
+            b"bootcmd=test -n x; run x",
+            b"bootcmd:1:16: error: `run x` names a variable that is not defined\n",
+            1,
+        ),
+        (
+            b"bootcmd=setenv uenvcmd 1; run uenvcmb",
+            b"bootcmd:1:23: error: `run uenvcmb` names a variable that is not defined\n",
+            1,
+        ),
+        (
+            b"bootcmd=setenv -f -f x; setexpr y x; env x 1; env set $y x; env -f set x; run x\ny=1",
+            b"bootcmd:1:71: error: `run x` names a variable that is not defined\n",
+            1,
+        ),
+        (
+            b"bootcmd=x=1; for x in 1; do echo $x; done; run x",
+            b"bootcmd:1:40: error: `run x` names a variable that is not defined\n",
+            1,
+        ),
+        (
+            b"bootcmd=run x\na=setenv x 1",
+            b"bootcmd:1:5: error: `run x` names a variable that is not defined\n",
+            1,
+        ),
+        (
+            b"bootcmd=echo $fileaddr; run fileaddr",
+            b"bootcmd:1:21: error: `run fileaddr` names a variable that is not defined\n",
+            1,
+        ),
+        (
+            b"bootcmd=run x a\na=setenv x 1; fi",
+            b"bootcmd:1:5: error: `run x` names a variable that is not defined\na:1:13: error: not expected here (Unexpected)\n",
+            1,
+        ),
+    ];
+    for (text, lines, status) in rows {
+        let (printed, ended) = found(rt.alloc(), text, None, &[])?;
+        assert_eq!(rt; printed.as_slice(), lines);
+        assert_eq!(rt; ended, status);
+    }
+    Ok(())
+}
+
+#[test]
 fn warnings_leave_the_status(rt: HostRuntime) -> Result<(), Fail> {
     let rows: [Row; 5] = [
         (
@@ -257,7 +334,7 @@ fn an_operator_that_test_does_not_have_is_an_error(rt: HostRuntime) -> Result<()
 
 #[test]
 fn a_substitution_of_a_name_that_nothing_defines_is_a_warning(rt: HostRuntime) -> Result<(), Fail> {
-    let rows: [(&[u8], &[u8]); 20] = [
+    let rows: [(&[u8], &[u8]); 21] = [
         (
             b"bootcmd=echo $a ${b}",
             b"bootcmd:1:6: warning: `${a}` names a variable that nothing defines\nbootcmd:1:9: warning: `${b}` names a variable that nothing defines\n",
@@ -265,6 +342,10 @@ fn a_substitution_of_a_name_that_nothing_defines_is_a_warning(rt: HostRuntime) -
         (
             b"bootcmd=echo \"${a}x$b\"$a",
             b"bootcmd:1:6: warning: `${a}` names a variable that nothing defines\nbootcmd:1:6: warning: `${b}` names a variable that nothing defines\nbootcmd:1:6: warning: `${a}` names a variable that nothing defines\n",
+        ),
+        (
+            b"bootcmd=echo $a$c$a\"${a}$b\"$b$a $a\nc=1",
+            b"bootcmd:1:6: warning: `${a}` names a variable that nothing defines\nbootcmd:1:6: warning: `${b}` names a variable that nothing defines\nbootcmd:1:6: warning: `${a}` names a variable that nothing defines\nbootcmd:1:25: warning: `${a}` names a variable that nothing defines\n",
         ),
         (
             b"bootcmd=$a; echo $b\na=true",
@@ -346,7 +427,7 @@ fn a_substitution_of_a_name_that_nothing_defines_is_a_warning(rt: HostRuntime) -
 #[test]
 fn a_command_that_this_shell_lacks_is_an_error(rt: HostRuntime) -> Result<(), Fail> {
     let some = Stubs::parse(rt.alloc(), b"break\nf()\n")?;
-    let rows: [(&[u8], Option<&Stubs>, &[u8], u8); 7] = [
+    let rows: [(&[u8], Option<&Stubs>, &[u8], u8); 8] = [
         (
             b"[ -n \"$x\" ]",
             None,
@@ -363,6 +444,12 @@ fn a_command_that_this_shell_lacks_is_an_error(rt: HostRuntime) -> Result<(), Fa
             b"while true; do break; continue; done; return 1; case x; function f",
             None,
             b"x.sh:1:16: error: this shell has no `break`\nx.sh:1:23: error: this shell has no `continue`\nx.sh:1:39: error: this shell has no `return`\nx.sh:1:49: error: this shell has no `case`\nx.sh:1:57: error: this shell has no `function`\n",
+            1,
+        ),
+        (
+            b"echo (); f x (); f () { true; }",
+            None,
+            b"x.sh:1:18: error: this shell has no functions\n",
             1,
         ),
         (

@@ -1,5 +1,5 @@
 -- Small scripts, read and looked at by the definitions alone.
-use Rattle.std.proofs.Common.{◌≡◌, ℕ, ◌||◌, true, false, not, List, [], ◌∷◌, map, codes, refl, ap, Option, Some, None, if◌then◌else◌}
+use Rattle.std.proofs.Common.{◌≡◌, ℕ, ◌||◌, true, false, not, List, [], ◌∷◌, ◌++◌, map, codes, refl, ap, Option, Some, None, if◌then◌else◌}
 use Rattle.std.specs.Prelude.{is_some}
 use Rattle.std.specs.List.{flat_map}
 use Rattle.std.specs.FinMap.{empty, get-empty}
@@ -7,10 +7,11 @@ use Rattle.envimg_core.specs.Environment.{bytes_cmp}
 use Rattle.hush_words.specs.Words.{Atom}
 use Rattle.hush_words.specs.Words.Atom.{Plain, Quoted, Mark, Value, Status}
 use Rattle.hush_syntax.specs.Grammar.{Command, Simple, Assign, For, Chains, First, End, Last, More}
+use Rattle.hush_commands.specs.Builtins.{builtin_of}
 use Rattle.fw_check.specs.Checking.{is_among}
-use Rattle.fw_check.specs.Findings.{Finding, Known, called_findings, error_at, lacking_sentence, name_findings, set_by_commands, warning_at}
+use Rattle.fw_check.specs.Findings.{Finding, Known, called_findings, error_at, lacking_sentence, name_findings, names_findings, set_by_commands, target_findings, undefined_sentence, warning_at}
 use Rattle.fw_check.specs.Literals.{is_word_of, literal_of, substituted}
-use Rattle.fw_check.specs.Naming.{given_names, run_names}
+use Rattle.fw_check.specs.Naming.{foreseen_names, given_names, run_names}
 use Rattle.fw_check.specs.Statements.{of_script}
 
 abbrev word : List ℕ → List Atom
@@ -55,9 +56,32 @@ names_row = refl
 mixed_row : literal_of mixed ≡ None
 mixed_row = refl
 
--- an empty environment, where a script gives `a` to something
+-- `setenv a 1; setenv "-f" b; env set -f c "$n"; setexpr.b d 1; test "$e"x f; setenv "$n" g; env print h; echo i; setexpr.x j`
+abbrev call : List ℕ → List (List Atom) → Command
+call name words = Simple (word name ∷ words)
+
+abbrev setting : Chains
+setting =
+    more (call (codes "setenv") (word (codes "a") ∷ word (codes "1") ∷ []))
+    (more (call (codes "setenv") ((Mark ∷ Quoted 45 ∷ Quoted 102 ∷ Mark ∷ []) ∷ word (codes "b") ∷ []))
+    (more (call (codes "env") (word (codes "set") ∷ word (codes "-f") ∷ word (codes "c") ∷ value (codes "n") ∷ []))
+    (more (call (codes "setexpr.b") (word (codes "d") ∷ word (codes "1") ∷ []))
+    (more (call (codes "test") ((value (codes "e") ++ word (codes "x")) ∷ word (codes "f") ∷ []))
+    (more (call (codes "setenv") (value (codes "n") ∷ word (codes "g") ∷ []))
+    (more (call (codes "env") (word (codes "print") ∷ word (codes "h") ∷ []))
+    (more (call (codes "echo") (word (codes "i") ∷ []))
+    (alone (call (codes "setexpr.x") (word (codes "j") ∷ []))))))))))
+
+foreseen_row : flat_map foreseen_names (of_script (Some setting)) ≡ codes "a" ∷ codes "b" ∷ codes "c" ∷ codes "d" ∷ codes "e" ∷ []
+foreseen_row = refl
+
+-- neither a `for` nor an assignment, nor an argument of another command
+foreseen_first_row : flat_map foreseen_names (of_script (Some script)) ≡ codes "a" ∷ []
+foreseen_first_row = refl
+
+-- an empty environment, where a script gives `a` to something, and foresees `c`
 abbrev known : Known
-known = record { env = empty; given = is_among (codes "a" ∷ []) }
+known = record { env = empty; given = is_among (codes "a" ∷ []); foreseen = is_among (codes "c" ∷ []) }
 
 -- by what the environment has
 abbrev found : List ℕ → Option (List ℕ) → List Finding
@@ -73,17 +97,41 @@ lacking_row = ap (found (codes "b")) (get-empty bytes_cmp (codes "b"))
 set_row : name_findings (Some known) 5 (codes "fileaddr") ≡ []
 set_row = ap (found (codes "fileaddr")) (get-empty bytes_cmp (codes "fileaddr"))
 
+-- `${b}${b}`
+again_row : names_findings (Some known) 5 None (codes "b" ∷ codes "b" ∷ []) ≡ warning_at 5 (lacking_sentence (codes "b")) ∷ []
+again_row = rw (get-empty bytes_cmp (codes "b")) refl
+
 unknown_row : name_findings None 5 (codes "b") ≡ []
 unknown_row = refl
 
-bracket_row : called_findings None 3 (Some (codes "[[")) ≡ error_at 3 (codes "this shell has no `[[`: write `test`") ∷ []
+abbrev missed : List ℕ → Option (List ℕ) → List Finding
+missed name o = if not (is_some o || is_among (codes "c" ∷ []) name) then error_at 5 (undefined_sentence name) ∷ [] else []
+
+foreseen_target_row : target_findings (Some known) 5 (Some (codes "c")) ≡ []
+foreseen_target_row = ap (missed (codes "c")) (get-empty bytes_cmp (codes "c"))
+
+given_target_row : target_findings (Some known) 5 (Some (codes "a")) ≡ error_at 5 (codes "`run a` names a variable that is not defined") ∷ []
+given_target_row = ap (missed (codes "a")) (get-empty bytes_cmp (codes "a"))
+
+set_target_row : target_findings (Some known) 5 (Some (codes "fileaddr")) ≡ error_at 5 (codes "`run fileaddr` names a variable that is not defined") ∷ []
+set_target_row = ap (missed (codes "fileaddr")) (get-empty bytes_cmp (codes "fileaddr"))
+
+bracket_row : called_findings None false 3 (Some (codes "[[")) ≡ error_at 3 (codes "this shell has no `[[`: write `test`") ∷ []
 bracket_row = refl
 
-break_row : called_findings None 3 (Some (codes "break")) ≡ error_at 3 (codes "this shell has no `break`") ∷ []
+break_row : called_findings None false 3 (Some (codes "break")) ≡ error_at 3 (codes "this shell has no `break`") ∷ []
 break_row = refl
 
-function_row : called_findings None 3 (Some (codes "f()")) ≡ error_at 3 (codes "this shell has no functions") ∷ []
+function_row : called_findings None false 3 (Some (codes "f()")) ≡ error_at 3 (codes "this shell has no functions") ∷ []
 function_row = refl
 
-other_row : called_findings None 3 (Some (codes "breaks")) ≡ []
+other_row : called_findings None false 3 (Some (codes "breaks")) ≡ []
 other_row = refl
+
+head_row : called_findings None true 3 (Some (codes "f")) ≡ error_at 3 (codes "this shell has no functions") ∷ []
+unfolding builtin_of
+head_row = refl
+
+echo_row : called_findings None true 3 (Some (codes "echo")) ≡ []
+unfolding builtin_of
+echo_row = refl

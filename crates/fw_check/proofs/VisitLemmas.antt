@@ -10,11 +10,11 @@ use Rattle.hush_syntax.specs.Reading.{read}
 use Rattle.hush_syntax.specs.declared.faults.FaultKind.TheVariants.{Memory}
 use Rattle.hush_syntax.specs.declared.faults.SyntaxFault.{SyntaxFault}
 use Rattle.hush_commands.specs.Stubs.{Statuses}
-use Rattle.fw_check.specs.Checking.{AreVisited, Faulty, Reports, Script, Visit, after_visit, given_by_all, is_among, is_set, known_after, reading_findings, value_in, with_name, with_names}
+use Rattle.fw_check.specs.Checking.{AreVisited, Faulty, Reports, Script, Visit, after_visit, in_all, is_among, is_set, known_after, reading_findings, value_in, with_name, with_names}
 use Rattle.fw_check.specs.Findings.{Known, Report, error_at, fault_sentence, return_findings}
 use Rattle.fw_check.specs.Found.{Found, found_more}
 use Rattle.fw_check.specs.NameSets.{no_names, with_all}
-use Rattle.fw_check.specs.Naming.{given_in, run_in}
+use Rattle.fw_check.specs.Naming.{foreseen_in, given_in, run_in}
 use Rattle.fw_check.specs.Reports.{GoesOn, Reads, ReadsItems}
 use Rattle.fw_check.proofs.FoundLemmas.{found-append}
 use Rattle.fw_check.proofs.NameLemmas.{all-among, with-append}
@@ -72,13 +72,18 @@ take-whole [] (suc index) e = refl
 take-whole (x ∷ names) zero e = absurd (let no : ◌≡◌ {A = Option (List ℕ)} (Some x) None = e in cc)
 take-whole (x ∷ names) (suc index) e = ap (λ (ns : List (List ℕ)). x ∷ ns) (take-whole names index e)
 
--- from these names on the first ones were visited, and this is the set of the names that their scripts give
-pub record Follows (env : Environment) (first now : List (List ℕ)) (index : ℕ) (given : List ℕ → Bool) : Type 0 where
-  pub visited : (rest : List (List ℕ)) → AreVisited env now index rest → AreVisited env first 0 (take index now ++ rest)
-  pub gives : given ≡ with_all no_names (given_by_all env (take index now))
+-- this is the set of the names in the scripts of these
+abbrev IsSet : Environment → (names_in : List ℕ → List (List ℕ)) → List (List ℕ) → (List ℕ → Bool) → Type 0
+IsSet env names_in visited set = set ≡ with_all no_names (in_all names_in env visited)
 
-pub follows-none : (env : Environment) (names : List (List ℕ)) (given : List ℕ → Bool) → given ≡ no_names → Follows env names names 0 given
-follows-none env names given none = record { visited = λ rest h. h; gives = none }
+-- from these names on the first ones were visited, and these are the sets of what their scripts give and foresee
+pub record Follows (env : Environment) (first now : List (List ℕ)) (index : ℕ) (given foreseen : List ℕ → Bool) : Type 0 where
+  pub visited : (rest : List (List ℕ)) → AreVisited env now index rest → AreVisited env first 0 (take index now ++ rest)
+  pub gives : IsSet env given_in (take index now) given
+  pub foresees : IsSet env foreseen_in (take index now) foreseen
+
+pub follows-none : (env : Environment) (names : List (List ℕ)) (given foreseen : List ℕ → Bool) → given ≡ no_names → foreseen ≡ no_names → Follows env names names 0 given foreseen
+follows-none env names given foreseen none nor = record { visited = λ rest h. h; gives = none; foresees = nor }
 
 module _ (env : Environment) (first now more : List (List ℕ)) (index : ℕ) (name : List ℕ) (here : slice_get now index ≡ Some name) (followed : more ≡ with_names env now (run_in (value_in env name))) where
   next-visited : take (index + 1) more ≡ take index now ++ name ∷ []
@@ -86,21 +91,27 @@ module _ (env : Environment) (first now more : List (List ℕ)) (index : ℕ) (n
       let l = longer env now (run_in (value_in env name)) in
       (λ i. take (let e : index + 1 ≡ suc index = omega arith in e i) ((followed ∙ l.1) i)) ∙ take-next now l.0 index name here
 
-  next-given : given_by_all env (take (index + 1) more) ≡ given_by_all env (take index now) ++ given_in (value_in env name)
-  next-given =
-      ap (given_by_all env) next-visited ∙ flat_map-append (λ n. given_in (value_in env n)) (take index now) (name ∷ [])
-      ∙ ap (λ (ns : List (List ℕ)). given_by_all env (take index now) ++ ns) (append-nil (given_in (value_in env name)))
+  next-names : (names_in : List ℕ → List (List ℕ)) → in_all names_in env (take (index + 1) more) ≡ in_all names_in env (take index now) ++ names_in (value_in env name)
+  next-names names_in =
+      ap (in_all names_in env) next-visited ∙ flat_map-append (λ n. names_in (value_in env n)) (take index now) (name ∷ [])
+      ∙ ap (λ (ns : List (List ℕ)). in_all names_in env (take index now) ++ ns) (append-nil (names_in (value_in env name)))
 
-  pub follows-next : (old new : List ℕ → Bool) → Follows env first now index old → new ≡ with_all old (given_in (value_in env name)) → Follows env first more (index + 1) new
-  follows-next old new so_far added = record {
+  next-set : (names_in : List ℕ → List (List ℕ)) (old new : List ℕ → Bool) → IsSet env names_in (take index now) old → new ≡ with_all old (names_in (value_in env name)) →
+      IsSet env names_in (take (index + 1) more) new
+  next-set names_in old new so_far added =
+      added ∙ ap (λ (set : List ℕ → Bool). with_all set (names_in (value_in env name))) so_far
+      ∙ with-append no_names (in_all names_in env (take index now)) (names_in (value_in env name))
+      ∙ ap (with_all no_names) (sym (next-names names_in))
+
+  pub follows-next : (given foreseen gives foresees : List ℕ → Bool) → Follows env first now index given foreseen → gives ≡ with_all given (given_in (value_in env name)) →
+      foresees ≡ with_all foreseen (foreseen_in (value_in env name)) → Follows env first more (index + 1) gives foresees
+  follows-next given foreseen gives foresees so_far added foreseen_too = record {
     visited = λ rest h.
         let after = subst (λ (n : ℕ). AreVisited env more n rest) (let e : index + 1 ≡ suc index = omega arith in e) h in
         let all = so_far.visited (name ∷ rest) (here, subst (λ ns. AreVisited env ns (suc index) rest) followed after) in
         subst (AreVisited env first 0) (sym (append_assoc (take index now) (name ∷ []) rest) ∙ ap (λ (ns : List (List ℕ)). ns ++ rest) (sym next-visited)) all;
-    gives =
-        added ∙ ap (λ (set : List ℕ → Bool). with_all set (given_in (value_in env name))) so_far.gives
-        ∙ with-append no_names (given_by_all env (take index now)) (given_in (value_in env name))
-        ∙ ap (with_all no_names) (sym next-given);
+    gives = next-set given_in given gives so_far.gives added;
+    foresees = next-set foreseen_in foreseen foresees so_far.foresees foreseen_too;
   }
 
 pub no-more : (names : List (List ℕ)) (index : ℕ) (o : Option (Vec ℕ Global)) → option_map (λ v. v.items) o ≡ slice_get names index → ((v : Vec ℕ Global) → o ≡ Some v → ⊥) → slice_get names index ≡ None
@@ -108,8 +119,15 @@ no-more names index None e none = sym e
 no-more names index (Some v) e none = absurd (none v refl)
 
 module _ (env : Environment) (first now : List (List ℕ)) (index : ℕ) (end : slice_get now index ≡ None) where
-  pub visited-all : (given : List ℕ → Bool) → Follows env first now index given → AreVisited env first 0 now
-  visited-all given f = subst (AreVisited env first 0) (append-nil (take index now) ∙ take-whole now index end) (f.visited [] end)
+  pub visited-all : (given foreseen : List ℕ → Bool) → Follows env first now index given foreseen → AreVisited env first 0 now
+  visited-all given foreseen f = subst (AreVisited env first 0) (append-nil (take index now) ∙ take-whole now index end) (f.visited [] end)
 
-  pub given-all : (given : List ℕ → Bool) → Follows env first now index given → given ≡ (known_after env now).given
-  given-all given f = f.gives ∙ ap (λ (ns : List (List ℕ)). with_all no_names (given_by_all env ns)) (take-whole now index end) ∙ all-among (given_by_all env now)
+  set-all : (names_in : List ℕ → List (List ℕ)) (set : List ℕ → Bool) → IsSet env names_in (take index now) set → set ≡ is_among (in_all names_in env now)
+  set-all names_in set is =
+      is ∙ ap (λ (ns : List (List ℕ)). with_all no_names (in_all names_in env ns)) (take-whole now index end) ∙ all-among (in_all names_in env now)
+
+  pub given-all : (given foreseen : List ℕ → Bool) → Follows env first now index given foreseen → given ≡ (known_after env now).given
+  given-all given foreseen f = set-all given_in given f.gives
+
+  pub foreseen-all : (given foreseen : List ℕ → Bool) → Follows env first now index given foreseen → foreseen ≡ (known_after env now).foreseen
+  foreseen-all given foreseen f = set-all foreseen_in foreseen f.foresees

@@ -18,7 +18,7 @@ use Rattle.fw_engines.specs.declared.tool_end.ToolEnd.{ToolEnd}
 use Rattle.fw_engines.specs.declared.tool_end.StreamFault.TheVariants as stream
 use Rattle.fw_check.specs.declared.items.Item.{Item}
 use Rattle.fw_check.specs.Statements.{AreItemsOf}
-use Rattle.fw_check.specs.Naming.{given_in, run_in}
+use Rattle.fw_check.specs.Naming.{foreseen_in, given_in, run_in}
 use Rattle.fw_check.specs.Findings.{Finding, Known, error_at, fault_sentence, return_findings, item_findings, Report, no_lines, report_end, with_error, with_findings}
 
 -- ---- one script
@@ -96,12 +96,13 @@ AreVisited env names index [] = slice_get names index ≡ None
 AreVisited env names index (v ∷ vs) =
     (slice_get names index ≡ Some v) × AreVisited env (with_names env names (run_in (value_in env v))) (suc index) vs
 
--- the names that the scripts of all these give to something
-abbrev pub given_by_all : Environment → List (List ℕ) → List (List ℕ)
-given_by_all env visited = flat_map (λ name. given_in (value_in env name)) visited
+-- the names in the scripts of all these, by those in a text
+abbrev pub in_all : (names_in : List ℕ → List (List ℕ)) → Environment → List (List ℕ) → List (List ℕ)
+in_all names_in env visited = flat_map (λ name. names_in (value_in env name)) visited
 
 abbrev pub known_after : Environment → List (List ℕ) → Known
-known_after env visited = record { env = env; given = is_among (given_by_all env visited) }
+known_after env visited =
+    record { env = env; given = is_among (in_all given_in env visited); foreseen = is_among (in_all foreseen_in env visited) }
 
 -- the script that a variable is
 pub record Visit : Type 0 where

@@ -1,9 +1,10 @@
 -- Names of commands that nothing carries out (docs/tools.md, "Checks of scripts").
-use Rattle.std.specs.Prelude.{ℕ, ◌==◌, ◌&&◌, Bool, false, List, [], ◌∷◌, ◌++◌, codes, Option, Some, None, is_none, is_some, if◌then◌else◌}
+use Rattle.std.specs.Prelude.{ℕ, ◌==◌, ◌&&◌, ◌||◌, Bool, false, List, [], ◌∷◌, ◌++◌, codes, Option, Some, None, is_none, is_some, if◌then◌else◌}
 use Rattle.std.specs.List.{ends_with}
+use Rattle.hush_words.specs.Words.{Atom}
 use Rattle.hush_commands.specs.Builtins.{builtin_of}
 use Rattle.hush_commands.specs.Stubs.{Statuses, status_of_name}
-use Rattle.fw_check.specs.Literals.{is_word_of}
+use Rattle.fw_check.specs.Literals.{is_called, is_word_of, literal_of}
 use Rattle.fw_check.specs.declared.commands.CommandFault.{CommandFault}
 use Rattle.fw_check.specs.declared.commands.CommandFault.TheVariants as command
 
@@ -18,11 +19,20 @@ lacking_words = codes "break" ∷ codes "continue" ∷ codes "return" ∷ codes 
 abbrev pub ends_in_parentheses : List ℕ → Bool
 ends_in_parentheses name = ends_with (λ a b. a == b) name (codes "()")
 
-abbrev pub lack_of : List ℕ → Option CommandFault
-lack_of name =
+-- `f ()`, by the arguments
+abbrev pub begin_in_parentheses : List (List Atom) → Bool
+begin_in_parentheses [] = false
+begin_in_parentheses (word ∷ words) = is_called (codes "()") (literal_of word)
+
+-- `opens` says whether the arguments begin so
+abbrev pub is_head : (opens : Bool) → List ℕ → Bool
+is_head opens name = ends_in_parentheses name || (opens && is_none (builtin_of name))
+
+abbrev pub lack_of : (opens : Bool) → List ℕ → Option CommandFault
+lack_of opens name =
     if is_word_of brackets name then Some command.Bracket
     else if is_word_of lacking_words name then Some command.Word
-    else if ends_in_parentheses name then Some command.Function
+    else if is_head opens name then Some command.Function
     else None
 
 abbrev pub has_stand_in : Option Statuses → List ℕ → Bool
@@ -39,8 +49,9 @@ or_unknown unknown None = if unknown then Some command.Unknown else None
 or_unknown unknown (Some fault) = Some fault
 
 -- what is wrong with a command of this name; a stand-in carries out any name
-abbrev pub command_fault : Option Statuses → List ℕ → Option CommandFault
-command_fault stubs name = if has_stand_in stubs name then None else or_unknown (is_unknown stubs name) (lack_of name)
+abbrev pub command_fault : Option Statuses → (opens : Bool) → List ℕ → Option CommandFault
+command_fault stubs opens name =
+    if has_stand_in stubs name then None else or_unknown (is_unknown stubs name) (lack_of opens name)
 
 abbrev pub command_sentence : CommandFault → List ℕ → List ℕ
 command_sentence command.Bracket name = codes "this shell has no `" ++ name ++ codes "`: write `test`"

@@ -1,18 +1,19 @@
 -- What is found in a script, and the lines that say so (docs/tools.md, "Checks of scripts").
-use Rattle.std.specs.Prelude.{ℕ, ◌==◌, ◌||◌, nat_le, not, Bool, true, false, List, [], ◌∷◌, ◌++◌, length, fold, codes, Option, Some, None, is_none, is_some, if◌then◌else◌}
+use Rattle.std.specs.Prelude.{ℕ, ◌==◌, ◌||◌, nat_le, not, Bool, true, false, List, [], ◌∷◌, ◌++◌, length, fold, codes, Option, Some, None, is_some, if◌then◌else◌}
 use Rattle.std.specs.Fmt.{decimal}
 use Rattle.std.specs.List.{concat, flat_map, fold, list_any, position_or_len}
 use Rattle.std.specs.FinMap.{get}
 use Rattle.hush_words.specs.Parts.{Written, word_atoms}
 use Rattle.hush_words.specs.declared.parts.Word.{Word}
+use Rattle.hush_syntax.specs.Trees.{words_in}
 use Rattle.hush_syntax.specs.declared.faults.FaultKind.{FaultKind}
 use Rattle.hush_syntax.specs.declared.faults.FaultKind.TheVariants as fault
 use Rattle.hush_commands.specs.Stubs.{Statuses}
 use Rattle.envimg_core.specs.Environment.{Environment}
 use Rattle.fw_engines.specs.ScriptRun.{place_of}
 use Rattle.fw_engines.specs.declared.text_places.Place.{Place}
-use Rattle.fw_check.specs.Commands.{command_fault, command_sentence}
-use Rattle.fw_check.specs.Literals.{is_word_of, literal_of, substituted}
+use Rattle.fw_check.specs.Commands.{begin_in_parentheses, command_fault, command_sentence}
+use Rattle.fw_check.specs.Literals.{is_called, is_word_of, literal_of, substituted}
 use Rattle.fw_check.specs.Naming.{is_run, is_test}
 use Rattle.fw_check.specs.Operators.{ATerm, Expected, after_word, wrong_in}
 use Rattle.fw_check.specs.Targets.{Target}
@@ -120,18 +121,20 @@ return_findings text = if list_any is_return text then warning_at (position_or_l
 
 -- ---- variables
 
--- where there is an environment: it, and whether a script that is looked at gives a name to something
+-- where there is an environment: it, and whether a script that is looked at gives a name to something, or foresees it
 pub record Known : Type 0 where
   pub env : Environment
   pub given : List ℕ → Bool
+  pub foreseen : List ℕ → Bool
 
 abbrev pub is_defined : Option Known → List ℕ → Bool
 is_defined None name = false
 is_defined (Some known) name = is_some (get known.env name)
 
+-- no variable of this name is there, and none is foreseen
 abbrev pub is_undefined : Option Known → List ℕ → Bool
 is_undefined None name = false
-is_undefined (Some known) name = is_none (get known.env name)
+is_undefined (Some known) name = not (is_some (get known.env name) || known.foreseen name)
 
 -- the variables that U-Boot and its commands set by themselves
 abbrev pub set_by_commands : List (List ℕ)
@@ -152,13 +155,14 @@ abbrev pub fault_findings : ℕ → (name : List ℕ) → Option CommandFault �
 fault_findings count name None = []
 fault_findings count name (Some fault) = error_at count (command_sentence fault name) ∷ []
 
-abbrev pub called_findings : Option Statuses → ℕ → Option (List ℕ) → List Finding
-called_findings stubs count None = []
-called_findings stubs count (Some name) = fault_findings count name (command_fault stubs name)
+abbrev pub called_findings : Option Statuses → (opens : Bool) → ℕ → Option (List ℕ) → List Finding
+called_findings stubs opens count None = []
+called_findings stubs opens count (Some name) = fault_findings count name (command_fault stubs opens name)
 
 abbrev pub command_findings : Option Statuses → Written → List Word → List Finding
 command_findings stubs text [] = []
-command_findings stubs text (word ∷ words) = called_findings stubs word.start (literal_of (word_atoms text word))
+command_findings stubs text (word ∷ words) =
+    called_findings stubs (begin_in_parentheses (words_in text words)) word.start (literal_of (word_atoms text word))
 
 abbrev pub operator_sentence : List ℕ → List ℕ
 operator_sentence name = codes "`test` has no operator `" ++ name ++ codes "` here, and is false"
@@ -203,8 +207,20 @@ lacking_sentence name = codes "`${" ++ name ++ codes "}` names a variable that n
 abbrev pub name_findings : Option Known → ℕ → List ℕ → List Finding
 name_findings known count name = if is_lacking known name then warning_at count (lacking_sentence name) ∷ [] else []
 
+-- the same line is not repeated: nothing is found of a name if it is the last of which something was
+abbrev pub next_findings : Option Known → ℕ → (last : Option (List ℕ)) → List ℕ → List Finding
+next_findings known count last name = if is_called name last then [] else name_findings known count name
+
+abbrev pub last_lacking : Option Known → (last : Option (List ℕ)) → List ℕ → Option (List ℕ)
+last_lacking known last name = if is_lacking known name then Some name else last
+
+abbrev pub names_findings : Option Known → ℕ → (last : Option (List ℕ)) → List (List ℕ) → List Finding
+names_findings known count last [] = []
+names_findings known count last (name ∷ names) =
+    next_findings known count last name ++ names_findings known count (last_lacking known last name) names
+
 abbrev pub word_findings : Option Known → Written → Word → List Finding
-word_findings known text word = flat_map (name_findings known word.start) (substituted (word_atoms text word))
+word_findings known text word = names_findings known word.start None (substituted (word_atoms text word))
 
 -- ---- assignments and the heads of `for`
 

@@ -9,7 +9,7 @@ use Rattle.fw_check.specs.declared.lookups.Lookups.{Lookups}
 use Rattle.fw_check.specs.declared.lookups.Variables.{Variables}
 
 abbrev pub known_view : Variables → Known
-known_view v = record { env = v.vars.now.env; given = set_of v.given.now }
+known_view v = record { env = v.vars.now.env; given = set_of v.names.now.given; foreseen = set_of v.names.now.foreseen }
 
 abbrev pub known_in : Lookups → Option Known
 known_in l = option_map known_view l.variables

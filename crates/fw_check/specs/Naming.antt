@@ -1,8 +1,8 @@
--- The names that statements run, and those that they give to something (docs/tools.md, "Checks of scripts").
-use Rattle.std.specs.Prelude.{ℕ, Bool, List, [], ◌∷◌, codes, Option, Some, None, option_to_list, if◌then◌else◌}
+-- The names that statements run, give to something and foresee (docs/tools.md, "Checks of scripts").
+use Rattle.std.specs.Prelude.{ℕ, Bool, false, List, [], ◌∷◌, codes, Option, Some, None, option_to_list, if◌then◌else◌}
 use Rattle.std.specs.List.{flat_map}
 use Rattle.hush_words.specs.Words.{Atom}
-use Rattle.fw_check.specs.Literals.{is_called, literal_of, substituted}
+use Rattle.fw_check.specs.Literals.{is_called, is_word_of, literal_of, substituted}
 use Rattle.fw_check.specs.Statements.{Statement, Calls, Assigns, Binds, statements_in}
 
 abbrev pub is_run : Option (List ℕ) → Bool
@@ -51,3 +51,50 @@ given_names (Binds name words) = name ∷ []
 -- those that the script of a text gives
 abbrev pub given_in : List ℕ → List (List ℕ)
 given_in text = flat_map given_names (statements_in text)
+
+-- ---- names that are foreseen: a command sets their variables, or tests them
+
+-- what `setexpr` is called, by how much memory an address reads
+abbrev pub calculations : List (List ℕ)
+calculations = codes "setexpr" ∷ codes "setexpr.b" ∷ codes "setexpr.w" ∷ codes "setexpr.l" ∷ codes "setexpr.q" ∷ []
+
+abbrev pub is_calculation : Option (List ℕ) → Bool
+is_calculation None = false
+is_calculation (Some name) = is_word_of calculations name
+
+-- the first argument, if it is without a substitution
+abbrev pub first_name : List (List Atom) → List (List ℕ)
+first_name [] = []
+first_name (word ∷ words) = option_to_list (literal_of word)
+
+-- by `setenv`, after `-f` if that is there
+abbrev pub set_by : List (List Atom) → List (List ℕ)
+set_by [] = []
+set_by (word ∷ words) = if is_called (codes "-f") (literal_of word) then first_name words else first_name (word ∷ words)
+
+-- by `env`, which sets as `setenv` does
+abbrev pub set_by_env : List (List Atom) → List (List ℕ)
+set_by_env [] = []
+set_by_env (word ∷ words) = if is_called (codes "set") (literal_of word) then set_by words else []
+
+-- by a command of this name with these arguments
+abbrev pub foreseen_as : (called : Option (List ℕ)) → List (List Atom) → List (List ℕ)
+foreseen_as called words =
+    if is_test called then flat_map substituted words
+    else if is_called (codes "setenv") called then set_by words
+    else if is_called (codes "env") called then set_by_env words
+    else if is_calculation called then first_name words
+    else []
+
+abbrev pub foreseen_by : List (List Atom) → List (List ℕ)
+foreseen_by [] = []
+foreseen_by (word ∷ words) = foreseen_as (literal_of word) words
+
+abbrev pub foreseen_names : Statement → List (List ℕ)
+foreseen_names (Calls words) = foreseen_by words
+foreseen_names (Assigns name value) = []
+foreseen_names (Binds name words) = []
+
+-- those that the script of a text foresees
+abbrev pub foreseen_in : List ℕ → List (List ℕ)
+foreseen_in text = flat_map foreseen_names (statements_in text)

@@ -1,8 +1,12 @@
 //! Names of commands that nothing carries out.
-ghost use Rattle.std.specs.Prelude.{◌≡◌};
-ghost use Rattle.fw_check.specs.Commands.{ends_in_parentheses, lack_of};
+ghost use Rattle.std.specs.Prelude.{◌≡◌, IfOk};
+ghost use Rattle.hush_syntax.specs.Trees.{words_in};
+ghost use Rattle.fw_check.specs.Commands.{begin_in_parentheses, is_head, lack_of};
 
-use crate::literals::is_word_of;
+use crate::literals::{is_called, is_word_of, literal};
+use hush_commands::is_builtin;
+use hush_syntax::{Text, Word};
+use std::alloc::{AllocError, Global};
 
 /// Why nothing carries out a command.
 #[derive(Clone, Copy, Debug, PartialEq, Eq)]
@@ -21,23 +25,39 @@ const BRACKETS: [&[u8]; 2] = [b"[", b"[["];
 
 const WORDS: [&[u8]; 5] = [b"break", b"continue", b"return", b"case", b"function"];
 
-/// What this shell lacks that a command of this name calls.
-pub(crate) fn lack_of(name: &[u8]) -> Option<CommandFault>
-    ensures { result ≡ lack_of name.now }
+/// What this shell lacks that a command of this name calls; `opens` says whether its arguments begin with `()`.
+pub(crate) fn lack_of(opens: bool, name: &[u8]) -> Option<CommandFault>
+    ensures { result ≡ lack_of opens name.now }
 {
     if is_word_of(&BRACKETS, name) {
         Some(CommandFault::Bracket)
     } else if is_word_of(&WORDS, name) {
         Some(CommandFault::Word)
-    } else if ends_in_parentheses(name) {
+    } else if is_head(opens, name) {
         Some(CommandFault::Function)
     } else {
         None
     }
 }
 
-fn ends_in_parentheses(name: &[u8]) -> bool
-    ensures { result ≡ ends_in_parentheses name.now }
+/// Whether a command is written as the head of a function.
+fn is_head(opens: bool, name: &[u8]) -> bool
+    ensures { result ≡ is_head opens name.now }
 {
-    name.ends_with(b"()")
+    name.ends_with(b"()") || (opens && !is_builtin(name))
+}
+
+/// Whether arguments begin with `()`.
+pub(crate) fn begin_in_parentheses(
+    alloc: Global,
+    text: &Text,
+    words: &[Word],
+) -> Result<bool, AllocError>
+    ensures { IfOk result (λ opens. opens ≡ begin_in_parentheses (words_in text.now words.now)) }
+{
+    if words.is_empty() {
+        return Ok(false);
+    }
+    let first = literal(alloc, text, words[0])?;
+    Ok(is_called(&first, b"()"))
 }

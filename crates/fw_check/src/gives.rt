@@ -1,50 +1,54 @@
-//! The names that a script gives to something.
-ghost use Rattle.std.specs.Prelude.{◌≡◌, OnOk, map, option_map, if◌then◌else◌, []};
+//! The names that a script gives to something, and those that it foresees.
+ghost use Rattle.std.specs.Prelude.{◌≡◌, OnOk, map, option_map};
 ghost use Rattle.std.specs.List.{flat_map};
 ghost use Rattle.hush_syntax.specs.Trees.{name_in, words_in};
 ghost use Rattle.hush_words.specs.Parts.{word_atoms};
-ghost use Rattle.fw_check.specs.Literals.{substituted};
 ghost use Rattle.fw_check.specs.NameSets.{also, set_of, with_all};
-ghost use Rattle.fw_check.specs.Naming.{argument_names, given_by, given_names, given_or};
+ghost use Rattle.fw_check.specs.Naming.{argument_names, foreseen_by, foreseen_names, given_by, given_names, given_or};
 ghost use Rattle.fw_check.specs.Statements.{statement_of};
 
+use crate::foreseen::foresee;
 use crate::items::Item;
 use crate::literals::{is_called, literal, name_in};
-use crate::name_set::NameSet;
-use crate::substitutions::substituted;
+use crate::name_set::{NameSet, ScriptNames};
+use crate::substitutions::gather_substitutions;
 use hush_syntax::{Text, Word};
 use std::alloc::{AllocError, Global};
 
-/// Adds the names that these items give.
+/// Adds the names that these items give and foresee.
 pub(crate) fn gather_items(
     alloc: Global,
     text: &Text,
     items: &[Item<'_>],
-    given: &mut NameSet,
+    names: &mut ScriptNames,
 ) -> Result<(), AllocError>
-    ensures { OnOk result (set_of given.new ≡ with_all (set_of given.old)
+    ensures given { OnOk result (set_of names.new.given ≡ with_all (set_of names.old.given)
         (flat_map given_names (map (statement_of text.now) items.now))) }
+    ensures foreseen { OnOk result (set_of names.new.foreseen ≡ with_all (set_of names.old.foreseen)
+        (flat_map foreseen_names (map (statement_of text.now) items.now))) }
 {
     for item in items {
-        gather_item(alloc, text, *item, given)?;
+        gather_item(alloc, text, *item, names)?;
     }
     Ok(())
 }
 
-/// Adds those that one item gives.
+/// Adds those of one item.
 fn gather_item(
     alloc: Global,
     text: &Text,
     item: Item<'_>,
-    given: &mut NameSet,
+    names: &mut ScriptNames,
 ) -> Result<(), AllocError>
-    ensures { OnOk result
-        (set_of given.new ≡ with_all (set_of given.old) (given_names (statement_of text.now item.entry))) }
+    ensures given { OnOk result (set_of names.new.given ≡ with_all (set_of names.old.given)
+        (given_names (statement_of text.now item.entry))) }
+    ensures foreseen { OnOk result (set_of names.new.foreseen ≡ with_all (set_of names.old.foreseen)
+        (foreseen_names (statement_of text.now item.entry))) }
 {
     match item {
-        Item::Call(words) => gather_call(alloc, text, words, given),
-        Item::Assignment { name, .. } => add_name(alloc, text, name, given),
-        Item::Binding { name, .. } => add_name(alloc, text, name, given),
+        Item::Call(words) => gather_call(alloc, text, words, names),
+        Item::Assignment { name, .. } => add_name(alloc, text, name, &mut names.given),
+        Item::Binding { name, .. } => add_name(alloc, text, name, &mut names.given),
     }
 }
 
@@ -56,24 +60,28 @@ fn add_name(alloc: Global, text: &Text, word: Word, given: &mut NameSet) -> Resu
     given.add(alloc, &name)
 }
 
-/// Adds the names that a simple command gives.
+/// Adds those of a simple command.
 fn gather_call(
     alloc: Global,
     text: &Text,
     words: &[Word],
-    given: &mut NameSet,
+    names: &mut ScriptNames,
 ) -> Result<(), AllocError>
-    ensures { OnOk result
-        (set_of given.new ≡ with_all (set_of given.old) (given_by (words_in text.now words.now))) }
+    ensures given { OnOk result (set_of names.new.given ≡ with_all (set_of names.old.given)
+        (given_by (words_in text.now words.now))) }
+    ensures foreseen { OnOk result (set_of names.new.foreseen ≡ with_all (set_of names.old.foreseen)
+        (foreseen_by (words_in text.now words.now))) }
 {
     if words.is_empty() {
         return Ok(());
     }
     let called = literal(alloc, text, words[0])?;
-    gather_words(alloc, text, is_called(&called, b"test"), &words[1..], given)
+    let tests = is_called(&called, b"test");
+    gather_words(alloc, text, tests, &words[1..], &mut names.given)?;
+    foresee(alloc, text, &called, &words[1..], &mut names.foreseen)
 }
 
-/// Adds those that its arguments give.
+/// Adds the names that its arguments give.
 fn gather_words(
     alloc: Global,
     text: &Text,
@@ -108,21 +116,4 @@ fn gather_word(
         None if tests => gather_substitutions(alloc, text, word, given),
         None => Ok(()),
     }
-}
-
-/// Adds the names of a word's substitutions.
-fn gather_substitutions(
-    alloc: Global,
-    text: &Text,
-    word: Word,
-    given: &mut NameSet,
-) -> Result<(), AllocError>
-    ensures { OnOk result
-        (set_of given.new ≡ with_all (set_of given.old) (substituted (word_atoms text.now word))) }
-{
-    let names = substituted(alloc, text, word)?;
-    for name in names.as_slice() {
-        given.add(alloc, name)?;
-    }
-    Ok(())
 }

@@ -1,14 +1,15 @@
 //! A check of boot scripts that runs nothing: what is wrong with a script, or with those of an environment from some
 //! names on, as lines. docs/tools.md states the rules.
 //!
-//! To read in this order: items, literals, substitutions, name_set, commands, lookups; findings; operators,
-//! variables, statements, script_check; followed, runs, gives, follow; typed_values, visits.
+//! To read in this order: items, literals, name_set, substitutions, commands, lookups; findings; operators,
+//! variables, statements, script_check; followed, runs, foreseen, gives, follow; typed_values, visits.
 #![tactic(auto)]
 
 mod commands;
 mod findings;
 mod follow;
 mod followed;
+mod foreseen;
 mod gives;
 mod items;
 mod literals;

@@ -6,7 +6,7 @@ ghost use Rattle.fw_check.specs.Looking.{known_in, known_view, stubs_in};
 
 use crate::commands::{CommandFault, lack_of};
 use crate::literals::is_word_of;
-use crate::name_set::NameSet;
+use crate::name_set::ScriptNames;
 use envvars_core::Vars;
 use hush_commands::{Stubs, is_builtin};
 use std::alloc::Global;
@@ -15,8 +15,8 @@ use std::alloc::Global;
 #[derive(Clone, Copy)]
 pub(crate) struct Variables<'k> {
     pub(crate) vars: &'k Vars,
-    /// The names that the scripts give to something.
-    pub(crate) given: &'k NameSet,
+    /// What names the scripts give and foresee.
+    pub(crate) names: &'k ScriptNames,
 }
 
 /// The variables that U-Boot and its commands set by themselves.
@@ -44,13 +44,25 @@ const SET_BY_COMMANDS: [&[u8]; 20] = [
 ];
 
 impl<'k> Variables<'k> {
+    /// Whether the environment has a variable of this name.
+    fn has(&self, name: &[u8]) -> bool
+        ensures { result ≡ is_defined (Some (known_view self.now)) name.now }
+    {
+        self.vars.get(name).is_some()
+    }
+
     /// Whether nothing defines a variable of this name.
     fn lacks(&self, name: &[u8]) -> bool
         ensures { result ≡ is_lacking (Some (known_view self.now)) name.now }
     {
-        !(self.vars.get(name).is_some()
-            || is_word_of(&SET_BY_COMMANDS, name)
-            || self.given.has(name))
+        !(self.has(name) || is_word_of(&SET_BY_COMMANDS, name) || self.names.given.has(name))
+    }
+
+    /// Whether no variable of this name is there, and none is foreseen.
+    fn misses(&self, name: &[u8]) -> bool
+        ensures { result ≡ is_undefined (Some (known_view self.now)) name.now }
+    {
+        !(self.has(name) || self.names.foreseen.has(name))
     }
 }
 
@@ -70,17 +82,17 @@ impl<'k> Lookups<'k> {
         ensures { result ≡ is_defined (known_in self.now) name.now }
     {
         match self.variables {
-            Some(variables) => variables.vars.get(name).is_some(),
+            Some(variables) => variables.has(name),
             None => false,
         }
     }
 
-    /// Whether the environment lacks it.
+    /// Whether neither the environment has it nor a script foresees it.
     pub(crate) fn is_undefined(&self, name: &[u8]) -> bool
         ensures { result ≡ is_undefined (known_in self.now) name.now }
     {
         match self.variables {
-            Some(variables) => variables.vars.get(name).is_none(),
+            Some(variables) => variables.misses(name),
             None => false,
         }
     }
@@ -95,14 +107,14 @@ impl<'k> Lookups<'k> {
         }
     }
 
-    /// What is wrong with a command of this name.
-    pub(crate) fn command_fault(&self, name: &[u8]) -> Option<CommandFault>
-        ensures { result ≡ command_fault (stubs_in self.now) name.now }
+    /// What is wrong with a command of this name; `opens` says whether its arguments begin with `()`.
+    pub(crate) fn command_fault(&self, opens: bool, name: &[u8]) -> Option<CommandFault>
+        ensures { result ≡ command_fault (stubs_in self.now) opens name.now }
     {
         if self.has_stand_in(name) {
             return None;
         }
-        match lack_of(name) {
+        match lack_of(opens, name) {
             Some(fault) => Some(fault),
             None if self.is_unknown(name) => Some(CommandFault::Unknown),
             None => None,

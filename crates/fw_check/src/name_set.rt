@@ -11,6 +11,28 @@ pub(crate) struct NameSet {
     names: BTreeSet<Vec<u8>>,
 }
 
+/// Names in scripts, by what these do with them.
+#[derive(Drop)]
+pub(crate) struct ScriptNames {
+    /// Those that are given to something.
+    pub(crate) given: NameSet,
+    /// Those whose variables are set or tested.
+    pub(crate) foreseen: NameSet,
+}
+
+impl ScriptNames {
+    /// No names. It takes no memory.
+    pub(crate) fn new(alloc: Global) -> ScriptNames
+        ensures given { set_of result.given ≡ no_names }
+        ensures foreseen { set_of result.foreseen ≡ no_names }
+    {
+        ScriptNames {
+            given: NameSet::new(alloc),
+            foreseen: NameSet::new(alloc),
+        }
+    }
+}
+
 impl NameSet {
     /// No names. It takes no memory.
     pub(crate) fn new(alloc: Global) -> NameSet

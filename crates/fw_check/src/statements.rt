@@ -8,7 +8,7 @@ ghost use Rattle.fw_check.specs.Found.{found_more};
 ghost use Rattle.fw_check.specs.Literals.{literal_of};
 ghost use Rattle.fw_check.specs.Looking.{known_in, stubs_in};
 
-use crate::commands::CommandFault;
+use crate::commands::{CommandFault, begin_in_parentheses};
 use crate::findings::{Findings, Severity};
 use crate::items::Item;
 use crate::literals::{is_called, literal};
@@ -73,27 +73,29 @@ fn check_call(
         return Ok(());
     }
     let called = literal(lookups.alloc, text, words[0])?;
-    check_called(lookups, words[0], &called, findings)?;
+    let opens = begin_in_parentheses(lookups.alloc, text, &words[1..])?;
+    check_called(lookups, opens, words[0], &called, findings)?;
     let (runs, tests) = (is_called(&called, b"run"), is_called(&called, b"test"));
     check_operators(lookups, text, tests, &words[1..], findings)?;
     check_targets(lookups, text, runs, &words[1..], findings)?;
     check_words(lookups, text, words, findings)
 }
 
-/// Adds what is found in the name of a command.
+/// Adds what is found in the name of a command; `opens` says whether its arguments begin with `()`.
 fn check_called(
     lookups: &Lookups<'_>,
+    opens: bool,
     word: Word,
     called: &Option<Vec<u8>>,
     findings: &mut Findings<'_>,
 ) -> Result<(), AllocError>
     ensures { OnOk result (findings.new ≡ found_more findings.old
-        (called_findings (stubs_in lookups.now) word.start (option_map (λ v. v.items) called.now))) }
+        (called_findings (stubs_in lookups.now) opens word.start (option_map (λ v. v.items) called.now))) }
 {
     let Some(name) = called else {
         return Ok(());
     };
-    match lookups.command_fault(name) {
+    match lookups.command_fault(opens, name) {
         Some(fault) => add_command(word.start as usize, fault, name, findings),
         None => Ok(()),
     }

@@ -3,7 +3,9 @@ ghost use Rattle.std.specs.Prelude.{◌≡◌, ◌++◌, IfOk, OnOk, map};
 ghost use Rattle.hush_words.specs.Parts.{part_atoms, word_atoms};
 ghost use Rattle.hush_words.specs.Ranges.{Fits};
 ghost use Rattle.fw_check.specs.Literals.{substituted};
+ghost use Rattle.fw_check.specs.NameSets.{set_of, with_all};
 
+use crate::name_set::NameSet;
 use hush_syntax::{Part, Text, Word};
 use std::alloc::{AllocError, Global};
 
@@ -35,4 +37,21 @@ fn push_name<'t>(names: &mut Vec<&'t [u8]>, text: &'t Text, part: Part) -> Resul
         Part::Mark => Ok(()),
         Part::Status(_) => Ok(()),
     }
+}
+
+/// Adds the names of a word's substitutions.
+pub(crate) fn gather_substitutions(
+    alloc: Global,
+    text: &Text,
+    word: Word,
+    set: &mut NameSet,
+) -> Result<(), AllocError>
+    ensures { OnOk result
+        (set_of set.new ≡ with_all (set_of set.old) (substituted (word_atoms text.now word))) }
+{
+    let names = substituted(alloc, text, word)?;
+    for name in names.as_slice() {
+        set.add(alloc, name)?;
+    }
+    Ok(())
 }

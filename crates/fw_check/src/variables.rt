@@ -1,13 +1,14 @@
 //! Substitutions of names that nothing defines.
-ghost use Rattle.std.specs.Prelude.{◌≡◌, OnOk};
+ghost use Rattle.std.specs.Prelude.{◌≡◌, OnOk, option_map};
 ghost use Rattle.std.specs.List.{flat_map};
-ghost use Rattle.fw_check.specs.Findings.{name_findings, word_findings};
+ghost use Rattle.fw_check.specs.Findings.{last_lacking, name_findings, next_findings, word_findings};
 ghost use Rattle.fw_check.specs.Found.{found_more};
 ghost use Rattle.fw_check.specs.Looking.{known_in};
 
 use crate::findings::{Findings, Severity};
 use crate::lookups::Lookups;
 use crate::substitutions::substituted;
+use hush_calc::is_text;
 use hush_syntax::{Text, Word};
 use std::alloc::AllocError;
 
@@ -38,13 +39,48 @@ pub(crate) fn check_word(
         (word_findings (known_in lookups.now) text.now word)) }
 {
     let names = substituted(lookups.alloc, text, word)?;
+    let mut last = None;
     for name in names.as_slice() {
-        check_name(lookups, word.start as usize, name, findings)?;
+        check_next(lookups, word.start as usize, last, name, findings)?;
+        last = last_lacking(lookups, last, name);
     }
     Ok(())
 }
 
-/// The same of the name of one substitution.
+/// The same of the name of one substitution, unless it is the last one of which something was found in the word.
+fn check_next(
+    lookups: &Lookups<'_>,
+    count: usize,
+    last: Option<&[u8]>,
+    name: &[u8],
+    findings: &mut Findings<'_>,
+) -> Result<(), AllocError>
+    ensures { OnOk result (findings.new ≡ found_more findings.old
+        (next_findings (known_in lookups.now) count (option_map (λ l. l.now) last.entry) name.now)) }
+{
+    match last {
+        Some(last) if is_text(last, name) => Ok(()),
+        _ => check_name(lookups, count, name, findings),
+    }
+}
+
+/// The last name of which something was found, after one more.
+fn last_lacking<'n>(
+    lookups: &Lookups<'_>,
+    last: Option<&'n [u8]>,
+    name: &'n [u8],
+) -> Option<&'n [u8]>
+    ensures { option_map (λ l. l.now) result
+        ≡ last_lacking (known_in lookups.now) (option_map (λ l. l.now) last.entry) name.now }
+{
+    if lookups.is_lacking(name) {
+        Some(name)
+    } else {
+        last
+    }
+}
+
+/// What is found in the name of one substitution.
 fn check_name(
     lookups: &Lookups<'_>,
     count: usize,

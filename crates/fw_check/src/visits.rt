@@ -8,7 +8,7 @@ use crate::findings::Report;
 use crate::follow::follow_text;
 use crate::followed::Names;
 use crate::lookups::{Lookups, Variables};
-use crate::name_set::NameSet;
+use crate::name_set::ScriptNames;
 use crate::script_check::{check_script, lacks_memory, print_report};
 use crate::typed_values::check_types;
 use envvars_core::Vars;
@@ -26,9 +26,10 @@ const UNDEFINED: &[u8] = b": error: no variable of this name is defined\n";
 /// Prints on `output` what is found in the scripts of an environment: in those of the given names, without names in
 /// those of `bootcmd`, `altbootcmd` and `preboot`, and in each that one of them runs by an argument without a
 /// substitution. Each is looked at once, in the order in which they are met. With stand-ins a command that is neither a
-/// builtin nor one of them is an error. A substitution of a name that neither the environment nor one of these scripts
-/// defines is a warning. Then comes a line for each variable of the environment whose value doesn't have the type that
-/// `.flags` gives it. The status is 1 if an error was found, else 0. docs/tools.md has the texts.
+/// builtin nor one of them is an error. So is a `run` of a name that neither the environment has nor one of these scripts
+/// sets or tests. A substitution of a name that neither the environment nor one of these scripts defines is a warning.
+/// Then comes a line for each variable of the environment whose value doesn't have the type that `.flags` gives it. The
+/// status is 1 if an error was found, else 0. docs/tools.md has the texts.
 ///
 /// At the fault `Memory` nothing is printed.
 pub fn check<W: Write>(
@@ -71,12 +72,12 @@ fn check_all(
 {
     let report = report_given(alloc, vars, names)?;
     let mut visited = first_names(alloc, vars, names)?;
-    let given = follow_all(alloc, vars, &mut visited)?;
+    let gathered = follow_all(alloc, vars, &mut visited)?;
     let lookups = Lookups {
         alloc,
         variables: Some(Variables {
             vars,
-            given: &given,
+            names: &gathered,
         }),
         stubs,
     };
@@ -129,19 +130,21 @@ fn names_in(alloc: Global, vars: &Vars, names: &[&[u8]]) -> Result<Names, AllocE
     Ok(followed)
 }
 
-/// Adds the names that the scripts of these names run, and theirs, to the end. Which names all these scripts give to
-/// something is the answer.
-fn follow_all(alloc: Global, vars: &Vars, names: &mut Names) -> Result<NameSet, AllocError>
+/// Adds the names that the scripts of these names run, and theirs, to the end. What names all these scripts tell of is
+/// the answer.
+fn follow_all(alloc: Global, vars: &Vars, names: &mut Names) -> Result<ScriptNames, AllocError>
     ensures visited { OnOk result (AreVisited vars.now.env names.old 0 names.new) }
-    ensures given { IfOk result (λ given. set_of given ≡ (known_after vars.now.env names.new).given) }
+    ensures given { IfOk result (λ gathered. set_of gathered.given ≡ (known_after vars.now.env names.new).given) }
+    ensures foreseen { IfOk result
+        (λ gathered. set_of gathered.foreseen ≡ (known_after vars.now.env names.new).foreseen) }
 {
-    let mut given = NameSet::new(alloc);
+    let mut gathered = ScriptNames::new(alloc);
     let mut index = 0;
     while let Some(name) = names.copy(alloc, index)? {
-        follow_text(alloc, vars, value(vars, &name), names, &mut given)?;
+        follow_text(alloc, vars, value(vars, &name), names, &mut gathered)?;
         index += 1;
     }
-    Ok(given)
+    Ok(gathered)
 }
 
 /// Goes on with a report by what is found in the scripts of these names.

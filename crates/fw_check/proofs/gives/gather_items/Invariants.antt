@@ -1,11 +1,16 @@
 use Rattle.std.proofs.Common.{◌≡◌, drop, map}
 use Rattle.std.specs.List.{flat_map}
 use Rattle.fw_check.specs.NameSets.{set_of, with_all}
-use Rattle.fw_check.specs.Naming.{given_names}
+use Rattle.fw_check.specs.Naming.{foreseen_names, given_names}
 use Rattle.fw_check.specs.Statements.{statement_of}
 use Rattle.fw_check.proofs.gives.gather_items.Given as goal
 
 abbrev pub invariant-loop-item : goal.invariant-loop-item
-invariant-loop-item l =
-    with_all (set_of l.given) (flat_map given_names (map (statement_of l.text) (drop l.item-index l.items)))
-    ≡ with_all (set_of l.initial.given) (flat_map given_names (map (statement_of l.text) l.items))
+invariant-loop-item l = record {
+  given :
+      with_all (set_of l.names.given) (flat_map given_names (map (statement_of l.text) (drop l.item-index l.items)))
+      ≡ with_all (set_of l.initial.names.given) (flat_map given_names (map (statement_of l.text) l.items));
+  foreseen :
+      with_all (set_of l.names.foreseen) (flat_map foreseen_names (map (statement_of l.text) (drop l.item-index l.items)))
+      ≡ with_all (set_of l.initial.names.foreseen) (flat_map foreseen_names (map (statement_of l.text) l.items));
+}

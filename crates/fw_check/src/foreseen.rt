@@ -1,0 +1,131 @@
+//! The names that a command foresees: it sets their variables, or tests them.
+ghost use Rattle.std.specs.Prelude.{◌≡◌, OnOk, option_map};
+ghost use Rattle.std.specs.List.{flat_map};
+ghost use Rattle.hush_syntax.specs.Trees.{words_in};
+ghost use Rattle.fw_check.specs.Literals.{substituted};
+ghost use Rattle.fw_check.specs.NameSets.{set_of, with_all};
+ghost use Rattle.fw_check.specs.Naming.{first_name, foreseen_as, is_calculation, set_by, set_by_env};
+
+use crate::literals::{is_called, is_word_of, literal};
+use crate::name_set::NameSet;
+use crate::substitutions::gather_substitutions;
+use hush_syntax::{Text, Word};
+use std::alloc::{AllocError, Global};
+
+/// What `setexpr` is called, by how much memory an address reads.
+const CALCULATIONS: [&[u8]; 5] = [
+    b"setexpr",
+    b"setexpr.b",
+    b"setexpr.w",
+    b"setexpr.l",
+    b"setexpr.q",
+];
+
+/// Adds the names that a command of this name foresees by its arguments.
+pub(crate) fn foresee(
+    alloc: Global,
+    text: &Text,
+    called: &Option<Vec<u8>>,
+    words: &[Word],
+    foreseen: &mut NameSet,
+) -> Result<(), AllocError>
+    ensures { OnOk result (set_of foreseen.new ≡ with_all (set_of foreseen.old)
+        (foreseen_as (option_map (λ v. v.items) called.now) (words_in text.now words.now))) }
+{
+    if is_called(called, b"test") {
+        foresee_tested(alloc, text, words, foreseen)
+    } else if is_called(called, b"setenv") {
+        foresee_set(alloc, text, words, foreseen)
+    } else if is_called(called, b"env") {
+        foresee_env(alloc, text, words, foreseen)
+    } else if is_calculation(called) {
+        foresee_first(alloc, text, words, foreseen)
+    } else {
+        Ok(())
+    }
+}
+
+/// Whether a command is `setexpr`.
+fn is_calculation(called: &Option<Vec<u8>>) -> bool
+    ensures { result ≡ is_calculation (option_map (λ v. v.items) called.now) }
+{
+    match called {
+        Some(name) => is_word_of(&CALCULATIONS, name),
+        None => false,
+    }
+}
+
+/// Adds the names of the substitutions of these words.
+fn foresee_tested(
+    alloc: Global,
+    text: &Text,
+    words: &[Word],
+    foreseen: &mut NameSet,
+) -> Result<(), AllocError>
+    ensures { OnOk result (set_of foreseen.new ≡ with_all (set_of foreseen.old)
+        (flat_map substituted (words_in text.now words.now))) }
+{
+    for word in words {
+        gather_substitutions(alloc, text, *word, foreseen)?;
+    }
+    Ok(())
+}
+
+/// Adds the name that `env` with these arguments sets.
+fn foresee_env(
+    alloc: Global,
+    text: &Text,
+    words: &[Word],
+    foreseen: &mut NameSet,
+) -> Result<(), AllocError>
+    ensures { OnOk result (set_of foreseen.new ≡ with_all (set_of foreseen.old)
+        (set_by_env (words_in text.now words.now))) }
+{
+    if words.is_empty() {
+        return Ok(());
+    }
+    let first = literal(alloc, text, words[0])?;
+    if !is_called(&first, b"set") {
+        return Ok(());
+    }
+    foresee_set(alloc, text, &words[1..], foreseen)
+}
+
+/// Adds the name that `setenv` with these arguments sets.
+fn foresee_set(
+    alloc: Global,
+    text: &Text,
+    words: &[Word],
+    foreseen: &mut NameSet,
+) -> Result<(), AllocError>
+    ensures { OnOk result (set_of foreseen.new ≡ with_all (set_of foreseen.old)
+        (set_by (words_in text.now words.now))) }
+{
+    if words.is_empty() {
+        return Ok(());
+    }
+    let first = literal(alloc, text, words[0])?;
+    if is_called(&first, b"-f") {
+        return foresee_first(alloc, text, &words[1..], foreseen);
+    }
+    foresee_first(alloc, text, words, foreseen)
+}
+
+/// Adds the first of these words, if there is one and it is without a substitution.
+fn foresee_first(
+    alloc: Global,
+    text: &Text,
+    words: &[Word],
+    foreseen: &mut NameSet,
+) -> Result<(), AllocError>
+    ensures { OnOk result (set_of foreseen.new ≡ with_all (set_of foreseen.old)
+        (first_name (words_in text.now words.now))) }
+{
+    if words.is_empty() {
+        return Ok(());
+    }
+    match literal(alloc, text, words[0])? {
+        Some(name) => foreseen.add(alloc, &name),
+        None => Ok(()),
+    }
+}
