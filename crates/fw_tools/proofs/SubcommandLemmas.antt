@@ -15,7 +15,7 @@ use Rattle.fw_tools.proofs.CheckLemmas.{check_small}
 use Rattle.fw_arguments.specs.DryRuns.{ScriptRun}
 use Rattle.fw_tools.specs.ScriptRuns as ScriptRuns
 use Rattle.fw_tools.specs.ScriptRuns.{ClosesRun, RunsOver}
-use Rattle.fw_engines.specs.ScriptRun.{ended_so, is_well, outcome_texts, run_texts}
+use Rattle.fw_session.specs.ScriptRun.{ended_so, is_well, outcome_texts, run_texts}
 use Rattle.hush_run.specs.declared.ending.Ending.{Ending}
 use Rattle.fw_tools.specs.Source.{IsFound, second_bytes}
 use Rattle.fw_tools.specs.declared.source.Source.{Source}

@@ -28,8 +28,8 @@ pub use entry_point::{program, words_failed};
 pub use fw_check::{check, check_text};
 pub use fw_engines::{
     FoundCopy, StreamFault, Survey, ToolEnd, defaults, export, file_status, import, print_values,
-    printenv, restore, run, set_script, setenv, show, status,
+    printenv, restore, set_script, setenv, show, status,
 };
-pub use fw_session::{SessionEnd, SessionEnding, session};
+pub use fw_session::{SessionEnd, SessionEnding, run, session};
 pub use greeting::{greet, talks};
 pub use system::{Hold, System};

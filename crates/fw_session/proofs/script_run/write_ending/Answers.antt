@@ -2,8 +2,8 @@ use Rattle.std.proofs.Common.{subst}
 use Rattle.std.specs.Prelude.{MatchBool}
 use Rattle.std.specs.Io.KnownBytes.{Appends}
 use Rattle.fw_engines.specs.Streams.{AppendsPart}
-use Rattle.fw_engines.proofs.WriteLemmas.{limit_is}
-use Rattle.fw_engines.proofs.script_run.write_ending.Goals as goal
+use Rattle.fw_session.proofs.LimitLemmas.{limit_is}
+use Rattle.fw_session.proofs.script_run.write_ending.Goals as goal
 
 pub returns-in-Steps : goal.returns-in-Steps
 returns-in-Steps g c =

@@ -2,15 +2,14 @@
 ghost use Rattle.std.specs.Prelude.{◌≡◌, MatchBool};
 ghost use Rattle.hush_run.specs.Runs.{rules};
 ghost use Rattle.hush_syntax.specs.Scripts.{tree_of};
-ghost use Rattle.fw_engines.specs.ScriptRun.{RunsScript, ended_by_itself, ended_by_limit, ended_so, is_well, outcome_texts};
+ghost use Rattle.fw_session.specs.ScriptRun.{RunsScript, ended_by_itself, ended_by_limit, ended_so, is_well, outcome_texts};
 ghost use Rattle.fw_engines.specs.Streams.{AppendsPart};
 ghost use Rattle.std.specs.Io.KnownBytes.{Appends};
 ghost use Rattle.fw_engines.specs.Tool.{Prints};
 
-use crate::streams::{write_parts, write_text};
-use crate::tool_end::{StreamFault, ToolEnd};
-use crate::tool_texts::OUT_OF_MEMORY;
 use env_session::Session;
+use fw_engines::streams::{write_parts, write_text};
+use fw_engines::{OUT_OF_MEMORY, StreamFault, ToolEnd};
 use hush_run::{Ending, Limits, Outcome, Stubs, run as run_over};
 use hush_syntax::Script;
 use itoa::Buffer;
