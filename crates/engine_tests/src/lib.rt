@@ -1,5 +1,5 @@
 //! Tests of the engines `status`, `restore`, `run` and `check` by their rules (docs/tools.md), over streams in memory. They are
-//! apart from `fw_engines` and `fw_check`, so that these are proved once.
+//! apart from `fw_engines`, `fw_session` and `fw_check`, so that these are proved once.
 #![tactic(auto)]
 
 #[cfg(test)]

@@ -10,7 +10,7 @@ use Rattle.hush_syntax.specs.declared.faults.FaultKind.{FaultKind}
 use Rattle.hush_syntax.specs.declared.faults.FaultKind.TheVariants as fault
 use Rattle.hush_commands.specs.Stubs.{Statuses}
 use Rattle.envimg_core.specs.Environment.{Environment}
-use Rattle.fw_engines.specs.ScriptRun.{place_of}
+use Rattle.fw_engines.specs.TextPlaces.{place_of}
 use Rattle.fw_engines.specs.declared.text_places.Place.{Place}
 use Rattle.fw_check.specs.Commands.{begin_in_parentheses, command_fault, command_sentence}
 use Rattle.fw_check.specs.Literals.{is_called, is_word_of, literal_of, substituted}

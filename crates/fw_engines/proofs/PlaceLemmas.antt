@@ -1,6 +1,6 @@
 -- Places of a text, one after the other.
 use Rattle.std.proofs.Common.{◌≡◌, ℕ, zero, suc, ◌+◌, ◌-◌, ◌≤◌, min, List, [], ◌∷◌, ◌++◌, length, take, drop, refl, sym, ap, ◌∙◌, arith}
-use Rattle.fw_engines.specs.ScriptRun.{after_byte, after_bytes, place_of}
+use Rattle.fw_engines.specs.TextPlaces.{after_byte, after_bytes, place_of}
 use Rattle.fw_engines.specs.declared.text_places.Place.{Place}
 
 after-append : (p : Place) (xs ys : List ℕ) → after_bytes p (xs ++ ys) ≡ after_bytes (after_bytes p xs) ys

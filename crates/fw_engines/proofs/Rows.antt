@@ -1,6 +1,6 @@
 -- Places in a text, computed by the checker.
 use Rattle.std.proofs.Common.{◌≡◌, codes, refl}
-use Rattle.fw_engines.specs.ScriptRun.{place_of}
+use Rattle.fw_engines.specs.TextPlaces.{place_of}
 
 pub first_place : place_of (codes "ab") 0 ≡ record { line = 1; column = 1 }
 first_place = refl

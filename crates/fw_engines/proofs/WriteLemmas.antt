@@ -1,12 +1,8 @@
 -- Texts written one after the other.
-use Rattle.std.proofs.Common.{◌≡◌, ◌⊎◌, ◌++◌, List, [], ℕ, Option, Some, None, Bool, true, false, arith, length-append, refl, sym, ap, ◌∙◌, subst, append_assoc, append-nil, inl, inr}
+use Rattle.std.proofs.Common.{◌≡◌, ◌++◌, List, [], ℕ, Option, Some, None, Bool, true, false, arith, length-append, refl, sym, ap, ◌∙◌, subst, append_assoc, append-nil, inl, inr}
 use Rattle.std.specs.Prelude.{MatchBool, MatchOption}
 use Rattle.std.proofs.KnownBytes.{Appends-nil, Appends-trans}
 use Rattle.std.specs.Io.KnownBytes.{Appends}
-use Rattle.hush_run.specs.Runs.{ending_name}
-use Rattle.hush_run.specs.declared.ending.Ending.{Ending}
-use Rattle.hush_run.specs.declared.ending.Ending.TheVariants as ending
-use Rattle.fw_engines.specs.ScriptRun.{ended_by_limit, ended_so}
 use Rattle.fw_engines.specs.Streams.{AppendsFront, AppendsPart, Writers}
 use Rattle.fw_engines.specs.Tool.{Texts, Writes, WritesPart, Printed, Prints, PrintsText}
 use Rattle.fw_engines.specs.declared.tool_end.ToolEnd.{ToolEnd}
@@ -79,17 +75,3 @@ prints_printed end a b texts p = by_fault end.fault p
 pub three_more : (a b c d x y z : List ℕ) → b ≡ a ++ x → c ≡ b ++ y → d ≡ c ++ z → d ≡ a ++ (x ++ y ++ z)
 three_more a b c d x y z p q r =
     r ∙ ap (λ t. t ++ z) (q ∙ ap (λ t. t ++ y) p ∙ append_assoc a x y) ∙ append_assoc a (x ++ y) z
-
--- what is said of a run that this limit stopped
-limit_here : (e limit : Ending) (place : Option (List ℕ)) (status steps : ℕ) (name : List ℕ) → e ≡ limit → ended_by_limit (ending_name limit) place steps ≡ ended_so limit place status steps → name ≡ ending_name e →
-    ended_by_limit name place steps ≡ ended_so e place status steps
-limit_here e limit place status steps name is said named =
-    ap (λ n. ended_by_limit n place steps) named ∙ ap (λ x. ended_by_limit (ending_name x) place steps) is ∙ said ∙ sym (ap (λ x. ended_so x place status steps) is)
-
--- and of one that any limit stopped
-pub limit_is : (e : Ending) (place : Option (List ℕ)) (status steps : ℕ) (name : List ℕ) → (e ≡ ending.Steps) ⊎ ((e ≡ ending.Depth) ⊎ ((e ≡ ending.Word) ⊎ (e ≡ ending.Output))) → name ≡ ending_name e →
-    ended_by_limit name place steps ≡ ended_so e place status steps
-limit_is e place status steps name (inl is) named = limit_here e ending.Steps place status steps name is refl named
-limit_is e place status steps name (inr (inl is)) named = limit_here e ending.Depth place status steps name is refl named
-limit_is e place status steps name (inr (inr (inl is))) named = limit_here e ending.Word place status steps name is refl named
-limit_is e place status steps name (inr (inr (inr is))) named = limit_here e ending.Output place status steps name is refl named

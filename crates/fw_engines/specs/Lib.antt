@@ -3,11 +3,12 @@ pub mod CopyStatus
 pub mod Defaults
 pub mod Messages
 pub mod Restoration
-pub mod ScriptRun
+pub mod ScriptFaults
 pub mod Shown
 pub mod SkippedLines
 pub mod Streams
 pub mod TextForm
+pub mod TextPlaces
 pub mod Tool
 pub mod VariableLines
 pub mod Ways

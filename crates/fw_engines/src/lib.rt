@@ -1,9 +1,9 @@
 //! The tools over readers, writers and sessions: what `printenv`, `setenv`, a set script, `import`, `restore` and `export`
-//! do to a session and print, a script's run with its own status, what the program shows of an image, what is reported of
-//! stored copies, and the default environment of a text. docs/tools.md states the rules.
+//! do to a session and print, what the program shows of an image, where a text isn't a script, what is reported of stored
+//! copies, and the default environment of a text. docs/tools.md states the rules.
 //!
 //! To read in this order: tool_end, streams, tool_texts; single_image; variable_lines, text_form; changes, restoration,
-//! default_environment; script_run, text_places, script_fault; copy_status, with copy_words, ways, variable_count, skipped_lines and line_parts; whole_file.
+//! default_environment; text_places, script_fault; copy_status, with copy_words, ways, variable_count, skipped_lines and line_parts; whole_file.
 #![tactic(auto)]
 
 mod changes;
@@ -13,7 +13,6 @@ mod default_environment;
 mod line_parts;
 mod restoration;
 mod script_fault;
-mod script_run;
 mod single_image;
 mod skipped_lines;
 pub mod streams;
@@ -31,10 +30,10 @@ pub use copy_status::{FoundCopy, Survey, status};
 pub use default_environment::defaults;
 pub use restoration::restore;
 pub use script_fault::{fault_name, fault_sentence, say_syntax_fault};
-pub use script_run::run;
 pub use single_image::show;
 pub use text_form::export;
 pub use text_places::{Place, Pointer, place_of};
 pub use tool_end::{StreamFault, ToolEnd};
+pub use tool_texts::OUT_OF_MEMORY;
 pub use variable_lines::{print_values, printenv};
 pub use whole_file::file_status;

@@ -1,6 +1,6 @@
 //! Where a text isn't a script, and why.
 ghost use Rattle.std.specs.Prelude.{◌≡◌};
-ghost use Rattle.fw_engines.specs.ScriptRun.{fault_at, fault_line, fault_name, fault_sentence};
+ghost use Rattle.fw_engines.specs.ScriptFaults.{fault_at, fault_line, fault_name, fault_sentence};
 ghost use Rattle.fw_engines.specs.Streams.{AppendsFront};
 
 use crate::streams::write_parts;

@@ -80,7 +80,7 @@ pub fn write_three<W: Write>(writer: &mut W, first: &[u8], second: &[u8], third:
 }
 
 /// Writes a text in parts.
-pub(crate) fn write_parts<W: Write>(writer: &mut W, parts: &[&[u8]]) -> bool
+pub fn write_parts<W: Write>(writer: &mut W, parts: &[&[u8]]) -> bool
     ensures { MatchBool result
         (Appends (W.contents writer.old) (W.contents writer.new) (concat (map (λ p. p.now) parts.now)))
         (AppendsPart (W.contents writer.old) (W.contents writer.new) (concat (map (λ p. p.now) parts.now))) }

@@ -1,6 +1,6 @@
 //! Lines and columns of a text.
 ghost use Rattle.std.specs.Prelude.{◌≡◌, ◌≤◌, ◌+◌, ◌-◌, length, take, drop};
-ghost use Rattle.fw_engines.specs.ScriptRun.{place_of, after_bytes};
+ghost use Rattle.fw_engines.specs.TextPlaces.{place_of, after_bytes};
 
 use std::marker::Model;
 
@@ -35,7 +35,7 @@ pub struct Pointer<'t> {
 
 impl<'t> Model for Pointer<'t> {
     ghost use Rattle.std.specs.Prelude.{◌≡◌, ◌≤◌, ◌+◌, ℕ, List, length};
-    ghost use Rattle.fw_engines.specs.ScriptRun.{place_of};
+    ghost use Rattle.fw_engines.specs.TextPlaces.{place_of};
 
     ghost Value = { List ℕ };
 

@@ -27,7 +27,7 @@ pub enum StreamFault {
 
 impl ToolEnd {
     /// An end by itself, with this status.
-    pub(crate) fn done(status: u8) -> ToolEnd
+    pub fn done(status: u8) -> ToolEnd
         ensures { (result.status ≡ status) × (result.fault ≡ None) }
     {
         ToolEnd {
@@ -37,7 +37,7 @@ impl ToolEnd {
     }
 
     /// An end by a fault.
-    pub(crate) fn stopped(fault: StreamFault) -> ToolEnd
+    pub fn stopped(fault: StreamFault) -> ToolEnd
         ensures { (result.status ≡ 1) × (result.fault ≡ Some fault) }
     {
         ToolEnd {

@@ -34,4 +34,4 @@ pub(crate) const QUOTE_IN_LINE: &[u8] = b"\" in line ";
 pub(crate) const NEWLINE: &[u8] = b"\n";
 
 /// Standard error where memory ran out.
-pub(crate) const OUT_OF_MEMORY: &[u8] = b"## Error: out of memory\n";
+pub const OUT_OF_MEMORY: &[u8] = b"## Error: out of memory\n";

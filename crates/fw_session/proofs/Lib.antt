@@ -4,6 +4,7 @@ mod CutLemmas
 mod EndLemmas
 mod HandlingLemmas
 mod LastUndo
+mod LimitLemmas
 mod LineLemmas
 mod ListLemmas
 mod MarkLemmas

@@ -5,6 +5,7 @@ pub mod Streams
 pub mod Turns
 pub mod Ends
 pub mod NamedSessions
+pub mod ScriptRun
 -- What the steps of the code do: no promise speaks of these.
 pub mod Views
 pub mod Handling

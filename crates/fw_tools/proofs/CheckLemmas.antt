@@ -14,7 +14,7 @@ use Rattle.fw_engines.specs.declared.tool_end.StreamFault.TheVariants.{Write}
 use Rattle.fw_engines.specs.declared.tool_end.ToolEnd.{ToolEnd}
 use Rattle.fw_arguments.specs.Checks.{EnvironmentCheck, FileCheck}
 use Rattle.fw_tools.specs.CheckRuns.{AreStandInsGiven, ChecksFile, ChecksOver}
-use Rattle.fw_tools.specs.Said.{Says}
+use Rattle.fw_files.specs.Said.{Says}
 
 -- 1 where there is an error, else 0
 flag_small : (failed : Bool) → (if failed then 1 else 0) ≤ 1

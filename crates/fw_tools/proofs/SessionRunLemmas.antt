@@ -1,14 +1,14 @@
 -- How a dry run is left, put together.
-use Rattle.std.proofs.Common.{◌≡◌, ℕ, Bool, true, false, List, [], Option, Some, None, inl, inr, sym, ap, subst}
+use Rattle.std.proofs.Common.{◌≡◌, ℕ, Bool, true, false, List, Option, Some, None, inl, inr, sym, ap, subst}
 use Rattle.std.specs.Prelude.{Result, Ok, Err, IfOk, unwrap_or}
-use Rattle.std.specs.FinMap as names
 use Rattle.std.specs.Result.{result_ok}
 use Rattle.env_session.specs.Session.{Held}
-use Rattle.hush_commands.specs.Stubs.{Statuses, stand_ins_of}
+use Rattle.hush_commands.specs.Stubs.{Statuses}
 use Rattle.fw_session.specs.declared.session_end.SessionEnding.{SessionEnding}
 use Rattle.fw_arguments.specs.DryRuns.{DryRun}
-use Rattle.fw_tools.specs.Said.{SaysSome}
-use Rattle.fw_tools.specs.SessionRun.{ClosesDryRun, Reports, AreStubsOf, TriesOver, TriesWith, text_for}
+use Rattle.fw_files.specs.Said.{SaysSome}
+use Rattle.fw_files.specs.Files.{AreStubsOf}
+use Rattle.fw_tools.specs.SessionRun.{ClosesDryRun, Reports, TriesOver, TriesWith, text_for}
 use Rattle.fw_engines.specs.Streams.{AppendsFront, Streams}
 
 pub tried_over : {E : Type 0} (run : DryRun) (session : Held) (old : Streams) (outcome : Result Statuses E) (stand_ins : Statuses) (errors : Option (List ℕ)) (new : Streams) (status : ℕ) →
@@ -32,9 +32,6 @@ reported false end old new status reports = reports
 pub not_written : (kept : Bool) (end : SessionEnding) (old new : Option (List ℕ)) (status : ℕ) → kept ≡ true → SaysSome old new → status ≡ 1 → ClosesDryRun kept end old new status
 not_written true end old new status is says one = inl (says, one)
 not_written false end old new status is says one = absurd cc
-
-pub no_stand_ins : (stand_ins : Statuses) → stand_ins_of [] ≡ Ok stand_ins → stand_ins ≡ names.empty
-no_stand_ins stand_ins is = sym (ap (λ r. unwrap_or (result_ok r) names.empty) is)
 
 pub nothing_told : (told : Option (List ℕ)) (old new : Option (List ℕ)) (status : ℕ) → None ≡ told → new ≡ old → status ≡ 0 → Reports told old new status
 nothing_told told old new status none same zero = subst (λ t. Reports t old new status) none (same, zero)

@@ -7,18 +7,18 @@ use Rattle.envcfg_core.specs.Entries as text_entries
 use Rattle.envimg_core.specs.Environment.{Environment}
 use Rattle.envimg_core.specs.Pieces.{Entry}
 use Rattle.envimg_core.specs.declared.geometry.Order.{Order}
-use Rattle.fw_tools.specs.Said.{SaysSome}
 use Rattle.envvars_core.specs.declared.refusals.Refusal.{Refusal}
-use Rattle.fw_tools.specs.Subcommands.{Acts, AreCopiesIn, Closes, DoesJob, IsAccepted, IsOpening, OpensOver, Scene, Uses, UsesTool, printed_so}
+use Rattle.fw_files.specs.Opening.{AreCopiesIn, IsAccepted, IsOpening, OpensOver}
+use Rattle.fw_tools.specs.Subcommands.{Acts, Closes, DoesJob, Scene, Uses, UsesTool, printed_so}
 use Rattle.fw_arguments.specs.Calls.{Call, Checks, Defaults, Job, Runs, Task, Tool, Tries}
 use Rattle.fw_tools.proofs.CheckLemmas.{check_small}
 use Rattle.fw_arguments.specs.DryRuns.{ScriptRun}
 use Rattle.fw_tools.specs.ScriptRuns as ScriptRuns
 use Rattle.fw_tools.specs.ScriptRuns.{ClosesRun, RunsOver}
-use Rattle.fw_engines.specs.ScriptRun.{ended_so, is_well, outcome_texts, run_texts}
+use Rattle.fw_session.specs.ScriptRun.{ended_so, is_well, outcome_texts, run_texts}
 use Rattle.hush_run.specs.declared.ending.Ending.{Ending}
-use Rattle.fw_tools.specs.Source.{IsFound, second_bytes}
-use Rattle.fw_tools.specs.declared.source.Source.{Source}
+use Rattle.fw_files.specs.Source.{IsFound, second_bytes}
+use Rattle.fw_files.specs.declared.source.Source.{Source}
 use Rattle.fw_arguments.specs.declared.task.Printing.{Printing}
 use Rattle.fw_arguments.specs.declared.task.Printing.TheVariants.{Lines, OneValue, Values}
 use Rattle.fw_engines.specs.TextForm.{export_texts, status_for}
@@ -33,14 +33,7 @@ use Rattle.fw_engines.specs.declared.tool_end.StreamFault.{StreamFault}
 use Rattle.fw_engines.specs.declared.tool_end.StreamFault.TheVariants.{Read, Write, Memory}
 use Rattle.fw_engines.specs.declared.tool_end.ToolEnd.{ToolEnd}
 
--- the session that was accepted is the one that was opened
-pub accepted_is : (o : Option Held) (source : Source) (asked : Defaults) (session : Held) (a b : Option (List ℕ)) → OpensOver source asked session →
-    MatchOption o (SaysSome a b) (λ s. (s ≡ session) × IsAccepted asked session a b) → MatchOption o (SaysSome a b) (λ s. OpensOver source asked s × IsAccepted asked s a b)
-accepted_is None source asked session a b opens p = p
-accepted_is (Some s) source asked session a b opens p =
-    (subst (OpensOver source asked) (sym p.0) opens, subst (λ (h : Held). IsAccepted asked h a b) (sym p.0) p.1)
-
--- and it is one over such copies as were read
+-- a session over what was read is one over such copies
 pub opens_so : (image : Option ℕ) (order : Order) (source : Source) (asked : Defaults) (session : Held) →
     AreCopiesIn image order source → OpensOver source asked session → IsOpening image order asked session
 opens_so image order source asked session copies (defaults, are, is) =

@@ -7,8 +7,8 @@ use Rattle.fw_arguments.specs.Checks.{EnvironmentCheck, FileCheck}
 use Rattle.fw_check.specs.Checking.{Checks, ChecksText}
 use Rattle.fw_engines.specs.Streams.{Writers}
 use Rattle.fw_engines.specs.declared.tool_end.ToolEnd.{ToolEnd}
-use Rattle.fw_tools.specs.Said.{Says, Stops}
-use Rattle.fw_tools.specs.SessionRun.{AreStubsOf}
+use Rattle.fw_files.specs.Said.{Says, Stops}
+use Rattle.fw_files.specs.Files.{AreStubsOf}
 
 -- the stand-ins of some text, if a path of them is given
 abbrev pub AreStandInsGiven : Option Text → Option Statuses → Type 0

@@ -11,7 +11,7 @@ use Rattle.fw_engines.specs.Shown.{Shows}
 use Rattle.fw_engines.specs.Streams.{AppendsFront, AppendsPart, Streams, Writers, writers_of}
 use Rattle.fw_tools.specs.Subcommands.{Called}
 use Rattle.fw_arguments.specs.Report.{asked_of}
-use Rattle.fw_tools.specs.Said.{Says, message_of}
+use Rattle.fw_files.specs.Said.{Says, message_of}
 use Rattle.fw_arguments.specs.ProgramNames.{called_by, faults, order_of}
 use Rattle.fw_arguments.specs.declared.program_name.ProgramName.{ProgramName}
 use Rattle.fw_arguments.specs.declared.program_name.ProgramName.TheVariants.{Fwenv}

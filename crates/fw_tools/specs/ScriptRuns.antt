@@ -9,13 +9,14 @@ use Rattle.hush_syntax.specs.Reading.{read}
 use Rattle.hush_syntax.specs.declared.faults.SyntaxFault.{SyntaxFault}
 use Rattle.hush_commands.specs.Stubs.{Statuses, with_boot}
 use Rattle.hush_run.specs.Runs.{rules}
-use Rattle.fw_engines.specs.ScriptRun.{RunsScript, fault_line}
+use Rattle.fw_engines.specs.ScriptFaults.{fault_line}
+use Rattle.fw_session.specs.ScriptRun.{RunsScript}
 use Rattle.fw_engines.specs.Streams.{AppendsFront, Writers}
 use Rattle.fw_engines.specs.declared.tool_end.ToolEnd.{ToolEnd}
 use Rattle.fw_engines.specs.declared.tool_end.StreamFault.TheVariants.{Memory}
 use Rattle.fw_arguments.specs.DryRuns.{GivenScript, Names, Words, File, ScriptRun}
-use Rattle.fw_tools.specs.Said.{Says, SaysSome, Stops, message_of}
-use Rattle.fw_tools.specs.SessionRun.{AreStubsOf}
+use Rattle.fw_files.specs.Said.{Says, SaysSome, Stops, message_of}
+use Rattle.fw_files.specs.Files.{AreStubsOf}
 
 -- a name in quotes, in which each quote is outside of them
 abbrev pub quoted : ℕ → List ℕ

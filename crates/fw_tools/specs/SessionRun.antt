@@ -1,9 +1,8 @@
 -- What a dry run over standard input and output does (docs/dry-runs.md).
-use Rattle.std.specs.Prelude.{◌≡◌, ◌⊎◌, ℕ, Bool, true, false, List, [], ◌∷◌, ◌++◌, Option, Some, None, Ok, codes}
-use Rattle.std.specs.FinMap as names
+use Rattle.std.specs.Prelude.{◌≡◌, ◌⊎◌, ℕ, Bool, true, false, List, [], ◌∷◌, ◌++◌, Option, Some, None, codes}
 use Rattle.clap.specs.Words.{Text}
 use Rattle.env_session.specs.Session.{Held}
-use Rattle.hush_commands.specs.Stubs.{Statuses, stand_ins_of}
+use Rattle.hush_commands.specs.Stubs.{Statuses}
 use Rattle.hush_run.specs.Runs.{rules}
 use Rattle.fw_session.specs.Ends.{Ends}
 use Rattle.fw_session.specs.Turns.{NamedSession}
@@ -11,14 +10,10 @@ use Rattle.fw_session.specs.NamedSessions.{unnamed}
 use Rattle.fw_session.specs.declared.session_end.SessionEnding.{SessionEnding}
 use Rattle.fw_session.specs.declared.session_end.SessionEnding.TheVariants as ending
 use Rattle.fw_arguments.specs.DryRuns.{DryRun}
-use Rattle.fw_tools.specs.Said.{SaysSome, Stops, message_of}
+use Rattle.fw_files.specs.Files.{AreStubsOf}
+use Rattle.fw_files.specs.Said.{SaysSome, Stops, message_of}
 use Rattle.fw_engines.specs.Streams.{AppendsFront, Streams, writers_of}
 use Rattle.fw_engines.specs.declared.tool_end.StreamFault.TheVariants.{Read, Write, Memory}
-
--- the stand-ins are those of some text, or there are none
-abbrev pub AreStubsOf : Option Text → Statuses → Type 0
-AreStubsOf None stand_ins = stand_ins ≡ names.empty
-AreStubsOf (Some path) stand_ins = (text : List ℕ) × (stand_ins_of text ≡ Ok stand_ins)
 
 -- the copies are written back where that was asked for and the whole input was handled
 abbrev pub is_kept : Bool → SessionEnding → Bool

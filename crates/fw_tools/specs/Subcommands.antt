@@ -1,28 +1,24 @@
 -- What a subcommand does over a session, and what it prints (docs/tools.md, "Subcommands over files").
-use Rattle.std.specs.Prelude.{◌≡◌, ◌⊎◌, ℕ, ◌==◌, ◌&&◌, Bool, true, false, if◌then◌else◌, List, replicate, Option, Some, None, Result, Ok, Err}
-use Rattle.env_session.specs.Session.{Held, opened}
-use Rattle.envimg_core.specs.Geometry.{Shape, room_of}
+use Rattle.std.specs.Prelude.{◌≡◌, ◌⊎◌, ℕ, ◌==◌, ◌&&◌, Bool, true, false, if◌then◌else◌, List, Option, Result, Ok, Err}
+use Rattle.env_session.specs.Session.{Held}
 use Rattle.envimg_core.specs.Pieces.{Entry}
 use Rattle.envimg_core.specs.declared.choice.Choice.{Choice}
 use Rattle.envimg_core.specs.declared.choice.Choice.TheVariants.{Neither}
-use Rattle.envimg_core.specs.declared.geometry.Layout.TheVariants.{Single}
-use Rattle.envimg_core.specs.declared.geometry.Order.{Order}
 use Rattle.envcfg_core.specs.Entries as text_entries
 use Rattle.envcfg_core.specs.Import.{import_of}
-use Rattle.envvars_core.specs.Variables.{Contents}
 use Rattle.clap.specs.Words.{Text}
 use Rattle.fw_arguments.specs.Calls.{Call, Checks, Defaults, Job, Tool, Tries, Runs, Task, writes}
 use Rattle.fw_tools.specs.CheckRuns.{ChecksFile, ChecksOver}
-use Rattle.fw_tools.specs.CopyReport.{ReportsOn}
+use Rattle.fw_files.specs.CopyReport.{ReportsOn}
 use Rattle.fw_arguments.specs.Report.{Asked, Check, Look, Work}
-use Rattle.fw_tools.specs.Source.{AreDefaultsOf, IsFound, lacks_copy, second_bytes, warned}
-use Rattle.fw_tools.specs.Said.{Says, SaysSome, Stops}
+use Rattle.fw_files.specs.Opening.{IsAccepted, IsOpening}
+use Rattle.fw_files.specs.Source.{IsFound}
+use Rattle.fw_files.specs.Said.{Says, SaysSome, Stops}
 use Rattle.fw_engines.specs.TextForm.{export_texts}
 use Rattle.fw_engines.specs.VariableLines.{named, printed}
 use Rattle.envimg_core.specs.Environment.{Environment}
-use Rattle.fw_tools.specs.declared.source.Source.{Source}
-use Rattle.fw_tools.specs.declared.system.Hold.{Hold}
-use Rattle.fw_tools.specs.declared.system.Hold.TheVariants.{Alone, Shared}
+use Rattle.fw_files.specs.declared.system.Hold.{Hold}
+use Rattle.fw_files.specs.declared.system.Hold.TheVariants.{Alone, Shared}
 use Rattle.fw_arguments.specs.declared.task.Printing.{Printing}
 use Rattle.fw_arguments.specs.declared.task.Printing.TheVariants.{Lines, OneValue, Values}
 use Rattle.fw_engines.specs.Changes.{Changes, Changing, Effect, LacksMemory, LacksMemoryToImport, LacksMemoryToSet, import_effect, script_effect, set_effect}
@@ -83,28 +79,6 @@ abbrev pub is_left : Bool → Choice → ℕ → Bool
 is_left only_changes Neither changed = false
 is_left only_changes choice changed = only_changes && changed == 0
 
--- the copies of a session: some that a configuration names, in this byte order, or an erased image of a size in their place
-abbrev pub AreCopies : (image : Option ℕ) → Order → Shape → (first : List ℕ) → (second : Option (List ℕ)) → Type 0
-AreCopies None order shape first second = shape.order ≡ order
-AreCopies (Some size) order shape first second =
-    (shape ≡ record { layout = Single; size = size; order = order }) × (first ≡ replicate size 255) × (second ≡ None)
-
--- a session just opened over such copies, with the defaults of some text where its path is given, else none
-abbrev pub IsOpening : (image : Option ℕ) → Order → Defaults → Held → Type 0
-IsOpening image order asked session =
-    (shape : Shape) × (first : List ℕ) × (second : Option (List ℕ)) × (defaults : Contents)
-    × AreCopies image order shape first second × AreDefaultsOf (room_of shape) asked defaults × (session ≡ opened shape first second defaults)
-
--- the same copies as they were read
-abbrev pub AreCopiesIn : (image : Option ℕ) → Order → Source → Type 0
-AreCopiesIn image order source = AreCopies image order source.geometry source.first.bytes.items (second_bytes source.second)
-
--- a session just opened over what was read
-abbrev pub OpensOver : Source → Defaults → Held → Type 0
-OpensOver source asked session =
-    (defaults : Contents) × AreDefaultsOf (room_of source.geometry) asked defaults
-    × (session ≡ opened source.geometry source.first.bytes.items (second_bytes source.second) defaults)
-
 -- a task is done over a session, and the copies are written back; or its file can't be used
 abbrev pub UsesTool : Task → Held → Writers → Writers → ℕ → Type 0
 UsesTool task session old new status =
@@ -118,10 +92,6 @@ DoesJob (Tool task) session old new status = (new.input ≡ old.input) × UsesTo
 DoesJob (Tries run) session old new status = TriesOver run session old new status
 DoesJob (Runs run) session old new status = (new.input ≡ old.input) × RunsOver run session (writers_of old) (writers_of new) status
 DoesJob (Checks check) session old new status = (new.input ≡ old.input) × ChecksOver check session (writers_of old) (writers_of new) status
-
--- a copy is good, or none has to be: then there is a warning, unless the default text is the whole environment
-abbrev pub IsAccepted : Defaults → Held → Option (List ℕ) → Option (List ℕ) → Type 0
-IsAccepted asked session old said = (lacks_copy asked session.now.current ≡ false) × AppendsFront old said (warned asked.whole session.now.current)
 
 -- a session is opened, with a warning where no copy is good, and worked on
 abbrev pub UsesSession : Call → Streams → Streams → ℕ → Type 0

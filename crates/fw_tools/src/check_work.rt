@@ -2,16 +2,13 @@
 ghost use Rattle.std.specs.Prelude.{◌≤◌, MatchOption, ◌≡◌, IfOk, option_map, unwrap_or};
 ghost use Rattle.fw_arguments.specs.Checks.{environment_check_view, file_check_view};
 ghost use Rattle.fw_tools.specs.CheckRuns.{AreStandInsGiven, ChecksFile, ChecksOver};
-ghost use Rattle.fw_tools.specs.Said.{SaysSome};
+ghost use Rattle.fw_files.specs.Said.{SaysSome};
 
-use crate::entry_point::report;
-use crate::files::{FileFault, read_file, read_stand_in_file, value_or_say};
-use crate::reasons::Explains;
-use crate::system::System;
 use crate::task_work::bytes_or_say;
 use env_session::Session;
 use fw_arguments::{EnvironmentCheck, FileCheck, STANDARD_INPUT};
 use fw_check::{check, check_text};
+use fw_files::{Explains, FileFault, System, read_file, read_stand_in_file, report, value_or_say};
 use hush_run::Stubs;
 use std::io::Write;
 use std::rt::Files;

@@ -1,9 +1,8 @@
 //! The program over its words and streams.
-ghost use Rattle.std.specs.Prelude.{◌≡◌, ◌⊎◌, ◌≤◌, Ok, Some, map, option_map};
+ghost use Rattle.std.specs.Prelude.{◌≡◌, ◌⊎◌, ◌≤◌, Ok, map, option_map};
 ghost use Rattle.clap.specs.Words.{found_of, kind_of, rows_of};
 ghost use Rattle.fw_tools.specs.EntryPoint.{RepliesTo, Does, is_shown, LacksMemory, Runs, ShowsAndSays, message_without_words};
 ghost use Rattle.fw_arguments.specs.Report.{asked_view};
-ghost use Rattle.fw_tools.specs.Said.{Says};
 ghost use Rattle.fw_tools.specs.Subcommands.{Called};
 ghost use Rattle.fw_engines.specs.Streams.{AppendsFront};
 ghost use Rattle.fw_arguments.specs.ProgramNames.{called_in};
@@ -12,16 +11,15 @@ ghost use Rattle.fw_arguments.specs.Words.{order_in};
 ghost use Rattle.std.specs.IoError.{error_kind};
 
 use crate::check_work::run_file_check;
-use crate::copy_report::run_report;
-use crate::program_texts::{CANNOT_READ, CANNOT_WRITE, NO_WORDS, NOT_UTF8, OUT_OF_MEMORY};
+use crate::program_texts::{NO_WORDS, NOT_UTF8};
 use crate::subcommands::run_call;
-use crate::system::System;
 use clap::error::ErrorKind;
 use clap::{ArgMatches, Error};
 use envimg_core::Order;
 use fw_arguments::{Asked, ProgramName, WordFault, called, chosen_order, read_asked, read_words};
 use fw_engines::streams::{say, write_text, write_three};
-use fw_engines::{StreamFault, ToolEnd, show};
+use fw_engines::{OUT_OF_MEMORY, StreamFault, ToolEnd, show};
+use fw_files::{System, report, run_report};
 use std::alloc::Global;
 use std::convert::AsStr;
 use std::io::{self, Read, Write};
@@ -80,32 +78,6 @@ pub fn words_failed<E: Write>(error: &io::Error, errors: &mut E) -> u8
     };
     say(errors, text);
     1
-}
-
-/// Says on `errors` which fault stopped a tool, if one did, and answers the exit status.
-pub(crate) fn report<E: Write>(end: ToolEnd, errors: &mut E) -> u8
-    ensures status { result ≡ end.status }
-    ensures said { Says end.fault (E.contents errors.old) (E.contents errors.new) }
-{
-    if let Some(fault) = end.fault {
-        let text = match fault {
-            StreamFault::Read => CANNOT_READ,
-            StreamFault::Write => CANNOT_WRITE,
-            StreamFault::Memory => OUT_OF_MEMORY,
-        };
-        say(errors, text);
-    }
-    end.status
-}
-
-/// The end of a tool by a fault.
-pub(crate) fn stopped(fault: StreamFault) -> ToolEnd
-    ensures { (result.status ≡ 1) × (result.fault ≡ Some fault) }
-{
-    ToolEnd {
-        status: 1,
-        fault: Some(fault),
-    }
 }
 
 /// Does what words with nothing wrong ask for.
@@ -207,17 +179,17 @@ fn print_error<W: Write, E: Write>(
         (record { output = W.contents output.new; errors = E.contents errors.new }) result }
 {
     let Ok(text) = error.to_string(alloc) else {
-        return report(stopped(StreamFault::Memory), errors);
+        return report(ToolEnd::stopped(StreamFault::Memory), errors);
     };
     if error.kind() == ErrorKind::OutOfMemory {
-        return report(stopped(StreamFault::Memory), errors);
+        return report(ToolEnd::stopped(StreamFault::Memory), errors);
     }
     if error.use_stderr() {
         say(errors, text.as_bytes());
         return 1;
     }
     if !write_text(output, text.as_bytes()) {
-        return report(stopped(StreamFault::Write), errors);
+        return report(ToolEnd::stopped(StreamFault::Write), errors);
     }
     0
 }

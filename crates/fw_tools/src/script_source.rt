@@ -4,15 +4,13 @@ ghost use Rattle.std.specs.List.{flat_map};
 ghost use Rattle.hush_syntax.specs.Reading.{read};
 ghost use Rattle.hush_syntax.specs.Scripts.{tree_of};
 ghost use Rattle.fw_arguments.specs.DryRuns.{script_view};
-ghost use Rattle.fw_tools.specs.Said.{SaysSome};
+ghost use Rattle.fw_files.specs.Said.{SaysSome};
 ghost use Rattle.fw_tools.specs.ScriptRuns.{IsTextOf, Refuses, name_of_script, quoted, quoted_name, starts};
 
-use crate::files::{FileFault, read_file, value_or_say};
-use crate::program_texts::OUT_OF_MEMORY;
-use crate::reasons::Explains;
 use fw_arguments::{GivenScript, STANDARD_INPUT};
-use fw_engines::say_syntax_fault;
 use fw_engines::streams::say;
+use fw_engines::{OUT_OF_MEMORY, say_syntax_fault};
+use fw_files::{Explains, FileFault, read_file, value_or_say};
 use hush_syntax::{FaultKind, Script};
 use std::alloc::{AllocError, Global};
 use std::io::Write;

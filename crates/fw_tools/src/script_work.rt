@@ -4,19 +4,17 @@ ghost use Rattle.hush_run.specs.Runs.{rules};
 ghost use Rattle.hush_syntax.specs.Scripts.{tree_of};
 ghost use Rattle.fw_arguments.specs.DryRuns.{script_run_view, texts};
 ghost use Rattle.fw_tools.specs.ScriptRuns.{AreStandInsOf, ClosesRun, RunsOver, RunsText, RunsTree, is_kept, with_boots};
-ghost use Rattle.fw_tools.specs.Said.{SaysSome};
+ghost use Rattle.fw_files.specs.Said.{SaysSome};
 
-use crate::changed_copies::write_other_first;
-use crate::entry_point::report;
-use crate::files::{FileFault, read_stand_ins, value_or_say};
-use crate::reasons::Explains;
 use crate::script_source::{name_of_script, script_or_say, text_or_say};
-use crate::source::Source;
-use crate::system::System;
 use env_session::Session;
 use envimg_core::Choice;
 use fw_arguments::ScriptRun;
-use fw_engines::{ToolEnd, run};
+use fw_engines::ToolEnd;
+use fw_files::{
+    Explains, FileFault, Source, System, read_stand_ins, report, value_or_say, write_other_first,
+};
+use fw_session::run;
 use hush_run::Stubs;
 use hush_syntax::Script;
 use std::alloc::{AllocError, Global};

@@ -3,16 +3,15 @@ ghost use Rattle.std.specs.Prelude.{◌≡◌, option_map, unwrap_or};
 ghost use Rattle.fw_arguments.specs.DryRuns.{dry_run_view};
 ghost use Rattle.fw_tools.specs.SessionRun.{ClosesDryRun, Reports, TriesOver, is_kept, text_for};
 
-use crate::changed_copies::write_back;
-use crate::copies::lock_device;
-use crate::files::{read_stand_ins, value_or_say};
-use crate::program_texts::{CANNOT_READ, CANNOT_WRITE, OUT_OF_MEMORY, TOO_LONG};
-use crate::reasons::Explains;
-use crate::source::Source;
-use crate::system::{Hold, System};
+use crate::program_texts::TOO_LONG;
 use env_session::Session;
 use fw_arguments::DryRun;
+use fw_engines::StreamFault;
 use fw_engines::streams::say;
+use fw_files::{
+    Explains, Hold, Source, System, lock_device, message_of, read_stand_ins, value_or_say,
+    write_back,
+};
 use fw_session::{SessionEnd, SessionEnding, session};
 use std::io::{Read, Write};
 
@@ -93,9 +92,9 @@ fn text_for(ending: SessionEnding) -> Option<&'static [u8]>
 {
     match ending {
         SessionEnding::Done => None,
-        SessionEnding::ReadFault => Some(CANNOT_READ),
+        SessionEnding::ReadFault => Some(message_of(StreamFault::Read)),
         SessionEnding::TooLong => Some(TOO_LONG),
-        SessionEnding::WriteFault => Some(CANNOT_WRITE),
-        SessionEnding::Memory => Some(OUT_OF_MEMORY),
+        SessionEnding::WriteFault => Some(message_of(StreamFault::Write)),
+        SessionEnding::Memory => Some(message_of(StreamFault::Memory)),
     }
 }

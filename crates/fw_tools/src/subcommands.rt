@@ -1,25 +1,22 @@
 //! The subcommands over the files that the words name.
 ghost use Rattle.std.specs.Prelude.{◌≡◌, ◌≤◌, None, MatchOption, if◌then◌else◌, unwrap_or};
-ghost use Rattle.fw_tools.specs.Subcommands.{AreCopiesIn, Closes, DoesJob, Uses, UsesTool, hold_for, is_left};
+ghost use Rattle.fw_files.specs.Opening.{AreCopiesIn};
+ghost use Rattle.fw_tools.specs.Subcommands.{Closes, DoesJob, Uses, UsesTool, hold_for, is_left};
 ghost use Rattle.fw_arguments.specs.Calls.{call_view, job_view, keeps_lock, task_view};
-ghost use Rattle.fw_tools.specs.Said.{SaysSome};
+ghost use Rattle.fw_files.specs.Said.{SaysSome};
 
-use crate::changed_copies::write_back;
 use crate::check_work::check_session;
-use crate::copies::lock_device;
-use crate::default_text::found_defaults;
-use crate::entry_point::report;
-use crate::lock_file::lock_or_say;
-use crate::reasons::Explains;
 use crate::script_work::run_given;
 use crate::session_run::talk;
-use crate::source::{Source, config_or_say, erased_or_say, open, read_source};
-use crate::system::{Hold, System};
 use crate::task_work::act;
 use env_session::Session;
 use envimg_core::Choice;
 use fw_arguments::{Call, Job, Task};
 use fw_engines::ToolEnd;
+use fw_files::{
+    Explains, Hold, Source, System, config_or_say, erased_or_say, found_defaults, lock_device,
+    lock_or_say, open, read_source, report, write_back,
+};
 use std::io::{Read, Write};
 
 /// Runs a subcommand and answers its exit status.

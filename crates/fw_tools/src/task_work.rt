@@ -5,23 +5,20 @@ ghost use Rattle.envcfg_core.specs.Import.{import_of};
 ghost use Rattle.envimg_core.specs.Pieces.{Entry};
 ghost use Rattle.fw_tools.specs.Subcommands.{Acts, printed_so};
 ghost use Rattle.fw_arguments.specs.Calls.{task_view, texts};
-ghost use Rattle.fw_tools.specs.Said.{SaysOnly, SaysSome};
+ghost use Rattle.fw_files.specs.Said.{SaysOnly, SaysSome};
 ghost use Rattle.fw_engines.specs.Changes.{Changes, LacksMemory, LacksMemoryToImport, LacksMemoryToSet, import_effect, script_effect, set_effect};
 ghost use Rattle.fw_engines.specs.Restoration.{LacksMemoryToRestore, restore_effect};
 ghost use Rattle.text_parts.specs.Words.{spaced};
 ghost use Rattle.fw_engines.specs.Tool.{Printed, Prints};
 
-use crate::entry_point::stopped;
-use crate::files::{entries_or_say, read_file, script_from, value_or_say};
-use crate::program_texts::OUT_OF_MEMORY;
-use crate::reasons::Explains;
-use crate::system::System;
 use env_session::Session;
 use fw_arguments::{Printing, Task};
 use fw_engines::streams::{say, write_text};
 use fw_engines::{
-    StreamFault, ToolEnd, export, import, print_values, printenv, restore, set_script, setenv,
+    OUT_OF_MEMORY, StreamFault, ToolEnd, export, import, print_values, printenv, restore,
+    set_script, setenv,
 };
+use fw_files::{Explains, System, entries_or_say, read_file, script_from, value_or_say};
 use std::alloc::{AllocError, Global};
 use std::io::Write;
 
@@ -73,7 +70,7 @@ fn print<W: Write, E: Write>(
     let mut messages = Vec::new(alloc);
     let end = print_so(session, &names, printing, &mut text, &mut messages);
     match end.fault {
-        Some(_) => Some(stopped(StreamFault::Memory)),
+        Some(_) => Some(ToolEnd::stopped(StreamFault::Memory)),
         None => Some(write_both(&text, &messages, end.status, output, errors)),
     }
 }
@@ -110,15 +107,12 @@ fn write_both<W: Write, E: Write>(
         (record { output = text.now; errors = messages.now; status = status }) result }
 {
     if !write_text(output, text) {
-        return stopped(StreamFault::Write);
+        return ToolEnd::stopped(StreamFault::Write);
     }
     if !write_text(errors, messages) {
-        return stopped(StreamFault::Write);
+        return ToolEnd::stopped(StreamFault::Write);
     }
-    ToolEnd {
-        status,
-        fault: None,
-    }
+    ToolEnd::done(status)
 }
 
 /// `setenv NAME [WORDS]`

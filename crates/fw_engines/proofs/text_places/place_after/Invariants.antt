@@ -1,5 +1,5 @@
 use Rattle.std.proofs.Common.{◌≡◌, ◌+◌, ◌≤◌, drop}
-use Rattle.fw_engines.specs.ScriptRun.{after_bytes}
+use Rattle.fw_engines.specs.TextPlaces.{after_bytes}
 use Rattle.fw_engines.proofs.text_places.place_after.Given as goal
 
 abbrev pub invariant-loop-byte : goal.invariant-loop-byte

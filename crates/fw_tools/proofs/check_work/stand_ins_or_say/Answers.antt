@@ -1,4 +1,4 @@
-use Rattle.fw_tools.proofs.FileLemmas.{of_outcome}
+use Rattle.fw_files.proofs.FileLemmas.{of_outcome}
 use Rattle.fw_tools.proofs.check_work.stand_ins_or_say.Goals as goal
 
 pub returns : goal.returns

@@ -1,5 +1,5 @@
 use Rattle.std.proofs.Common.{◌≡◌, true, inr, subst, ◌∙◌}
-use Rattle.fw_tools.specs.Said.{Says}
+use Rattle.fw_files.specs.Said.{Says}
 use Rattle.fw_tools.proofs.HelpLemmas.{helped}
 use Rattle.fw_tools.proofs.entry_point.print_error.Goals as goal
 

@@ -1,5 +1,5 @@
 use Rattle.std.proofs.Common.{◌-◌, drop, length-take, ap, sym, ◌∙◌, arith}
-use Rattle.fw_engines.specs.ScriptRun.{place_of}
+use Rattle.fw_engines.specs.TextPlaces.{place_of}
 use Rattle.fw_engines.proofs.PlaceLemmas.{place-moved, place-within}
 use Rattle.fw_engines.proofs.text_places.Pointer.place.Goals as goal
 

@@ -1,0 +1,4 @@
+mod CopyReportLemmas
+pub mod FileLemmas
+mod OpeningLemmas
+mod SaidLemmas

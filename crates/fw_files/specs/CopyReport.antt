@@ -1,0 +1,66 @@
+-- What `status` does with its files (docs/tools.md, "Reports of copies").
+use Rattle.std.specs.Prelude.{◌≡◌, ◌⊎◌, ℕ, List, Option, Some, None, Ok, option_map, string_bytes}
+use Rattle.envcfg_core.specs.Config.{CopyPlace, Settings, config_of}
+use Rattle.envcfg_core.specs.declared.place.Place.{Place}
+use Rattle.envimg_core.specs.Geometry.{Shape}
+use Rattle.envimg_core.specs.declared.geometry.Order.{Order}
+use Rattle.fw_engines.specs.CopyStatus as lines
+use Rattle.fw_engines.specs.CopyStatus.{Reports, file_status_of, status_of}
+use Rattle.fw_engines.specs.Streams.{Writers}
+use Rattle.fw_engines.specs.declared.copy_status.FoundCopy.{FoundCopy}
+use Rattle.fw_engines.specs.declared.copy_status.Survey.{Survey}
+use Rattle.fw_engines.specs.declared.tool_end.ToolEnd.{ToolEnd}
+use Rattle.fw_arguments.specs.Report.{Copies, File, Report, Subject}
+use Rattle.fw_files.specs.Said.{Says, Stops}
+use Rattle.fw_files.specs.declared.copies.ReadCopy.{ReadCopy}
+use Rattle.fw_files.specs.declared.source.Source.{Source}
+
+-- the lines were printed, and what stopped that is said
+abbrev pub PrintsReport : lines.Report → Writers → Writers → ℕ → Type 0
+PrintsReport report old new status =
+    (end : ToolEnd) × Reports old.output new.output report end × Says end.fault old.errors new.errors × (status ≡ end.status)
+
+abbrev pub shape_of : Order → Settings → Shape
+shape_of order settings = record { layout = settings.layout; size = settings.size; order = order }
+
+abbrev pub device_found : FoundCopy → List ℕ
+device_found found = found.device.now
+
+abbrev pub device_named : CopyPlace → List ℕ
+device_named place = place.device
+
+-- the copies were looked for where these settings name them
+pub record IsSurveyBy (order : Order) (settings : Settings) (survey : Survey) : Type 0 where
+  pub geometry : survey.geometry ≡ shape_of order settings
+  pub first : device_found survey.first ≡ device_named settings.first
+  pub second : option_map device_found survey.second ≡ option_map device_named settings.second
+
+-- the settings are those of some text, which is the survey's
+abbrev pub IsSurveyOf : Order → List ℕ → Survey → Type 0
+IsSurveyOf order path survey =
+    (survey.path.now ≡ path) × ((settings : Settings) × (config_of survey.config.now ≡ Ok settings) × IsSurveyBy order settings survey)
+
+-- ---- the code's survey of what was read
+
+-- the second device, where both its place and its copy are there
+abbrev pub device_in : Option Place → Option ReadCopy → Option (List ℕ)
+device_in (Some place) (Some copy) = Some (string_bytes place.device)
+device_in place copy = None
+
+pub record IsSurveyIn (at text : List ℕ) (source : Source) (survey : Survey) : Type 0 where
+  pub path : survey.path.now ≡ at
+  pub config : survey.config.now ≡ text
+  pub geometry : survey.geometry ≡ source.geometry
+  pub first : device_found survey.first ≡ string_bytes source.config.first.device
+  pub second : option_map device_found survey.second ≡ device_in source.config.second source.second
+
+-- ---- what is printed
+
+-- of copies with some bytes, or of a file with some
+abbrev pub ReportsSubject : Order → Subject → Writers → Writers → ℕ → Type 0
+ReportsSubject order (Copies path) old new status = (survey : Survey) × IsSurveyOf order path survey × PrintsReport (status_of survey) old new status
+ReportsSubject order (File path) old new status = (bytes : List ℕ) × PrintsReport (file_status_of order path bytes) old new status
+
+-- or before that a file can't be used, or memory runs out
+abbrev pub ReportsOn : Report → Writers → Writers → ℕ → Type 0
+ReportsOn report old new status = Stops old new status ⊎ ReportsSubject report.order report.subject old new status

@@ -1,0 +1,96 @@
+-- Files that are read whole, and why one can not be used (docs/tools.md, "Subcommands over files").
+use Rattle.std.specs.Prelude.{◌≡◌, ℕ, List, [], ◌∷◌, ◌++◌, Option, Some, None, Ok, codes}
+use Rattle.std.specs.FinMap as names
+use Rattle.std.specs.declared.io.ErrorKind.{ErrorKind}
+use Rattle.std.specs.declared.io.ErrorKind.TheVariants.{IsADirectory, NotFound, PermissionDenied, ReadOnlyFilesystem, StorageFull, UnexpectedEof}
+use Rattle.envcfg_core.specs.declared.entry.TextFault as texts
+use Rattle.envcfg_core.specs.declared.entry.TextFault.TheVariants as text
+use Rattle.envvars_core.specs.declared.refusals.Refusal.{Refusal}
+use Rattle.envvars_core.specs.declared.refusals.Refusal.TheVariants.{BadForm, BadType, NoCreate, NoDelete, NoOverwrite, Full, Memory}
+use Rattle.hush_commands.specs.Stubs.{Statuses, stand_ins_of}
+use Rattle.fw_files.specs.declared.file_fault.FileFault.{FileFault}
+use Rattle.fw_files.specs.declared.file_fault.FileFault.TheVariants as file
+use Rattle.fw_files.specs.declared.reasons.Explains.{Explains}
+use Rattle.fw_files.specs.declared.reasons.Explains.TheVariants as line
+use Rattle.fw_files.specs.declared.reasons.Reason as reasons
+use Rattle.fw_files.specs.declared.reasons.Reason.TheVariants as reason
+use Rattle.fw_files.specs.Said.{message_of}
+use Rattle.fw_engines.specs.declared.tool_end.StreamFault.TheVariants as stream
+
+-- the most bytes of a file that is read whole
+abbrev pub file_limit : ℕ
+file_limit = 16777216
+
+-- of a text that is refused
+abbrev pub text_fault : texts.TextFault → FileFault
+text_fault text.Memory = file.Memory
+text_fault fault = file.Text fault
+
+-- the stand-ins are those of some text, or there are none
+abbrev pub AreStubsOf : Option (List ℕ) → Statuses → Type 0
+AreStubsOf None stand_ins = stand_ins ≡ names.empty
+AreStubsOf (Some path) stand_ins = (text : List ℕ) × (stand_ins_of text ≡ Ok stand_ins)
+
+-- ---- why
+
+-- the reason that is said of an error of this kind; of the others nothing is said
+abbrev pub reason_of : ErrorKind → List ℕ
+reason_of NotFound = codes "no such file"
+reason_of PermissionDenied = codes "permission denied"
+reason_of IsADirectory = codes "it is a directory"
+reason_of ReadOnlyFilesystem = codes "the file system is read-only"
+reason_of StorageFull = codes "no space is left"
+reason_of kind = []
+
+-- and of each reason, which may also be one that std has no kind for
+abbrev pub reason_in : reasons.Reason → List ℕ
+reason_in reason.NoSuchFile = codes "no such file"
+reason_in reason.Denied = codes "permission denied"
+reason_in reason.Directory = codes "it is a directory"
+reason_in reason.ReadOnly = codes "the file system is read-only"
+reason_in reason.NoSpace = codes "no space is left"
+reason_in reason.TooLong = codes "it is longer than 16777216 bytes"
+reason_in reason.Changed = codes "another program changed it"
+reason_in reason.Unknown = []
+
+abbrev pub reason_by : ErrorKind → reasons.Reason
+reason_by NotFound = reason.NoSuchFile
+reason_by PermissionDenied = reason.Denied
+reason_by IsADirectory = reason.Directory
+reason_by ReadOnlyFilesystem = reason.ReadOnly
+reason_by StorageFull = reason.NoSpace
+reason_by kind = reason.Unknown
+
+-- what follows a path
+abbrev pub line_end : List ℕ → List ℕ
+line_end [] = 10 ∷ []
+line_end (byte ∷ bytes) = codes ": " ++ (byte ∷ bytes) ++ 10 ∷ []
+
+abbrev pub ending : Explains → reasons.Reason → List ℕ
+ending line.Nothing why = 10 ∷ []
+ending line.Reason why = line_end (reason_in why)
+
+-- the line of a fault, if it doesn't name the fault of a text
+abbrev pub fault_line : Explains → List ℕ → FileFault → Option (List ℕ)
+fault_line explains path (file.CannotRead why) = Some (codes "fwenv: cannot read " ++ path ++ ending explains why)
+fault_line explains path (file.CannotWrite why) = Some (codes "fwenv: cannot write " ++ path ++ ending explains why)
+fault_line explains path file.TooShort = Some (codes "fwenv: " ++ path ++ codes " is too short" ++ 10 ∷ [])
+fault_line explains path file.Memory = Some (message_of stream.Memory)
+fault_line explains path fault = None
+
+-- ---- faults
+
+-- of a read that gave less than the copy
+abbrev pub copy_fault : ErrorKind → FileFault
+copy_fault UnexpectedEof = file.TooShort
+copy_fault kind = file.CannotRead (reason_by kind)
+
+-- the name of a refusal
+abbrev pub name_of : Refusal → List ℕ
+name_of BadForm = codes "BadForm"
+name_of BadType = codes "BadType"
+name_of NoCreate = codes "NoCreate"
+name_of NoDelete = codes "NoDelete"
+name_of NoOverwrite = codes "NoOverwrite"
+name_of Full = codes "Full"
+name_of Memory = codes "Memory"

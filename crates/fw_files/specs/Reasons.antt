@@ -1,0 +1,21 @@
+-- Which subcommands say why a file can't be had (docs/tools.md, "Subcommands over files").
+use Rattle.std.specs.Prelude.{if◌then◌else◌}
+use Rattle.fw_arguments.specs.Calls.{Call, Checks, Job, Runs, Task, Tool, Tries}
+use Rattle.fw_arguments.specs.Calls as calls
+use Rattle.fw_files.specs.declared.reasons.Explains.{Explains}
+use Rattle.fw_files.specs.declared.reasons.Explains.TheVariants as line
+
+-- of the tools only `restore`: the texts of the others are fixed to the byte
+abbrev pub explains_task : Task → Explains
+explains_task (calls.Restore path) = line.Reason
+explains_task task = line.Nothing
+
+abbrev pub explains_job : Job → Explains
+explains_job (Tool task) = explains_task task
+explains_job (Tries run) = line.Nothing
+explains_job (Runs run) = line.Reason
+explains_job (Checks check) = line.Reason
+
+-- and each tool under the names fw_printenv and fw_setenv, which alone ask for changes alone to be saved
+abbrev pub explains : Call → Explains
+explains call = if call.only_changes then line.Reason else explains_job call.job

@@ -1,0 +1,80 @@
+-- From the bytes of files to a session (docs/tools.md, "Subcommands over files").
+use Rattle.std.specs.Prelude.{◌≡◌, ◌⊎◌, ℕ, ◌==◌, ◌&&◌, Bool, true, false, if◌then◌else◌, List, [], ◌∷◌, ◌++◌, Option, Some, None, is_none, is_some, Ok, codes, option_map}
+use Rattle.std.specs.List.{flat_map}
+use Rattle.std.specs.FinMap as env
+use Rattle.envcfg_core.specs.Entries.{Entry}
+use Rattle.envcfg_core.specs.Import.{import_of}
+use Rattle.envvars_core.specs.Variables.{Contents}
+use Rattle.fw_engines.specs.Defaults.{written}
+use Rattle.envimg_core.specs.declared.choice.Choice.{Choice}
+use Rattle.envimg_core.specs.declared.state.CopyState.{CopyState}
+use Rattle.envimg_core.specs.declared.state.CopyState.TheVariants.{Unterminated}
+use Rattle.envimg_core.specs.declared.choice.Choice.TheVariants.{First, Second, Neither}
+use Rattle.envcfg_core.specs.declared.config.Config.{Config}
+use Rattle.envimg_core.specs.declared.geometry.Order.{Order}
+use Rattle.fw_arguments.specs.Calls.{Defaults}
+use Rattle.fw_files.specs.declared.copies.ReadCopy.{ReadCopy}
+use Rattle.fw_files.specs.declared.source.Source.{Source}
+
+-- what was read by a configuration: two copies where it names two
+pub record IsSourceOf (order : Order) (given : Config) (source : Source) : Type 0 where
+  pub config : source.config ≡ given
+  pub geometry : source.geometry ≡ record { layout = given.layout; size = given.size; order = order }
+  pub second : is_some source.second ≡ is_some given.second
+
+-- the bytes of a second copy
+abbrev pub second_bytes : Option ReadCopy → Option (List ℕ)
+second_bytes copy = option_map (λ c. c.bytes.items) copy
+
+-- where neither copy is good
+abbrev pub warning : Choice → List ℕ
+warning First = []
+warning Second = []
+warning Neither = codes "Warning: Bad CRC, using default environment" ++ 10 ∷ []
+
+-- nothing is said of copies that aren't missed
+abbrev pub warned : (whole : Bool) → Choice → List ℕ
+warned true choice = []
+warned false choice = warning choice
+
+-- the text of the board's build is taken where it is there
+abbrev pub takes_initial : Defaults → Bool
+takes_initial d = d.plain && is_none d.path
+
+-- a default environment that is asked for is left so, or gets that text
+abbrev pub IsFound : Defaults → Defaults → Type 0
+IsFound asked found = (found ≡ asked) ⊎ ((takes_initial asked ≡ true) × (found ≡ record asked { path = Some (codes "/etc/u-boot-initial-env") }))
+
+-- plain lines as a text for import: each backslash stands for itself
+abbrev pub escaped_byte : ℕ → List ℕ
+escaped_byte b = if b == 92 then b ∷ b ∷ [] else b ∷ []
+
+abbrev pub spelled : Bool → List ℕ → List ℕ
+spelled true text = flat_map escaped_byte text
+spelled false text = text
+
+-- the variables are the default environment of the entries of a text, in this room
+abbrev pub AreDefaultsIn : Bool → List ℕ → ℕ → Contents → Type 0
+AreDefaultsIn plain text room vars =
+    (entries : List Entry) × (import_of (spelled plain text) ≡ Ok entries) × (written room env.empty entries ≡ Ok vars.env) × (vars.room ≡ room)
+
+abbrev pub AreDefaultsFrom : Bool → ℕ → Contents → Type 0
+AreDefaultsFrom plain room vars = (text : List ℕ) × AreDefaultsIn plain text room vars
+
+-- of some text where a path is given, else there are none
+abbrev pub AreDefaultsOfPath : ℕ → Option (List ℕ) → Bool → Contents → Type 0
+AreDefaultsOfPath room None plain vars = vars ≡ record { env = env.empty; room = room }
+AreDefaultsOfPath room (Some path) plain vars = AreDefaultsFrom plain room vars
+
+abbrev pub AreDefaultsOf : ℕ → Defaults → Contents → Type 0
+AreDefaultsOf room d vars = AreDefaultsOfPath room d.path d.plain vars
+
+-- a copy has to be good, and none is
+abbrev pub lacks_copy : Defaults → Choice → Bool
+lacks_copy d Neither = d.need_copy && is_none d.path
+lacks_copy d choice = false
+
+-- what is wrong with a copy, in words
+abbrev pub fault_of_copy : CopyState → List ℕ
+fault_of_copy Unterminated = codes "list of entries isn't ended"
+fault_of_copy state = codes "checksum is wrong"

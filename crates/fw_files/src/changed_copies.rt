@@ -1,0 +1,160 @@
+//! The copies of a session, written back to their devices.
+ghost use Rattle.std.specs.Prelude.{◌≡◌, MatchOption, map, option_map};
+ghost use Rattle.fw_files.specs.Said.{SaysSome};
+ghost use Rattle.fw_files.specs.Copies.{change_in, change_view, changes, other_first};
+
+use crate::copies::{ReadCopy, change_since, to_write, write_copy};
+use crate::file_fault::{say_fault, value_or_say};
+use crate::reasons::Explains;
+use crate::source::Source;
+use env_session::Stored;
+use envcfg_core::Place;
+use envimg_core::Choice;
+use std::io::Write;
+use std::rt::Files;
+
+/// A copy that is to be written: where, and its bytes.
+#[derive(Clone, Copy)]
+struct Change<'a> {
+    place: &'a Place,
+    start: u64,
+    bytes: &'a [u8],
+}
+
+/// Writes those copies back that are others than they were, the first before the second. Before that each copy is read
+/// again, and nothing is written if another program has changed one. A fault is said on `errors`, and nothing is written
+/// after it.
+pub fn write_back<X: Files + AllocGlobal, E: Write>(
+    rt: &X,
+    source: &Source,
+    stored: &Stored,
+    explains: Explains,
+    errors: &mut E,
+) -> Option<()>
+    ensures { MatchOption result (SaysSome (E.contents errors.old) (E.contents errors.new)) (λ _. E.contents errors.new ≡ E.contents errors.old) }
+{
+    write_changes(rt, source, changes(source, stored), explains, errors)
+}
+
+/// The same, but the copy that was current at the start is written after the other, so that one of them is whole at any time.
+pub fn write_other_first<X: Files + AllocGlobal, E: Write>(
+    rt: &X,
+    source: &Source,
+    current: Choice,
+    stored: &Stored,
+    explains: Explains,
+    errors: &mut E,
+) -> Option<()>
+    ensures { MatchOption result (SaysSome (E.contents errors.old) (E.contents errors.new)) (λ _. E.contents errors.new ≡ E.contents errors.old) }
+{
+    let [first, second] = changes(source, stored);
+    let changes = other_first(current, first, second);
+    write_changes(rt, source, changes, explains, errors)
+}
+
+/// Two changes, that of the copy which was current at the start after the other.
+fn other_first<'a>(
+    current: Choice,
+    first: Option<Change<'a>>,
+    second: Option<Change<'a>>,
+) -> [Option<Change<'a>>; 2]
+    ensures { result ≡ other_first current first.entry second.entry }
+{
+    match current {
+        Choice::First => [second, first],
+        _ => [first, second],
+    }
+}
+
+/// Makes these changes one after the other.
+fn write_changes<X: Files + AllocGlobal, E: Write>(
+    rt: &X,
+    source: &Source,
+    changes: [Option<Change<'_>>; 2],
+    explains: Explains,
+    errors: &mut E,
+) -> Option<()>
+    ensures { MatchOption result (SaysSome (E.contents errors.old) (E.contents errors.new)) (λ _. E.contents errors.new ≡ E.contents errors.old) }
+{
+    let [one, other] = changes;
+    if one.is_none() && other.is_none() {
+        return Some(());
+    }
+    let size = source.config.size;
+    find_as_read(
+        rt,
+        &source.config.first,
+        size,
+        &source.first,
+        explains,
+        errors,
+    )?;
+    if let (Some(place), Some(old)) = (&source.config.second, &source.second) {
+        find_as_read(rt, place, size, old, explains, errors)?;
+    }
+    write_change(rt, one, explains, errors)?;
+    write_change(rt, other, explains, errors)
+}
+
+/// Sees that a copy still is what was read. A fault is said on `errors`.
+fn find_as_read<X: Files + AllocGlobal, E: Write>(
+    rt: &X,
+    place: &Place,
+    size: u32,
+    old: &ReadCopy,
+    explains: Explains,
+    errors: &mut E,
+) -> Option<()>
+    ensures { MatchOption result (SaysSome (E.contents errors.old) (E.contents errors.new)) (λ _. E.contents errors.new ≡ E.contents errors.old) }
+{
+    match change_since(rt, place, size, old) {
+        None => Some(()),
+        Some(fault) => {
+            say_fault(rt.alloc(), errors, explains, place.device.as_str(), fault);
+            None
+        }
+    }
+}
+
+/// Writes a copy over its place, if there is one to write. A fault is said on `errors`.
+fn write_change<X: Files + AllocGlobal, E: Write>(
+    rt: &X,
+    change: Option<Change<'_>>,
+    explains: Explains,
+    errors: &mut E,
+) -> Option<()>
+    ensures { MatchOption result (SaysSome (E.contents errors.old) (E.contents errors.new)) (λ _. E.contents errors.new ≡ E.contents errors.old) }
+{
+    let Some(change) = change else {
+        return Some(());
+    };
+    let written = write_copy(rt, change.place, change.start, change.bytes);
+    let path = change.place.device.as_str();
+    value_or_say(rt.alloc(), errors, explains, path, written)
+}
+
+/// What is to be written, in this order.
+fn changes<'a>(source: &'a Source, stored: &'a Stored) -> [Option<Change<'a>>; 2]
+    ensures { map (option_map change_view) result ≡ changes source.now stored.now }
+{
+    let first = change_in(&source.config.first, &source.first, &stored.first);
+    let second = match (&source.config.second, &source.second, &stored.second) {
+        (Some(place), Some(old), Some(new)) => change_in(place, old, new),
+        _ => None,
+    };
+    [first, second]
+}
+
+/// The change of a copy to these bytes, where they are others than before.
+fn change_in<'a>(place: &'a Place, old: &ReadCopy, new: &'a [u8]) -> Option<Change<'a>>
+    ensures { option_map change_view result ≡ change_in place.now old.now new.now }
+{
+    match to_write(&old.bytes, new) {
+        None => None,
+        Some(bytes) => Some(Change {
+            place,
+            start: old.start,
+            bytes,
+        }),
+    }
+}

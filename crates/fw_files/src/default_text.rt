@@ -1,0 +1,122 @@
+//! The default environment of a session: which text it is, and its variables.
+ghost use Rattle.std.specs.Prelude.{◌≡◌, ◌≤◌, ◌++◌, IfOk, Ok, map};
+ghost use Rattle.std.specs.List.{flat_map};
+ghost use Rattle.envcfg_core.specs.Entries.{entry_view};
+ghost use Rattle.envcfg_core.specs.Import.{import_of};
+ghost use Rattle.fw_arguments.specs.Calls.{defaults_view};
+ghost use Rattle.fw_files.specs.Source.{AreDefaultsFrom, AreDefaultsIn, AreDefaultsOf, IsFound, escaped_byte, spelled, takes_initial};
+
+use crate::file_fault::FileFault;
+use crate::file_texts::INITIAL_ENVIRONMENT;
+use crate::files::{import_from, read_file};
+use envcfg_core::TextEntry;
+use envvars_core::{Refusal, Vars};
+use fw_arguments::Defaults;
+use fw_engines::defaults;
+use std::alloc::{AllocError, Global};
+use std::fs::OpenOptions;
+use std::rt::Files;
+
+/// The default environment that is asked for, with the text of the board's build if none is given and it is there.
+pub fn found_defaults<'w, X: Files>(rt: &X, asked: Defaults<'w>) -> Defaults<'w>
+    ensures { IsFound (defaults_view asked.entry) (defaults_view result) }
+{
+    if takes_initial(&asked) && is_there(rt, INITIAL_ENVIRONMENT) {
+        return Defaults {
+            path: Some(INITIAL_ENVIRONMENT),
+            plain: true,
+            need_copy: asked.need_copy,
+            whole: asked.whole,
+        };
+    }
+    asked
+}
+
+/// Whether it is that of the board's build, if that is there.
+fn takes_initial(asked: &Defaults<'_>) -> bool
+    ensures { result ≡ takes_initial (defaults_view asked.now) }
+{
+    asked.plain && asked.path.is_none()
+}
+
+/// Whether a file can be opened.
+fn is_there<X: Files>(rt: &X, path: &str) -> bool {
+    OpenOptions::new().read(true).open(rt, path).is_ok()
+}
+
+/// The default environment of its text, or an empty one.
+pub(crate) fn given_defaults<X: Files + AllocGlobal>(
+    rt: &X,
+    room: u32,
+    asked: &Defaults<'_>,
+) -> Result<Vars, FileFault>
+    requires { 1 ≤ room }
+    ensures { IfOk result (AreDefaultsOf room (defaults_view asked.now)) }
+{
+    match asked.path {
+        None => Ok(Vars::empty(rt.alloc(), room)),
+        Some(path) => read_default(rt, room, path, asked.plain),
+    }
+}
+
+/// Reads the default environment.
+fn read_default<X: Files + AllocGlobal>(
+    rt: &X,
+    room: u32,
+    path: &str,
+    plain: bool,
+) -> Result<Vars, FileFault>
+    requires { 1 ≤ room }
+    ensures { IfOk result (AreDefaultsFrom plain room) }
+{
+    let text = read_file(rt, path)?;
+    default_from(rt.alloc(), room, plain, &text)
+}
+
+/// The default environment of a text.
+fn default_from(alloc: Global, room: u32, plain: bool, text: &[u8]) -> Result<Vars, FileFault>
+    requires { 1 ≤ room }
+    ensures { IfOk result (AreDefaultsIn plain text.now room) }
+{
+    let entries = entries_in(alloc, plain, text)?;
+    match defaults(alloc, room, &entries) {
+        Ok(vars) => Ok(vars),
+        Err((_line, Refusal::Memory)) => Err(FileFault::Memory),
+        Err((line, refusal)) => Err(FileFault::Default(line, refusal)),
+    }
+}
+
+/// The entries of a text for import, or of plain lines.
+fn entries_in(alloc: Global, plain: bool, text: &[u8]) -> Result<Vec<TextEntry>, FileFault>
+    ensures { IfOk result (λ entries. import_of (spelled plain text.now) ≡ Ok (map entry_view entries.items)) }
+{
+    if !plain {
+        return import_from(alloc, text);
+    }
+    match escaped(alloc, text) {
+        Ok(text) => import_from(alloc, &text),
+        Err(_) => Err(FileFault::Memory),
+    }
+}
+
+/// A text in which each backslash stands for itself.
+fn escaped(alloc: Global, text: &[u8]) -> Result<Vec<u8>, AllocError>
+    ensures { IfOk result (λ e. e.items ≡ flat_map escaped_byte text.now) }
+{
+    let mut escaped = Vec::new(alloc);
+    for byte in text {
+        push_escaped(&mut escaped, *byte)?;
+    }
+    Ok(escaped)
+}
+
+/// One byte of it.
+fn push_escaped(escaped: &mut Vec<u8>, byte: u8) -> Result<(), AllocError>
+    ensures { IfOk result (λ _. escaped.new.items ≡ escaped.old.items ++ escaped_byte byte) }
+{
+    if byte == b'\\' {
+        escaped.push(byte)?;
+    }
+    escaped.push(byte)?;
+    Ok(())
+}

@@ -1,0 +1,62 @@
+//! Devices: the locks on them, and what kind of file one is.
+
+use crate::reasons::Reason;
+use crate::system::{Hold, System};
+use envcfg_core::Place;
+use std::fs::{self, FileType, OpenOptions};
+use std::io::ErrorKind;
+use std::os::unix::fs::FileTypeExt;
+use std::rt::Files;
+
+/// Locks the device of a copy against other programs that lock it, until what is answered is dropped; none if it can't be
+/// opened or locked, and it is used without then.
+pub fn lock_device<X: System>(rt: &X, place: &Place, hold: Hold) -> Option<X::File> {
+    lock_path(rt, place.device.as_str(), hold)
+}
+
+/// The same of the file at a path.
+pub(crate) fn lock_path<X: System>(rt: &X, path: &str, hold: Hold) -> Option<X::File> {
+    if is_pipe(rt, path) {
+        return None;
+    }
+    match OpenOptions::new().read(true).open(rt, path) {
+        Ok(device) => locked(rt, device, hold),
+        Err(_) => None,
+    }
+}
+
+/// The open file, if it can be locked.
+fn locked<X: System>(rt: &X, device: X::File, hold: Hold) -> Option<X::File> {
+    if rt.lock(&device, hold) {
+        Some(device)
+    } else {
+        None
+    }
+}
+
+/// Whether the path names a pipe, which has no place to seek to; to open one may take until somebody opens its other end.
+pub(crate) fn is_pipe<X: Files>(rt: &X, path: &str) -> bool {
+    matches!(kind_of(rt, path), Some(kind) if kind.is_fifo())
+}
+
+/// Whether the path names a character device, as raw flash is. That has to be erased before it is written, which nothing
+/// here does: bytes written over others would come out as both at once.
+pub(crate) fn is_raw<X: Files>(rt: &X, path: &str) -> bool {
+    matches!(kind_of(rt, path), Some(kind) if kind.is_char_device())
+}
+
+/// Why the end of an open file can't be sought, by the kind of the error: on some file systems a directory has none.
+pub(crate) fn why_not_sought<X: Files>(rt: &X, path: &str, error: ErrorKind) -> Reason {
+    match kind_of(rt, path) {
+        Some(kind) if kind.is_dir() => Reason::Directory,
+        _ => Reason::by(error),
+    }
+}
+
+/// What kind of file a path names, if that can be told.
+fn kind_of<X: Files>(rt: &X, path: &str) -> Option<FileType> {
+    match fs::metadata(rt, path) {
+        Ok(metadata) => Some(metadata.file_type()),
+        Err(_) => None,
+    }
+}

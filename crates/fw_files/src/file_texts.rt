@@ -1,0 +1,42 @@
+//! The texts about files, each once.
+
+/// Before the path of a file that can't be read, or written.
+pub(crate) const CANNOT_READ_FILE: &[u8] = b"fwenv: cannot read ";
+
+pub(crate) const CANNOT_WRITE_FILE: &[u8] = b"fwenv: cannot write ";
+
+/// Before the path of a file in the other texts.
+pub(crate) const FWENV: &[u8] = b"fwenv: ";
+
+/// Behind the path of a device in which a copy doesn't lie wholly.
+pub(crate) const TOO_SHORT: &[u8] = b" is too short\n";
+
+/// Between a path and the fault's name, and between that and the number of the line.
+pub(crate) const COLON: &[u8] = b": ";
+
+pub(crate) const IN_LINE: &[u8] = b" in line ";
+
+/// At the end of a text.
+pub(crate) const NEWLINE: &[u8] = b"\n";
+
+/// Standard error where two copies share a byte of one device.
+pub(crate) const COPIES_OVERLAP: &[u8] = b"fwenv: copies overlap\n";
+
+/// Standard error where neither copy is good.
+pub(crate) const BAD_CRC_DEFAULT: &[u8] = b"Warning: Bad CRC, using default environment\n";
+
+/// The default environment of a board's build.
+pub(crate) const INITIAL_ENVIRONMENT: &str = "/etc/u-boot-initial-env";
+
+/// Before the path of a lock file that can't be opened or locked.
+pub(crate) const CANNOT_LOCK: &[u8] = b"fwenv: cannot lock ";
+
+/// Before the faults of the copies where none is good, and behind them.
+pub(crate) const NO_GOOD_COPY: &[u8] = b"fwenv: no good copy: ";
+
+pub(crate) const IN_FIRST: &[u8] = b" in the first copy, ";
+
+pub(crate) const IN_SECOND: &[u8] = b" in the second";
+
+pub(crate) const LOOK_AT: &[u8] =
+    b"; look at the size and the number of lines in the configuration, and at the byte order (--big-endian)\n";

@@ -1,0 +1,145 @@
+//! Files that are read whole.
+ghost use Rattle.std.specs.Prelude.{◌≡◌, ◌≤◌, ℕ, List, Ok, Some, IfOk, MatchOption, length, map, option_map};
+ghost use Rattle.envcfg_core.specs.Entries.{entry_view};
+ghost use Rattle.envcfg_core.specs.Import.{import_of};
+ghost use Rattle.envcfg_core.specs.SetScript.{set_script_of};
+ghost use Rattle.fw_files.specs.Files.{AreStubsOf, file_limit, text_fault};
+ghost use Rattle.fw_files.specs.Said.{SaysSome};
+ghost use Rattle.hush_commands.specs.Stubs.{stand_ins_of};
+
+use crate::file_fault::{FileFault, value_or_say};
+use crate::reasons::{Explains, Reason};
+use envcfg_core::{TextEntry, TextFault, parse_import, parse_set_script};
+use fw_engines::StreamFault;
+use fw_engines::streams::read_up_to;
+use hush_commands::{StubFault, Stubs};
+use std::alloc::Global;
+use std::fs::OpenOptions;
+use std::io::{self, Read, Write};
+use std::rt::Files;
+
+/// The most bytes of a file that is read whole.
+const FILE_LIMIT: usize = 16_777_216;
+
+/// A file that is read, and why its last read failed, if it did.
+#[derive(Drop)]
+struct Reading<F> {
+    file: F,
+    reason: Reason,
+}
+
+impl<F: Read> Read for Reading<F> {
+    fn read(&mut self, buf: &mut [u8]) -> io::Result<usize> {
+        match self.file.read(buf) {
+            Ok(count) => Ok(count),
+            Err(error) => {
+                self.reason = Reason::by(error.kind());
+                Err(error)
+            }
+        }
+    }
+}
+
+/// Reads a whole file of at most 16,777,216 bytes.
+pub fn read_file<X: Files + AllocGlobal>(rt: &X, path: &str) -> Result<Vec<u8>, FileFault>
+    ensures { IfOk result (λ bytes. length bytes.items ≤ file_limit) }
+{
+    let file = OpenOptions::new().read(true).open(rt, path)?;
+    let mut reading = Reading {
+        file,
+        reason: Reason::Unknown,
+    };
+    match read_up_to(rt.alloc(), &mut reading, FILE_LIMIT + 1) {
+        Ok(bytes) => {
+            if bytes.len() <= FILE_LIMIT {
+                Ok(bytes)
+            } else {
+                Err(FileFault::CannotRead(Reason::TooLong))
+            }
+        }
+        Err(StreamFault::Memory) => Err(FileFault::Memory),
+        Err(_) => Err(FileFault::CannotRead(reading.reason)),
+    }
+}
+
+/// The entries of a text for import.
+pub(crate) fn import_from(alloc: Global, text: &[u8]) -> Result<Vec<TextEntry>, FileFault>
+    ensures { IfOk result (λ entries. import_of text.now ≡ Ok (map entry_view entries.items)) }
+{
+    match parse_import(alloc, text) {
+        Ok(entries) => Ok(entries),
+        Err(fault) => Err(text_fault(fault)),
+    }
+}
+
+/// The entries of the text for import at a path; a fault is said on `errors`.
+pub fn entries_or_say<X: Files + AllocGlobal, E: Write>(
+    rt: &X,
+    path: &str,
+    explains: Explains,
+    errors: &mut E,
+) -> Option<Vec<TextEntry>>
+    ensures { MatchOption result (SaysSome (E.contents errors.old) (E.contents errors.new))
+        (λ entries. ((text : List ℕ) × (import_of text ≡ Ok (map entry_view entries.items))) × (E.contents errors.new ≡ E.contents errors.old)) }
+{
+    let text = value_or_say(rt.alloc(), errors, explains, path, read_file(rt, path))?;
+    value_or_say(
+        rt.alloc(),
+        errors,
+        explains,
+        path,
+        import_from(rt.alloc(), &text),
+    )
+}
+
+/// The entries of a set script.
+pub fn script_from(alloc: Global, text: &[u8]) -> Result<Vec<TextEntry>, FileFault>
+    ensures { IfOk result (λ entries. set_script_of text.now ≡ Ok (map entry_view entries.items)) }
+{
+    match parse_set_script(alloc, text) {
+        Ok(entries) => Ok(entries),
+        Err(fault) => Err(text_fault(fault)),
+    }
+}
+
+/// Reads a stand-in file; without one there are no stand-ins.
+pub fn read_stand_ins<X: Files + AllocGlobal>(
+    rt: &X,
+    path: Option<&str>,
+) -> Result<Stubs, FileFault>
+    ensures { IfOk result (AreStubsOf (option_map (λ p. p.now) path.entry)) }
+{
+    match path {
+        None => stand_ins_from(rt.alloc(), b""),
+        Some(path) => read_stand_in_file(rt, path),
+    }
+}
+
+/// Reads the stand-ins in a file.
+pub fn read_stand_in_file<X: Files + AllocGlobal>(rt: &X, path: &str) -> Result<Stubs, FileFault>
+    ensures { IfOk result (AreStubsOf (Some path.now)) }
+{
+    let text = read_file(rt, path)?;
+    stand_ins_from(rt.alloc(), &text)
+}
+
+/// The stand-ins in a text.
+fn stand_ins_from(alloc: Global, text: &[u8]) -> Result<Stubs, FileFault>
+    ensures { IfOk result (λ stand_ins. stand_ins_of text.now ≡ Ok stand_ins) }
+{
+    match Stubs::parse(alloc, text) {
+        Ok(stand_ins) => Ok(stand_ins),
+        Err(StubFault::Memory) => Err(FileFault::Memory),
+        Err(fault) => Err(FileFault::Stubs(fault)),
+    }
+}
+
+/// The fault of a file whose text is refused.
+fn text_fault(fault: TextFault) -> FileFault
+    ensures { result ≡ text_fault fault }
+{
+    match fault {
+        TextFault::Memory => FileFault::Memory,
+        refused => FileFault::Text(refused),
+    }
+}

@@ -1,0 +1,36 @@
+//! The files that the program's arguments name: configurations, copies in their devices, texts and stand-ins. The session
+//! over copies is opened here, copies are written back and reported on, and it is said why a file can not be used.
+//! docs/tools.md states the rules.
+//!
+//! To read in this order: system, reasons, file_fault, files; devices, copies, source, default_text, opening,
+//! changed_copies; copy_report; lock_file, tool_messages, file_texts.
+#![tactic(auto)]
+
+mod changed_copies;
+mod copies;
+mod copy_report;
+mod default_text;
+mod devices;
+mod file_fault;
+mod file_texts;
+mod files;
+mod lock_file;
+mod opening;
+mod reasons;
+mod source;
+mod system;
+mod tool_messages;
+
+pub use changed_copies::{write_back, write_other_first};
+pub use copies::ReadCopy;
+pub use copy_report::run_report;
+pub use default_text::found_defaults;
+pub use devices::lock_device;
+pub use file_fault::{FileFault, value_or_say};
+pub use files::{entries_or_say, read_file, read_stand_in_file, read_stand_ins, script_from};
+pub use lock_file::lock_or_say;
+pub use opening::open;
+pub use reasons::{Explains, Reason};
+pub use source::{Source, config_or_say, erased_or_say, read_source};
+pub use system::{Hold, System};
+pub use tool_messages::{message_of, report};

@@ -1,0 +1,178 @@
+//! The session over the copies that were read.
+ghost use Rattle.std.specs.Prelude.{◌≡◌, IfOk, MatchOption};
+ghost use Rattle.env_session.specs.Session.{bytes_of, opened, opening_choice};
+ghost use Rattle.fw_arguments.specs.Calls.{defaults_view};
+ghost use Rattle.fw_engines.specs.Streams.{AppendsFront};
+ghost use Rattle.fw_files.specs.Opening.{IsAccepted, OpensOver};
+ghost use Rattle.fw_files.specs.Said.{SaysSome};
+ghost use Rattle.fw_files.specs.Source.{fault_of_copy, lacks_copy, second_bytes, warned};
+
+use crate::default_text::given_defaults;
+use crate::file_fault::{FileFault, say_fault};
+use crate::file_texts::{BAD_CRC_DEFAULT, IN_FIRST, IN_SECOND, LOOK_AT, NO_GOOD_COPY};
+use crate::reasons::Explains;
+use crate::source::Source;
+use env_session::{Session, Stored};
+use envimg_core::{Choice, CopyState, check_copy, choose};
+use envvars_core::Vars;
+use fw_arguments::Defaults;
+use fw_engines::streams::{say, write_three, write_two};
+use std::alloc::{AllocError, Global};
+use std::io::Write;
+use std::rt::Files;
+
+/// The session over these copies, with the default environment of a text, or an empty one. Where neither copy is good
+/// that is said on `errors`, before a fault of the text; none where one has to be, and then the copies' faults are said.
+pub fn open<X: Files + AllocGlobal, E: Write>(
+    rt: &X,
+    source: &Source,
+    asked: &Defaults<'_>,
+    explains: Explains,
+    errors: &mut E,
+) -> Option<Session>
+    ensures { MatchOption result (SaysSome (E.contents errors.old) (E.contents errors.new))
+        (λ session. OpensOver source.now (defaults_view asked.now) session
+        × IsAccepted (defaults_view asked.now) session (E.contents errors.old) (E.contents errors.new)) }
+{
+    match session_over(rt, source, asked) {
+        Ok(session) => accept(source, asked, session, errors),
+        Err(fault) => {
+            let current = current_of(source);
+            warn(asked.whole | lacks_copy(asked, current), current, errors);
+            say_fault(
+                rt.alloc(),
+                errors,
+                explains,
+                asked.path.unwrap_or(""),
+                fault,
+            );
+            None
+        }
+    }
+}
+
+/// The session, with a warning where neither copy is good; none where one has to be, and then their faults are said.
+fn accept<E: Write>(
+    source: &Source,
+    asked: &Defaults<'_>,
+    session: Session,
+    errors: &mut E,
+) -> Option<Session>
+    ensures { MatchOption result (SaysSome (E.contents errors.old) (E.contents errors.new)) (λ accepted. (accepted ≡ session)
+        × IsAccepted (defaults_view asked.now) session (E.contents errors.old) (E.contents errors.new)) }
+{
+    if lacks_copy(asked, session.current()) {
+        say_faults(source, errors);
+        return None;
+    }
+    warn(asked.whole, session.current(), errors);
+    Some(session)
+}
+
+/// Whether a copy has to be good, and none is.
+fn lacks_copy(asked: &Defaults<'_>, current: Choice) -> bool
+    ensures { result ≡ lacks_copy (defaults_view asked.now) current }
+{
+    match current {
+        Choice::Neither => asked.need_copy && asked.path.is_none(),
+        _ => false,
+    }
+}
+
+/// Says what is wrong with each copy, and what to look at.
+fn say_faults<E: Write>(source: &Source, errors: &mut E)
+    ensures { SaysSome (E.contents errors.old) (E.contents errors.new) }
+{
+    let first = check_copy(&source.geometry, &source.first.bytes);
+    if !write_two(errors, NO_GOOD_COPY, fault_of_copy(first)) {
+        return;
+    }
+    if write_second_fault(source, errors) {
+        say(errors, LOOK_AT);
+    }
+}
+
+/// Says what is wrong with the second copy, if there is one, and whether that was written.
+fn write_second_fault<E: Write>(source: &Source, errors: &mut E) -> bool
+    ensures { SaysSome (E.contents errors.old) (E.contents errors.new) }
+{
+    match &source.second {
+        None => true,
+        Some(copy) => {
+            let second = check_copy(&source.geometry, &copy.bytes);
+            write_three(errors, IN_FIRST, fault_of_copy(second), IN_SECOND)
+        }
+    }
+}
+
+/// What is wrong with a copy of its right length.
+fn fault_of_copy(state: CopyState) -> &'static [u8]
+    ensures { result.now ≡ fault_of_copy state }
+{
+    match state {
+        CopyState::Unterminated => b"list of entries isn't ended",
+        _ => b"checksum is wrong",
+    }
+}
+
+/// The session over these copies. A fault is that of the default text.
+fn session_over<X: Files + AllocGlobal>(
+    rt: &X,
+    source: &Source,
+    asked: &Defaults<'_>,
+) -> Result<Session, FileFault>
+    ensures { IfOk result (OpensOver source.now (defaults_view asked.now)) }
+{
+    let given = given_defaults(rt, source.geometry.room(), asked)?;
+    start(rt.alloc(), source, given)
+}
+
+/// Starts the session over copies of the bytes that were read.
+fn start(alloc: Global, source: &Source, given: Vars) -> Result<Session, FileFault>
+    ensures { IfOk result (λ s. s ≡ opened source.now.geometry source.now.first.bytes.items (second_bytes source.now.second) given) }
+{
+    let stored = copies_of(alloc, source)?;
+    match Session::start(alloc, stored, given) {
+        Ok(session) => Ok(session),
+        // no other refusal comes: each copy was read in the configuration's size, and the defaults have its room
+        Err(_) => Err(FileFault::Memory),
+    }
+}
+
+/// Copies of the bytes that were read.
+fn copies_of(alloc: Global, source: &Source) -> Result<Stored, AllocError>
+    ensures geometry { IfOk result (λ s. s.geometry ≡ source.now.geometry) }
+    ensures first { IfOk result (λ s. s.first.items ≡ source.now.first.bytes.items) }
+    ensures second { IfOk result (λ s. bytes_of s.second ≡ second_bytes source.now.second) }
+{
+    let first = Vec::from_slice(alloc, &source.first.bytes)?;
+    let second = match &source.second {
+        None => None,
+        Some(copy) => Some(Vec::from_slice(alloc, &copy.bytes)?),
+    };
+    Ok(Stored {
+        geometry: source.geometry,
+        first,
+        second,
+    })
+}
+
+/// Which copy is current.
+fn current_of(source: &Source) -> Choice
+    ensures { result ≡ opening_choice source.now.geometry source.now.first.bytes.items (second_bytes source.now.second) }
+{
+    let second = match &source.second {
+        None => CopyState::BadLength,
+        Some(copy) => check_copy(&source.geometry, &copy.bytes),
+    };
+    choose(check_copy(&source.geometry, &source.first.bytes), second)
+}
+
+/// Says on `errors` where neither copy is good, unless none has to be.
+fn warn<E: Write>(whole: bool, current: Choice, errors: &mut E)
+    ensures { AppendsFront (E.contents errors.old) (E.contents errors.new) (warned whole current) }
+{
+    if !whole && current == Choice::Neither {
+        say(errors, BAD_CRC_DEFAULT);
+    }
+}

@@ -1,0 +1,20 @@
+-- What is said of a run that a limit stopped.
+use Rattle.std.proofs.Common.{◌≡◌, ◌⊎◌, List, ℕ, Option, refl, sym, ap, ◌∙◌, inl, inr}
+use Rattle.hush_run.specs.Runs.{ending_name}
+use Rattle.hush_run.specs.declared.ending.Ending.{Ending}
+use Rattle.hush_run.specs.declared.ending.Ending.TheVariants as ending
+use Rattle.fw_session.specs.ScriptRun.{ended_by_limit, ended_so}
+
+-- what is said of a run that this limit stopped
+limit_here : (e limit : Ending) (place : Option (List ℕ)) (status steps : ℕ) (name : List ℕ) → e ≡ limit → ended_by_limit (ending_name limit) place steps ≡ ended_so limit place status steps → name ≡ ending_name e →
+    ended_by_limit name place steps ≡ ended_so e place status steps
+limit_here e limit place status steps name is said named =
+    ap (λ n. ended_by_limit n place steps) named ∙ ap (λ x. ended_by_limit (ending_name x) place steps) is ∙ said ∙ sym (ap (λ x. ended_so x place status steps) is)
+
+-- and of one that any limit stopped
+pub limit_is : (e : Ending) (place : Option (List ℕ)) (status steps : ℕ) (name : List ℕ) → (e ≡ ending.Steps) ⊎ ((e ≡ ending.Depth) ⊎ ((e ≡ ending.Word) ⊎ (e ≡ ending.Output))) → name ≡ ending_name e →
+    ended_by_limit name place steps ≡ ended_so e place status steps
+limit_is e place status steps name (inl is) named = limit_here e ending.Steps place status steps name is refl named
+limit_is e place status steps name (inr (inl is)) named = limit_here e ending.Depth place status steps name is refl named
+limit_is e place status steps name (inr (inr (inl is))) named = limit_here e ending.Word place status steps name is refl named
+limit_is e place status steps name (inr (inr (inr is))) named = limit_here e ending.Output place status steps name is refl named

@@ -1,8 +1,0 @@
-use Rattle.std.proofs.Common.{Bor, List, Option, option_map, subst, sym, ℕ}
-use Rattle.std.specs.Prelude.{IfOk}
-use Rattle.fw_tools.specs.Source.{AreDefaultsOfPath}
-use Rattle.fw_tools.proofs.default_text.given_defaults.Goals as goal
-
-pub returns-in-Some : goal.returns-in-Some
-returns-in-Some g c =
-    subst (λ (p : Option (Bor (List ℕ))). IfOk c.read_default.result (AreDefaultsOfPath c.args.room (option_map (λ b. b.now) p) c.args.asked.now.plain)) (sym c.in-Some.is) c.read_default.ensures
