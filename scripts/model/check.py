@@ -158,11 +158,13 @@ def given(command):
 
 
 def foreseen(command):
-    """The names that a command sets by `setenv`, `env set` or `setexpr`, or substitutes in `test`."""
+    """The names that a command sets by `setenv`, `env set` or `setexpr`, substitutes in `test`, or asks for by `env exists`."""
     name, arguments = called(command), words_of(command)[1:]
     if name == b"test":
         return {tested for _, tested in substituted(arguments)}
     words = [literal(word) for word in arguments]
+    if name == b"env" and words[:1] == [b"exists"]:
+        return set(words[1:2]) - {None}
     if name == b"env" and words[:1] == [b"set"]:
         name, words = b"setenv", words[1:]
     if name == b"setenv" and words[:1] == [b"-f"]:

@@ -148,8 +148,9 @@ fn a_run_of_a_name_that_is_not_defined_is_an_error(rt: HostRuntime) -> Result<()
 
 #[test]
 fn a_run_of_a_name_that_a_script_foresees_is_no_error(rt: HostRuntime) -> Result<(), Fail> {
-    let rows: [&[u8]; 8] = [
+    let rows: [&[u8]; 9] = [
         b"bootcmd=if test -n ${uenvcmd}; then run uenvcmd; fi",
+        b"bootcmd=if env exists uenvcmd; then run uenvcmd; fi",
         b"bootcmd=setenv x 'echo hi'; run x",
         b"bootcmd=run x; setenv -f x 1",
         b"bootcmd=env set x 1; env set '-f' y 1; run x y",

@@ -56,7 +56,7 @@ names_row = refl
 mixed_row : literal_of mixed ≡ None
 mixed_row = refl
 
--- `setenv a 1; setenv "-f" b; env set -f c "$n"; setexpr.b d 1; test "$e"x f; setenv "$n" g; env print h; echo i; setexpr.x j`
+-- `setenv a 1; setenv "-f" b; env set -f c "$n"; setexpr.b d 1; test "$e"x f; setenv "$n" g; env print h; echo i; env exists k; setexpr.x j`
 abbrev call : List ℕ → List (List Atom) → Command
 call name words = Simple (word name ∷ words)
 
@@ -70,9 +70,10 @@ setting =
     (more (call (codes "setenv") (value (codes "n") ∷ word (codes "g") ∷ []))
     (more (call (codes "env") (word (codes "print") ∷ word (codes "h") ∷ []))
     (more (call (codes "echo") (word (codes "i") ∷ []))
-    (alone (call (codes "setexpr.x") (word (codes "j") ∷ []))))))))))
+    (more (call (codes "env") (word (codes "exists") ∷ word (codes "k") ∷ []))
+    (alone (call (codes "setexpr.x") (word (codes "j") ∷ [])))))))))))
 
-foreseen_row : flat_map foreseen_names (of_script (Some setting)) ≡ codes "a" ∷ codes "b" ∷ codes "c" ∷ codes "d" ∷ codes "e" ∷ []
+foreseen_row : flat_map foreseen_names (of_script (Some setting)) ≡ codes "a" ∷ codes "b" ∷ codes "c" ∷ codes "d" ∷ codes "e" ∷ codes "k" ∷ []
 foreseen_row = refl
 
 -- neither a `for` nor an assignment, nor an argument of another command

@@ -72,17 +72,20 @@ abbrev pub set_by : List (List Atom) → List (List ℕ)
 set_by [] = []
 set_by (word ∷ words) = if is_called (codes "-f") (literal_of word) then first_name words else first_name (word ∷ words)
 
--- by `env`, which sets as `setenv` does
-abbrev pub set_by_env : List (List Atom) → List (List ℕ)
-set_by_env [] = []
-set_by_env (word ∷ words) = if is_called (codes "set") (literal_of word) then set_by words else []
+-- by `env`, which sets as `setenv` does, or asks whether a variable is there
+abbrev pub foreseen_by_env : List (List Atom) → List (List ℕ)
+foreseen_by_env [] = []
+foreseen_by_env (word ∷ words) =
+    if is_called (codes "set") (literal_of word) then set_by words
+    else if is_called (codes "exists") (literal_of word) then first_name words
+    else []
 
 -- by a command of this name with these arguments
 abbrev pub foreseen_as : (called : Option (List ℕ)) → List (List Atom) → List (List ℕ)
 foreseen_as called words =
     if is_test called then flat_map substituted words
     else if is_called (codes "setenv") called then set_by words
-    else if is_called (codes "env") called then set_by_env words
+    else if is_called (codes "env") called then foreseen_by_env words
     else if is_calculation called then first_name words
     else []
 

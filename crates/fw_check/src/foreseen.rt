@@ -4,7 +4,7 @@ ghost use Rattle.std.specs.List.{flat_map};
 ghost use Rattle.hush_syntax.specs.Trees.{words_in};
 ghost use Rattle.fw_check.specs.Literals.{substituted};
 ghost use Rattle.fw_check.specs.NameSets.{set_of, with_all};
-ghost use Rattle.fw_check.specs.Naming.{first_name, foreseen_as, is_calculation, set_by, set_by_env};
+ghost use Rattle.fw_check.specs.Naming.{first_name, foreseen_as, foreseen_by_env, is_calculation, set_by};
 
 use crate::literals::{is_called, is_word_of, literal};
 use crate::name_set::NameSet;
@@ -71,7 +71,7 @@ fn foresee_tested(
     Ok(())
 }
 
-/// Adds the name that `env` with these arguments sets.
+/// Adds the name that `env` with these arguments sets, or asks for.
 fn foresee_env(
     alloc: Global,
     text: &Text,
@@ -79,16 +79,19 @@ fn foresee_env(
     foreseen: &mut NameSet,
 ) -> Result<(), AllocError>
     ensures { OnOk result (set_of foreseen.new ≡ with_all (set_of foreseen.old)
-        (set_by_env (words_in text.now words.now))) }
+        (foreseen_by_env (words_in text.now words.now))) }
 {
     if words.is_empty() {
         return Ok(());
     }
     let first = literal(alloc, text, words[0])?;
-    if !is_called(&first, b"set") {
-        return Ok(());
+    if is_called(&first, b"set") {
+        return foresee_set(alloc, text, &words[1..], foreseen);
     }
-    foresee_set(alloc, text, &words[1..], foreseen)
+    if is_called(&first, b"exists") {
+        return foresee_first(alloc, text, &words[1..], foreseen);
+    }
+    Ok(())
 }
 
 /// Adds the name that `setenv` with these arguments sets.

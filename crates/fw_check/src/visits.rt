@@ -134,7 +134,8 @@ fn names_in(alloc: Global, vars: &Vars, names: &[&[u8]]) -> Result<Names, AllocE
 /// the answer.
 fn follow_all(alloc: Global, vars: &Vars, names: &mut Names) -> Result<ScriptNames, AllocError>
     ensures visited { OnOk result (AreVisited vars.now.env names.old 0 names.new) }
-    ensures given { IfOk result (λ gathered. set_of gathered.given ≡ (known_after vars.now.env names.new).given) }
+    ensures given { IfOk result
+        (λ gathered. set_of gathered.given ≡ (known_after vars.now.env names.new).given) }
     ensures foreseen { IfOk result
         (λ gathered. set_of gathered.foreseen ≡ (known_after vars.now.env names.new).foreseen) }
 {
