@@ -104,7 +104,7 @@ build() {
         echo "the toolchain's command rt is not on PATH" >&2
         return 1
     fi
-    echo 'fwenv is missing or older than its sources: proving and building it takes a quarter of an hour or more the first time' >&2
+    echo 'fwenv is missing or older than its sources: proving and building it takes up to half an hour the first time' >&2
     room=$(mktemp -d) || return 1
     made=$room/crates/fwenv/out/fwenv
     crates_of_program
