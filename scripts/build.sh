@@ -27,7 +27,7 @@ add_crate() {
 
 # is_current: whether the program is there and no source of its crates is newer.
 is_current() {
-    local crate sources=("$top/crates.txt") folder
+    local crate sources=("$top/crates.txt" "$top/HANDLES") folder
     [ -x "$program" ] || return 1
     crates_of_program
     for crate in "${crates[@]}"; do
@@ -47,14 +47,15 @@ say() {
 # copy_crates FOLDER: copies what the toolchain reads of the program's crates, without what it made of them.
 copy_crates() {
     local crate part
-    cp "$top/HANDLES" "$1"
+    cp "$top/HANDLES" "$1" || return 1
     for crate in "${crates[@]}"; do
-        mkdir -p "$1/crates/$crate"
+        mkdir -p "$1/crates/$crate" || return 1
         for part in "$top/crates/$crate"/*; do
-            [ "${part##*/}" = out ] || cp -R "$part" "$1/crates/$crate"
+            [ "${part##*/}" = out ] || cp -R "$part" "$1/crates/$crate" || return 1
         done
-        echo "$crate:${libraries_of[$crate]:+ ${libraries_of[$crate]}}" >>"$1/crates.txt"
+        echo "$crate:${libraries_of[$crate]:+ ${libraries_of[$crate]}}" >>"$1/crates.txt" || return 1
     done
+    chmod -R u+w "$1"
 }
 
 # show_progress: says which crates are proved since it was called last; on a terminal also how many there are, and which can be
@@ -80,44 +81,62 @@ show_progress() {
 # prove FOLDER: has the toolchain prove the crates there, as many at once as there are processors and memory for, and build the
 # program. What it has proved it keeps for later runs, those of scripts/test among them.
 prove() {
-    local prover status begun=$SECONDS
+    local status begun=$SECONDS
     local -A proved=()
-    (cd "$1" && exec setsid rt ci) </dev/null >"$log" 2>&1 &
+    : >"$log" || return 1
+    (cd "$1" && exec setsid rt ci) </dev/null >>"$log" 2>&1 &
     prover=$!
-    # what runs in a session of its own doesn't hear of Ctrl-C; rt ends all that it has started
-    trap 'kill "$prover"; rm -rf "$room"; exit 130' INT TERM
     while kill -0 "$prover" 2>/dev/null; do
         show_progress
         sleep 0.3
     done
     wait "$prover"
     status=$?
-    trap - INT TERM
+    prover=
     show_progress
     return $status
 }
 
+# make_program FOLDER: proves the crates that were copied there, and puts the program in its place, as old as the copies.
+make_program() {
+    local made=$1/crates/fwenv/out/fwenv
+    prove "$1" || return 1
+    if [ ! -e "$made.o" ]; then
+        # a program that an earlier run kept comes without its object file, which link_static needs: one of another source is built
+        echo '// built once more' >>"$1/crates/fwenv/src/main.rt" && prove "$1" || return 1
+    fi
+    cp "$made.o" "$program.o.$$" && cp "$made" "$program.$$" && touch -r "$1/HANDLES" "$program.$$" &&
+        mv "$program.o.$$" "$program.o" && mv "$program.$$" "$program"
+}
+
+# end_build: ends what is being proved, and leaves nothing of a build that isn't whole. What runs in a session of its own doesn't hear
+# of Ctrl-C; rt ends all that it has started.
+end_build() {
+    if [ -n "$prover" ]; then
+        kill "$prover"
+        wait "$prover"
+    fi
+    rm -rf "$room" "$program.o.$$" "$program.$$"
+} 2>/dev/null
+
 # build: proves the program's crates and builds the program, both in a folder of its own that holds these crates alone.
 build() {
-    local room made status=1 log=$top/crates/fwenv/out/build.log
+    local room prover='' status=1 log=$top/crates/fwenv/out/build.log
     if ! command -v rt >/dev/null; then
         echo "the toolchain's command rt is not on PATH" >&2
         return 1
     fi
     echo 'fwenv is missing or older than its sources: proving and building it takes up to half an hour the first time' >&2
-    room=$(mktemp -d) || return 1
-    made=$room/crates/fwenv/out/fwenv
+    room=$(mktemp -d "${TMPDIR:-/var/tmp}/fwenv-build.XXXXXX") || return 1
+    trap 'end_build; exit 130' INT TERM HUP
     crates_of_program
-    mkdir -p "${log%/*}"
-    copy_crates "$room" && prove "$room" && {
-        # a program that an earlier run kept comes without its object file, which link_static needs: one of another source is built
-        [ -e "$made.o" ] || { echo '// built once more' >>"$room/crates/fwenv/src/main.rt" && prove "$room"; }
-    } && cp "$made" "$made.o" "${program%/*}" && touch "$program" && status=0
+    mkdir -p "${log%/*}" && : >"$log" && copy_crates "$room" && make_program "$room" && status=0
+    trap - INT TERM HUP
+    end_build
     if [ $status != 0 ]; then
         say "$(tail -n 40 "$log")"
         say "fwenv is not built; $log has all that the toolchain said"
     fi
-    rm -rf "$room"
     return $status
 }
 
