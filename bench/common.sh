@@ -11,7 +11,7 @@ if ! flock -n 9; then
     exit 1
 fi
 
-# need COMMAND [PACKAGE]: stops where a command is missing, and says which Debian package has it.
+# need COMMAND [PACKAGE]: stops if a command is missing, and reports which Debian package has it.
 need() {
     if ! command -v "$1" >/dev/null; then
         echo "$(basename "$0"): $1 is missing${2:+ (Debian: apt-get install $2)}" >&2
@@ -19,7 +19,7 @@ need() {
     fi
 }
 
-# compiled NAME [WORDS]: the program that bench/NAME.c makes, compiled where it is missing or made of another text.
+# compiled NAME [WORDS]: the program that bench/NAME.c makes, compiled if it is missing or made of another text.
 compiled() {
     local program=$work/$1 source=$top/bench/$1.c
     if ! [ -x "$program" ] || ! cmp -s "$source" "$program.c"; then
@@ -49,8 +49,8 @@ in_millions() {
     awk -v n="$1" 'BEGIN { printf "%.2f", n / 1e6 }'
 }
 
-# program_of NAME: the path of the program that the crate NAME is, proved and built where that is needed; what the build
-# says goes to a log.
+# program_of NAME: the path of the program that the crate NAME is, proved and built if needed; the output of the
+# build goes to a log.
 program_of() {
     echo "$(basename "$0"): proving and building $1 (minutes the first time) .." >&2
     if ! (cd "$top/crates/$1" && ${RT:-rt} run </dev/null) >"$work/$1.log" 2>&1; then
@@ -60,7 +60,7 @@ program_of() {
     echo "$top/crates/$1/out/$1"
 }
 
-# ends WORDS INPUT COMMAND..: one run of a program that measures. It prints the words that are wanted, any where WORDS is
+# ends WORDS INPUT COMMAND..: one run of a program that measures. It prints the words that are wanted, any if WORDS is
 # empty, and then the nanoseconds that its part took; these go to taken, the peak memory in KiB to memory.
 ends() {
     local line
@@ -95,7 +95,7 @@ measured() {
         'BEGIN { printf "%-38s %9.2f M %7d %9.2f ms %7d KiB %7d KiB\n", name, n / 1e6, n / count, t / 1e6, peak, before }'
 }
 
-# grows_within NAME MOST FIRST LAST RULE: stops where LAST is more than MOST times FIRST, and a quarter of that.
+# grows_within NAME MOST FIRST LAST RULE: stops if LAST is more than MOST times FIRST, and a quarter of that.
 grows_within() {
     awk -v program="$(basename "$0")" -v name="$1" -v most="$2" -v first="$3" -v last="$4" -v rule="$5" 'BEGIN {
         if (last > 1.25 * most * first) {
@@ -105,7 +105,7 @@ grows_within() {
     }'
 }
 
-# grows_slowly NAME COUNT FIRST LAST: stops where the instructions for four times COUNT names are more than n log n allows.
+# grows_slowly NAME COUNT FIRST LAST: stops if the instructions for four times COUNT names are more than n log n allows.
 grows_slowly() {
     grows_within "$1" "$(awk -v count="$2" 'BEGIN { print 4 * log(4 * count) / log(count) }')" "$3" "$4" 'n log n'
 }
@@ -123,7 +123,7 @@ goal() {
     goals+=("$(printf '%-56s %6.2f of %6.2f %-5s %-6s %s' "$1" "$2" "$3" "$4" "$kept" "${5:+(instructions $5)}")")
 }
 
-# ends_with_goals: prints the goals, and exits with 1 where one was missed.
+# ends_with_goals: prints the goals, and exits with 1 if one was missed.
 ends_with_goals() {
     echo
     printf '%s\n' "${goals[@]}"

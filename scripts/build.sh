@@ -44,7 +44,8 @@ say() {
     printf '%s\n' "$1" >&2
 }
 
-# copy_crates FOLDER: copies what the toolchain reads of the program's crates, without what it made of them.
+# copy_crates FOLDER: copies what the toolchain reads of the program's crates, without what it made of them and without tests inside
+# crates, since a crate with tests is proved twice.
 copy_crates() {
     local crate part
     cp "$top/HANDLES" "$1" || return 1
@@ -55,18 +56,19 @@ copy_crates() {
         done
         echo "$crate:${libraries_of[$crate]:+ ${libraries_of[$crate]}}" >>"$1/crates.txt" || return 1
     done
-    chmod -R u+w "$1"
+    chmod -R u+w "$1" && rm -f "$1"/crates/*/src/tests.rt &&
+        sed -i '/^$/{N;/\n#\[cfg(test)\]$/{N;/\nmod tests;$/d}}' "$1"/crates/*/src/lib.rt
 }
 
 # show_progress: says which crates are proved since it was called last; on a terminal also how many there are, and which can be
 # proved now, as those that they use are.
 show_progress() {
     local crate library line next=
-    while read -r crate; do
+    for crate in $(sed -nE 's/^rt: ([a-z0-9_]+) (proved|is kept: .*)$/\1/p' "$log"); do
         [ -z "${proved[$crate]+x}" ] || continue
         proved[$crate]=yes
         say "[${#proved[@]}/${#crates[@]}] $crate: proved after $((SECONDS - begun)) s"
-    done < <(sed -nE 's/^rt: ([a-z0-9_]+) (proved|is kept: .*)$/\1/p' "$log")
+    done
     [ -t 2 ] || return 0
     for crate in "${crates[@]}"; do
         for library in ${libraries_of[$crate]}; do
@@ -79,7 +81,7 @@ show_progress() {
 }
 
 # prove FOLDER: has the toolchain prove the crates there, as many at once as there are processors and memory for, and build the
-# program. What it has proved it keeps for later runs, those of scripts/test among them.
+# program. Some toolchains (rattle-kit-13f) keep what was proved for later runs.
 prove() {
     local status begun=$SECONDS
     local -A proved=()
@@ -141,9 +143,10 @@ build() {
 }
 
 # link_static: links the built program once more, in one piece with the C library, as $static_program: it runs on any Linux of this
-# processor and starts sooner. It fails where there is no C library to link like that.
+# processor and starts sooner; with code and read-only data in one segment it touches fewer pages. It fails if there is no C library to
+# link like that.
 link_static() {
     local kit made=$static_program.$$
     if [ "$static_program" -nt "$program" ]; then return; fi
-    kit=$(dirname "$(rt doc)") && "${CC:-cc}" -static -o "$made" "$program.o" "$kit"/c/lib{libc,os}_c.a && mv "$made" "$static_program"
+    kit=$(dirname "$(rt doc)") && "${CC:-cc}" -static -Wl,-z,noseparate-code -o "$made" "$program.o" "$kit"/c/lib{libc,os}_c.a && mv "$made" "$static_program"
 } 2>/dev/null

@@ -2,7 +2,7 @@
 files: scripts/clients.py FOLDER PROGRAM.
 
 RAUC marks slots, over a D-Bus of its own; Mender writes an artifact to a loop device, commits it and goes back. After each of their
-commands the variables are the same. What isn't installed or allowed is told as not tried. The last line is 'N passed, M failed'."""
+commands the variables are the same. What isn't installed or allowed is reported as not tried. The last line is 'N passed, M failed'."""
 
 import collections
 import json
@@ -53,7 +53,7 @@ Step = collections.namedtuple("Step", "call, wanted, status, output, variables, 
 
 
 class Broken(Exception):
-    """What a comparison stands on failed."""
+    """What a comparison depends on failed."""
 
 
 class NotAllowed(Exception):
@@ -149,7 +149,7 @@ def mender(folder, program):
     with open(device, "rb"):
         must("losetup", "--detach", device)
         (folder / "p3").symlink_to(device)
-        # in the place of /etc/mender, where the name of what is installed first stands, it sees a folder of the board
+        # in the place of /etc/mender, where the name of what is installed first is, it sees a folder of the board
         place = f'{shutil.which("mount")} --bind {folder}/etc /etc/mender && exec "$@"'
         placed = ("unshare", "--mount", "sh", "-c", place, "sh")
         must(*placed, "true", fault=NotAllowed)
@@ -162,8 +162,8 @@ def mender(folder, program):
 
 
 def compared(service, start, environments, folder, program):
-    """What an update service does over the program's names and over libubootenv's tools, and that it leaves so many environments. One
-    that doesn't answer as it is to over those tools is none to compare with here."""
+    """What an update service does over the program's names and over libubootenv's tools, and that it leaves this many environments. If one
+    doesn't answer over those tools as it should, nothing is compared here."""
     links = folder / "links"
     links.mkdir(parents=True)
     for name in ("fw_printenv", "fw_setenv"):

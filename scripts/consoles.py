@@ -33,7 +33,7 @@ def commands(block):
 
 
 def stage(document, folder):
-    """The folder of a document, as its blocks find it."""
+    """The folder of a document, as it is before its blocks."""
     for name in ("scripts", "examples"):
         os.symlink(TOP / name, folder / name)
     example, command = STAGES.get(document, (None, None))

@@ -48,7 +48,7 @@ __attribute__((destructor)) static void tell(void) {
     syscall(SYS_close, to);
 }
 
-/* How many bytes a call may move; -1 where it fails. */
+/* How many bytes a call may move; -1 if it fails. */
 static long allowed(size_t size) {
     long most = size > 0x7ffff000 ? 0x7ffff000 : (long)size;
     calls += 1;

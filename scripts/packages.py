@@ -1,6 +1,6 @@
 """Tries the packages, the manual pages and the completions, as a user has them: scripts/packages.py FOLDER.
 
-What needs a tool that isn't installed is told as not tried. The last line is 'N passed, M failed'."""
+What needs a tool that isn't installed is reported as not tried. The last line is 'N passed, M failed'."""
 
 import filecmp
 import os
@@ -134,7 +134,7 @@ def client_pages(folder):
         link = folder / name
         link.symlink_to(folder / "root/usr/bin/fwenv")
         helped = options_of_help(run(link, "--help").stdout.decode())
-        # (the help has the second long name of -n among the words that describe it)
+        # (the help has the second long name of -n in the text that describes it)
         listed = page_options(f"{name}.1")[""] - {"--no-header"}
         same(f"the options of {name}", sorted(listed), sorted(helped))
 
@@ -174,7 +174,7 @@ def completed_by_fish(folder, board, line):
 
 
 def completed_by_zsh(folder, board, line):
-    """What stands on the line once the tabulator was pressed, at a real prompt."""
+    """What is on the line once the Tab key was pressed, at a real prompt."""
     child, screen = pty.fork()
     if child == 0:
         os.chdir(board)

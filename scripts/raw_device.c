@@ -1,4 +1,4 @@
-/* Preloaded before a program: the file that RAW_PATH names is told to be a character device, as raw flash is. */
+/* Preloaded before a program: the file that RAW_PATH names is reported to be a character device, as raw flash is. */
 #define _GNU_SOURCE
 #include <stdlib.h>
 #include <string.h>

@@ -3,7 +3,7 @@
     sweep.py PROGRAM REFUSE.so PART
 
 PART goes to standard input and chooses what is swept. With ample memory its rows are some of crates/sweeps/stdout. With each
-allocation refused (refuse_nth.c) that comes within a call the rows stay, and some call says that it met the refusal, so that none
+allocation refused (refuse_nth.c) that comes within a call the rows stay, and some call reports that it met the refusal, so that none
 is lost. The last line is 'N passed, M failed'.
 """
 

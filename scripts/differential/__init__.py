@@ -22,15 +22,15 @@ FOLDER has the libraries cut.so, refuse.so and raw.so that are preloaded, which 
     client_rows   fw_printenv and fw_setenv by hand, called through links
     script_rows   fwenv run, an environment without a board, and copies of which one has to be good, by hand
     check_rows    fwenv check by hand
-    check_boards  fwenv check over boot scripts of boards, as they are and with slips planted
+    check_boards  fwenv check over boot scripts of boards, as they are and with mistakes planted
     session_rows  sessions by hand
     streams       streams that are closed, full, endless or reset, and a session line by line
     files         files that are faulty, and those that can't be written
-    hostile_files files that are none, pipes, raw flash, and files that change under the program
-    costs         inputs that are made to cost much, and those that are as long as they may be, in bounded time and memory
+    hostile_files what isn't a file, pipes, raw flash, and files that change under the program
+    costs         inputs made to be expensive, and those that are as long as they may be, in bounded time and memory
     memory        each allocation of the program refused
     other_tools   tools of other makers over the same files
-    mistakes      mistakes in answers of the program, each of which some case has to find out
+    mistakes      mistakes in answers of the program, each of which some case has to detect
 
 The last line is 'N passed, M failed'.
 """

@@ -17,7 +17,7 @@ PARTS = (
     "report_rows", "client_rows", "script_rows", "check_rows", "check_boards", "cuts", "streams", "files", "hostile_files", "costs", "memory", "other_tools",
 )
 SHOWN = 5
-# What an answer tells: the ending of a block, a dot line's answer, a message, or that nothing is said
+# What an answer reports: the ending of a block, a dot line's answer, a message, or nothing
 TOLD = re.compile(
     rb"^\[(Finished|Exited|Steps|Depth|Word|Output|Syntax|Marked|Full|Undone|Gone|Unknown)"
     rb"|^(?:fwenv: .*|## Error: bad image): (\w+)(?: in line \d+)?\n"
@@ -48,7 +48,7 @@ class Worker:
         return self.runner
 
     def mistakes(self, missed):
-        """The same of the mistakes of a part."""
+        """The same for the mistakes of a part."""
         texts, count = missed(self.runner_here())
         return count - len(texts), len(texts), texts, Counter()
 
@@ -72,13 +72,13 @@ def compare_chunk(at):
 
 
 def rare(part, names, total):
-    """The names that came too seldom for the part to tell on them."""
+    """The names that came too seldom for the part to cover them."""
     wanted = getattr(part, "OFTEN", {})
     return [name for name, share in wanted.items() if names[name] < share * total]
 
 
 def folder_for(name, folder):
-    """Where the small files of a part are: in memory, if that can be had."""
+    """Where the small files of a part are: in memory, if that is possible."""
     return "/dev/shm" if name != "largest" and os.access("/dev/shm", os.W_OK) else folder
 
 

@@ -107,7 +107,7 @@ class Calls:
         return self.numbers.choice([b"%s %d %x\n", b"# c\n%s\t%d 0x%x 1 1\r\n"]) % (device, at, size)
 
     def text(self, name, content):
-        """A file with this text, or none."""
+        """A file with this text, or no file."""
         if not self.chance(4):
             self.files[name] = content
         return name
@@ -143,7 +143,7 @@ class Calls:
         return mutant(self.numbers.choice(SCRIPTS), TOKENS, self.numbers)
 
     def given_script(self):
-        """The options and the other words that give a script."""
+        """The options and the other arguments that give a script."""
         if self.chance(30):
             return [], [self.numbers.choice(NAMES), *self.some(NAMES, 2)]
         if self.chance(50):
@@ -198,7 +198,7 @@ class Calls:
         return options, self.some(CHECKED, 2) if self.chance(60) else []
 
     def own(self, tool, is_whole):
-        """The options and the other words of a subcommand."""
+        """The options and the other arguments of a subcommand."""
         if tool == b"printenv":
             return [[b"-n"]] * self.chance(30), self.some(NAMES, 2)
         if tool == b"setenv":
@@ -226,7 +226,7 @@ class Calls:
         self.numbers.shuffle(options)
         cut = self.numbers.randint(0, len(options))
         before, after = sum(options[:cut], []), sum(options[cut:], [])
-        # (words may stand between options, and all of them after `--`)
+        # (arguments may be between options, and all of them after `--`)
         tail = after + [b"--", *words] if self.chance(20) else words + after
         return sum(front, []) + [tool, *before, *tail]
 

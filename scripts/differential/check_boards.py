@@ -1,5 +1,5 @@
 """Boot scripts of boards (scripts/runs/boards) and of the examples through `fwenv check`: what is found in them as they are, and in
-each script that is followed once a slip is planted in it, at its place. Over each the variable `script` has what is started."""
+each script that is followed once a mistake is planted in it, at its place. Over each the variable `script` has what is started."""
 
 import pathlib
 import re
@@ -11,8 +11,8 @@ from differential.running import Case
 from model.texts import import_entries, stand_ins
 
 TOP = pathlib.Path(__file__).parent.parent.parent
-# What is found in boards as they are: a run of the first comes to this; at the end of those of swupdate is a try of it; two words
-# of a kernel's arguments, and the place where two boards of RAUC load to, are given by nothing
+# What is found in boards as they are: a run of the first ends with this; those of swupdate try it at their end; two words
+# of a kernel's arguments, and the address that two boards of RAUC load to, are given by nothing
 FOUND = {
     "no-way-back": [not_run("1:38", "altbootcmd")],
     **{f"swupdate-{name}": [not_assigned("1:239", "ustate")] for name in ("failed", "installed", "tried-in-vain")},
@@ -21,9 +21,9 @@ FOUND = {
 }
 NOT_CLOSED = "%s: error: a quote is not closed (Quote)"
 MISSING = "%s: error: the text ends where more has to follow (Missing)"
-# What stands before the name of a command, and the last word that closes a form
+# What is before the name of a command, and the last word that closes a form
 BEFORE = re.compile(rb"(?:\A|; |&& |\|\| |if |then |else |do |\n *)\Z")
-# A word, the name that an assignment begins with, a substitution, and what stands before an argument of `test`, which may be absent
+# A word, the name that an assignment begins with, a substitution, and what is before an argument of `test`, which may be absent
 WORD = re.compile(rb"(?:'[^']*'|\"[^\"]*\"|[^'\" ;&|\n])+")
 ASSIGNED = re.compile(rb"[A-Za-z_]\w*=")
 SUBSTITUTION = re.compile(rb"\$\w+|\$\{\w+(?=\})")
@@ -51,7 +51,7 @@ def scripts_of(variables):
     return found
 
 
-# Slips in a script: the text with each, and what is found then
+# Mistakes in a script: the text with each, and what is found then
 
 
 def misspelt_names(text, variables, _stubs):
@@ -108,7 +108,7 @@ SLIPS = (misspelt_names, misspelt_commands, misspelt_substitutions, brackets, lo
 
 
 def slipped(name, variables, stubs, script, slip):
-    """A board with a slip in this script: its line is among what the model finds, and that is all."""
+    """A board with a mistake in this script: its line is among what the model finds, and that is all."""
     text, found = slip
     files = {b"env": text_of(variables | {script: text}), b"stand-ins": stubs}
     case = Case(f"{name}: a slip in {script.decode()}", [b"check", b"--env", b"env", *with_stand_ins([b"script"])], files)

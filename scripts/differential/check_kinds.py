@@ -1,4 +1,4 @@
-"""What `fwenv check` finds in a script, by hand: each kind, with what is near to it. Each row is a script and the lines that tell of it,
+"""What `fwenv check` finds in a script, by hand: each kind, with what is near to it. Each row is a script and the lines about it,
 over an environment and alone, with stand-ins and without."""
 
 from differential.check_lines import (
@@ -54,7 +54,7 @@ STARTS = [
     (b"Run none; echo run none; setenv b run none; b='run none'", []),
     (b"# run none\nrun ok # none", []),
     (b"env exists none; env delete none; printenv none", []),
-    # a name that a command sets or `test` substitutes, wherever that is
+    # a name that a command sets or `test` substitutes, in any place
     (b"setenv none 1; run none", []),
     (b"run none none; setenv none 1", []),
     (b"setenv none; run none", []),
@@ -92,7 +92,7 @@ STARTS = [
     (b"setenv b 'setenv none 1'; # setenv none\nrun none", [not_run("2:5", "none")]),
     (b"echo $filesize; run filesize", [not_run("1:21", "filesize")]),
 ]
-# Assignments over the same
+# Assignments over the same variables
 ASSIGNED = [
     (b"a=2", [not_assigned("1:1", "a")]),
     (b"b=2", []),
@@ -143,7 +143,7 @@ CALLED = [
     (b"if then", ["1:4: error: not expected here (Unexpected)"]),
     (b"laod; 'x", ["1:7: error: a quote is not closed (Quote)"]),
 ]
-# Words of `test` that are no operators, with and without stand-ins and variables
+# Words of `test` that aren't operators, with and without stand-ins and variables
 OPERATORS = [
     (b"test -e mmc 0:1 file", [no_operator("1:6", "-e")]),
     (b"test -e", [no_operator("1:6", "-e")]),
@@ -352,7 +352,7 @@ def each_way(script, found):
 
 
 def every_way(script, found, stand_ins=STAND_INS):
-    """A script of whose findings some are found with stand-ins alone, and some over an environment alone."""
+    """A script of whose findings some need stand-ins, and some an environment."""
     files = {b"stand-ins": stand_ins}
     for words, seen in ((with_stand_ins(), found), ([], without(found, "stand-in"))):
         yield over(VARIABLES | {b"s": script}, [b"s", *words], lines(seen, "s"), files)

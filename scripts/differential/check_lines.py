@@ -56,13 +56,13 @@ def cut_off(found):
 
 
 def lines(found, name=None):
-    """The lines of what is found, each in the script of this name if one is given."""
+    """The lines for what is found, each in the script of this name if one is given."""
     before = f"{name}:" if name is not None else ""
     return b"".join(f"{before}{each}\n".encode(errors="surrogateescape") for each in found)
 
 
 def without(found, *said):
-    """What is found, but for what says one of these."""
+    """What is found, except for what has one of these texts."""
     return [each for each in found if not any(text in each for text in said)]
 
 
@@ -73,7 +73,7 @@ def place(text, at):
 
 
 def row(name, words, files, output, errors=b"", given=b"", status=None, seconds=0.25):
-    """A check; the status is 1 if an error is found or a fault is told."""
+    """A check; the status is 1 if an error is found or a fault is reported."""
     if status is None:
         status = int(b": error: " in output or errors not in (b"", WARNING))
     return Case(name, [b"check", *words], files, given, wanted=Answer(status, output, errors, files), seconds=seconds)

@@ -60,7 +60,7 @@ FOLLOWED = [
     (b"bootcmd=echo a\\\n  run n\n", [], [not_run("bootcmd:2:7", "n")]),
     (b".flags=run:sr\n.s=run n\n", [b".s", b".flags"], [not_run(".s:1:5", "n")]),
 ]  # fmt: skip
-# The same of substitutions: any script that is looked at may give a name to something
+# The same for substitutions: any script that is checked may give a name to something
 GIVEN = [
     (b"bootcmd=echo $n; run b\nb=setenv n 1\n", [], []),
     (b"bootcmd=run b; echo $n\nb=for n in 1; do true; done\n", [], []),
@@ -82,7 +82,7 @@ GIVEN = [
     (b"bootcmd=echo $m ${.flags}\n.flags=m:d\n", [], [not_defined("bootcmd:1:6", "m")]),
     (b"n=x\nbootcmd=echo $m\n.flags=n:d\n", [], [not_defined("bootcmd:1:6", "m"), not_typed("n")]),
 ]  # fmt: skip
-# The same of names that `run` starts: any script that is looked at may set their variables, or test them
+# The same for names that `run` starts: any script that is checked may set, test or ask for their variables
 FORESEEN = [
     (b"bootcmd=if test -n ${uenvcmd}; then run uenvcmd; fi\n", [], []),
     (b"bootcmd=if test -n '${uenvcmd}'; then run uenvcmd; fi\n", [], [not_run("bootcmd:1:35", "uenvcmd")]),
@@ -101,7 +101,7 @@ FORESEEN = [
     (b"bootcmd=run n\n.flags=n:d\n", [], [not_run("bootcmd:1:5", "n")]),
     (b"bootcmd=setenv none 1\n", [b"none", b"bootcmd"], [NO_VARIABLE % "none"]),
 ]  # fmt: skip
-# Variables as a text for import, in which `.flags` comes last, names, and all that is printed: types are looked at after the scripts
+# Variables as a text for import, in which `.flags` comes last, names, and all that is printed: types are checked after the scripts
 TYPED = [
     (b"n=x\n.flags=n:d\n", [], [not_typed("n")]),
     (b"n=17\n.flags=n:d\n", [], []),
@@ -123,7 +123,7 @@ TYPED = [
     (b"bootcmd=setenv n x; n=x\n.flags=n:d\n", [], []),
     (b"n=n=2\nbootcmd=run n\n.flags=bootcmd:d\n", [], [not_assigned("n:1:1", "n"), not_typed("bootcmd")]),
 ]
-# Words of `check` that are wrong, and what is said; nothing is read
+# Arguments of `check` that are wrong, and what is printed; nothing is read
 WRONG = [
     ([b"-f", b"script", b"a"], FILE_AND),
     ([b"a", b"-f", b"-"], FILE_AND),

@@ -45,7 +45,7 @@ OVER_GOOD_COPIES = [
     (b"fw_setenv", [b"-s", b"text", b"a"], 1, b"", None, SECOND, b"a c\n"),
     (b"fw_printenv", [b"-a", b"key"], 1, b"", None),
 ]
-# The same where no copy is good; the first copy afterwards
+# The same if no copy is good; the first copy afterwards
 OVER_BLANK_COPIES = [
     (b"fw_printenv", [], 1, b"", NO_COPIES),
     (b"fw_setenv", [b"a", b"b"], 1, b"", NO_COPIES),
@@ -53,7 +53,7 @@ OVER_BLANK_COPIES = [
     (b"fw_setenv", [b"-f", b"text", b"a", b"b"], 0, b"", WARNING, PAIR.image(1, b"a=b\0"), b"# nothing\n"),
     (b"fw_setenv", [b"-f", b"text", b"a", b"b"], 0, b"", WARNING, PAIR.image(1, b"a=b\0"), b"a=b\n"),
 ]
-# A single image: its bytes, and the line that says what is wrong with it
+# A single image: its bytes, and the line that reports what is wrong with it
 SINGLE = Geometry(1, 9)
 BAD_SINGLES = [
     (b"\xff" * 9, WRONG),
@@ -72,7 +72,7 @@ def left_by(runner, name, words, given):
 
 
 def row(name, words, files, wanted, given=b""):
-    """A call, and what is wrong with what it leaves, if anything is; errors that are none are some of the library that reads arguments."""
+    """A call, and what is wrong with what it leaves, if anything is; None is some error of the library that reads arguments."""
 
     def check(runner):
         runner.put(files)
@@ -108,7 +108,7 @@ def over_singles():
 
 
 def locks():
-    """The lock file is made if need be, one that is there is used, and one that can't be had ends the run."""
+    """The lock file is made if need be, one that is there is used, and one that can't be opened ends the run."""
     files = board(PAIR, [FIRST, SECOND])
     words = [b"-c", CONFIG, b"-l", b".", b"a"]
     for there in (files, files | {b"fw_printenv.lock": b"x"}):

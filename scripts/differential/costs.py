@@ -1,4 +1,4 @@
-"""Inputs that are made to cost much, and those that are as long as they may be, each in bounded time and memory."""
+"""Inputs made to be expensive, and those that are as long as they may be, each in bounded time and memory."""
 
 from differential.boards import lines_of
 from differential.check_lines import cut_off
@@ -91,7 +91,7 @@ def variables():
 
 
 def texts():
-    """The longest texts, of shortest lines: they are read, and what they leave stays."""
+    """The longest texts, of the shortest lines: they are read, and what they leave stays."""
     text, script = b"a=1\n" * (2**22 - 1) + b"b=2\n", b"a 3\n" * (2**22 - 1) + b"b 4\n"
     read, set_again = {b"a": b"1", b"b": b"2"}, {b"a": b"3", b"b": b"4"}
     for case in (

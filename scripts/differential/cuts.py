@@ -30,12 +30,12 @@ def call(words, files=(), given=b"", over=FILES):
 
 
 def whole_environment(words):
-    """A run over a text alone."""
+    """A run over only a text."""
     return Case("run", [b"run", b"--env", b"text", *words], FILES | {b"text": b"a=echo x; run m\nm=echo y\\\necho z\n#q=\nb=true\n"})
 
 
 def whole_check(words, text=b"a=run m x\nm=true\\\n'\nq=a=1; run m\n"):
-    """A check of a text alone."""
+    """A check of only a text."""
     return Case("check", [b"check", b"--env", b"text", *words], FILES | {b"text": text})
 
 
@@ -43,7 +43,7 @@ def script_check(script):
     return Case("check", [b"check", b"--stubs", b"stand-ins", b"-f", b"text"], FILES | {b"text": script, b"stand-ins": b"mmc\n"})
 
 
-# What prints one text on standard output alone
+# What prints one text, only on standard output
 PRINTING = [
     Case("an image", [], given=ONE),
     Case("the version", [b"--version"]),
@@ -61,7 +61,7 @@ PRINTING = [
 ]
 # What prints on both streams
 ON_BOTH = [call([b"printenv", b"q", b"a"]), call([b"export"]), call([b"run", b"--write", b"-e", b"saveenv; false"])]
-# What says one text on standard error
+# What prints one text on standard error
 SAYING = [
     Case("no image", []),
     Case("a number past its limit", [b"session", b"--depth", b"17"]),
@@ -100,12 +100,12 @@ READING = [
 
 
 def places(length, *endings):
-    """Where a stream is cut, how many bytes come a call, and how it ends; of one byte at most none comes in two ways."""
+    """Where a stream is cut, how many bytes come a call, and how it ends; at most one byte comes in only one way."""
     return [(after, step, then) for after in range(length) for then in endings for step in ((0, 1) if after > 1 else (0,))]
 
 
 def least_calls(after, step):
-    """The calls that move so many bytes, and one more."""
+    """The calls that move this many bytes, and one more."""
     return (after if step else after > 0) + 1
 
 
@@ -123,7 +123,7 @@ def taken_whole(case, stream, length, wanted, calls=1):
 
 
 def output_cut(case, answer, counted=True):
-    """A prefix goes out, in as few calls as there can be, and standard error says so; nothing is written."""
+    """A prefix goes out, in as few calls as there can be, and standard error reports it; nothing is written."""
     for place in places(len(answer.output), "fail", "none"):
         wanted = Answer(1, answer.output[: place[0]], CANNOT_WRITE_OUTPUT, case.files)
         yield cut_case(case, 1, "write", place, wanted, counted=counted)
@@ -160,7 +160,7 @@ def is_cut_of(answer, stream, after, found):
 
 
 def helps():
-    """The text of the help is in no document to the byte: it is the one that comes whole."""
+    """The text of the help is in no document to the byte: what is wanted is the one that is printed whole."""
     text = subprocess.run([running.PROGRAM, "--help"], capture_output=True, check=True).stdout
     case = Case("the help", [b"--help"])
     case.is_modelled = False
@@ -168,7 +168,7 @@ def helps():
 
 
 def sessions():
-    """What was answered is a prefix, and the device is written at the end alone."""
+    """What was answered is a prefix, and the device is written only at the end."""
     case = call([b"session", b"--write"], given=SESSION)
     yield from output_cut(case, case.answer(), counted=False)
 
@@ -184,7 +184,7 @@ def opening_of(name):
 
 
 def read_failing(name, case):
-    """The fault is said, the file isn't read again, and nothing is written."""
+    """The fault is reported, the file isn't read again, and nothing is written."""
     warning = WARNING * (name != CONFIG and case.files[DEVICE] == NEVER_WRITTEN[DEVICE])
     for place in places(len(case.files[name]) + 1, "fail"):
         wanted = Answer(1, b"", warning + CANNOT_READ % name, case.files)
@@ -225,7 +225,7 @@ def copies_read():
 
 
 def saves():
-    """What was taken is the prefix of the copy, nothing else has changed, and it is said; of two copies the first one is whole."""
+    """What was taken is the prefix of the copy, nothing else has changed, and that is reported; of two copies the first one is whole."""
     case = call([b"setenv", b"a", b"3"])
     answer = case.answer()
     new = answer.files[DEVICE][-4 - FORM.size : -4]
@@ -248,7 +248,7 @@ def script_read():
 
 
 def saves_of_a_run():
-    """The copy that was current at the start is written after the other, of which it is seen that it is whole."""
+    """The copy that was current at the start is written after the other, which is checked to be whole."""
     case = call([b"run", b"--write", b"-e", b"saveenv; saveenv"])
     second, first = [FORM.image(flag, b"#q=1\0a=one 2\0m=x\ny\0") for flag in (8, 9)]
     for place in places(FORM.size, "fail", "none"):

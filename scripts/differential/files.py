@@ -13,7 +13,7 @@ from differential.running import Case
 from differential.streams import MILLION, at, device, over_copies, read_by, row
 from model.program import CANNOT_READ, CANNOT_WRITE, CANNOT_WRITE_OUTPUT, CHANGED, DENIED, NO_SPACE, Answer, explained
 
-# Configurations: a name, their text, and the message, or none for the variables. The device has 33 bytes
+# Configurations: a name, their text, and the message, or None for the variables. The device has 33 bytes
 ABSENT, SHORT = CANNOT_READ % b"absent", b"fwenv: device is too short\n"
 CONFIGURED = [
     ("an empty configuration", b"", b"fwenv: fw.config: NoCopy\n"),
@@ -38,7 +38,7 @@ CALLS = [
 NOBODY = ("setpriv", "--reuid=65534", "--regid=65534", "--clear-groups")
 PRINTENV, EXPORT = [b"printenv", b"-c", b"fw.config"], [b"export", b"-c", b"fw.config"]
 SETENV, IMPORT = [b"setenv", b"-c", b"fw.config", b"a"], [b"import", b"-c", b"fw.config", b"../pipe"]
-# Subcommands that say why
+# Subcommands that report why
 STATUS, RUN = [b"status", b"-c", b"fw.config"], [b"run", b"-c", b"fw.config", b"--write", b"-e", b"setenv a c; saveenv"]
 UNTRIED = []
 if os.getuid() == 0 and not shutil.which("setpriv"):
@@ -127,7 +127,7 @@ def cut_to(length):
 
 
 def without_rights():
-    """Files that may not be written or read, by one to whom they can be closed, which root is not."""
+    """Files that may not be written or read, by a user to whom access can be denied, unlike root."""
     if os.getuid() == 0 and not shutil.which("setpriv"):
         return
     session = [b"session", b"-c", b"fw.config", b"--write"]
@@ -175,7 +175,7 @@ def cut_devices():
 
 
 def cut_session(runner):
-    """Its first answer is there when the device is cut."""
+    """Its first answer is printed when the device is cut."""
     runner.put(over_copies())
     words = [runner.program, b"session", b"-c", b"fw.config", b"--write"]
     with subprocess.Popen(words, stdin=subprocess.PIPE, stdout=subprocess.PIPE, stderr=subprocess.PIPE) as process:
@@ -235,7 +235,7 @@ def full():
 
 
 def on_full_system(runner):
-    """What was never written there can't be, and the other copy stays."""
+    """The copy that was never written can't be, and the other one stays."""
     folder = os.path.abspath("../full")
     os.makedirs(folder, exist_ok=True)
     subprocess.run(["mount", "-t", "tmpfs", "-o", "size=16k", "tmpfs", folder], check=True)

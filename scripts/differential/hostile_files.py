@@ -1,4 +1,4 @@
-"""Files that are none or empty, pipes, raw flash, and files that change under the program. Each row looks at every byte of the device
+"""What isn't a file or is empty, pipes, raw flash, and files that change under the program. Each row looks at every byte of the device
 afterwards."""
 
 import contextlib
@@ -18,7 +18,7 @@ TEXTS = [
     [b"export", b"-c", b"fw.config", b"--default"],
     [b"session", b"-c", b"fw.config", b"--write", b"--default"],
 ]
-# The same of subcommands that say why, and what they say of a file that is none
+# The same for subcommands that report why, and what they report of what isn't a file
 EXPLAINED = [
     [b"status"],
     [b"status", b"-c"],
@@ -56,7 +56,7 @@ def refused(name, words, errors, files=()):
 
 
 def none():
-    """Files that are none, in the place of each text and device."""
+    """What isn't a file, in the place of each text and device."""
     large = {b"large": b"\n" * (2**24 + 1)}
     for path, reason in REASONS:
         cannot, because = CANNOT_READ % path, explained(CANNOT_READ % path, reason)
@@ -83,7 +83,7 @@ def left(case, **copies):
 
 
 def empty():
-    """An empty file, which says nothing, in the place of each."""
+    """An empty file in the place of each."""
     for path, files in ((b"/dev/null", {}), (b"empty", {b"empty": b""})):
         files = over_copies() | files
         yield row("an empty configuration", [b"printenv", b"-c", path], b"", 1, b"", b"fwenv: %s: NoCopy\n" % path, as_it_is, files)
@@ -107,7 +107,7 @@ def write_on(text):
             pass
 
 
-# Pipes in the place of texts, which may end at once, or never: what is written, the call, its input, and what comes
+# Pipes in the place of texts, which may end at once, or never: what is written, the call, its input, and what is printed
 PIPED = [
     ("the configuration", [b"device 7 a\ndevice 20 a\n"], TEXTS[0], b"", (0, b"a=b\n", b"")),
     ("an empty configuration", [], TEXTS[0], b"", (1, b"", b"fwenv: ../pipe: NoCopy\n")),
@@ -183,7 +183,7 @@ CHANGES = [
 
 
 def changed(name, step, reason, after, config=None, gone=None):
-    """An import, which doesn't say why, and a restore."""
+    """An import, which doesn't report why, and a restore."""
     cannot = CANNOT_WRITE % b"device"
     files = over_copies() | (config or {})
     left = {path: text for path, text in (files | {b"device": after}).items() if path != gone}
@@ -199,7 +199,7 @@ def changes():
         yield from changed(f"a device that {name}", step, reason, after)
     yield from changed("a device that is gone", replaced(), NO_SUCH_FILE, None, gone=b"device")
     grown = {b"fw.config": b"device -26 a\ndevice -13 a\n"}
-    # (its copies, which count from its end, are elsewhere then, also where they are the same there)
+    # (its copies, which count from its end, are elsewhere then, even if they are the same there)
     for more in (b"more-bytes", device()[7:]):
         yield from changed("a device that has grown", appended(more), CHANGED, device() + more, grown)
     yield from changed("a configuration that is gone", lambda _runner: os.unlink("fw.config"), None, ENDING, gone=b"fw.config")

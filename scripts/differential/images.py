@@ -42,7 +42,7 @@ def shown(form, copy):
 
 
 def read(form, copies, tool=(b"printenv",)):
-    """A tool over copies, and a default environment that is told from them."""
+    """A tool over copies, and a default environment that differs from them."""
     words = arguments(*tool, b"--default", b"text", order=form.order)
     given = b".print\n.save\n.print\n" if tool[0] == b"session" else b""
     return Case("copies", words, board(form, copies) | DEFAULT, given)
@@ -65,7 +65,7 @@ def turned_pair(shape, area, flags):
 
 def changed_image(seed, number):
     """A copy that is changed at random. Most are brought back to their length, and most of these get the checksum of
-    what then is in them; some stand alone on standard input."""
+    what then is in them; some are alone on standard input."""
     numbers = numbers_of("images", seed, number)
     shape, area = numbers.choice(SHAPES), numbers.choice(AREAS)
     form = geometry(shape, area)

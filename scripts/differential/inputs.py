@@ -35,7 +35,7 @@ def cut(text):
         prefix = text[:length]
         yield Case(f"the first {length} bytes", WORDS, FILES, prefix)
         for then in ("fail", "pause"):
-            # (of one byte at most none comes in two ways)
+            # (at most one byte comes in only one way)
             for step in (0, 1) if length > 1 else (0,):
                 cut = Cut(0, "read", length, then, step)
                 yield Case(f"{then} after {length} bytes, {step or 'all'} a call", WORDS, FILES, prefix, cut)

@@ -9,11 +9,11 @@ from model.image import ERASED, LARGEST, Geometry
 
 TEXT = 2**24
 SINGLE, REDUNDANT = Geometry(1, LARGEST), Geometry(2, LARGEST)
-# Beside the longest value or name there are one other byte, the `=` and two 0 bytes.
+# With the longest value or name there are one other byte, the `=` and two 0 bytes.
 LONGEST = b"x" * (SINGLE.room - 4)
-# Variables of 20 bytes, of which an area of the greatest image holds so many before the 0 that ends their list.
+# Variables of 20 bytes, of which an area of the greatest image holds this many before the 0 that ends their list.
 VALUE, COUNT = b"x" * 10, (SINGLE.room - 1) // 20
-# Arguments may have 128 KiB each: so many of them fill an area together with a name of one byte.
+# Arguments may have 128 KiB each: this many of them fill an area together with a name of one byte.
 ARGUMENT = 131_000
 SECONDS, ORDERED = 4, 20_480
 

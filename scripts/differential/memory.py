@@ -21,7 +21,7 @@ from model.words import Fault
 NO_MEMORY = b"## Error: out of memory\n"
 MANY = b"".join(b"variable%05d=xxxxxxxxxx\0" % i for i in range(2_500))
 OVER_MANY = {b"device": Geometry(1, 65_536).image(0, MANY), b"fw.config": b"device 0 10000\n"}
-# The program without files: its words, and standard input
+# The program without files: its arguments, and standard input
 WITHOUT_FILES = [
     ([], ONE_VARIABLE),
     ([], OVER_MANY[b"device"]),
@@ -36,7 +36,7 @@ WITHOUT_FILES = [
     ([b"check", b"--help"], b""),
     ([b"check", b"-f", b"text", b"a"], b""),
 ]
-# Tools over two copies: their words, and perhaps the file `text`
+# Tools over two copies: their arguments, and perhaps the file `text`
 TOOLS = [
     ([b"printenv"], b""),
     ([b"printenv", b"a"], b""),
@@ -95,7 +95,7 @@ SESSIONS = [
     ("every dot line", DOT_LINES, [*LIMITS, b"--steps=1000"]),
     ("a block of 500 commands", COMMANDS, [*LIMITS, b"--steps=1000"]),
 ]
-# Scripts that are run over two copies, and over the text `text` alone: the words, and perhaps standard input
+# Scripts that are run over two copies, and over only the text `text`: the arguments, and perhaps standard input
 SAVED = b"for i in $a x; do echo $i; done\nsetenv a c; saveenv && run a || echo $?; mmc; saveenv; a_stand_in_of_a_long_name 1 2; false\n"
 BOOTS = [b"--stubs", b"stand-ins", b"--boots", b"a_stand_in_of_a_long_name", b"--boots", b"none"]
 WHOLE = [b"run", b"--env", b"text"]
@@ -129,7 +129,7 @@ OVER_PAIR = b"setenv a bc; mmc\n.save\n.mark p\nsetenv a\n.undo p\n.print\n.undo
 
 def swept(case, accepts, met, runner):
     """What is wrong with a call if each of its allocations is refused: each answer has to be accepted, and at least one of them is
-    met, the answer that says so. With ample memory the call is what is wanted."""
+    met, the one that reports it. With ample memory the call answers as wanted."""
     ample = runner.run(replace(case, preload="refuse", variables={"REFUSE_COUNT": runner.moved}))
     with open(runner.moved) as file:
         count = int(file.read())
@@ -198,7 +198,7 @@ class Sessions:
         return program, DryRun(session, names, self.call.limits())
 
     def left(self, program, dry, output):
-        """The answer of a program whose session came to its end so."""
+        """The answer of a program whose session ended so."""
         program = copy.deepcopy(program)
         if "--write" in self.call.options:
             program.write_back(dry.session)

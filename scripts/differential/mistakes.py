@@ -1,4 +1,4 @@
-"""The test of the tests: mistakes in what the program left, each of which the comparison has to find out in some case
+"""The test of the tests: mistakes in what the program left, each of which the comparison has to detect in some case
 of the part that it is for."""
 
 import functools
@@ -49,12 +49,12 @@ def status(number):
 
 
 def ends_well(pattern):
-    """The status is 0 where this is said."""
+    """The status is 0 if this is printed."""
     return lambda found, _: replace(found, status=0) if re.search(pattern, found.errors) else found
 
 
 def saved_anyway(found, _):
-    """A copy is written where a script saved and the status isn't 0."""
+    """A copy is written if a script saved and the status isn't 0."""
     if found.status == 0 or b"Saved copy 2" not in found.output:
         return found
     return replace(found, files=found.files | {DEVICE: found.files[DEVICE][:15] + bytes(10) + found.files[DEVICE][25:]})
@@ -77,7 +77,7 @@ def warned(found, case):
 
 
 def turned(text, old, after):
-    """A bit turned, so many bytes after the first that was written."""
+    """A bit turned, this many bytes after the first that was written."""
     at = next(at for at in range(len(text)) if old[at : at + 1] != text[at : at + 1]) + after
     return text[:at] + bytes(byte ^ 1 for byte in text[at : at + 1]) + text[at + 1 :]
 
@@ -97,12 +97,12 @@ def one_more(found, line):
 
 
 def alone_too(found, case):
-    """Substitutions are looked at without an environment."""
+    """Substitutions are checked without an environment."""
     return one_more(found, b"a:1 b:1:6") if case.files.get(b"a:1 b") == b"echo $none" else found
 
 
 def given_later(found, case):
-    """The scripts that are looked at later give nothing."""
+    """The scripts that are checked later give nothing."""
     return one_more(found, b"bootcmd:1:6") if case.files.get(b"env", b"").endswith(b"\npreboot=n=1\n") else found
 
 
@@ -227,7 +227,7 @@ def cases_of(name):
 
 
 def missed(runner, name):
-    """The mistakes of a part that no case finds out, and how many there are."""
+    """The mistakes of a part that no case detects, and how many there are."""
     left = dict(MISTAKES[name])
     for case in cases_of(name):
         wanted, found = case.answer() if case.is_modelled else case.wanted, runner.run(case)

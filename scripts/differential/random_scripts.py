@@ -194,7 +194,7 @@ class Writer:
         return text
 
     def deep(self, text):
-        """A text inside so many if that the nesting may be too deep."""
+        """A text inside so many `if`s that the nesting may be too deep."""
         depth = self.random.randint(58, 65)
         return b"if true; then " * depth + text.rstrip(b"\n; ") + b"; fi" * depth
 
@@ -240,7 +240,7 @@ def variables(random):
 
 
 def setup(random):
-    """A script with what it stands on."""
+    """A script with its setup."""
     writer = Writer(random)
     text = writer.script()
     if random.randrange(100) < 1:

@@ -22,7 +22,7 @@ def turned(image):
     return image[:-1] + bytes([image[-1] ^ 1])
 
 
-# The first copy is good, with flag 3 and one variable: the second one, and what is said of it
+# The first copy is good, with flag 3 and one variable: the second one, and what is reported of it
 SECONDS = [
     (SECOND[:-1] + b"x", b"checksum is wrong"),
     (PAIR.image(4, b"a=" + b"b" * 25), b"list of entries isn't ended"),
@@ -66,10 +66,13 @@ SINGLES = [
     (turned(FIRST), b"checksum is wrong", NONE),
     (BIG_PAIR.image(3, ONE), b"checksum is wrong, good as a copy with a flag with --big-endian", NONE),
 ]
-# A device, its one line of configuration, and what is said of the copy
+# A device, its one line of configuration, and what is reported of the copy
 LARGE, LARGE_PAIR = Geometry(1, 8192), Geometry(2, 65536, "big")
 SIZES = [
     (LARGE.image(0, ONE) + b"Z", b"0 0x1000", b"at 0x0, 4096 bytes: checksum is wrong, good with size 0x2000"),
+    (Geometry(1, 4096).image(0, ONE), b"0 0x40", b"at 0x0, 64 bytes: checksum is wrong, good with size 0x1000"),
+    (Geometry(1, LARGEST).image(0, ONE), b"0 0x40", b"at 0x0, 64 bytes: checksum is wrong, good with size 0x100000"),
+    (Geometry(1, LARGEST).image(0, ONE)[:-1], b"0 0x40", b"at 0x0, 64 bytes: checksum is wrong"),
     (LARGE.image(0, ONE)[:-1], b"0 0x1000", b"at 0x0, 4096 bytes: checksum is wrong"),
     (b"XX" + LARGE.image(0, ONE), b"2 0x40", b"at 0x2, 64 bytes: checksum is wrong, good with size 0x2000"),
     (b"XX" + LARGE.image(0, ONE), b"1 0x40", b"at 0x1, 64 bytes: checksum is wrong"),
@@ -87,7 +90,7 @@ SKIPPED = [
     (b"nothing\n" + PLACES[0] + b"device 0\n" + PLACES[1] + b"device 0 20\n", [1, 3, 5]),
     (PLACES[0] + b"device 08 20\n # c\n" + PLACES[1], [2, 3]),
 ]
-# A whole file, what is said of it, and the lines that follow
+# A whole file, what is reported of it, and the lines that follow
 FILES = [
     (SINGLE.image(0, TWO), b"good as a single image", b"variables    2, 9 of 28 bytes used\n"),
     (SECOND, b"good as a copy with a flag, flag 4", b"variables    2, 9 of 27 bytes used\n"),

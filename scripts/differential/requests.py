@@ -64,7 +64,7 @@ class Requests:
 
 
 def listed(seed, number):
-    """A list, which sometimes has more marks than there may be, and of which the half ends with an undo of all."""
+    """A list, which sometimes has more marks than there may be; half of the lists end with an undo of all."""
     numbers = numbers_of("requests", seed, number)
     copies, order, is_good = STARTS[number % len(STARTS)]
     form = Geometry(copies, SIZE, order)

@@ -1,4 +1,4 @@
-"""Scripts with what they come to, written by hand in files that a reader can follow.
+"""Scripts with their outcomes, written by hand in files that a reader can follow.
 
 Lines before the first section say what the file is about. A section begins with a line `== NAME`:
 
@@ -10,8 +10,8 @@ Lines before the first section say what the file is about. A section begins with
     script      a script; it has no newline after its last line
     comes to    its ending, status and steps, or the fault; steps that nobody counted by hand are the model's
     prints      its text; where the last line ends in \\ that \\ and the newline aren't part of it
-    leaves      what it changes: name=value, or the name alone where it is taken away
-    saves       the section stands where the copy holds the variables as they are left
+    leaves      what it changes: name=value, or the name alone if it is removed
+    saves       the section is there if the copy holds the variables as they are left
 
 `comes to` is after each script, and `prints`, `leaves` and `saves` after that, if they hold something. The next
 script begins with the variables that this one leaves, and copies that nobody saved.
@@ -76,7 +76,7 @@ def changed(variables, lines):
 
 
 def row(name, setup, after):
-    """What the sections after a script say of it."""
+    """What the sections after a script have for it."""
     words = after["comes to"][0].decode().split(" ")
     found = Row(name, setup, after["comes to"][0], changed(setup.variables, after.get("leaves", [])))
     if words[0] in ENDINGS:
@@ -92,7 +92,7 @@ AFTER = ("comes to", "prints", "leaves", "saves")
 
 
 def with_section(setup, name, lines):
-    """A setup with what a section before a script says."""
+    """A setup with what a section before a script has."""
     if name == "copies":
         copies, size = map(int, lines[0].split())
         return replace(setup, copies=copies, size=size)

@@ -43,7 +43,7 @@ class Case:
     wanted calls and bytes. `wanted` is an answer that is given by hand, which the model has to have too if it is asked for the
     same, and `accepts` is used in its place if there are several.
 
-    `prefix` are the words of a command that runs the program, `preload` is a library that is preloaded with the environment
+    `prefix` is the start of a command that runs the program, `preload` is a library that is preloaded with the environment
     `variables`, and `around` makes of the runner what is done before the program and after it: as a context it gives other
     streams, a descriptor for each or None for one that is closed. With `check` that function of the runner is called in place
     of all this, and answers what is wrong, if anything is."""
@@ -73,7 +73,7 @@ class Case:
         return Program(self.files, self.given, self.fails()).answer(self.arguments)
 
     def tells_on_model(self):
-        """Whether the model has to have the answer that is given by hand: it knows of no stream that is cut."""
+        """Whether the model has to have the answer that is given by hand: it doesn't model streams that are cut."""
         return self.wanted is not None and self.is_modelled and self.cut is None
 
 
@@ -154,7 +154,7 @@ class Runner:
         return Found(os.waitstatus_to_exitcode(status), output, errors, self.left(), seconds)
 
     def environment(self, case):
-        """The words of the environment, which cut a stream."""
+        """The environment variables that cut a stream."""
         variables = {**os.environ, **case.variables}
         if case.cut is not None:
             variables |= {**case.cut.words(), "CUT_COUNT": self.moved}

@@ -1,4 +1,4 @@
-"""Scripts that are run for their own status, by hand: `fwenv run`, an environment that is a text alone, and copies of which one has
+"""Scripts that are run for their own status, by hand: `fwenv run`, an environment that is only a text, and copies of which one has
 to be good. Each row is a call, what it prints, and what it leaves."""
 
 import re
@@ -43,7 +43,7 @@ $a=echo dollar
 x"\\y=echo more
 -x=echo dash
 """
-# Names that are started, the text, and what is said, if the status isn't 0
+# Names that are started, the text, and what is reported, if the status isn't 0
 NAMES = [
     ([b"ok"], b"fine\n", b""),
     ([b"bad"], b"", finished(1, 5)),
@@ -80,7 +80,7 @@ NAMES = [
     ([b"ok", b"bad", b"--steps", b"3"], b"fine\n", stopped(b"Steps", 3)),
     ([b"x\"\\y", b"--output", b"3"], b"", stopped(b"Output", 2, b"x\"\\y")),
 ]
-# A script among the words, the text, and what is said, if the status isn't 0
+# A script among the arguments, the text, and what is reported, if the status isn't 0
 SCRIPTS = [
     (b"", b"", b""),
     (b"# a comment", b"", b""),
@@ -117,7 +117,7 @@ SCRIPTS = [
     (b"echo ab; echo c", b"ab\nc\n", b"", b"--output=5"),
     (b"run ok", b"", stopped(b"Depth", 1), b"--depth=0"),
 ]
-# What is no script, with the line, the column and what is said of it
+# What isn't a script, with the line, the column and what is reported of it
 NO_SCRIPTS = [
     (b"echo 'a", 1, 6, b"Quote: a quote is not closed"),
     (b'a=1; echo b"c', 1, 12, b"Quote: a quote is not closed"),
@@ -150,7 +150,7 @@ NO_SCRIPTS = [
     (b"x=1 echo", 1, 5, b"Assignment: a word after an assignment"),
     (b"true\n\tx=1 \\\n  y=2", 3, 3, b"Assignment: a word after an assignment"),
 ]
-# What is a script though it is near to one of those
+# What is a script, although it is close to one of those
 NEAR_SCRIPTS = [
     (b"echo 'a'", b"a\n"),
     (b"echo a\\\\", b"a\\\n"),
@@ -161,9 +161,9 @@ NEAR_SCRIPTS = [
     (b"if true;then " * 64 + b"echo b" + b";fi" * 64, b"b\n"),
     (b"x=1; y=2; echo $x$y", b"12\n"),
 ]
-# A byte 0 comes in a file alone
+# A byte 0 is possible only in a file
 NULS = [(b"\0", 1, 1), (b"echo a\necho b\0'", 2, 7), (b"echo '\0", 1, 7)]
-# Options, a script, and the text, where the stand-ins are these; what is said, if the status isn't 0
+# Options, a script, and the text, if the stand-ins are these; what is reported, if the status isn't 0
 STAND_INS = b"booti\nmmc\nusb 1\n"
 BOOTS = [
     ([], b"booti 1; echo a", b"+ booti 1\na\n", b""),
@@ -186,7 +186,7 @@ BOOTS = [
     ([b"--boots", b"booti", b"--steps", b"1"], b"booti; true", b"+ booti\n", b""),
     ([b"--boots", b"booti", b"--output", b"7"], b"booti", b"", stopped(b"Output", 0)),
 ]
-# Options over two copies, of which the first is current: the text, what is said, and both copies afterwards
+# Options over two copies, of which the first is current: the text, what is reported, and both copies afterwards
 AGAIN = PAIR.image(9, b"a=b\0")
 SAVES = [
     ([b"--write", b"-e", b"saveenv"], b"Saved copy 2\n", b"", FIRST, SAVED),
@@ -208,7 +208,7 @@ SAVES = [
     ([b"--write", b"--boots", b"mmc", b"--stubs", b"stand-ins", b"-e", b"saveenv; mmc; false"], b"Saved copy 2\n+ mmc\n", b"", FIRST, SAVED),
     ([b"--write", b"--stubs", b"stand-ins", b"-e", b"saveenv; mmc; false"], b"Saved copy 2\n+ mmc\n", finished(1, 3), FIRST, SECOND),
 ]
-# Words of `run`, or of another subcommand, that are wrong, and what is said; nothing is read
+# Arguments of `run`, or of another subcommand, that are wrong, and what is printed; nothing is read
 FIRST_IS_WRONG = [
     ([b"run"], NO_SCRIPT),
     ([b"run", b"--boots", b"booti"], NO_SCRIPT),
@@ -261,7 +261,7 @@ NO_SIZES = [
     b"", b"x", b"0", b"7", b"0x7", b"100001", b"0x100001", b"-8", b"+10", b" 10", b"10 ", b"0x", b"0x 10", b"1_0", b"4k", b"0x0x10", b"1" * 23,
 ]  # fmt: skip
 SIZES = [b"8", b"0x8", b"0X8", b"0000000000000000000000000000000008", b"100000", b"0x100000", b"fF"]
-# A text that is the whole environment, the size, a script, its text, and what is said
+# A text that is the whole environment, the size, a script, its text, and what is reported
 ENVIRONMENTS = [
     (b"", None, b"printenv -a", b"", b""),
     (b"# nothing\n", None, b"printenv a", NOT_DEFINED % b"a", finished(1, 1)),
@@ -281,7 +281,7 @@ ENVIRONMENTS = [
     (b"a=" + b"x" * 16_376, None, b"true", b"", b""),
     (b"a=" + b"x" * 0xFF8, b"0x1000", b"true", b"", b""),
 ]
-# Such a text that can't be used, the size, and what is said
+# Such a text that can't be used, the size, and what is reported
 NO_ENVIRONMENTS = [
     (b"a=1\n", b"8", b"fwenv: env: Full in line 1\n"),
     (b"a=1\n\nb=2\n", b"0xc", b"fwenv: env: Full in line 3\n"),
@@ -317,7 +317,7 @@ BAD_COPIES = [
     (SINGLE, [BLANK], WRONG),
     (SINGLE, [SINGLE.image(0, b"a=bcde")], NOT_ENDED),
 ]
-# The same where a copy is good, or there is a default environment `text` of p=1: what is said and printed, and the copy that a save leaves
+# The same if a copy is good, or there is a default environment `text` of p=1: what is reported and printed, and the copy that a save leaves
 WITH_COPY = [
     ([b"printenv"], b"a=b\n", None),
     ([b"export"], b"a=b\n", None),
@@ -340,7 +340,7 @@ ORDER = [
     ([b"--env", b"stand-ins", b"-f", b"no"], b"no"),
     ([b"--env", b"-", b"-f", b"no"], b"-"),
 ]
-# The file of stand-ins, and what is said of it
+# The file of stand-ins, and what is reported of it
 NO_STAND_INS = [
     (b"x 256\n", b"fwenv: stand-ins: Line in line 1\n"),
     (b"mmc\n\necho 0\n", b"fwenv: stand-ins: Builtin in line 3\n"),
@@ -349,7 +349,7 @@ NO_STAND_INS = [
 
 
 def row(name, words, files, output, errors, left=(), given=b"", seconds=0.25, status=None):
-    """The status is 1 where something is said, if it isn't told."""
+    """The status is 1 if something is reported, unless it is given."""
     wanted = Answer(int(errors != b"") if status is None else status, output, errors, files | dict(left))
     return Case(name, words, files, given, wanted=wanted, seconds=seconds)
 
@@ -436,7 +436,7 @@ def saves():
 
 
 def without_copies():
-    """Without `--need-copy` the default environment is used, and that is said first."""
+    """Without `--need-copy` the default environment is used, and that is reported first."""
     files = board(PAIR, [BLANK, BLANK]) | {b"text": b"p=1\n"}
     left = board(PAIR, [PAIR.image(1, b"p=1\0"), BLANK])
     words = arguments(b"run", b"--default", b"text", b"--write", b"-e")
@@ -473,7 +473,7 @@ def environments():
         files = {} if text is None else {b"env": text}
         sized = [b"--env", b"env"] if size is None else [b"--env", b"env", b"--size=" + size]
         yield row("no environment", [b"run", *sized, b"--stubs", b"absent", b"ok"], files, b"", errors, seconds=2)
-        # (a session doesn't say why a file can't be read)
+        # (a session doesn't report why a file can't be read)
         errors = re.sub(rb"(cannot read env): .*", rb"\1", errors)
         yield row("no session over it", [b"session", *sized], files, b"", errors, given=b".print\n", seconds=2)
     given, output = b"setenv a 2\n.save\n.undo\n.print\n", b"[Finished 0 1]\nSaved copy 1\n[Undone]\na=1\n"

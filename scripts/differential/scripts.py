@@ -1,5 +1,5 @@
 """Scripts that are cut at each place and changed at random: several in a session, each after an undo of all. The last
-one of a session is saved, so that its copy is seen."""
+one of a session is saved, so that its copy is seen. One that is cut is run alone too, which tells what its fault is and where."""
 
 import functools
 
@@ -11,7 +11,8 @@ from differential.texts import DEFAULTS, FORM, NEVER_WRITTEN
 TOGETHER = 8
 FILES = board(FORM, NEVER_WRITTEN) | {b"default": text_of(DEFAULTS), b"stand-ins": b"mmc 0\nusb 1\n"}
 LIMITS = [b"--steps=100", b"--depth=3", b"--word=64", b"--output=256"]
-WORDS = arguments(b"session", b"--default", b"default", b"--stubs", b"stand-ins", b"--write", *LIMITS)
+OPTIONS = [b"--default", b"default", b"--stubs", b"stand-ins", b"--write", *LIMITS]
+WORDS, RUN = arguments(b"session", *OPTIONS), arguments(b"run", *OPTIONS, b"-f", b"script")
 SCRIPTS = [
     b'a=1; for i in a${x}b "${x}" ""; do echo "[$i]"; done\n',
     b"if test $n -gt 0; then run s\nelif false; then exit 3\nelse echo $?; fi && echo ok || echo no\n",
@@ -45,12 +46,13 @@ def changed_scripts(seed, number):
 
 
 def cut(text):
-    """Each prefix alone, with what it saves itself, and all of them together."""
+    """Each prefix alone, with what it saves itself, in a session and by `run`, and all of them together."""
     for prefix in prefixes(text):
         yield Case("a cut script", WORDS, FILES, prefix)
+        yield Case("a cut script that is run", RUN, FILES | {b"script": prefix})
     yield together(prefixes(text))
 
 
 def chunks(count, seed):
-    """So many sessions are made at random."""
+    """This many sessions are made at random."""
     return [functools.partial(cut, text) for text in SCRIPTS] + at_random(count, functools.partial(changed_scripts, seed))

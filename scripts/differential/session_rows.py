@@ -1,4 +1,4 @@
-"""Sessions by hand, beside those of docs/dry-runs.md: blocks and dot lines, names of marks, limits, stand-ins, wrong numbers, and what is
+"""Sessions by hand, besides those of docs/dry-runs.md: blocks and dot lines, names of marks, limits, stand-ins, wrong numbers, and what is
 written back. A row is a name, the input, what is printed, and the options."""
 
 from differential.boards import EMPTIED, FIRST, PAIR, SAVED, SECOND, arguments, board
@@ -43,6 +43,21 @@ NAMES = [
         "dot lines of no form",
         b".\n..\n.Save\n.saves\n.save x\n.print a\n.marks\n.markx\n.mark a b\n.undox\n.undo a b\n.mark \t\n",
         b"[Unknown]\n" * 12,
+    ),
+    (
+        "dot lines that are nearly of a form",
+        b". undo\n.und\n.undo\0\n.undo\ra\n.undo a\tb\n.mark\n.mark\t\r\n.mark\ra\n.saved\n.prin\n.exit\n",
+        b"[Unknown]\n" * 11,
+    ),
+    (
+        "names of other bytes",
+        b".mark a\rb\n.undo a\rb\r\n.mark \0\n.undo \0\n.mark .undo\n.undo .undo\n.mark \xff\n.undo  \xff\n.mark \r0\n.undo \r0\n",
+        b"[Marked]\n[Undone]\n" * 5,
+    ),
+    (
+        "a name is compared whole",
+        b".mark ab\n.undo a\n.undo abc\n.undo Ab\n.undo ab\0\n.undo 1\n.undo ab\n",
+        b"[Marked]\n[Gone]\n[Gone]\n[Gone]\n[Gone]\n[Gone]\n[Undone]\n",
     ),
     ("blanks before a name", b".mark \t a\n.undo\ta\n", b"[Marked]\n[Undone]\n"),
     (
@@ -135,8 +150,8 @@ def stood_in():
 
 
 def wrong_numbers():
-    """A fault of the command line comes before any file is looked for; of two the first in the order of
-    docs/dry-runs.md is told."""
+    """A fault of the command line is reported before any file is opened; of two the first in the order of
+    docs/dry-runs.md is reported."""
     for option, (_, most) in LIMITS.items():
         for text in [*NO_NUMBERS, b"%d" % (most + 1)]:
             wanted = Answer(1, b"", NO_NUMBER % (text, option.encode(), most), {})

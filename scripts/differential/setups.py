@@ -1,4 +1,4 @@
-"""A script with what it stands on, as a call of `fwenv session`."""
+"""A script with its setup, as a call of `fwenv session`."""
 
 from dataclasses import dataclass, field, replace
 
@@ -29,7 +29,7 @@ class Setup:
         return Geometry(self.copies, self.size)
 
     def environment(self):
-        """The environment at the start; None where a write is refused."""
+        """The environment at the start; None if a write is refused."""
         found = Environment(self.geometry.room)
         for values in (self.defaults, self.variables):
             for name, value in values.items():
@@ -39,7 +39,7 @@ class Setup:
 
     def stored(self):
         """The copies. The variables are in the last one, whose flag is 0, so that a save goes to the first one with
-        flag 1, as it does where no copy is good; without any, no copy is good."""
+        flag 1, as it does if no copy is good; without any, no copy is good."""
         copies = [ERASED * self.size] * self.copies
         if self.variables:
             copies[-1] = self.geometry.image(0, self.environment().entries())
@@ -53,6 +53,6 @@ class Setup:
         return arguments(b"session", b"--default", b"default", b"--stubs", b"stand-ins", b"--write", *limits)
 
     def outcome(self):
-        """What the model's run comes to."""
+        """The outcome of the model's run."""
         session = Session(self.geometry, self.stored(), replace(self, variables={}).environment().values)
         return run(session, parse(self.script), stand_ins(self.stand_ins), self.limits)

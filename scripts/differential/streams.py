@@ -33,7 +33,7 @@ def over_copies(first=FIRST, second=SECOND):
     return {b"device": device(first, second), b"fw.config": TWO_COPIES}
 
 
-# What is done around a run; each gives the streams that are others
+# What is done around a run; each gives the streams that are replaced
 
 
 @contextlib.contextmanager
@@ -73,7 +73,7 @@ def reset(text, _runner=None):
 
 @contextlib.contextmanager
 def read_by(count, runner):
-    """Standard output is a pipe of which so many bytes are read, and which is closed then."""
+    """Standard output is a pipe of which this many bytes are read, and which is closed then."""
     reader, writer = os.pipe()
     if count == 0:
         os.close(reader)
@@ -93,7 +93,7 @@ def read_by(count, runner):
 
 @contextlib.contextmanager
 def said_without_end(text, count, runner):
-    """Standard input is a text again and again, and standard output a pipe of which so many bytes are read."""
+    """Standard input is a text again and again, and standard output a pipe of which this many bytes are read."""
     with piped(f"exec yes '{text}'") as given, read_by(count, runner) as taken:
         yield given | taken
 
@@ -126,7 +126,7 @@ def images():
 
 
 def helps():
-    """The help of each subcommand says how it is called, with an example, and `help` prints the same."""
+    """The help of each subcommand shows how it is called, with an example, and `help` prints the same."""
     texts = {}
     for word in (b"printenv", b"setenv", b"import", b"export", b"restore", b"status", b"run", b"check", b"session"):
 
@@ -143,7 +143,7 @@ def helps():
 
 
 def session(name, given, status, output, errors, around):
-    """A session whose streams are others: no byte is written, though --write is given."""
+    """A session over other streams: no byte is written, though --write is given."""
     return row(name, SESSION, given, status, output, errors, around, over_copies())
 
 
@@ -164,7 +164,7 @@ def sessions():
     yield session("standard error closed", b"setenv a c\n", 0, b"[Finished 0 1]\n", b"", at(2, None))
 
 
-# A session at a pipe, as a person would type: what is written, and the line that comes before the next is written, or none
+# A session at a pipe, as a person would type: what is written, and the line that comes before the next is written, or nothing
 TYPED = [
     ("the first line", b".x\n", b"[Unknown]\n"),
     ("a save", b".save\n", b"Saved copy 2\n"),
@@ -176,7 +176,7 @@ TYPED = [
 
 
 def answered(output, wanted, most):
-    """What comes of an answer within so many seconds."""
+    """What is read of an answer within this many seconds."""
     text = b""
     while len(text) < wanted and select.select([output], [], [], most)[0]:
         text += os.read(output.fileno(), wanted - len(text)) or b"the end"

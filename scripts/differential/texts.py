@@ -129,7 +129,7 @@ def changed_text(make, samples, tokens, seed, number):
 
 
 def chunks(count, seed):
-    """Of each kind so many texts are changed."""
+    """Of each kind this many texts are changed."""
     found = [functools.partial(cut, make, text) for make, samples, _ in KINDS for text in samples]
     for make, samples, tokens in KINDS:
         found += at_random(count, functools.partial(changed_text, make, samples, tokens, seed))

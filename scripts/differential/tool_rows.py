@@ -14,6 +14,7 @@ OVER_GOOD_COPIES = [
     ([b"printenv", b"-n", b"a"], 0, b"b\n", b""),
     ([b"printenv", b"q", b"a"], 1, b"a=b\n", b'## Error: "q" not defined\n'),
     ([b"printenv", b"-n"], 1, b"", b"## Error: -n takes exactly one name\n"),
+    ([b"printenv", b"-n", b"a", b"a"], 1, b"", b"## Error: -n takes exactly one name\n"),
     ([b"printenv", b"--default", b"text"], 0, b"a=b\n", b"", SECOND, b"p=1\n"),
     ([b"export"], 0, b"a=b\n", b""),
     ([b"setenv", b"a", b"b"], 0, b"", b"", SAVED),
@@ -27,15 +28,19 @@ OVER_GOOD_COPIES = [
     ([b"setenv", b"-s", b"text"], 1, b"", b'## Error: no room for "b"\n', SECOND, b"a c\nb c\na d\n"),
     ([b"setenv", b"-s", b"text"], 1, b"", b"fwenv: text: EmptyName in line 2\n", SECOND, b"a c\n=b\n"),
     ([b"setenv", b"-s", b"absent"], 1, b"", b"fwenv: cannot read absent\n"),
+    ([b"import", b"text"], 1, b"", b"fwenv: cannot read text\n", SECOND, b"\n" * 16_777_217),
+    ([b"restore", b"text"], 1, b"", b"fwenv: cannot read text: it is longer than 16777216 bytes\n", SECOND, b"\n" * 16_777_217),
     ([b"import", b"text"], 0, b"", b"", SAVED, b"# nothing\na=b\n"),
+    ([b"import", b"text"], 0, b"", b"", SAVED, b"q\na=b\n"),
     ([b"import", b"text"], 1, b"", b"## Error: 2 entries refused\n", EMPTIED, b"a=bc\nq=1\na=\n"),
+    ([b"import", b"text"], 1, b"", b"## Error: 10 entries refused\n", EMPTIED, b"q=1\n" * 10 + b"a=\n"),
     ([b"import", b"text"], 1, b"", b"fwenv: text: EmptyName in line 3\n", SECOND, b"a=b\n\n=c\n"),
     ([b"import", b"text"], 1, b"", b"fwenv: text: Nul\n", SECOND, b"a=b\0\n"),
     ([b"restore", b"text"], 0, b"", b"", PAIR.image(8, b"q=1\0"), b"q=1\n"),
     ([b"restore", b"text"], 1, b"", b'## Error: no room for "q" in line 2\n', SECOND, b"a=b\nq=1\n"),
     ([b"restore", b"absent"], 1, b"", b"fwenv: cannot read absent: no such file\n"),
 ]
-# The same where no copy is good; the warning comes first, and it is the first copy that is written
+# The same if no copy is good; the warning comes first, and it is the first copy that is written
 OVER_BLANK_COPIES = [
     ([b"printenv"], 0, b"", b""),
     ([b"printenv", b"--default", b"text"], 0, b"p=1\n", b"", BLANK, b"p=1\n"),
@@ -109,7 +114,7 @@ def over_types():
 
 
 def restores():
-    """Names that `.flags` makes read-only are there before, and come in the text."""
+    """Names that `.flags` makes read-only are there before, and are in the text."""
     before = SINGLE.image(0, entries(TYPED | {b"r": b"5"}))
     for text, status, errors, variables in RESTORED:
         after = before if variables is None else SINGLE.image(0, entries(variables))
@@ -118,7 +123,7 @@ def restores():
 
 
 def in_big_endian():
-    """The word may stand before the subcommand and after it."""
+    """The option may be before the subcommand and after it."""
     form = Geometry(1, 9, "big")
     image = b"\x2b\x62\x96\xd2a=b\0\0"
     words = [b"--big-endian", b"setenv", b"-c", CONFIG, b"a", b"b"]

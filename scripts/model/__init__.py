@@ -10,7 +10,7 @@ once; everything is bytes. The tests compare the built program with it (scripts/
     script        what a script does                     docs/runs.md
     session       copies, saves, marks and undo          docs/undo.md
     dry_run       blocks and dot lines                   docs/dry-runs.md
-    script_run    what is said of a script that is run       docs/dry-runs.md
+    script_run    what is reported of a script           docs/dry-runs.md
     check         what is found in scripts               docs/tools.md
     report        what is stored, line by line           docs/tools.md
     arguments     the command line                       docs/tools.md

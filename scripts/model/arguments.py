@@ -1,5 +1,5 @@
 """The command line (docs/tools.md, "The command line" and "Subcommands over files"; docs/dry-runs.md, "The
-subcommand"), as far as the rules of clap are used: options before and after the other words, values after a blank, an
+subcommand"), as far as the rules of clap are used: options before and after the other arguments, values after a blank, an
 `=` or a letter."""
 
 import pathlib
@@ -13,7 +13,7 @@ from model.texts import SIZE
 FLAGS, OPENING_FLAGS, OPENING_VALUES = {"--big-endian"}, {"--need-copy"}, {"-c", "--default"}
 WHOLE_VALUES = {"--stubs", "--env", "--size"}
 DRY_VALUES = WHOLE_VALUES | {"--steps", "--depth", "--word", "--output"}
-# Of each subcommand: its flags, its options with a value, and how many other words it takes
+# Of each subcommand: its flags, its options with a value, and how many other arguments it takes
 FORMS = {
     "printenv": (OPENING_FLAGS | {"-n"}, OPENING_VALUES, (0, None)),
     "setenv": (OPENING_FLAGS, OPENING_VALUES | {"-s"}, (0, None)),
@@ -34,7 +34,7 @@ LIMITS = {
     "--word": (4096, 65_536),
     "--output": (1_048_576, 16_777_216),
 }
-# The version that the changelog says is the program's
+# The version that the changelog gives for the program
 [VERSION, *_] = re.findall(rb"^## (\S+) ", (pathlib.Path(__file__).parent.parent.parent / "CHANGELOG.md").read_bytes(), re.M)
 VERSION = b"fwenv %s\n" % VERSION
 NO_SUBCOMMAND = b"""error: unrecognized subcommand '%s'
@@ -62,7 +62,7 @@ ENV_AND = b"""error: the argument '--env <FILE>' cannot be used with '%s'
 
 For more information, try '--help'.
 """
-# What only a board has, in the order in which it is told
+# What only a board has, in the order in which it is reported
 NOT_WITH_ENV = {"-c": b"-c <FILE>", "--default": b"--default <FILE>", "--need-copy": b"--need-copy", "--write": b"--write"}
 SIZE_ALONE = b"""error: the argument '--size <N>' is only for '--env <FILE>'
 
@@ -100,7 +100,7 @@ class Wrong(Exception):
 
 @dataclass
 class Call:
-    """What is asked for: "show", "version" or a subcommand, with its options and other words."""
+    """What is asked for: "show", "version" or a subcommand, with its options and other arguments."""
 
     tool: str
     options: dict = field(default_factory=dict)
@@ -110,7 +110,7 @@ class Call:
         return "big" if "--big-endian" in self.options else "little"
 
     def limits(self):
-        """The limits on steps, depth, word and output; the first that is none is a fault."""
+        """The limits on steps, depth, word and output; the first that isn't a number within its limit is a fault."""
         found = []
         for option, (usual, most) in LIMITS.items():
             text = self.options.get(option, b"%d" % usual)
@@ -131,7 +131,7 @@ class Call:
             raise Wrong(FILE_AND)
 
     def size_in_memory(self):
-        """The size of the image under an environment that is a text alone; None where the copies are a board's."""
+        """The size of the image under an environment that is only a text; None if the copies are a board's."""
         if "--env" not in self.options:
             if "--size" in self.options:
                 raise Wrong(SIZE_ALONE)
@@ -147,7 +147,7 @@ class Call:
 
 
 def option_of(word):
-    """The option that a word names, and the value that stands in the same word."""
+    """The option that an argument names, and the value that is in the same argument."""
     if word.startswith(b"--"):
         name, equals, value = word.partition(b"=")
         return name.decode(), value if equals else None

@@ -20,7 +20,7 @@ def integer_of(word):
 
 
 def decimal(digits):
-    """A number of digits, of which no more are looked at than the largest number has."""
+    """A number of digits, of which no more are read than the largest number has."""
     return int(digits) if len(digits) < 40 else 2**64
 
 
@@ -53,7 +53,7 @@ COMPARISONS = {
 
 
 def term(words):
-    """The value of the term at the front and the words after it; None where there is none."""
+    """The value of the term at the front and the words after it; None if there is none."""
     negated = False
     while words[:1] == [b"!"]:
         negated = not negated

@@ -25,7 +25,7 @@ NO_COMMAND = b"no builtin and no stand-in is called `%s`"
 NO_OPERATOR = b"`test` has no operator `%s` here, and is false"
 NOT_ASSIGNED = b"`%s` is an environment variable, so it can not be assigned"
 NOT_GIVEN = b"`${%s}` names a variable that nothing defines"
-# What other shells have and this one lacks
+# What other shells have and this one doesn't
 LACKED = {
     **{name: b"this shell has no `%s`: write `test`" % name for name in (b"[", b"[[")},
     **{name: b"this shell has no `%s`" % name for name in (b"break", b"continue", b"return", b"case", b"function")},
@@ -38,7 +38,7 @@ SET_BY_UBOOT = {
 }  # fmt: skip
 # Commands whose first argument names the variable that they set
 SETTING = {b"setenv", b"setexpr", b"setexpr.b", b"setexpr.w", b"setexpr.l", b"setexpr.q"}
-# No further line is added once there are so many bytes; then it is told that there is more
+# No further line is added once there are this many bytes; then it is reported that there is more
 MOST = 65_536
 MORE = b"more is found, and not printed\n"
 # How an operator is written
@@ -57,7 +57,7 @@ class Finding:
 
 @dataclass
 class Known:
-    """The values of the environment, or None where only one script is looked at; the stand-ins, or None where there is no file of
+    """The values of the environment, or None if only one script is checked; the stand-ins, or None if there is no file of
     them; the names that a substitution may have; and those that `run` may."""
 
     values: dict = None
@@ -176,7 +176,7 @@ def foreseen(command):
 
 
 def carriage_return(text):
-    """The first one is told."""
+    """The first one is reported."""
     at = text.find(b"\r")
     return [] if at < 0 else [Finding(at, WARNING, CARRIAGE_RETURN)]
 
@@ -190,7 +190,7 @@ def no_script(fault):
 
 
 def lacked(command):
-    """What is said of a command that this shell lacks; None of another."""
+    """What is reported of a command that this shell lacks; None for another."""
     name, arguments = called(command), words_of(command)[1:]
     if name is None or name in LACKED:
         return LACKED.get(name)
@@ -234,7 +234,7 @@ def written(word):
 
 
 def no_operator(words):
-    """The first of the words of `test`, each taken for one field, that is where an operator has to be and is written as one, but isn't
+    """The first of the words of `test`, each taken for one field, that is in the place of an operator and is written as one, but isn't
     one; None if there is none."""
     rest = list(words)
     while rest:
@@ -277,7 +277,7 @@ KINDS = (lacked_command, unknown_command, unknown_operator, undefined_target, re
 
 
 def tree_of(text):
-    """The tree of a script, or the fault for which a text is none."""
+    """The tree of a script, or the fault by which a text isn't one."""
     try:
         return parse(text), None
     except Fault as fault:
@@ -300,7 +300,7 @@ def of_script(name, text, stand_ins):
 
 
 def visited(values, names):
-    """The variables that are looked at, each once: those that are named, and behind them those that each of them starts."""
+    """The variables that are checked, each once: those that are named, and after them those that each of them starts."""
     found = list(dict.fromkeys(name for name in names if name in values))
     for name in found:
         tree, _ = tree_of(values[name])
@@ -312,7 +312,7 @@ def visited(values, names):
 
 
 def names_by(kind, scripts, values):
-    """The names that are given or foreseen by the commands of these variables; what is no script has none."""
+    """The names that are given or foreseen by the commands of these variables; what isn't a script has none."""
     return {name for script in scripts for command in commands(tree_of(values[script])[0] or []) for name in kind(command)}
 
 

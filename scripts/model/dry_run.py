@@ -11,8 +11,8 @@ LONGEST = 2**24
 
 
 def items_of(text, is_whole):
-    """The blocks and dot lines of an input, in order. Where the input doesn't come to its end the bytes after the
-    last whole dot line are none."""
+    """The blocks and dot lines of an input, in order. If the input doesn't reach its end, the bytes after the
+    last whole dot line don't count."""
     items, block = [], []
     for line in re.findall(rb"[^\n]*\n|[^\n]+", text):
         if line[:1] != b".":

@@ -41,7 +41,7 @@ class Parser:
         return count
 
     def keyword(self):
-        """The reserved word that stands here; None for anything else."""
+        """The reserved word that is here; None for anything else."""
         text = self.peek().plain()
         return text if text in RESERVED else None
 

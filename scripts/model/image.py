@@ -13,7 +13,7 @@ def entries(variables):
 
 
 def variables_of(area):
-    """The variables of a data area, of which the last entry for a name decides; None where its list isn't ended."""
+    """The variables of a data area, of which the last entry for a name decides; None if its list isn't ended."""
     found = {}
     for entry in area.split(b"\0")[:-1]:
         if not entry:
@@ -50,7 +50,7 @@ class Geometry:
         return copy[4] if self.copies == 2 else 0
 
     def read(self, copy):
-        """The state of a copy, and its variables where it is good."""
+        """The state of a copy, and its variables if it is good."""
         if len(copy) != self.size:
             return "BadLength", None
         area = copy[self.head :]
@@ -60,7 +60,7 @@ class Geometry:
         return ("Unterminated", None) if variables is None else ("Good", variables)
 
     def choice(self, copies):
-        """Which of the copies is current, and its variables; None twice where no copy is good."""
+        """Which of the copies is current, and its variables; None twice if no copy is good."""
         read = [self.read(copy)[1] for copy in copies]
         good = [at for at, variables in enumerate(read) if variables is not None]
         if not good:

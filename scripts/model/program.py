@@ -20,11 +20,11 @@ CANNOT_READ_INPUT = b"fwenv: cannot read standard input\n"
 CANNOT_READ = b"fwenv: cannot read %s\n"
 CANNOT_WRITE_OUTPUT = b"fwenv: cannot write standard output\n"
 CANNOT_WRITE = b"fwenv: cannot write %s\n"
-# What follows if the line says why
+# What follows if the line has the reason
 NO_SUCH_FILE, LONGER = b"no such file", b"it is longer than %d bytes" % LONGEST
 DIRECTORY, DENIED, NO_SPACE = b"it is a directory", b"permission denied", b"no space is left"
 CHANGED = b"another program changed it"
-# The subcommands that say it
+# The subcommands that report it
 EXPLAINING = {"status", "run", "check", "restore"}
 TOO_SHORT = b"fwenv: %s is too short\n"
 OVERLAP = b"fwenv: copies overlap\n"
@@ -59,7 +59,7 @@ class Ended(Exception):
 
 
 class Program:
-    """A call over files: a path that isn't there, or is none of a file, has no bytes. `fails` says that standard
+    """A call over files: a path that isn't there, or isn't a file's, has no bytes. `fails`: standard
     input fails after its bytes."""
 
     def __init__(self, files, given=b"", fails=False):
@@ -170,7 +170,7 @@ class Program:
         return Session(geometry, copies, self.defaults(call, geometry))
 
     def write_back(self, session):
-        """The copies go where they came from; what lies around them stays."""
+        """The copies go where they came from; what is around them stays."""
         for place, start, copy in zip(self.places, self.starts, session.copies):
             device = self.files[place.device]
             self.files[place.device] = device[:start] + copy + device[start + len(copy) :]
@@ -251,7 +251,7 @@ class Program:
         return {} if path is None else self.parsed(path, texts.stand_ins)
 
     def script(self, call):
-        """The name by which a script is told, and its text."""
+        """The name by which a script is reported, and its text."""
         if "-e" in call.options:
             return b"-e", call.options["-e"]
         if "-f" not in call.options:

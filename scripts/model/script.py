@@ -60,7 +60,7 @@ class Run:
             raise Stop("Steps")
 
     def done(self, status, text=b""):
-        """The step is done, where its text fits; it has changed nothing before."""
+        """The step is done, if its text fits; it has changed nothing before."""
         if len(self.text) + len(text) > self.max_output:
             raise Stop("Output")
         self.text += text
@@ -319,7 +319,7 @@ class Run:
 
 
 def run(session, tree, stand_ins, limits, boots=frozenset()):
-    """Runs a tree, and answers its outcome. A stand-in of `boots` ends the run where its status is 0."""
+    """Runs a tree, and answers its outcome. A stand-in of `boots` ends the run if its status is 0."""
     made = Run(session, stand_ins, limits, boots)
     ending = "Finished"
     try:

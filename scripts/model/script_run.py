@@ -1,4 +1,4 @@
-"""What `fwenv run` says of a script: how its run ended, and where a text is no script (docs/dry-runs.md)."""
+"""What `fwenv run` reports of a script: how its run ended, and where a text isn't a script (docs/dry-runs.md)."""
 
 SENTENCES = {
     "Quote": b"a quote is not closed",
@@ -26,7 +26,7 @@ def line_and_column(text, place):
 
 
 def fault_line(name, text, fault):
-    """Where the text of this name is no script, and why."""
+    """Where and why the text of this name isn't a script."""
     kind, place = fault.args
     return b"fwenv: %s:%d:%d: %s: %s\n" % (name, *line_and_column(text, place), kind.encode(), SENTENCES[kind])
 
@@ -36,7 +36,7 @@ def is_well(outcome):
 
 
 def ended(outcome):
-    """What is said of a run that didn't end well: its status tells nothing if a limit stopped it, but the variable does."""
+    """What is reported of a run that didn't end well: its status, or the variable if a limit stopped it."""
     if outcome.ending in BY_ITSELF:
         more = b" with status %d" % outcome.status
     else:

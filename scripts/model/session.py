@@ -7,7 +7,7 @@ MARKS = 64
 
 
 class Session:
-    """A session over copies. The whole state stands at each mark; mark 0 is the opening."""
+    """A session over copies. Each mark has the whole state; mark 0 is the opening."""
 
     def __init__(self, geometry, copies, defaults):
         self.geometry = geometry
@@ -38,7 +38,7 @@ class Session:
         return True
 
     def undo_to(self, number):
-        """Brings back the state at a mark that stands."""
+        """Brings back the state at a mark that exists."""
         del self.marks[number + 1 :]
         values, used, copies, self.current = self.marks[number]
         self.environment.values, self.environment.used, self.copies = dict(values), used, list(copies)

@@ -38,7 +38,7 @@ class Place:
     line: int
 
     def start(self, size, length):
-        """Where the copy begins in a device of this length; None where it isn't wholly inside."""
+        """Where the copy begins in a device of this length; None if it isn't wholly inside."""
         start = self.offset + (length if self.offset < 0 else 0)
         return start if 0 <= start and start + size <= length else None
 
@@ -57,7 +57,7 @@ SIZE = re.compile(rb"(?:0[xX])?([0-9a-fA-F]+)")
 
 
 def offset_of(field):
-    """The offset that a field spells, None where it isn't readable; more digits than any offset has are too large."""
+    """The offset that a field spells, None if it isn't readable; more digits than any offset has are too large."""
     match = OFFSET.fullmatch(field)
     if not match:
         return None
@@ -154,7 +154,7 @@ def set_script_entries(text):
 
 
 def exported(name, value):
-    """A variable as text; None where an import wouldn't read its name back."""
+    """A variable as text; None if an import wouldn't read its name back."""
     if name[:1] in (b" ", b"\t", b"#") or b"\n" in name:
         return None
     return name + b"=" + re.sub(rb"([\\\n])", rb"\\\1", value) + b"\n"

@@ -17,7 +17,7 @@ TYPES = {
 ACCESSES = (b"a", b"r", b"o", b"c")
 PLAIN = (b"s", b"a")
 
-# What is said of a refused write (docs/tools.md, docs/runs.md)
+# What is reported of a refused write (docs/tools.md, docs/runs.md)
 REFUSALS = {
     "BadForm": b'## Error: bad name or value for "%s"\n',
     "BadType": b'## Error: type check failure for "%s"\n',
@@ -71,7 +71,7 @@ class Environment:
         return used + len(name) + len(value) + 2 if value else used
 
     def refusal(self, name, value, force):
-        """The first check that refuses a write; None where none does."""
+        """The first check that refuses a write; None if none does."""
         if not name or b"=" in name or b"\0" in name or b"\0" in value:
             return "BadForm"
         old = self.values.get(name)

@@ -34,7 +34,7 @@ class Token:
     parts: Word = field(default_factory=Word)
 
     def plain(self):
-        """The word's text, where it is unquoted plain bytes alone; else None."""
+        """The word's text, if it is only unquoted plain bytes; else None."""
         if self.kind == "word" and all(part[0] == "plain" for part in self.parts):
             return bytes(part[1] for part in self.parts)
         return None
@@ -49,7 +49,7 @@ class Token:
         return bytes(text)
 
     def assigned_name(self):
-        """The name that the word assigns to; None where it is no assignment."""
+        """The name that the word assigns to; None if it isn't an assignment."""
         prefix = self.prefix()
         name = NAME.match(prefix)
         if name and prefix[name.end() : name.end() + 1] == b"=":

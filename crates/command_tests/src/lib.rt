@@ -1,9 +1,7 @@
-//! Tests of the commands of a run by their rules (docs/runs.md). They stand apart from `hush_commands`, so that it is
-//! proved once. The values are worked out by hand.
+//! Tests of the commands of a run by their rules (docs/runs.md). They are apart from `hush_commands`, so that it is proved
+//! once. The values are worked out by hand; what whole scripts come to is in scripts/runs.
 #![tactic(auto)]
 
-#[cfg(test)]
-mod carrying;
 #[cfg(test)]
 mod commands;
 #[cfg(test)]
@@ -11,14 +9,6 @@ mod expansions;
 #[cfg(test)]
 mod fixtures;
 #[cfg(test)]
-mod following;
-#[cfg(test)]
 mod largest;
-#[cfg(test)]
-mod limits;
-#[cfg(test)]
-mod messages;
-#[cfg(test)]
-mod outputs;
 #[cfg(test)]
 mod stand_ins;

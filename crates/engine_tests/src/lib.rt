@@ -1,5 +1,6 @@
-//! Tests of the engines `status`, `restore`, `run` and `check` by their rules (docs/tools.md), over streams in memory. They are
-//! apart from `fw_engines`, `fw_session` and `fw_check`, so that these are proved once.
+//! Tests of the engines `status`, `restore`, `run` and `check` by their rules (docs/tools.md), over streams in memory: that each
+//! succeeds, and what comes of a stream that fails. They are apart from `fw_engines`, `fw_session` and `fw_check`, so that
+//! these are proved once. What the tools print is in scripts/differential.
 #![tactic(auto)]
 
 #[cfg(test)]
@@ -10,3 +11,5 @@ mod copy_reports;
 mod restorations;
 #[cfg(test)]
 mod script_runs;
+#[cfg(test)]
+mod starts;

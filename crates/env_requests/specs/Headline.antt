@@ -1,4 +1,4 @@
--- The headline: what a list of requests to a session is answered, and what an undo brings back.
+-- The headline: the replies to a list of requests to a session, and what an undo brings back.
 use Rattle.std.specs.Prelude.{◌≡◌, ℕ, if◌then◌else◌, List, [], ◌∷◌, map, Some, Ok}
 use Rattle.env_session.specs.Session.{State, Held, state_at}
 use Rattle.env_session.specs.Laws.{IsSameState}
@@ -13,7 +13,7 @@ replies rules h (request ∷ requests) [] = []
 replies rules h (request ∷ requests) (note ∷ notes) =
     answer_to rules h request note ∷ replies rules (answer_to rules h request note).left requests notes
 
--- one note for each request, and each where it may be
+-- one note for each request, each of them possible
 unfoldable pub AllMayBe : Rules → Held → List Request → List Note → Type 0
 AllMayBe rules h [] [] = Unit {0}
 AllMayBe rules h [] (note ∷ notes) = ⊥
@@ -38,8 +38,8 @@ UndosReturn made (request ∷ requests) (answer ∷ answers) =
     ((n : ℕ) → undoes_to request ≡ Some n → answer.reply ≡ Undone (Ok tt) → IsSameState (made n) answer.left.now)
     × UndosReturn (made_after made answer) requests answers
 
--- for some notes, each where it may be, the replies and the session at the end are the definition's; and each undo that
--- answered Ok brought back all that was shown when its mark was made. Mark 0 is the opening, and `Undo` goes there
+-- for some notes, each of them possible, the replies and the session at the end are the definition's; and each undo
+-- that answered Ok brought back all that was shown when its mark was made. Mark 0 is the opening, and `Undo` goes there
 abbrev pub Headline : Rules → Held → List Request → List Reply → Held → Type 0
 Headline rules h requests told after =
     (notes : List Note)

@@ -31,7 +31,7 @@ RunIsRequests =
     (requests : List session.Request) × IsTrue (list_all writes_or_saves requests)
     × (run_left rules tree h ≡ fold session.request h requests) × session.Runs h requests (run_left rules tree h)
 
--- a run leaves as many marks, and at each the state that was there
+-- a run leaves as many marks as before, and at each the state that was there
 abbrev pub RunKeepsMarks : Type 0
 RunKeepsMarks =
     (rules : Rules) (tree : Option Chains) (h : Held) →
@@ -69,7 +69,7 @@ AllUndosReturn =
     (rules : Rules) (h : Held) (requests : List Request) (notes : List Note) → AllMayBe rules h requests notes →
     UndosReturn (λ n. state_at h.marks n h.now) requests (replies rules h requests notes)
 
--- if no accepted write changed a value in any span, no undo is stopped by memory
+-- if no accepted write changed a value in any span, no undo is stopped as out of memory
 abbrev pub QuietUndo : Type 0
 QuietUndo = (rules : Rules) (h : Held) (n k : ℕ) → IsUnchanged h → MayBe rules h (UndoTo n) (Stopped k) → ⊥
 

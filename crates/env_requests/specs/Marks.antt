@@ -1,4 +1,4 @@
--- Which requests go to a mark, which replies tell of one, and which requests leave one.
+-- Which requests go to a mark, which replies report one, and which requests leave one.
 use Rattle.std.specs.Prelude.{ℕ, nat_le, ◌==◌, Bool, true, false, Option, Some, None, Ok, Err}
 use Rattle.env_requests.specs.Requests.{Request, Run, Write, Import, Save, Print, Mark, Undo, UndoTo, Reply, Ran, Wrote, Imported, Saved, Printed, Marked, Undone}
 
@@ -13,7 +13,7 @@ undoes_to Mark = None
 undoes_to Undo = Some 0
 undoes_to (UndoTo n) = Some n
 
--- whether a reply tells that mark n was made
+-- whether a reply reports that mark n was made
 abbrev pub makes_mark : ℕ → Reply → Bool
 makes_mark n (Ran ending status steps text) = false
 makes_mark n (Wrote result) = false

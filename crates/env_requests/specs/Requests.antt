@@ -37,7 +37,7 @@ pub data Request : Type 0 where
   UndoTo : ℕ → Request
 
 -- of a run its ending, status, steps and text; of an import how many entries were handled, how many refused, and its ending;
--- of a save and a print none if memory was refused
+-- of a save and a print nothing if memory was refused
 pub data Reply : Type 0 where
   Ran : Ending → ℕ → ℕ → List ℕ → Reply
   Wrote : Result (Unit {0}) Refusal → Reply
@@ -47,8 +47,8 @@ pub data Reply : Type 0 where
   Marked : Result ℕ MarkFault → Reply
   Undone : Result (Unit {0}) UndoFault → Reply
 
--- what memory did to a request: nothing; it was refused and changed nothing; or it was stopped, a run after so many steps,
--- an import after so many entries, an undo above that mark
+-- what memory did to a request: nothing; it was refused and changed nothing; or it was stopped, a run after this many
+-- steps, an import after this many entries, an undo above that mark
 pub data Note : Type 0 where
   Through : Note
   Refused : Note
@@ -65,7 +65,7 @@ gives reply left = record { reply = reply; left = left }
 abbrev pub ran : Ending → State → Answer
 ran e s = gives (Ran e s.status s.steps s.printed.text) s.held
 
--- what the script comes to; or what it comes to if it may count so many steps, and its ending is that memory ran out
+-- what the script ends as; or what it ends as if it may count this many steps, and its ending is that memory ran out
 abbrev pub run_answer : Rules → Option Chains → Held → Note → Answer
 run_answer rules tree h Through = ran (ending_of (meaning rules tree h).0) (meaning rules tree h).1
 run_answer rules tree h Refused = ran ending.Memory (meaning (within 0 rules) tree h).1
@@ -107,7 +107,7 @@ undo_answer n h Through = if nat_lt n (length h.marks) then gives (Undone (Ok tt
 undo_answer n h Refused = gives (Undone (Err undo.Memory)) h
 undo_answer n h (Stopped k) = gives (Undone (Err undo.Memory)) (undone_above k h)
 
--- what a request is answered
+-- the answer to a request
 unfoldable pub answer_to : Rules → Held → Request → Note → Answer
 answer_to rules h (Run tree) note = run_answer rules tree h note
 answer_to rules h (Write name new force) note = write_answer name new force h note
@@ -129,7 +129,7 @@ pub record IsNeeded (h : Held) (name : List ℕ) (new : Option (List ℕ)) (forc
   pub accepted : refusal_in h name new force ≡ None
   pub changes : same_value (env.get h.now.env name) (given new) ≡ false
 
--- a write is refused for memory only if it is one
+-- a write is refused as out of memory only if it is one
 abbrev pub WriteNote : List ℕ → Option (List ℕ) → Bool → Held → Note → Type 0
 WriteNote name new force h Through = Unit {0}
 WriteNote name new force h Refused = IsNeeded h name new force

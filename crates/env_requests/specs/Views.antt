@@ -40,7 +40,7 @@ told (is_reply.Printed text) = Printed (text_in text)
 told (is_reply.Marked result) = Marked result
 told (is_reply.Undone result) = Undone result
 
--- for some note, where it may be, the reply and what is left are the definition's
+-- for some possible note, the reply and what is left are the definition's
 pub record Obeys (rules : Rules) (h : Held) (request : Request) (reply : Reply) (after : Held) : Type 0 where
   pub note : Note
   pub may : MayBe rules h request note

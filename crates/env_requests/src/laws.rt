@@ -16,23 +16,23 @@ pub fn run_is_requests()
     ensures { RunIsRequests }
 {}
 
-/// A run leaves as many marks, and at each the state that was there.
+/// A run leaves as many marks as before, and at each the state that was there.
 pub fn run_keeps_marks()
     ensures { RunKeepsMarks }
 {}
 
-/// After any list of requests that takes a mark not away, it is there, and the state at it is what it was when it was made.
+/// After any list of requests that doesn't take a mark away, it is there, and the state at it is as when it was made.
 pub fn marks_stand()
     ensures { MarksStand }
 {}
 
-/// After any list of requests that takes a mark not away, an undo to it gives the state when it was made.
+/// After any list of requests that doesn't take a mark away, an undo to it gives the state when it was made.
 pub fn undo_returns()
     ensures { UndoReturns }
 {}
 
-/// After any list of requests, each done or stopped by memory, an undo of everything gives the opening: the variables with
-/// their attributes, every byte of the copies, and the choice of copy.
+/// After any list of requests, each done or stopped when out of memory, an undo of everything gives the opening: the
+/// variables with their attributes, every byte of the copies, and the choice of copy.
 pub fn undo_restores()
     ensures { UndoRestores }
 {}
@@ -42,7 +42,7 @@ pub fn all_undos_return()
     ensures { AllUndosReturn }
 {}
 
-/// If no accepted write changed a value in any span, no undo is refused for memory.
+/// If no accepted write changed a value in any span, no undo is refused as out of memory.
 pub fn quiet_undo()
     ensures { QuietUndo }
 {}

@@ -1,4 +1,4 @@
-//! Requests to a session, runs of scripts among them, as values; and the headline: what a list of them is answered, and
+//! Requests to a session, including runs of scripts, as values; and the headline: the replies to a list of them, and
 //! that an undo which answers Ok brings back what was there.
 //!
 //! To read in this order: request, reply; obedience, list; laws.

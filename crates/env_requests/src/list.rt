@@ -17,7 +17,7 @@ use std::alloc::Global;
 ///
 /// # Errors
 ///
-/// `Memory`: there is none for as many replies, and nothing was asked of the session.
+/// `Memory`: there is not enough for this many replies, and nothing was asked of the session.
 pub fn obey_all(
     alloc: Global,
     session: &mut Session,

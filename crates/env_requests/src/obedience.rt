@@ -1,4 +1,4 @@
-//! One request: what it asks for is done, and replied.
+//! One request: it is done, and replied to.
 ghost use Rattle.std.specs.Prelude.{◌≡◌, IfOk};
 ghost use Rattle.env_requests.specs.Requests.{listing};
 ghost use Rattle.env_requests.specs.Views.{asked, told, Obeys};

@@ -1,4 +1,4 @@
-//! What is replied to a request.
+//! Replies to requests.
 
 use env_session::{ImportReport, MarkFault, Side, UndoFault};
 use envvars_core::{Memory, Refusal};
@@ -15,7 +15,7 @@ pub enum Reply {
     Imported(ImportReport),
     /// Which copy a save wrote. `Memory`: nothing has changed.
     Saved(Result<Side, Memory>),
-    /// `name=value` and a newline for each variable, in order of names. `Memory`: there was none for the text.
+    /// `name=value` and a newline for each variable, in order of names. `Memory`: there was not enough for the text.
     Printed(Result<Vec<u8>, Memory>),
     /// The number of a new mark. `Full`: 64 are there, and nothing has changed.
     Marked(Result<u32, MarkFault>),

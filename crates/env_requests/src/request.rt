@@ -8,7 +8,7 @@ use hush_syntax::Script;
 pub enum Request {
     /// A run of a script, with the stand-ins and limits that are handed in.
     Run(Script),
-    /// A write of a value; none or an empty one deletes.
+    /// A write of a value; no value or an empty one deletes.
     Write {
         /// The variable's name.
         name: Vec<u8>,

@@ -133,7 +133,7 @@ length-take_suc (suc k) (x ∷ xs) h = ap suc (length-take_suc k xs (omega arith
 pub marks_count : (spans : List Span) (k : ℕ) (now : State) → k < length spans → length (marks_of (take (suc k) spans) now) ≡ suc k
 marks_count spans k now h = length-marks_of (take (suc k) spans) now ∙ length-take_suc k spans h
 
--- the marks where the last span is changed
+-- the marks when the last span is changed
 pub marks_upto : (spans : List Span) (k : ℕ) (s : Span) (now : State) → IsNth spans k s → marks_of (take (suc k) spans) now ≡ marks_of (take k spans) (back s now) ++ mark_of s now ∷ []
 marks_upto spans k s now n = ap (λ ss. marks_of ss now) n.upto ∙ marks-end (take k spans) s now
 

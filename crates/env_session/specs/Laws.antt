@@ -6,7 +6,7 @@ use Rattle.env_session.specs.NameSets.{no_names}
 use Rattle.env_session.specs.Session.{State, Held, state_at, undone, opening, IsStoppedUndo}
 use Rattle.env_session.specs.Requests.{Request, Write, Import, Save, MarkNow, UndoTo, Print, Runs}
 
--- whether a request leaves mark n standing: only an undo to a mark below it takes it away
+-- whether a request leaves mark n in place: only an undo to a mark below it takes it away
 abbrev pub spares : ℕ → Request → Bool
 spares n (Write name new force) = true
 spares n (Import es) = true
@@ -15,7 +15,7 @@ spares n MarkNow = true
 spares n (UndoTo m) = nat_le n m
 spares n Print = true
 
--- whatever was asked since: a mark that was spared stands, and the state at it is what it was
+-- whatever was asked since: a mark that was spared is there, and the state at it is what it was
 abbrev pub MarksStand : Type 0
 MarksStand =
     (h after : Held) (requests : List Request) (n : ℕ) → n < length h.marks → IsTrue (list_all (spares n) requests) → Runs h requests after →
@@ -45,6 +45,6 @@ UndoRestores =
 abbrev pub IsUnchanged : Held → Type 0
 IsUnchanged h = AllByRecursion (λ m. m.touched ≡ no_names) h.marks
 
--- then no undo is stopped for want of memory
+-- then no undo is stopped as out of memory
 abbrev pub QuietUndo : Type 0
 QuietUndo = (old new : Held) (n k : ℕ) → IsUnchanged old → IsStoppedUndo n old new k → ⊥

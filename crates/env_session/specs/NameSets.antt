@@ -14,7 +14,7 @@ NameSet = FinMap bytes_cmp (Unit {0})
 abbrev pub no_names : NameSet
 no_names = env.empty
 
--- the names that are changed after an accepted write too: one more where the value changes
+-- the names that are changed after an accepted write too: one more if the value changes
 unfoldable pub changed_names_after : Environment → List ℕ → Option (List ℕ) → NameSet → NameSet
 changed_names_after m n new names = if same_value (env.get m n) (given new) then names else env.insert names n tt
 

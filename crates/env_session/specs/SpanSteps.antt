@@ -42,7 +42,7 @@ pub record IsNewSpan (current : Choice) (s : Span) : Type 0 where
   pub empty : IsEmptySpan s
   pub current_is : s.current ≡ current
 
--- the last span is undone, and its mark stands
+-- the last span is undone, and its mark stays
 abbrev pub last_undone : Held → Held
 last_undone h = record h { now = last_begun h.marks h.now; marks = on_last (λ m. new_mark m.begun) h.marks }
 

@@ -9,7 +9,7 @@ use crate::session::Session;
 use envimg_core::Choice;
 use envvars_core::Olds;
 
-/// So many marks may stand (`most_marks`).
+/// The most marks that there may be (`most_marks`).
 const MARKS_MAX: u32 = 64;
 
 /// A span for the opening, and one for each mark.
@@ -18,16 +18,16 @@ pub(crate) const SPANS: usize = MARKS_MAX as usize + 1;
 /// Why a mark is refused.
 #[derive(Clone, Copy, Debug, PartialEq, Eq)]
 pub enum MarkFault {
-    /// 64 marks stand.
+    /// There are 64 marks.
     Full,
 }
 
 impl Session {
-    /// Makes a mark where fewer than 64 stand, and answers its number, from 1. It takes no memory.
+    /// Makes a mark if there are fewer than 64, and returns its number, from 1. It takes no memory.
     ///
     /// # Errors
     ///
-    /// `Full` where 64 stand; nothing has changed then.
+    /// `Full` if there are 64; nothing has changed then.
     pub fn mark(&mut self) -> Result<u32, MarkFault>
         ensures full { result ≡ Err MarkFault.Full ↔ (most_marks < length self.old.marks) }
         ensures number { IfOk result (λ n. n ≡ length self.old.marks) }
@@ -49,9 +49,9 @@ impl Session {
 pub(crate) struct Span {
     /// The old values of the names that changed.
     pub(crate) olds: Olds,
-    /// The first copy as it was, where it was written.
+    /// The first copy as it was, if it was written.
     pub(crate) first: Option<Vec<u8>>,
-    /// The second copy as it was, where it was written.
+    /// The second copy as it was, if it was written.
     pub(crate) second: Option<Vec<u8>>,
     /// Which copy was current.
     pub(crate) current: Choice,

@@ -20,8 +20,8 @@ use envvars_core::{Memory, Vars};
 use std::alloc::Global;
 
 impl Session {
-    /// Writes the copy that isn't current, with the current flag plus one; it becomes current. Answers which it is.
-    /// It takes no memory where that copy was written since the last mark.
+    /// Writes the copy that isn't current, with the current flag plus one; it becomes current. Returns which it is.
+    /// It takes no memory if that copy was written since the last mark.
     pub fn save(&mut self) -> Result<Side, Memory>
         ensures side { IfOk result (λ s. s ≡ side_of self.old) }
         ensures saved { OnOk result (self.new ≡ saved self.old) }
@@ -42,7 +42,7 @@ impl Session {
     }
 }
 
-/// Writes the copy that isn't current, and keeps it in a span as it was. Answers which it is.
+/// Writes the copy that isn't current, and keeps it in a span as it was. Returns which it is.
 fn save_in(
     alloc: Global,
     spans: &mut [Span],

@@ -21,7 +21,7 @@ use std::array;
 /// Why a start is refused.
 #[derive(Clone, Copy, Debug, PartialEq, Eq)]
 pub enum StartFault {
-    /// A copy hasn't the size, or the second copy is there for one copy or missing for two.
+    /// A copy doesn't have the size, or the second copy is there for one copy or missing for two.
     Length,
     /// The default environment doesn't fit the data area.
     DefaultTooBig,
@@ -34,7 +34,7 @@ impl Session {
     ///
     /// # Errors
     ///
-    /// The copies come back, with the first of these that applies: `Length`, one has not the length that the geometry wants, or
+    /// The copies come back, with the first of these that applies: `Length`, one doesn't have the geometry's length, or
     /// is missing or too many; `DefaultTooBig`, the defaults don't fit into a copy; `Memory`.
     pub fn start(
         alloc: Global,
@@ -79,7 +79,7 @@ fn has_lengths(stored: &Stored) -> bool
     stored.first.len() == size && has_second(stored.geometry.layout(), size, stored)
 }
 
-/// Whether the second copy is there where the layout wants it, and has the size.
+/// Whether the second copy is there exactly if the layout has one, and has the size.
 fn has_second(layout: Layout, size: usize, stored: &Stored) -> bool
     ensures { result ≡ has_second layout size (bytes_of stored.now.second) }
 {
@@ -148,7 +148,7 @@ fn opened(alloc: Global, stored: &Stored, defaults: &Vars) -> Result<(Vars, Choi
     Ok((vars, current))
 }
 
-/// The state of the second copy; where there is none its length is wrong.
+/// The state of the second copy; if there is none, its length is wrong.
 fn state_of_second(stored: &Stored) -> CopyState
     ensures { result ≡ second_state stored.now.geometry (bytes_of stored.now.second) }
 {

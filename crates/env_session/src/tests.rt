@@ -1,5 +1,5 @@
 //! Nothing but the spans is kept: a further field would have to be named in these patterns. The other tests of this crate
-//! stand in environment_tests; this one looks at private fields.
+//! are in environment_tests; this one looks at private fields.
 
 use super::*;
 use crate::marks::Span;

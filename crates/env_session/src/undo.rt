@@ -16,7 +16,7 @@ use envvars_core::{Memory, Vars};
 /// Why an undo is refused.
 #[derive(Clone, Copy, Debug, PartialEq, Eq)]
 pub enum UndoFault {
-    /// No such mark stands.
+    /// There is no such mark.
     Gone,
     /// Memory ran out.
     Memory,
@@ -27,7 +27,7 @@ impl Session {
     ///
     /// # Errors
     ///
-    /// `Gone` where no such mark stands, and nothing has changed. At `Memory` the spans above some mark of at least `n` are
+    /// `Gone` if there is no such mark; nothing has changed. At `Memory` the spans above some mark of at least `n` are
     /// undone, that of this mark isn't, and a later undo goes on from there.
     pub fn undo_to(&mut self, n: u32) -> Result<(), UndoFault>
         ensures undone { UndoesTo n self.old self.new result }
@@ -54,7 +54,7 @@ impl Session {
         ensures memory { OnErr result ((k : ℕ) × IsStoppedUndo 0 self.old self.new k) }
         ensures step { Step self.old (UndoTo 0) self.new }
     {
-        // for the proof: the opening stands
+        // for the proof: the opening is there
         let _marks = self.marks();
         match self.undo_to(0) {
             Ok(()) => Ok(()),
@@ -63,7 +63,7 @@ impl Session {
         }
     }
 
-    /// Undoes the last span, whose mark stands.
+    /// Undoes the last span, whose mark stays.
     fn undo_last(&mut self) -> Result<(), Memory>
         ensures undone { OnOk result (self.new ≡ last_undone self.old) }
         ensures unchanged { OnErr result (self.new ≡ self.old) }
@@ -118,7 +118,7 @@ fn undo_in(
     take_back(span, vars, stored, current)
 }
 
-/// The same of one span.
+/// The same for one span.
 fn take_back(
     span: &mut Span,
     vars: &mut Vars,

@@ -15,12 +15,12 @@ use crate::session::Session;
 use envvars_core::{Refusal, Vars};
 
 impl Session {
-    /// Writes a new value, or deletes the variable where there is none or an empty one; `force` leaves out the access.
+    /// Writes a new value, or deletes the variable if there is no value or an empty one; `force` leaves out the access.
     ///
     /// # Errors
     ///
-    /// The first check that refuses (docs/variables.md), whatever memory there is; `Memory` only where none refuses and the
-    /// value changes. Refused, nothing has changed.
+    /// The first check that refuses (docs/variables.md), whatever memory there is; `Memory` only if none refuses and
+    /// the value changes. Refused, nothing has changed.
     pub fn write(&mut self, name: &[u8], new: Option<&[u8]>, force: bool) -> Result<(), Refusal>
         ensures refused { IfSome
             (refusal self.old.now.env self.old.defaults.env (room_of self.old.shape) name.now (option_copied new.entry) force)

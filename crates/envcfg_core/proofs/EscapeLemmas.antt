@@ -1,39 +1,13 @@
 -- The length of an escaped value, and where it is cut.
-use Rattle.std.proofs.Common.{◌≡◌, ℕ, suc, ◌+◌, ◌*◌, ◌≤◌, ◌||◌, Bool, true, false, cond, eqb, List, [], ◌∷◌, ◌++◌, length, get_or, take, drop, Option, None, Some, refl, sym, ap, ◌∙◌, subst, ⊎_elim, arith}
-use Rattle.std.specs.List.{position_or_len, count_by}
-use Rattle.std.proofs.lemmas.Bool.{cases_Bool, cond-true, cond-false, eqb-true, true≢false}
+use Rattle.std.proofs.Common.{◌≡◌, ℕ, suc, ◌+◌, ◌*◌, ◌≤◌, Bool, true, false, cond, List, [], ◌∷◌, ◌++◌, length, get_or, take, drop, Option, None, Some, refl, sym, ap, ◌∙◌, subst, ⊎_elim, arith}
+use Rattle.std.specs.List.{position_or_len}
+use Rattle.std.proofs.lemmas.Bool.{cases_Bool, cond-true, cond-false, true≢false}
 use Rattle.std.proofs.lemmas.List.{append_assoc, append-nil, length-append, take_all, drop_all, drop_more}
-use Rattle.std.proofs.lemmas.List.Sums.{sum_by-cons}
 use Rattle.memchr.specs.Find.{IsFirstByte}
 use Rattle.envcfg_core.specs.Bytes.{backslash, is_marked}
-use Rattle.text_parts.specs.Bytes.{is_newline, begins}
+use Rattle.text_parts.specs.Bytes.{begins}
 use Rattle.envcfg_core.specs.Export.{escaped, escaped_byte}
 use Rattle.text_parts.proofs.CutLemmas.{position_or_len-yes, position_or_len-no, position_or_len-found, position_or_len-none}
-
-abbrev pub is_backslash : ℕ → Bool
-is_backslash b = eqb b backslash
-
-by_tests : (b : ℕ) (s n : Bool) → (s ≡ true → n ≡ true → ⊥) → length (cond (s || n) (backslash ∷ b ∷ []) (b ∷ [])) ≡ 1 + cond s 1 0 + cond n 1 0
-by_tests b true true h = absurd (h refl refl)
-by_tests b true false h = refl
-by_tests b false true h = refl
-by_tests b false false h = refl
-
-apart : (b : ℕ) → is_backslash b ≡ true → is_newline b ≡ true → ⊥
-apart b h i = let e = eqb-true b 92 h in let f = eqb-true b 10 i in omega arith
-
-length-escaped_byte : (b : ℕ) → length (escaped_byte b) ≡ 1 + cond (is_backslash b) 1 0 + cond (is_newline b) 1 0
-length-escaped_byte b = by_tests b (is_backslash b) (is_newline b) (apart b)
-
-pub length-escaped : (value : List ℕ) → length (escaped value) ≡ length value + count_by is_backslash value + count_by is_newline value
-length-escaped [] = refl
-length-escaped (b ∷ bs) =
-    let x = length-append (escaped_byte b) (escaped bs) in
-    let y = length-escaped_byte b in
-    let z = length-escaped bs in
-    let u = sum_by-cons (λ c. cond (is_backslash c) 1 0) b bs in
-    let v = sum_by-cons (λ c. cond (is_newline c) 1 0) b bs in
-    omega arith
 
 at_most_two : (b : ℕ) (s : Bool) → length (cond s (backslash ∷ b ∷ []) (b ∷ [])) ≤ 2
 at_most_two b true = omega arith
@@ -44,7 +18,7 @@ length-escaped-le [] = omega arith
 length-escaped-le (b ∷ bs) =
     let x = length-append (escaped_byte b) (escaped bs) in
     let z = length-escaped-le bs in
-    let y : length (escaped_byte b) ≤ 2 = at_most_two b (is_backslash b || is_newline b) in
+    let y : length (escaped_byte b) ≤ 2 = at_most_two b (is_marked b) in
     omega arith
 
 escaped_plain : (b : ℕ) → is_marked b ≡ false → escaped_byte b ≡ b ∷ []
@@ -63,7 +37,7 @@ escaped-cut (b ∷ bs) =
     (ap (λ xs. xs ++ escaped bs) (escaped_plain b h) ∙ ap (λ xs. b ∷ xs) (escaped-cut bs)))
     (cases_Bool (is_marked b))
 
--- where no byte is marked the value is its own text
+-- if no byte is marked the value is its own text
 pub escaped_without_marks : (value : List ℕ) (r : Option ℕ) → IsFirstByte is_marked value r → ((k : ℕ) → r ≡ Some k → ⊥) → escaped value ≡ value
 escaped_without_marks value None none not_found =
     let k = position_or_len is_marked value in

@@ -1,4 +1,4 @@
--- An exported variable, read back in front of any text: its text is one of its spellings.
+-- An exported variable, read back before any text: its text is one of its spellings.
 use Rattle.std.proofs.Common.{◌≡◌, ℕ, ◌+◌, ◌||◌, Bool, true, false, not, eqb, List, [], ◌∷◌, ◌++◌, Some, Ok, refl, sym, ap, ◌∙◌, ⊎_elim, arith}
 use Rattle.std.specs.Prelude.{map, ◌&&◌}
 use Rattle.std.specs.List.{list_all, list_any, count_by, AllByRecursion}
@@ -16,7 +16,7 @@ use Rattle.envcfg_core.proofs.ImportLemmas.{entries_from-nil}
 use Rattle.envcfg_core.proofs.NamedLemmas.{name_parts, not_empty}
 use Rattle.envcfg_core.proofs.SpellingLemmas.{assignment-read}
 
--- the spelling of an exported value: `\` stands before the bytes that need it
+-- the spelling of an exported value: `\` is before the bytes that need it
 abbrev marked : ℕ → SpelledByte
 marked b = record { byte = b; escaped = is_marked b }
 
@@ -42,7 +42,7 @@ value_parts value h = let parts = or_parts (is_empty value) _ (not-true _ h) in 
 kept_value : (value : List ℕ) → is_empty value ≡ false → Some value ≡ some_unless_empty value
 kept_value value h = sym (cond-false _ _ _ (not_empty value h))
 
--- one exported variable in front of any text is one entry, and the entries of that text
+-- one exported variable before any text is one entry, and the entries of that text
 pub entries_from-exported : (line : ℕ) (p : Pair) (rest : List ℕ) → IsExportable p →
     entries_from line (exported p.0 p.1 ++ rest) ≡ with_first (pair_entry line p) (entries_from (line_behind line p) rest)
 entries_from-exported line p rest h =
@@ -67,7 +67,7 @@ no_zero-escaped_byte b h =
     (λ m. ap (list_any is_zero) (cond-false _ (backslash ∷ b ∷ []) (b ∷ []) m) ∙ or_from _ _ h refl)
     (cases_Bool (eqb b backslash || is_newline b))
 
--- no 0 byte stands in the text of exported variables
+-- no 0 byte is in the text of exported variables
 no_zero-escaped : (value : List ℕ) → list_any is_zero value ≡ false → list_any is_zero (escaped value) ≡ false
 no_zero-escaped [] h = refl
 no_zero-escaped (b ∷ bs) h =

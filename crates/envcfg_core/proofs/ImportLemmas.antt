@@ -21,7 +21,7 @@ cond_rest : (b : Bool) (v w : Spelled) (n : ℕ) → length v.rest ≤ n → len
 cond_rest true v w n h i = h
 cond_rest false v w n h i = i
 
--- what follows a value is no longer than its text, and what follows a name is shorter than what stands behind it
+-- what follows a value is no longer than its text, and what follows a name is shorter than what is after it
 pub length-spelled : (escaped : Bool) (text : List ℕ) → length (spelled escaped text).rest ≤ length text
 length-spelled false [] = omega arith
 length-spelled true [] = omega arith
@@ -37,7 +37,7 @@ length-behind_name (b ∷ bs) =
     let m : length (spelled false bs).rest ≤ suc (length bs) - 1 = omega (arith, length-spelled false bs) in
     cond_rest (eqb b equals) (spelled false bs) (ended_by_newline bs) (suc (length bs) - 1) m n
 
--- a step reads the same where the readers of the rest agree on what is shorter
+-- a step reads the same if the readers of the rest agree on what is shorter
 same_step : (f g : ℕ → List ℕ → Outcome) (line : ℕ) (text : List ℕ) →
     ((l : ℕ) (t : List ℕ) → length t < length text → f l t ≡ g l t) → skip_or_entry f line text ≡ skip_or_entry g line text
 same_step f g line [] agree = refl
@@ -137,7 +137,7 @@ pub entries_from-comment : (line b : ℕ) (text bs rest : List ℕ) → text ≡
 entries_from-comment line b text bs rest e h r =
     ap (entries_from line) (e ∙ ap (λ x. x ∷ bs) h) ∙ entries_from-step line (35 ∷ bs) ∙ ap (entries_from (line + 1)) (sym r)
 
--- the whole text is read where nothing is left
+-- the whole text is read if nothing is left
 pub import_read : (text rest : List ℕ) (line : ℕ) (entries : List Entry) → list_any is_zero text ≡ false →
     entries_from 1 text ≡ with_front entries (entries_from line rest) → eqb (length rest) 0 ≡ true → import_of text ≡ Ok entries
 import_read text [] line entries no_zero read h =

@@ -1,4 +1,4 @@
--- An entry's name in front of any text, and what stands behind it.
+-- An entry's name before any text, and what is after it.
 use Rattle.std.proofs.Common.{◌≡◌, ℕ, suc, ◌+◌, ◌<◌, ◌||◌, Bool, true, false, eqb, List, [], ◌∷◌, ◌++◌, length, refl, sym, ap, ◌∙◌, arith}
 use Rattle.std.specs.List.{position_or_len, list_any}
 use Rattle.std.proofs.lemmas.Bool.{or_parts, or_from, not-true, ne_eqb, true≢false}
@@ -12,7 +12,7 @@ use Rattle.envcfg_core.specs.Import.{Spelled, behind_name, ends_name, entries_fr
 use Rattle.envcfg_core.specs.Export.{is_unreadable}
 use Rattle.envcfg_core.proofs.ImportLemmas.{entry_with_name}
 
--- a test that passes nowhere in the front, and passes at once behind it, or where nothing stands there
+-- a test that passes nowhere in the prefix, and at once after it, or nothing is there
 pub position-front : (p : ℕ → Bool) (xs ys : List ℕ) → list_any p xs ≡ false → position_or_len p ys ≡ 0 → position_or_len p (xs ++ ys) ≡ length xs
 position-front p [] ys h e = e
 position-front p (x ∷ xs) ys h e =
@@ -22,7 +22,7 @@ position-front p (x ∷ xs) ys h e =
 pub position-whole : (p : ℕ → Bool) (xs : List ℕ) → list_any p xs ≡ false → position_or_len p xs ≡ length xs
 position-whole p xs h = ap (position_or_len p) (sym (append-nil xs)) ∙ position-front p xs [] h refl
 
--- neither of two tests passes where their join doesn't
+-- neither of two tests passes if their join doesn't
 pub neither : (p q : ℕ → Bool) (xs : List ℕ) → list_any (λ b. p b || q b) xs ≡ false → (list_any p xs ≡ false) × (list_any q xs ≡ false)
 neither p q [] h = (refl, refl)
 neither p q (x ∷ xs) h =
@@ -56,7 +56,7 @@ filled : (xs ys : List ℕ) → is_empty xs ≡ false → 0 < length (xs ++ ys)
 filled [] ys h = absurd (true≢false h)
 filled (x ∷ xs) ys h = omega arith
 
--- a name, and behind it `=`, a newline or nothing
+-- a name, and after it `=`, a newline or nothing
 pub named-read : (line : ℕ) (name behind : List ℕ) (v : Spelled) → is_name name ≡ true → is_unreadable name ≡ false → position_or_len ends_name behind ≡ 0 → v ≡ behind_name behind →
     entries_from line (name ++ behind) ≡ with_first (record { name = name; value = some_unless_empty v.bytes; line = line }) (entries_from (line + v.newlines) v.rest)
 named-read line name behind v h u at e =

@@ -50,7 +50,7 @@ cut : (p : ℕ → Bool) (xs : List ℕ) → Cut p xs
 cut p [] = inl refl
 cut p (x ∷ xs) = cut_here p x xs (cases_Bool (p x)) (cut p xs)
 
--- no byte 0 stands in either side of such a cut
+-- no byte 0 is in either side of such a cut
 zeros_apart : (text front : List ℕ) (c : ℕ) (rest : List ℕ) → text ≡ front ++ c ∷ rest → list_any is_zero text ≡ false →
     (list_any is_zero front ≡ false) × (list_any is_zero rest ≡ false)
 zeros_apart text front c rest is z =
@@ -137,7 +137,7 @@ with_part part text rest h e (inr (parts, last, all, is)) =
 with_ending : (ending : Ending) (text : List ℕ) → IsEnding ending → text ≡ ending_text ending → Found text
 with_ending ending text h e = inl ([], ending, tt, h, e)
 
--- what stands behind is made of parts already
+-- what is after is made of parts already
 abbrev Later : List ℕ → Type 0
 Later text = (t : List ℕ) → length t ≤ length text → list_any is_zero t ≡ false → Found t
 

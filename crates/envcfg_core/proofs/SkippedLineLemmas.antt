@@ -5,7 +5,7 @@ use Rattle.std.proofs.lemmas.Bool.{cases_Bool, cond-true, cond-false, ne_eqb}
 use Rattle.text_parts.specs.Bytes.{begins_with, is_blank, without_blanks, hash}
 use Rattle.envcfg_core.specs.SetScript.{is_skipped_line}
 
--- a line of blanks alone has nothing behind its blanks
+-- a line of blanks alone has nothing after its blanks
 blank_line : (line : List ℕ) → eqb (length (without_blanks line)) 0 ≡ list_all is_blank line
 blank_line [] = refl
 blank_line (b ∷ bs) =

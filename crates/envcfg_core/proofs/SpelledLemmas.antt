@@ -41,7 +41,7 @@ spelled-cut (b ∷ bs) =
     (spelled-byte b bs h ∙ ap (onto (b ∷ []) 0) (spelled-cut bs) ∙ onto_onto (b ∷ []) (take k bs) 0 0 (spelled false (drop k bs))))
     (cases_Bool (is_marked b))
 
--- where no byte is marked the whole text is the value
+-- if no byte is marked the whole text is the value
 pub spelled_without_marks : (text : List ℕ) (r : Option ℕ) → IsFirstByte is_marked text r → ((k : ℕ) → r ≡ Some k → ⊥) →
     spelled false text ≡ onto text 0 (spelled false [])
 spelled_without_marks text None none not_found =

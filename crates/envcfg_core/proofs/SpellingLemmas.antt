@@ -30,7 +30,7 @@ with_byte-onto b bs v =
     let f : ℕ → Spelled = λ n. record { bytes = b ∷ (bs ++ v.bytes); newlines = n; rest = v.rest } in
     ap f (sym (add_assoc (cond (is_newline b) 1 0) (count_by is_newline bs) v.newlines) ∙ ap (λ n. n + v.newlines) (sym (sum_by-cons (λ x. cond (is_newline x) 1 0) b bs)))
 
--- the bytes of a value in front of any text
+-- the bytes of a value before any text
 pub spelled-bytes : (value : List SpelledByte) (rest : List ℕ) → list_all is_spelling value ≡ true →
     spelled false (value_text value ++ rest) ≡ onto (value_of value) (count_by is_newline (value_of value)) (spelled false rest)
 spelled-bytes [] rest h = onto_none (spelled false rest)

@@ -18,7 +18,7 @@ use Rattle.envcfg_core.specs.Numerals.{offset_of, size_of}
 abbrev pub is_space : ℕ → Bool
 is_space b = is_blank b || b == carriage_return
 
--- the fields of a line: what stands between spaces, where something does
+-- the fields of a line: what is between spaces, if something is
 abbrev pub fields : List ℕ → List (List ℕ)
 fields text = words_between is_space text
 

@@ -4,7 +4,7 @@ use Rattle.envcfg_core.specs.declared.entry.TextEntry.{TextEntry}
 use Rattle.envcfg_core.specs.declared.entry.TextFault.{TextFault}
 use Rattle.envcfg_core.specs.declared.entry.TextFault.TheVariants.{EmptyName, Nul, Memory}
 
--- a name with its value or none, and the line in which the entry begins
+-- a name with its value or no value, and the line in which the entry begins
 pub record Entry : Type 0 where
   pub name : List ℕ
   pub value : Option (List ℕ)

@@ -8,7 +8,7 @@ use Rattle.envcfg_core.specs.Bytes.{backslash, is_marked}
 use Rattle.envcfg_core.specs.Entries.{Entry}
 use Rattle.envcfg_core.specs.Import.{is_skipped}
 
--- `\` stands before each `\` and each newline
+-- `\` is put before each `\` and each newline
 abbrev pub escaped_byte : ℕ → List ℕ
 escaped_byte b = if is_marked b then backslash ∷ b ∷ [] else b ∷ []
 
@@ -33,7 +33,7 @@ pub record IsExportable (p : Pair) : Type 0 where
 abbrev pub exported_all : List Pair → List ℕ
 exported_all pairs = flat_map (λ p. exported p.0 p.1) pairs
 
--- the entry that a variable is, and the line behind it: each newline of its value is one more line
+-- the entry that a variable is, and the line after it: each newline of its value is one more line
 abbrev pub pair_entry : ℕ → Pair → Entry
 pair_entry line p = record { name = p.0; value = Some p.1; line = line }
 

@@ -23,7 +23,7 @@ with_byte b v = record { bytes = b ∷ v.bytes; newlines = (if is_newline b then
 abbrev pub ended_by_newline : List ℕ → Spelled
 ended_by_newline rest = record { bytes = []; newlines = 1; rest = rest }
 
--- a value's text lasts to the next newline that isn't escaped, or to the end. The flag says that a `\` stands before:
+-- a value's text lasts to the next newline that isn't escaped, or to the end. The flag says that a `\` is before:
 -- it makes the next byte literal, and at the end of the text it stands for itself
 abbrev pub spelled : Bool → List ℕ → Spelled
 spelled false [] = record { bytes = []; newlines = 0; rest = [] }
@@ -38,7 +38,7 @@ spelled false (b ∷ bs) =
 abbrev pub ends_name : ℕ → Bool
 ends_name b = b == equals || is_newline b
 
--- what stands behind a name: after `=` a value's text, else no value
+-- what is after a name: after `=` a value's text, else no value
 abbrev pub behind_name : List ℕ → Spelled
 behind_name [] = record { bytes = []; newlines = 0; rest = [] }
 behind_name (b ∷ bs) = if b == equals then spelled false bs else ended_by_newline bs
@@ -64,7 +64,7 @@ skip_or_entry later line (b ∷ bs) =
     else if b == hash then later (line + 1) (after_first is_newline bs)
     else entry_first later line (b ∷ bs)
 
--- the entries of a text that begins in this line, in at most so many steps, each of which takes a byte at least
+-- the entries of a text that begins in this line, in at most this many steps, each of which takes a byte at least
 unfoldable pub entries_within : ℕ → ℕ → List ℕ → Outcome
 entries_within zero line text = Ok []
 entries_within (suc steps) line text = skip_or_entry (entries_within steps) line text

@@ -2,7 +2,7 @@
 use Rattle.std.specs.Prelude.{ℕ, ◌+◌, ◌-◌, ◌&&◌, nat_le, ℤ, pos, negsuc, Option, Some, None, if◌then◌else◌}
 
 -- an offset of 0 or more counts from the front of the device, a negative one back from its end;
--- none where the copy doesn't lie wholly inside
+-- no value if the copy doesn't lie wholly inside
 abbrev pub start_of : ℤ → ℕ → ℕ → Option ℕ
 start_of (pos n) size length = if nat_le (n + size) length then Some n else None
 start_of (negsuc n) size length =

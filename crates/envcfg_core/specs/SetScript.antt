@@ -19,7 +19,7 @@ ends_key b = is_blank b || b == equals
 abbrev pub is_skipped_line : List ℕ → Bool
 is_skipped_line text = begins_with hash text || list_all is_blank text
 
--- what a line holds: the key, and behind the byte that ends it and further blanks the value
+-- what a line holds: the key, and after the byte that ends it and further blanks the value
 abbrev pub line_outcome : ℕ → List ℕ → Result (Option Entry) TextFault
 line_outcome number text =
     let key = before_first ends_key (without_blanks text) in
@@ -28,7 +28,7 @@ line_outcome number text =
     else if length key == 0 then Err (EmptyName number)
     else Ok (Some (record { name = key; value = some_unless_empty value; line = number }))
 
--- what a line holds before what the lines behind it hold
+-- what a line holds before what the lines after it hold
 abbrev pub before : Result (Option Entry) TextFault → Outcome → Outcome
 before (Ok None) later = later
 before (Ok (Some e)) later = with_first e later

@@ -8,6 +8,6 @@ use Rattle.envimg_core.specs.declared.geometry.Layout.TheVariants.{Single}
 abbrev pub least_size : ℕ
 least_size = head Single + least_room
 
--- the size, where an image may have it; none for any other number
+-- the size, if an image may have it; no value for any other number
 abbrev pub copy_size : ℕ → Option ℕ
 copy_size n = if nat_le least_size n && nat_le n greatest_size then Some n else None

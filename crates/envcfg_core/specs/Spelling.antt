@@ -9,7 +9,7 @@ use Rattle.envcfg_core.specs.Entries.{Entry, Outcome}
 use Rattle.envcfg_core.specs.declared.entry.TextFault.TheVariants.{EmptyName, Nul}
 use Rattle.envcfg_core.specs.Export.{is_unreadable}
 
--- a byte of a value, and whether `\` stands before it
+-- a byte of a value, and whether `\` is before it
 pub record SpelledByte : Type 0 where
   pub byte : ℕ
   pub escaped : Bool
@@ -17,7 +17,7 @@ pub record SpelledByte : Type 0 where
 abbrev pub byte_text : SpelledByte → List ℕ
 byte_text b = if b.escaped then backslash ∷ b.byte ∷ [] else b.byte ∷ []
 
--- `\` and a newline need the `\`; before any other byte it may stand too
+-- `\` and a newline need the `\`; before any other byte it may be there too
 abbrev pub is_spelling : SpelledByte → Bool
 is_spelling b = b.escaped || not (is_marked b.byte)
 
@@ -42,7 +42,7 @@ part_text (Comment text) = hash ∷ (text ++ newline ∷ [])
 part_text (Deletion name) = name ++ newline ∷ []
 part_text (Assignment name value) = name ++ equals ∷ (value_text value ++ newline ∷ [])
 
--- the name is one, and stands where an import reads it
+-- the name is a name, and one that an import reads
 pub record IsReadable (name : List ℕ) : Type 0 where
   pub name_is : is_name name ≡ true
   pub readable : is_unreadable name ≡ false
@@ -61,7 +61,7 @@ assigned line name value = record { name = name; value = some_unless_empty value
 abbrev pub deleted : ℕ → List ℕ → Entry
 deleted line name = record { name = name; value = None; line = line }
 
--- the entry that a part is, if it is one, where it begins in this line
+-- the entry that a part is, if it is one, when it begins in this line
 abbrev pub part_entries : ℕ → Part → List Entry
 part_entries line (Blank b) = []
 part_entries line EmptyLine = []
@@ -69,7 +69,7 @@ part_entries line (Comment text) = []
 part_entries line (Deletion name) = deleted line name ∷ []
 part_entries line (Assignment name value) = assigned line name (value_of value) ∷ []
 
--- the line behind it
+-- the line after it
 abbrev pub line_after : ℕ → Part → ℕ
 line_after line (Blank b) = line
 line_after line EmptyLine = line + 1
@@ -77,7 +77,7 @@ line_after line (Comment text) = line + 1
 line_after line (Deletion name) = line + 1
 line_after line (Assignment name value) = line + (count_by is_newline (value_of value) + 1)
 
--- how a text ends behind its parts: there, or in a line without a newline, perhaps with a `\` that stands for itself
+-- how a text ends after its parts: there, or in a line without a newline, perhaps with a `\` that stands for itself
 pub data Ending : Type 0 where
   BehindParts : Ending
   InComment : List ℕ → Ending

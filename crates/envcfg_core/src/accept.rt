@@ -4,7 +4,7 @@ ghost use Rattle.envcfg_core.specs.ConfigSteps.{candidate_view};
 ghost use Rattle.text_parts.specs.Bytes.{begins};
 ghost use Rattle.envcfg_core.specs.Config.{accepted_line, fields, is_space};
 
-use crate::extents::{copy_size, read_offset, read_size};
+use crate::offsets::{copy_size, read_offset, read_size};
 use memchr::memchr3;
 use text_parts::begins_with_byte;
 
@@ -17,7 +17,7 @@ pub(crate) struct Candidate<'a> {
     pub(crate) device: &'a [u8],
     /// The offset, as `Place` has it.
     pub(crate) offset: i64,
-    /// The size, or none where no image may have it.
+    /// The size, or no value if no image may have it.
     pub(crate) size: Option<u32>,
 }
 
@@ -55,7 +55,7 @@ fn next_field(text: &[u8]) -> Option<(&[u8], &[u8])>
     }
 }
 
-/// The text without the spaces, tabs and carriage returns at its front.
+/// The text without the spaces, tabs and carriage returns at its start.
 fn skip_spaces(text: &[u8]) -> &[u8]
     ensures same { fields result.now ≡ fields text.now }
     ensures reached { begins is_space result.now ≡ false }

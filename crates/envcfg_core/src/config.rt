@@ -6,7 +6,7 @@ ghost use Rattle.envcfg_core.specs.ConfigSteps.{candidate_view};
 ghost use Rattle.envcfg_core.specs.Config.{accepted_lines, checked, config_of, config_view, place_view, redundant_of, shares_byte, single_of, IsConfigFaultOf};
 
 use crate::accept::{Candidate, accept_line};
-use crate::extents::SIZE_MIN;
+use crate::offsets::SIZE_MIN;
 use crate::place::Place;
 use envimg_core::Layout;
 use std::alloc::{AllocError, Global};
@@ -23,7 +23,7 @@ pub struct Config {
     pub size: u32,
     /// Where the first copy lies.
     pub first: Place,
-    /// Where the second copy lies; none for a single image.
+    /// Where the second copy lies; `None` for a single image.
     pub second: Option<Place>,
 }
 
@@ -60,8 +60,8 @@ impl From<AllocError> for ConfigFault {
 
 /// Reads `fw_env.config`: lines of a device, an offset and a size (docs/texts.md, "Configuration").
 ///
-/// The first fault of the first accepted line is answered, then that of the second (`NotUtf8`, then `Size`), then
-/// `NoCopy`, `Unequal`, `Size` of the first line (two copies of 8 bytes), and `Overlap`; `Memory` where a growth
+/// The first fault of the first accepted line is reported, then that of the second (`NotUtf8`, then `Size`), then
+/// `NoCopy`, `Unequal`, `Size` of the first line (two copies of 8 bytes), and `Overlap`; `Memory` if a growth
 /// was refused.
 pub fn parse_config(alloc: Global, text: &[u8]) -> Result<Config, ConfigFault>
     ensures read { IfOk result (λ config. config_of text.now ≡ Ok (config_view config)) }

@@ -11,14 +11,14 @@ use thiserror::Error;
 pub struct TextEntry {
     /// The name's bytes: one or more.
     pub name: Vec<u8>,
-    /// The value's bytes, one or more, or none where the entry deletes.
+    /// The value's bytes, one or more, or no value if the entry deletes.
     pub value: Option<Vec<u8>>,
     /// The line in which the entry begins; lines count from 1.
     pub line: usize,
 }
 
 impl TextEntry {
-    /// The value's bytes, or none where the entry deletes.
+    /// The value's bytes, or `None` if the entry deletes.
     pub fn value_bytes(&self) -> Option<&[u8]>
         ensures { option_copied result ≡ option_map (λ v. v.items) self.now.value }
     {
@@ -59,7 +59,7 @@ impl<T: Drop> From<AllocFailed<T>> for TextFault {
     }
 }
 
-/// The value, or none where it is empty.
+/// The value, or `None` if it is empty.
 pub(crate) fn some_unless_empty(value: Vec<u8>) -> Option<Vec<u8>>
     ensures { option_map (λ v. v.items) result ≡ some_unless_empty value.items }
 {

@@ -1,12 +1,11 @@
 //! Text for export.
-ghost use Rattle.std.specs.Prelude.{◌≡◌, ◌++◌, ◌^◌, ◌<◌, ◌≤◌, ◌+◌, ◌↔◌, IsTrue, OnOk, OnErr, IsErrOf, length, vec_len, vec_capacity};
-ghost use Rattle.std.specs.Option.{SomeIff};
+ghost use Rattle.std.specs.Prelude.{◌≡◌, ◌++◌, ◌≤◌, ◌+◌, ◌↔◌, IfSome, IsTrue, OnOk, OnErr, IsErrOf, length, vec_len, vec_capacity};
 ghost use Rattle.envimg_core.specs.Environment.{is_name, is_value};
 ghost use Rattle.text_parts.specs.Bytes.{begins};
 ghost use Rattle.envcfg_core.specs.Import.{is_skipped};
 ghost use Rattle.envcfg_core.specs.Export.{exported, escaped, is_unreadable};
 
-use memchr::{memchr_iter, memchr2};
+use memchr::memchr2;
 use text_parts::contains_byte;
 use thiserror::Error;
 
@@ -24,7 +23,7 @@ pub enum ExportFault {
 /// Appends a variable as text for import: the name, `=`, the value with `\` before each `\` and each newline,
 /// and a newline (docs/texts.md, "Text for import and export").
 ///
-/// `Name` where an import would not read the name back; `Memory` where a growth was refused. A refusal leaves
+/// `Name` if an import would not read the name back; `Memory` if a growth was refused. A refusal leaves
 /// the output as it was. The name and the value have the forms of docs/images.md, "Names and values".
 pub fn export_entry(name: &[u8], value: &[u8], output: &mut Vec<u8>) -> Result<(), ExportFault>
     requires name { IsTrue (is_name name.now) }
@@ -36,10 +35,10 @@ pub fn export_entry(name: &[u8], value: &[u8], output: &mut Vec<u8>) -> Result<(
     if is_unreadable(name) {
         return Err(ExportFault::Name);
     }
-    let Some(needed) = exported_len(name, value) else {
+    let Some(most) = most_exported(name, value) else {
         return Err(ExportFault::Memory);
     };
-    if output.reserve(needed).is_err() {
+    if output.reserve(most).is_err() {
         return Err(ExportFault::Memory);
     }
     append(output, name);
@@ -66,20 +65,12 @@ fn begins_skipped(name: &[u8]) -> bool
     }
 }
 
-/// How many bytes the variable's text has, where that many can be counted.
-fn exported_len(name: &[u8], value: &[u8]) -> Option<usize>
-    ensures { SomeIff result (length (exported name.now value.now) < 2 ^ 64) (length (exported name.now value.now)) }
+/// At least as many bytes as the variable's text has, if that many can be counted: each byte of the value may be escaped.
+fn most_exported(name: &[u8], value: &[u8]) -> Option<usize>
+    ensures { IfSome result (λ most. length (exported name.now value.now) ≤ most) }
 {
-    name.len().checked_add(escaped_len(value))?.checked_add(2)
-}
-
-/// How many bytes the escaped value has.
-fn escaped_len(value: &[u8]) -> usize
-    ensures { result ≡ length (escaped value.now) }
-{
-    let backslashes = memchr_iter(b'\\', value).count();
-    let newlines = memchr_iter(b'\n', value).count();
-    value.len() + backslashes + newlines
+    let escaped = value.len().checked_mul(2)?;
+    escaped.checked_add(name.len())?.checked_add(2)
 }
 
 /// Appends bytes for which there is room.
@@ -92,7 +83,7 @@ fn append(output: &mut Vec<u8>, bytes: &[u8])
     output.extend_from_slice(bytes).unwrap();
 }
 
-/// Appends a value with `\` before each `\` and each newline, where there is room for that.
+/// Appends a value with `\` before each `\` and each newline; there is room for that.
 fn append_escaped(output: &mut Vec<u8>, value: &[u8])
     requires { vec_len output.old + length (escaped value.now) ≤ vec_capacity output.old }
     ensures items { output.new.items ≡ output.old.items ++ escaped value.now }

@@ -22,8 +22,8 @@ struct Rest<'a> {
 /// Reads a text for import: entries `name=value`, one in a line, in which `\` makes the next byte of a value
 /// literal (docs/texts.md, "Text for import and export").
 ///
-/// `Nul` where a 0 byte stands anywhere, else `EmptyName` with the line of the first entry that has no name;
-/// `Memory` where a growth was refused.
+/// `Nul` if there is a 0 byte anywhere, else `EmptyName` with the line of the first entry that has no name;
+/// `Memory` if a growth was refused.
 pub fn parse_import(alloc: Global, text: &[u8]) -> Result<Vec<TextEntry>, TextFault>
     ensures read { IfOk result (λ entries. import_of text.now ≡ Ok (map entry_view entries.items)) }
     ensures refused { IfErr result (IsFaultOf (import_of text.now)) }
@@ -41,7 +41,7 @@ pub fn parse_import(alloc: Global, text: &[u8]) -> Result<Vec<TextEntry>, TextFa
     Ok(entries)
 }
 
-/// Reads the entry at the front of the text, and answers what follows it too.
+/// Reads the entry at the front of the text, and returns what follows it too.
 fn read_entry(alloc: Global, rest: Rest<'_>) -> Result<(TextEntry, Rest<'_>), TextFault>
     requires place { begins is_skipped rest.text.now ≡ false }
     requires some { 0 < length rest.text.now }
@@ -110,7 +110,7 @@ fn skip_to_entry(place: Rest<'_>) -> Rest<'_>
     rest
 }
 
-/// What stands behind the first newline, or nothing where there is none.
+/// What is after the first newline, or nothing if there is no newline.
 fn after_line(text: &[u8]) -> &[u8]
     ensures rest { result.now ≡ after_first is_newline text.now }
     ensures shorter { length result.now ≤ length text.now }

@@ -1,16 +1,16 @@
 //! The text forms around a stored environment: `fw_env.config`, text for
 //! import and export, and set scripts. docs/texts.md states each form.
 //!
-//! To read in this order: extents, accept, place, config; entry, spelled, import, export; set_script; laws.
+//! To read in this order: offsets, accept, place, config; entry, spelled, import, export; set_script; laws.
 #![tactic(auto)]
 
 mod accept;
 mod config;
 mod entry;
 mod export;
-mod extents;
 mod import;
 pub mod laws;
+mod offsets;
 mod place;
 mod set_script;
 mod spelled;

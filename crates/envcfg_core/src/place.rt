@@ -7,12 +7,12 @@ ghost use Rattle.envcfg_core.specs.Place.{start_of};
 pub struct Place {
     /// The path of the file or device.
     pub device: String,
-    /// Where the copy begins, in bytes: from the front of the device, or, where it is negative, back from its end.
+    /// Where the copy begins, in bytes: from the front of the device, or, if it is negative, back from its end.
     pub offset: i64,
 }
 
 impl Place {
-    /// Where a copy of this size begins in a device of this length, both in bytes; none where the copy doesn't
+    /// Where a copy of this size begins in a device of this length, both in bytes; `None` if the copy doesn't
     /// lie wholly inside.
     pub fn start(&self, size: u32, length: u64) -> Option<u64>
         ensures { result ≡ start_of self.now.offset size length }

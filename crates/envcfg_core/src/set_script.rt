@@ -13,7 +13,7 @@ use text_parts::{
 
 /// Reads a set script: in each line a key, blanks or `=`, and a value (docs/texts.md, "Set scripts").
 ///
-/// `Nul` where a 0 byte stands anywhere, else `EmptyName` with the first line that has no key; `Memory` where a
+/// `Nul` if there is a 0 byte anywhere, else `EmptyName` with the first line that has no key; `Memory` if a
 /// growth was refused.
 pub fn parse_set_script(alloc: Global, text: &[u8]) -> Result<Vec<TextEntry>, TextFault>
     ensures read { IfOk result (λ entries. set_script_of text.now ≡ Ok (map entry_view entries.items)) }

@@ -8,7 +8,7 @@ ghost use Rattle.envcfg_core.specs.ImportSteps.{onto, value_view, stop_view, Sto
 use memchr::memchr2;
 use std::alloc::{AllocError, Global};
 
-/// What stands behind a name.
+/// What is after a name.
 #[derive(Drop)]
 pub(crate) struct ValueText<'a> {
     /// The bytes that the value's text stands for.
@@ -30,7 +30,7 @@ pub(crate) enum Stop<'a> {
     Literal(u8, &'a [u8]),
 }
 
-/// Reads what stands behind a name: after `=` a value, else nothing up to the end of the line.
+/// Reads what is after a name: after `=` a value, else nothing up to the end of the line.
 pub(crate) fn read_behind_name<'a>(
     alloc: Global,
     text: &'a [u8],

@@ -52,7 +52,7 @@ add_low (suc k) (suc n) a b h l =
     add_low k n (a / 2) (b / 2) (half_below a k h) (omega arith) ∙ ap (low_first n) (sym (xor_shr a b 1)) in
     λ i. sym (low_xor a b) i ∷ rest i
 
--- a front of zeros
+-- a prefix of zeros
 add_front : (k n : ℕ) (xs : List Bool) → add (low_first k n) (replicate k false ++ xs) ≡ low_first k n ++ xs
 add_front zero n xs = refl
 add_front (suc k) n xs =
@@ -66,7 +66,7 @@ pub length-low_first : (k n : ℕ) → length (low_first k n) ≡ k
 length-low_first zero n = refl
 length-low_first (suc k) n = ap suc (length-low_first k (n / 2))
 
--- one zero bit more changes nothing where the other list is as long
+-- one zero bit more changes nothing if the other list is as long
 add_short : (k n : ℕ) (xs : List Bool) → n < 2 ^ k → k < length xs → add xs (low_first k n) ≡ add xs (low_first (suc k) n)
 add_short k n [] h l = absurd (omega arith)
 add_short zero n (x ∷ xs) h l =
@@ -113,7 +113,7 @@ divide_steps (suc k) n r xs h l =
     ∙ divide_step (k + n) r (replicate k false ++ xs) h long
     ∙ divide_steps k n (step r) xs (step_below r h) l
 
--- a byte in front is that byte in the register
+-- a byte before the others is that byte in the register
 byte_front : (b r : ℕ) (xs : List Bool) → b < 2 ^ 8 → add (low_first 8 b ++ xs) (low_first 32 r) ≡ add (replicate 8 false ++ xs) (low_first 32 (bit_xor r b))
 byte_front b r xs h =
     ap (λ ys. add ys (low_first 32 r)) (sym (add_front 8 b xs) ∙ add_comm_list (low_first 8 b) (replicate 8 false ++ xs))

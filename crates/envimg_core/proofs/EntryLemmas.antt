@@ -15,7 +15,7 @@ use Rattle.std.proofs.Math.Bool.{or-true}
 use Rattle.std.specs.Cmp.Lexicographic.{pointwise}
 use Rattle.envimg_core.proofs.Facts.{left_true, right_true, not_true}
 
--- where the first byte that passes stands
+-- where the first byte that passes is
 pub found : (p : ℕ → Bool) (xs : List ℕ) (k : ℕ) → IsFirstByte p xs (Some k) → position_or_len p xs ≡ k
 found p xs k h =
     position_or_len_is p xs k 0 (omega (arith, h.0.high)) (λ j l. not_true (p (get_or xs j 0)) (h.0.before j (omega arith) l)) (λ _. h.1)
@@ -33,7 +33,7 @@ split_cons (x ∷ xs) =
       | false ↦ λ e. (x ∷ below.0, below.1, slice_split-cons_no is_zero x xs e ∙ ap (onto_first x) below.2)
     ] refl
 
--- the first piece, where the first 0 stands at k
+-- the first piece, if the first 0 is at k
 pub ended_first : (xs : List ℕ) (k : ℕ) → position_or_len is_zero xs ≡ k → k < length xs → ended_pieces xs ≡ take k xs ∷ ended_pieces (drop (k + 1) xs)
 ended_first xs k e h =
     let rest = split_cons (drop (k + 1) xs) in

@@ -66,7 +66,7 @@ too_short : state_of (single 13) digits ≡ BadLength
 unfolding checksum divide
 too_short = refl
 
--- two copies: the flag is behind the checksum and is no part of what it covers; 0 comes after 255
+-- two copies: the flag is after the checksum and is no part of what it covers; 0 comes after 255
 flags_wrap : choice_of (state_of (redundant 9) (0x1C ∷ 0xDF ∷ 0x44 ∷ 0x21 ∷ 0xFF ∷ 0 ∷ 0 ∷ 0 ∷ 0 ∷ [])) (state_of (redundant 9) (0x1C ∷ 0xDF ∷ 0x44 ∷ 0x21 ∷ 0 ∷ 0 ∷ 0 ∷ 0 ∷ 0 ∷ [])) ≡ Second
 unfolding checksum divide
 flags_wrap = refl

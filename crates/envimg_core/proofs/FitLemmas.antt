@@ -44,7 +44,7 @@ where_cost p (e ∷ es) =
       | false ↦ omega arith
     ]
 
--- what is left where a name is taken away
+-- what is left when a name is taken away
 pub entries_remove : (m : Environment) (k : List ℕ) → env.entries (env.remove m k) ≡ where_key bytes_cmp (λ x. not (eq_by_cmp bytes_cmp k x)) (env.entries m)
 entries_remove m k =
     ap env.entries (sym (env.same_map nat_list_cmp_total same_name left (env.remove m k) (λ q. alike q)))

@@ -8,7 +8,7 @@ use Rattle.envimg_core.specs.declared.geometry.Order.{Order}
 use Rattle.envimg_core.specs.Steps.{spliced}
 use Rattle.envimg_core.specs.Image.{stored_pair, framed, filled_area, image_with}
 
--- a front of n elements
+-- a prefix of n elements
 take_front : (n : ℕ) (xs ys : List ℕ) → length xs ≡ n → take n (xs ++ ys) ≡ xs
 take_front n xs ys e = ap (λ (m : ℕ). take m (xs ++ ys)) (sym e) ∙ take-append_seam xs ys
 
@@ -39,7 +39,7 @@ store_four i n v xs h =
     ∙ splice_twice i (i + length n + 1 + length v) (n ++ (61 ∷ []) ++ v) (0 ∷ []) xs (omega (arith, length-append n (61 ∷ []), length-append (n ++ 61 ∷ []) v)) (omega (arith, length-append n (61 ∷ []), length-append (n ++ 61 ∷ []) v))
     ∙ ap (λ ys. spliced i ys xs) (ap (λ ys. ys ++ 0 ∷ []) (append_assoc n (61 ∷ []) v))
 
--- an entry behind the others
+-- an entry after the others
 pub written_more : (h s : ℕ) (e xs : List ℕ) → h + s + length e ≤ length xs → take (s + length e) (drop h (spliced (h + s) e xs)) ≡ take s (drop h xs) ++ e
 written_more h s e xs l =
     let all : length (take (h + s) xs ++ e) ≡ h + s + length e = omega (arith, length-append (take (h + s) xs) e, length-take (h + s) xs) in
@@ -54,7 +54,7 @@ zeros_first : (n : ℕ) → 0 < n → ◌≡◌ {A = List ℕ} (replicate n 0) (
 zeros_first zero h = absurd (omega arith)
 zeros_first (suc n) h = ap (λ (m : ℕ). 0 ∷ replicate m 0) (let e : n ≡ suc n - 1 = omega arith in e)
 
--- the data area behind the last entry is cleared
+-- the data area after the last entry is cleared
 pub cleared : (h s z : ℕ) (xs : List ℕ) → length xs ≡ z → h + s + 1 ≤ z → drop h (take (h + s) xs ++ replicate (length xs - (h + s)) 0) ≡ filled_area (z - h) (take s (drop h xs))
 cleared h s z xs e l =
     let short : h ≤ length (take (h + s) xs) = omega (arith, length-take (h + s) xs) in

@@ -13,7 +13,7 @@ equals = 61
 abbrev pub checksum_size : ℕ
 checksum_size = 4
 
--- the byte of a redundant copy's flag, behind its checksum
+-- the byte of a redundant copy's flag, after its checksum
 abbrev pub flag_size : ℕ
 flag_size = 1
 

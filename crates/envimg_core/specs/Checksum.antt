@@ -33,7 +33,7 @@ number (b ∷ bs) = (if b then 1 else 0) + 2 * number bs
 abbrev pub polynomial : List Bool
 polynomial = high_first 32 0x04C11DB7
 
--- long division: what is left of the dividend behind its first n terms
+-- long division: what is left of the dividend after its first n terms
 unfoldable pub divide : ℕ → List Bool → List Bool
 divide zero terms = terms
 divide (suc n) [] = []
@@ -44,7 +44,7 @@ divide (suc n) (false ∷ terms) = divide n terms
 abbrev pub bits : List ℕ → List Bool
 bits bytes = flat_map (low_first 8) bytes
 
--- the message with 32 zero bits behind it, its first 32 bits inverted
+-- the message followed by 32 zero bits, its first 32 bits inverted
 abbrev pub dividend : List ℕ → List Bool
 dividend bytes = add (bits bytes ++ replicate 32 false) (replicate 32 true)
 

@@ -44,7 +44,7 @@ IsVariable p = IsTrue (is_name p.0) × IsTrue (is_value p.1)
 abbrev pub entry_text : Pair → List ℕ
 entry_text p = p.0 ++ equals ∷ p.1
 
--- the bytes that a variable takes: name, '=', value and the 0 behind it
+-- the bytes that a variable takes: name, '=', value and the 0 after it
 abbrev pub pair_size : Pair → ℕ
 pair_size p = length p.0 + length p.1 + 2
 

@@ -22,7 +22,7 @@ stored_pairs ps = flat_map stored_pair ps
 abbrev pub filled_area : ℕ → List ℕ → List ℕ
 filled_area room stored = stored ++ end_byte ∷ replicate (room - (length stored + 1)) end_byte
 
--- the flag byte, where the layout has one
+-- the flag byte, if the layout has one
 abbrev pub flag_bytes : Layout → ℕ → List ℕ
 flag_bytes Single flag = []
 flag_bytes Redundant flag = flag ∷ []

@@ -16,6 +16,6 @@ written w = take w.stored (drop (head w.geometry.layout) w.image.now)
 abbrev pub loan_of : ImageWriter → GName
 loan_of w = w.image.ghost_name
 
--- the bytes that further entries may take: what is left of the data area but for the 0 that ends the list
+-- the bytes that further entries may take: what is left of the data area except the 0 that ends the list
 abbrev pub room_left : ImageWriter → ℕ
 room_left w = room_of (shape_of w) - (length (written w) + 1)

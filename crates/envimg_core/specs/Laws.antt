@@ -16,7 +16,7 @@ use Rattle.envimg_core.specs.declared.state.CopyState.TheVariants.{Good}
 abbrev pub last_named : List ℕ → List Entry → Option Entry
 last_named name es = find (λ e. eq_by_cmp bytes_cmp name e.0) (reverse es)
 
--- the last entry for a name decides: its value, or none where it has none or where no entry has that name
+-- the last entry for a name decides: its value, or no value if it has none or no entry has that name
 abbrev pub LastDecides : List Entry → List ℕ → Type 0
 LastDecides es name = get (vars_of es) name ≡ option_and_then (λ e. e.1) (last_named name es)
 

@@ -5,7 +5,7 @@ use Rattle.std.specs.FinMap.{insert, remove, empty}
 use Rattle.std.specs.Borrow.{Bor}
 use Rattle.envimg_core.specs.Environment.{Environment, is_zero, is_equals, is_empty}
 
--- all but the last: of the parts that a cut at each 0 gives, those behind which a 0 stands
+-- all but the last: of the parts that a cut at each 0 gives, those that a 0 follows
 abbrev pub but_last : {X : Type 0} → List X → List X
 but_last [] = []
 but_last (x ∷ []) = []
@@ -19,7 +19,7 @@ ended_pieces area = but_last (slice_split is_zero area)
 abbrev pub is_terminated : List ℕ → Bool
 is_terminated area = list_any is_empty (ended_pieces area)
 
--- a name, and a value or none
+-- a name, and a value or no value
 abbrev pub Entry : Type 0
 Entry = List ℕ × Option (List ℕ)
 
@@ -27,7 +27,7 @@ abbrev pub value_of : List ℕ → Option (List ℕ)
 value_of [] = None
 value_of (b ∷ bs) = Some (b ∷ bs)
 
--- the name stands before the first '=', the value behind it: none where there is no '=', or nothing behind it
+-- the name is before the first '=', the value after it: no value if there is no '=', or nothing after it
 abbrev pub entry_of : List ℕ → Entry
 entry_of piece = (before_first is_equals piece, value_of (after_first is_equals piece))
 

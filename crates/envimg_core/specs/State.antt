@@ -13,12 +13,12 @@ use Rattle.envimg_core.specs.declared.state.CopyState.TheVariants.{Good, BadLeng
 use Rattle.envimg_core.specs.declared.choice.Choice.{Choice}
 use Rattle.envimg_core.specs.declared.choice.Choice.TheVariants.{First, Second, Neither}
 
--- the flag byte of a redundant copy stands behind the checksum; a single image has none
+-- the flag byte of a redundant copy is after the checksum; a single image has no flag
 abbrev pub flag_byte : Layout → List ℕ → Option ℕ
 flag_byte Single copy = None
 flag_byte Redundant copy = slice_get copy checksum_size
 
--- the flag that a copy shows: where it has none, 0
+-- the flag that a copy shows: if it has none, 0
 abbrev pub flag_of : Layout → List ℕ → ℕ
 flag_of layout copy = unwrap_or (flag_byte layout copy) 0
 

@@ -11,8 +11,8 @@ pub const END: u8 = 0;
 /// The byte that ends a name.
 pub const EQUALS: u8 = b'=';
 
-/// The entries of a data area in stored order, names without a value among them; entries whose name is empty are
-/// passed over. Takes any bytes.
+/// The entries of a data area in stored order, including names without a value; entries whose name is empty are
+/// skipped. Takes any bytes.
 pub fn entries(area: &[u8]) -> Entries<'_>
     ensures { result ≡ entries_of area.now }
 {

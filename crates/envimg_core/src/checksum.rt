@@ -11,12 +11,12 @@ use tables::TABLES;
 /// How many bytes the register takes in one go.
 const BLOCK: usize = 8;
 
-/// The register before the first byte, and what its bits are inverted with behind the last.
+/// The register before the first byte, and what its bits are inverted with after the last.
 const ALL_ONES: u32 = 0xFFFF_FFFF;
 
 /// The checksum of `bytes`: the common CRC-32 (reflected polynomial 0xEDB88320, start all ones, final complement).
 ///
-/// The result is a number; how it lies in an image is said in docs/images.md, "Checksum".
+/// The result is a number; how it lies in an image is documented in docs/images.md, "Checksum".
 pub fn crc32(bytes: &[u8]) -> u32
     ensures { result ≡ checksum bytes.now }
 {
@@ -30,7 +30,7 @@ pub fn crc32(bytes: &[u8]) -> u32
     feed_bytes(register, rest) ^ ALL_ONES
 }
 
-/// The same checksum, bit by bit: the plain program, beside which tests and measurements put [`crc32`].
+/// The same checksum, bit by bit: the plain program, with which tests and measurements compare [`crc32`].
 pub fn crc32_bitwise(bytes: &[u8]) -> u32
     ensures { result ≡ checksum bytes.now }
 {

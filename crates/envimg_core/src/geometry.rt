@@ -30,7 +30,7 @@ pub enum Layout {
 }
 
 impl Layout {
-    /// The flag that a copy shows: the byte behind its checksum, or 0 where it has none.
+    /// The flag that a copy shows: the byte after its checksum, or 0 if it has none.
     pub fn flag(self, copy: &[u8]) -> u8
         ensures { result ≡ flag_of self copy.now }
     {
@@ -105,7 +105,7 @@ impl Model for Geometry {
 }
 
 impl Geometry {
-    /// The geometry of copies of `size` bytes whose checksum stands little-endian: `None` where the layout has no image
+    /// The geometry of copies of `size` bytes whose checksum is little-endian: `None` if the layout has no image
     /// of that size, which is below 8 bytes (single) or 9 bytes (redundant) and above 1,048,576.
     pub fn new(layout: Layout, size: u32) -> Option<Geometry>
         ensures { SomeIff result (IsSize layout size) (record { layout = layout; size = size; order = Order.Little }) }
@@ -113,7 +113,7 @@ impl Geometry {
         Geometry::with_order(layout, size, Order::Little)
     }
 
-    /// The same for a checksum in any byte order: `None` exactly where [`Geometry::new`] is.
+    /// The same for a checksum in any byte order: `None` exactly when [`Geometry::new`] is.
     pub fn with_order(layout: Layout, size: u32, order: Order) -> Option<Geometry>
         ensures { SomeIff result (IsSize layout size) (record { layout = layout; size = size; order = order }) }
     {
@@ -157,7 +157,7 @@ impl Geometry {
         self.size - self.layout.head_len() as u32
     }
 
-    /// The data area of a copy: `None` where the copy's length is not the size.
+    /// The data area of a copy: `None` if the copy's length is not the size.
     pub fn area<'a>(&self, copy: &'a [u8]) -> Option<&'a [u8]>
         ensures value { option_map (λ area. area.now) result
             ≡ (if length copy.now == self.now.size then Some (area_of self.now copy.now) else None) }

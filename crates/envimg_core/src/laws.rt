@@ -3,7 +3,7 @@ ghost use Rattle.std.specs.Prelude.{ℕ, List};
 ghost use Rattle.envimg_core.specs.Laws.{LastDecides, ImageReadsBack, LoadedFits};
 ghost use Rattle.envimg_core.specs.Pieces.{entries_of};
 
-/// Of the entries of any area the last one for a name decides: its value, or none where it has none.
+/// Of the entries of any area the last one for a name decides: its value, or no value if it has none.
 pub fn last_entry_decides()
     ensures { (area name : List ℕ) → LastDecides (entries_of area) name }
 {}

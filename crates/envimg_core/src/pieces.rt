@@ -8,12 +8,12 @@ use crate::area::{END, EQUALS};
 use memchr::memchr;
 use std::marker::Model;
 
-/// A name, and its value where it has one.
+/// A name, and its value if it has one.
 pub type Entry<'a> = (&'a [u8], Option<&'a [u8]>);
 
 /// The entries of a data area that are still to come, in stored order, borrowed from it.
 ///
-/// An entry whose name is empty is passed over; a rest that no 0 ends is no entry (docs/images.md, "Entries").
+/// An entry whose name is empty is skipped; a rest that no 0 ends is no entry (docs/images.md, "Entries").
 #[derive(Drop)]
 pub struct Entries<'a> {
     rest: &'a [u8],
@@ -48,7 +48,7 @@ impl<'a> Iterator for Entries<'a> {
     }
 }
 
-/// The first entry of an area, and the area behind it.
+/// The first entry of an area, and the area after it.
 fn next_entry<'a>(area: &'a [u8]) -> Option<(Entry<'a>, &'a [u8])>
     ensures { MatchOption result (entries_of area.now ≡ [])
         (λ r. entries_of area.now ≡ entry_view r.0 ∷ entries_of r.1.now) }
@@ -68,7 +68,7 @@ fn next_entry<'a>(area: &'a [u8]) -> Option<(Entry<'a>, &'a [u8])>
     }
 }
 
-/// The first piece of an area, if it is ended and not empty, and the area behind its 0.
+/// The first piece of an area, if it is ended and not empty, and the area after its 0.
 fn next_piece(area: &[u8]) -> Option<(&[u8], &[u8])>
     ensures { MatchOption result (entries_of area.now ≡ []) (λ r. YieldsEntry area.now r.0.now r.1.now) }
 {
@@ -79,7 +79,7 @@ fn next_piece(area: &[u8]) -> Option<(&[u8], &[u8])>
     }
 }
 
-/// A piece as an entry: the name before the first `=`, the value behind it.
+/// A piece as an entry: the name before the first `=`, the value after it.
 fn cut(piece: &[u8]) -> Entry<'_>
     ensures { entry_view result ≡ entry_of piece.now }
 {

@@ -13,7 +13,7 @@ use crate::geometry::{CHECKSUM_LEN, FLAG_LEN, Geometry, Layout, Order};
 
 /// Writes an image into a slice of the image's size: entries one by one, then the end, the flag and the checksum.
 ///
-/// The image is that of an environment where the entries are put in ascending order of the names' bytes
+/// The image is that of an environment if the entries are put in ascending order of the names' bytes
 /// (docs/images.md, "Written images").
 pub struct ImageWriter<'a> {
     image: &'a mut [u8],
@@ -26,8 +26,8 @@ pub struct ImageWriter<'a> {
 impl<'a> ImageWriter<'a> {
     ghost use Rattle.envimg_core.specs.ImageWriter.{shape_of, written, room_left, loan_of};
 
-    /// A writer of the image of this geometry, with no entry yet. The slice has the image's size; what it holds counts
-    /// for nothing.
+    /// A writer of the image of this geometry, with no entry yet. The slice has the image's size; what it holds doesn't
+    /// matter.
     pub fn new(geometry: &Geometry, image: &'a mut [u8]) -> ImageWriter<'a>
         requires { length image.old ≡ geometry.now.size }
         ensures shape { shape_of result ≡ geometry.now }
@@ -43,7 +43,7 @@ impl<'a> ImageWriter<'a> {
         }
     }
 
-    /// Appends an entry, `name=value` and a 0. Answers false, with the entries as they were, exactly where the entry
+    /// Appends an entry, `name=value` and a 0. Answers false, with the entries as they were, exactly when the entry
     /// doesn't fit into the room that is left: the data area also holds the 0 that ends the list.
     pub fn put(&mut self, name: &[u8], value: &[u8]) -> bool
         ensures fits { IsTrue result ↔ (length (stored_pair (name.now, value.now)) ≤ room_left self.old) }
@@ -62,7 +62,7 @@ impl<'a> ImageWriter<'a> {
         true
     }
 
-    /// Ends the list, fills the rest with zeros, and writes the flag (a single image has none) and the checksum: the slice
+    /// Ends the list, fills the rest with zeros, and writes the flag (if redundant) and the checksum: the slice
     /// then holds the image.
     pub fn finish(self, flag: u8)
         ensures { self.exit.0.now ≡ image_with (shape_of self.entry) flag (written self.entry) }
@@ -88,7 +88,7 @@ fn store(image: &mut [u8], start: usize, name: &[u8], value: &[u8])
     overwrite(image, start + name.len() + 1 + value.len(), &[END]);
 }
 
-/// Writes `bytes` over what stands in `image` from `start` on.
+/// Writes `bytes` over what is in `image` from `start` on.
 fn overwrite(image: &mut [u8], start: usize, bytes: &[u8])
     requires { start + length bytes.now ≤ length image.old }
     ensures { image.new ≡ spliced start bytes.now image.old }
@@ -104,7 +104,7 @@ fn clear_from(image: &mut [u8], start: usize)
     image[start..].fill(END);
 }
 
-/// Writes the flag, where the layout has one, and the checksum of the data area in this byte order.
+/// Writes the flag, if the layout has one, and the checksum of the data area in this byte order.
 fn seal(image: &mut [u8], layout: Layout, order: Order, flag: u8)
     requires { head layout ≤ length image.old }
     ensures { image.new ≡ framed layout order flag (drop (head layout) image.old) }
@@ -118,7 +118,7 @@ fn seal(image: &mut [u8], layout: Layout, order: Order, flag: u8)
     }
 }
 
-/// Writes the checksum of what stands from `head` on.
+/// Writes the checksum of what is from `head` on.
 fn sign(image: &mut [u8], head: usize, order: Order)
     requires { (checksum_size ≤ length image.old) × (head ≤ length image.old) }
     ensures { image.new ≡ checksum_bytes order (checksum (drop head image.old)) ++ drop checksum_size image.old }

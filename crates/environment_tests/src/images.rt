@@ -1,18 +1,30 @@
 //! Images: published and worked values, and each call with its happy path.
 ghost use Rattle.std.specs.Prelude.{◌≡◌};
 
-use envimg_core::Layout::{Redundant, Single};
-use envimg_core::Order::{Big, Little};
+use envimg_core::CopyState::{self, BadCrc, BadLength, Good, Unterminated};
+use envimg_core::Layout::{self, Redundant, Single};
+use envimg_core::Order::{self, Big, Little};
 use envimg_core::{
-    Choice, CopyState, Geometry, ImageWriter, Layout, Order, check_copy, choose, crc32,
-    crc32_bitwise, entries,
+    Choice, Geometry, ImageWriter, check_copy, choose, crc32, crc32_bitwise, entries,
 };
 use std::process::Abort;
 use std::test::Fail;
 
 const ONE_VARIABLE: &[u8] = b"\xD2\x96\x62\x2Ba=b\0\0";
 
+/// The same of a big-endian board, and with flags.
+const ONE_BIG: &[u8] = b"\x2B\x62\x96\xD2a=b\0\0";
+
+const ONE_FLAG_7: &[u8] = b"\xD2\x96\x62\x2B\x07a=b\0\0";
+
+const ONE_BIG_FLAG_8: &[u8] = b"\x2B\x62\x96\xD2\x08a=b\0\0";
+
 const EMPTY: &[u8] = b"\x1C\xDF\x44\x21\0\0\0\0";
+
+const EMPTY_BIG_FLAG_255: &[u8] = b"\x21\x44\xDF\x1C\xFF\0\0\0\0";
+
+/// An area without an end.
+const DIGITS: &[u8] = b"\x26\x39\xF4\xCB123456789";
 
 fn geometry(rt: &impl Abort, layout: Layout, size: u32, order: Order) -> Geometry
     ensures { (result.layout ≡ layout) × (result.size ≡ size) }
@@ -94,75 +106,21 @@ fn sizes_that_a_layout_allows(rt: HostRuntime) {
 type Copy = (Layout, Order, u32, &'static [u8], CopyState);
 
 const COPIES: [Copy; 15] = [
-    (Single, Little, 9, ONE_VARIABLE, CopyState::Good(0)),
-    (Single, Little, 8, EMPTY, CopyState::Good(0)),
-    (
-        Single,
-        Little,
-        13,
-        b"\x26\x39\xF4\xCB123456789",
-        CopyState::Unterminated,
-    ),
-    (
-        Single,
-        Little,
-        13,
-        b"\x27\x39\xF4\xCB123456789",
-        CopyState::BadCrc,
-    ),
-    (
-        Single,
-        Little,
-        13,
-        b"\x26\x39\xF4\xCB12345678",
-        CopyState::BadLength,
-    ),
-    (
-        Redundant,
-        Little,
-        10,
-        b"\xD2\x96\x62\x2B\x07a=b\0\0",
-        CopyState::Good(7),
-    ),
-    (Redundant, Little, 9, &[0xFF; 9], CopyState::Unterminated),
-    (
-        Single,
-        Big,
-        9,
-        b"\x2B\x62\x96\xD2a=b\0\0",
-        CopyState::Good(0),
-    ),
-    (Single, Big, 9, ONE_VARIABLE, CopyState::BadCrc),
-    (
-        Single,
-        Little,
-        9,
-        b"\x2B\x62\x96\xD2a=b\0\0",
-        CopyState::BadCrc,
-    ),
-    (
-        Redundant,
-        Big,
-        9,
-        b"\x21\x44\xDF\x1C\xFF\0\0\0\0",
-        CopyState::Good(255),
-    ),
-    (
-        Redundant,
-        Big,
-        9,
-        b"\x21\x44\xDF\x1C\0\0\0\0\0",
-        CopyState::Good(0),
-    ),
-    (Redundant, Big, 9, &[0xFF; 9], CopyState::Unterminated),
-    (Single, Little, 9, b"", CopyState::BadLength),
-    (
-        Single,
-        Little,
-        9,
-        b"\xD2\x96\x62\x2Ba=b\0\0\0",
-        CopyState::BadLength,
-    ),
+    (Single, Little, 9, ONE_VARIABLE, Good(0)),
+    (Single, Little, 8, EMPTY, Good(0)),
+    (Single, Little, 13, DIGITS, Unterminated),
+    (Single, Little, 13, b"\x27\x39\xF4\xCB123456789", BadCrc),
+    (Single, Little, 13, b"\x26\x39\xF4\xCB12345678", BadLength),
+    (Redundant, Little, 10, ONE_FLAG_7, Good(7)),
+    (Redundant, Little, 9, &[0xFF; 9], Unterminated),
+    (Single, Big, 9, ONE_BIG, Good(0)),
+    (Single, Big, 9, ONE_VARIABLE, BadCrc),
+    (Single, Little, 9, ONE_BIG, BadCrc),
+    (Redundant, Big, 9, EMPTY_BIG_FLAG_255, Good(255)),
+    (Redundant, Big, 9, b"\x21\x44\xDF\x1C\0\0\0\0\0", Good(0)),
+    (Redundant, Big, 9, &[0xFF; 9], Unterminated),
+    (Single, Little, 9, b"", BadLength),
+    (Single, Little, 9, b"\xD2\x96\x62\x2Ba=b\0\0\0", BadLength),
 ];
 
 #[test]
@@ -182,10 +140,10 @@ fn each_changed_bit_and_each_missing_byte_is_found(rt: HostRuntime) -> Result<()
         for bit in 0..8u32 {
             let mut changed = *b"\xD2\x96\x62\x2Ba=b\0\0";
             changed[i] ^= 1 << bit;
-            assert_eq!(rt; check_copy(&single, &changed), CopyState::BadCrc);
+            assert_eq!(rt; check_copy(&single, &changed), BadCrc);
         }
         let prefix = ONE_VARIABLE.get(..i).ok_or("shorter")?;
-        assert_eq!(rt; check_copy(&single, prefix), CopyState::BadLength);
+        assert_eq!(rt; check_copy(&single, prefix), BadLength);
     }
     Ok(())
 }
@@ -193,16 +151,16 @@ fn each_changed_bit_and_each_missing_byte_is_found(rt: HostRuntime) -> Result<()
 #[test]
 fn the_choice_between_two_copies(rt: HostRuntime) {
     let choices = [
-        (CopyState::Good(3), CopyState::Good(9), Choice::Second),
-        (CopyState::Good(9), CopyState::Good(3), Choice::First),
-        (CopyState::Good(255), CopyState::Good(0), Choice::Second),
-        (CopyState::Good(0), CopyState::Good(255), Choice::First),
-        (CopyState::Good(255), CopyState::Good(1), Choice::First),
-        (CopyState::Good(254), CopyState::Good(0), Choice::First),
-        (CopyState::Good(7), CopyState::Good(7), Choice::First),
-        (CopyState::Good(1), CopyState::BadCrc, Choice::First),
-        (CopyState::BadLength, CopyState::Good(0), Choice::Second),
-        (CopyState::BadCrc, CopyState::Unterminated, Choice::Neither),
+        (Good(3), Good(9), Choice::Second),
+        (Good(9), Good(3), Choice::First),
+        (Good(255), Good(0), Choice::Second),
+        (Good(0), Good(255), Choice::First),
+        (Good(255), Good(1), Choice::First),
+        (Good(254), Good(0), Choice::First),
+        (Good(7), Good(7), Choice::First),
+        (Good(1), BadCrc, Choice::First),
+        (BadLength, Good(0), Choice::Second),
+        (BadCrc, Unterminated, Choice::Neither),
     ];
     for (first, second, choice) in choices {
         assert_eq!(rt; choose(first, second), choice);
@@ -231,16 +189,9 @@ type Written = (Layout, Order, u32, u8, bool, &'static [u8]);
 
 const WRITTEN: [Written; 6] = [
     (Single, Little, 9, 0, true, ONE_VARIABLE),
-    (
-        Redundant,
-        Little,
-        10,
-        7,
-        true,
-        b"\xD2\x96\x62\x2B\x07a=b\0\0",
-    ),
-    (Single, Big, 9, 0, true, b"\x2B\x62\x96\xD2a=b\0\0"),
-    (Redundant, Big, 10, 8, true, b"\x2B\x62\x96\xD2\x08a=b\0\0"),
+    (Redundant, Little, 10, 7, true, ONE_FLAG_7),
+    (Single, Big, 9, 0, true, ONE_BIG),
+    (Redundant, Big, 10, 8, true, ONE_BIG_FLAG_8),
     (Single, Little, 8, 9, false, EMPTY),
     (Single, Little, 11, 0, true, b"\x71\xA8\xBB\xEBa=b\0\0\0\0"),
 ];

@@ -1,5 +1,5 @@
 //! Tests of the crates up to the session: images, texts, variables in memory, variables with their types and access, kept
-//! values, and sessions with undo. They stand apart from those crates, so that each of them is proved once.
+//! values, and sessions with undo. They are apart from those crates, so that each of them is proved once.
 #![tactic(auto)]
 
 #[cfg(test)]

@@ -63,60 +63,76 @@ pub(crate) fn single(
 /// The byte order of two copies, their bytes, which of them is current, the variables, and what saves write.
 type Pair = (
     Order,
-    &'static [u8],
-    &'static [u8],
+    [&'static [u8]; 2],
     Choice,
     &'static str,
     &'static [(Side, Choice, &'static [u8])],
 );
 
+const FIRST_SAVED: (Side, Choice, &[u8]) = (
+    Side::First,
+    Choice::First,
+    b"\x1C\xDF\x44\x21\x01\0\0\0\0",
+);
+
+const FIRST_SAVED_BIG_ENDIAN: (Side, Choice, &[u8]) = (
+    Side::First,
+    Choice::First,
+    b"\x21\x44\xDF\x1C\x01\0\0\0\0",
+);
+
+const SECOND_SAVED: (Side, Choice, &[u8]) = (
+    Side::Second,
+    Choice::Second,
+    b"\x1C\xDF\x44\x21\x02\0\0\0\0",
+);
+
+const ONE_SAVED: (Side, Choice, &[u8]) = (
+    Side::Second,
+    Choice::Second,
+    b"\xD2\x96\x62\x2B\x08a=b\0\0",
+);
+
+const EMPTY: [&[u8]; 2] = [
+    b"\x1C\xDF\x44\x21\xFF\0\0\0\0",
+    b"\x1C\xDF\x44\x21\0\0\0\0\0",
+];
+
+const EMPTY_BIG_ENDIAN: [&[u8]; 2] = [
+    b"\x21\x44\xDF\x1C\xFF\0\0\0\0",
+    b"\x21\x44\xDF\x1C\0\0\0\0\0",
+];
+
+const TIED: [&[u8]; 2] = [
+    b"\xD2\x96\x62\x2B\x07a=b\0\0",
+    b"\x1D\xF7\x22\xC6\x07\0\0\0\0\0",
+];
+
+const ERASED: [&[u8]; 2] = [&[0xFF; 9], &[0xFF; 9]];
+
 const PAIRS: [Pair; 5] = [
+    (Order::Little, EMPTY, Choice::Second, "", &[FIRST_SAVED]),
     (
-        Order::Little,
-        b"\x1C\xDF\x44\x21\xFF\0\0\0\0",
-        b"\x1C\xDF\x44\x21\0\0\0\0\0",
+        Order::Big,
+        EMPTY_BIG_ENDIAN,
         Choice::Second,
         "",
-        &[(Side::First, Choice::First, b"\x1C\xDF\x44\x21\x01\0\0\0\0")],
+        &[FIRST_SAVED_BIG_ENDIAN],
+    ),
+    (Order::Little, TIED, Choice::First, "a=b;", &[ONE_SAVED]),
+    (
+        Order::Little,
+        ERASED,
+        Choice::Neither,
+        "",
+        &[FIRST_SAVED, SECOND_SAVED],
     ),
     (
         Order::Big,
-        b"\x21\x44\xDF\x1C\xFF\0\0\0\0",
-        b"\x21\x44\xDF\x1C\0\0\0\0\0",
-        Choice::Second,
-        "",
-        &[(Side::First, Choice::First, b"\x21\x44\xDF\x1C\x01\0\0\0\0")],
-    ),
-    (
-        Order::Little,
-        b"\xD2\x96\x62\x2B\x07a=b\0\0",
-        b"\x1D\xF7\x22\xC6\x07\0\0\0\0\0",
-        Choice::First,
-        "a=b;",
-        &[(Side::Second, Choice::Second, b"\xD2\x96\x62\x2B\x08a=b\0\0")],
-    ),
-    (
-        Order::Little,
-        &[0xFF; 9],
-        &[0xFF; 9],
+        ERASED,
         Choice::Neither,
         "",
-        &[
-            (Side::First, Choice::First, b"\x1C\xDF\x44\x21\x01\0\0\0\0"),
-            (
-                Side::Second,
-                Choice::Second,
-                b"\x1C\xDF\x44\x21\x02\0\0\0\0",
-            ),
-        ],
-    ),
-    (
-        Order::Big,
-        &[0xFF; 9],
-        &[0xFF; 9],
-        Choice::Neither,
-        "",
-        &[(Side::First, Choice::First, b"\x21\x44\xDF\x1C\x01\0\0\0\0")],
+        &[FIRST_SAVED_BIG_ENDIAN],
     ),
 ];
 
@@ -133,7 +149,7 @@ fn save_all(rt: &impl Abort, session: &mut Session, saves: &[(Side, Choice, &[u8
 
 #[test]
 fn two_copies_are_written_alternately_and_come_back(rt: HostRuntime) -> Result<(), Fail> {
-    for (order, first, second, current, lines, saves) in PAIRS {
+    for (order, [first, second], current, lines, saves) in PAIRS {
         let size = first.len() as u32;
         let geometry = Geometry::with_order(Layout::Redundant, size, order).ok_or("no geometry")?;
         let stored = stored(rt.alloc(), geometry, first, Some(second))?;
@@ -166,55 +182,21 @@ fn sixty_four_marks_stand(rt: HostRuntime) -> Result<(), Fail> {
     Ok(())
 }
 
-/// The layout and the size of a copy, the copies, a default environment, and the fault.
-type Start = (
-    Layout,
-    u32,
-    &'static [u8],
-    Option<&'static [u8]>,
-    &'static str,
-    StartFault,
-);
+/// The layout and the size of a copy, the bytes of the first and of the second, if there is one, a default environment, and
+/// the fault.
+type Start = (Layout, u32, usize, Option<usize>, &'static str, StartFault);
 
 const STARTS: [Start; 6] = [
-    (Layout::Single, 8, &[0; 7], None, "", StartFault::Length),
-    (
-        Layout::Single,
-        8,
-        &[0; 8],
-        None,
-        "a=b",
-        StartFault::DefaultTooBig,
-    ),
-    (
-        Layout::Single,
-        9,
-        &[0; 9],
-        Some(&[0; 9]),
-        "",
-        StartFault::Length,
-    ),
+    (Layout::Single, 8, 7, None, "", StartFault::Length),
+    (Layout::Single, 8, 8, None, "a=b", StartFault::DefaultTooBig),
+    (Layout::Single, 9, 9, Some(9), "", StartFault::Length),
+    (Layout::Redundant, 9, 9, None, "a=b", StartFault::Length),
+    (Layout::Redundant, 9, 9, Some(8), "", StartFault::Length),
     (
         Layout::Redundant,
         9,
-        &[0; 9],
-        None,
-        "a=b",
-        StartFault::Length,
-    ),
-    (
-        Layout::Redundant,
         9,
-        &[0; 9],
-        Some(&[0; 8]),
-        "",
-        StartFault::Length,
-    ),
-    (
-        Layout::Redundant,
-        9,
-        &[0; 9],
-        Some(&[0; 9]),
+        Some(9),
         "a=b",
         StartFault::DefaultTooBig,
     ),
@@ -223,20 +205,25 @@ const STARTS: [Start; 6] = [
 #[test]
 fn what_no_session_starts_with(rt: HostRuntime) -> Result<(), Fail> {
     for (layout, size, first, second, lines, wanted) in STARTS {
-        let geometry = Geometry::new(layout, size).ok_or("no geometry")?;
-        let stored = stored(rt.alloc(), geometry, first, second)?;
+        let stored = Stored {
+            geometry: Geometry::new(layout, size).ok_or("no geometry")?,
+            first: b"\0".repeat(rt.alloc(), first)?,
+            second: match second {
+                Some(second) => Some(b"\0".repeat(rt.alloc(), second)?),
+                None => None,
+            },
+        };
         let vars = defaults(rt.alloc(), lines);
         let Err((stored, fault)) = Session::start(rt.alloc(), stored, vars) else {
             panic!(rt; "a start");
         };
-        assert_eq!(rt; fault, wanted);
-        assert_eq!(rt; stored.first.as_slice(), first);
+        assert_eq!(rt; (fault, stored.first.len()), (wanted, first));
     }
     Ok(())
 }
 
 #[test]
-fn an_import_goes_on_behind_a_refused_entry(rt: HostRuntime) -> Result<(), Fail> {
+fn an_import_goes_on_after_a_refused_entry(rt: HostRuntime) -> Result<(), Fail> {
     let mut session = single(&rt, 64, "")?;
     let lines: [(&[u8], &[u8]); 3] = [(b".flags", b"a:d"), (b"a", b"x"), (b"b", b"1")];
     let mut entries = Vec::new(rt.alloc());

@@ -1,4 +1,5 @@
 //! Texts: worked examples, with values taken from docs/texts.md and U-Boot's own documents.
+use bench_parts::{folded, unfolded};
 use envcfg_core::{
     Config, ConfigFault, ExportFault, Place, TextEntry, TextFault, export_entry, parse_config,
     parse_import, parse_set_script,
@@ -41,47 +42,53 @@ fn said(alloc: Global, outcome: Result<Config, ConfigFault>) -> Result<String, A
     Ok(text)
 }
 
-/// Texts for import, and what is read of them.
-const IMPORTS: [(&[u8], &[u8]); 12] = [
-    (b"", b""),
-    (b"  a=1\n# x\nb\nc=\n", b"1:a=1;3:b;4:c;"),
-    (b"=z", b"EmptyName in line 1"),
-    (b"a=1\n\n \t=z\n=y", b"EmptyName in line 3"),
-    (b"a=1\\", b"1:a=1\\;"),
-    (b"=x\n\0", b"Nul"),
-    (b"#\0", b"Nul"),
-    (b"a=x\\\ny\nb=1", b"1:a=x\ny;3:b=1;"),
-    (b"a=b=c\n \t# no\n# \\\nd\\=e", b"1:a=b=c;4:d\\=e;"),
-    (b"a=1\r\n\tb\r\n", b"1:a=1\r;2:b\r;"),
-    (b"a\\\nb=\\\\\\q", b"1:a\\;2:b=\\q;"),
-    (b"a=# no comment\n\n\n#last", b"1:a=# no comment;"),
-];
+/// Texts for import, in which `/` ends a line, and what is read of them.
+const IMPORTS: &str = "\
+=z => EmptyName in line 1
+  a=1/# x/b/c=/ => 1:a=1;3:b;4:c;
+ =>
+a=1// \t=z/=y => EmptyName in line 3
+a=1\\ => 1:a=1\\;
+=x/\0 => Nul
+#\0 => Nul
+a=x\\/y/b=1 => 1:a=x/y;3:b=1;
+a=b=c/ \t# no/# \\/d\\=e => 1:a=b=c;4:d\\=e;
+a=1\r/\tb\r/ => 1:a=1\r;2:b\r;
+a\\/b=\\\\\\q => 1:a\\;2:b=\\q;
+a=# no comment///#last => 1:a=# no comment;
+";
 
 /// Set scripts, and what is read of them.
-const SET_SCRIPTS: [(&[u8], &[u8]); 9] = [
-    (b"", b""),
-    (
-        b"# c\n\nnetdev  eth0\nfoo a  b\nbar\nk=v w\n",
-        b"3:netdev=eth0;4:foo=a  b;5:bar;6:k=v w;",
-    ),
-    (b"a 1\r\nb\r\n \t\r\n\r\n", b"1:a=1;2:b;"),
-    (b"a 1\r\r\n", b"1:a=1\r;"),
-    (b"a 1\r", b"1:a=1;"),
-    (b" # x\n\t k\t= v ", b"1:#=x;2:k== v ;"),
-    (b"a\n =v", b"EmptyName in line 2"),
-    (b"=v\n\0", b"Nul"),
-    (b"a=", b"1:a;"),
-];
+const SET_SCRIPTS: &str = "\
+# c//netdev  eth0/foo a  b/bar/k=v w/ => 3:netdev=eth0;4:foo=a  b;5:bar;6:k=v w;
+ =>
+a 1\r/b\r/ \t\r/\r/ => 1:a=1;2:b;
+a 1\r\r/ => 1:a=1\r;
+a 1\r => 1:a=1;
+ # x/\t k\t= v  => 1:#=x;2:k== v ;
+a/ =v => EmptyName in line 2
+=v/\0 => Nul
+a= => 1:a;
+";
 
 #[test]
 fn entries_are_read(rt: HostRuntime) -> Result<(), Fail> {
-    for (text, expected) in IMPORTS {
-        let found = shown(rt.alloc(), parse_import(rt.alloc(), text))?;
-        assert_eq!(rt; found.as_slice(), expected, "of {text:?}");
-    }
-    for (text, expected) in SET_SCRIPTS {
-        let found = shown(rt.alloc(), parse_set_script(rt.alloc(), text))?;
-        assert_eq!(rt; found.as_slice(), expected, "of {text:?}");
+    for (table, is_import) in [(IMPORTS, true), (SET_SCRIPTS, false)] {
+        for row in table.lines() {
+            let (text, wanted) = row.split_once(" =>").ok_or("no row")?;
+            let text = unfolded(rt.alloc(), text)?;
+            let entries = if is_import {
+                parse_import(rt.alloc(), &text)
+            } else {
+                parse_set_script(rt.alloc(), &text)
+            };
+            let found = folded(rt.alloc(), &shown(rt.alloc(), entries)?)?;
+            assert_eq!(rt;
+                found.as_slice(),
+                wanted.trim_start().as_bytes(),
+                "of {row}"
+            );
+        }
     }
     Ok(())
 }

@@ -6,8 +6,8 @@ use std::alloc::{AllocError, Global};
 use std::process::Abort;
 use std::test::Fail;
 
-/// A write in one line: `!` where it is forced, the name, `=` and the value where there is one,
-/// and behind `|` the refusal that is wanted.
+/// A write in one line: `!` if it is forced, the name, `=` and the value if there is one, and after `|` the refusal that is
+/// wanted.
 pub(crate) fn read_step(line: &str) -> (bool, &str, Option<&str>, &str) {
     let (write, refusal) = line.split_once('|').unwrap_or((line, ""));
     let (force, write) = match write.strip_prefix('!') {
@@ -20,6 +20,7 @@ pub(crate) fn read_step(line: &str) -> (bool, &str, Option<&str>, &str) {
     }
 }
 
+/// The name of a refusal, or nothing.
 pub(crate) fn name_of(refusal: Option<Refusal>) -> &'static str {
     match refusal {
         None => "",
@@ -44,17 +45,19 @@ pub(crate) fn bytes(value: Option<&str>) -> Option<&[u8]> {
 fn make(rt: &impl Abort, vars: &mut Vars, defaults: &Vars, steps: &str) {
     for line in steps.split(';') {
         let (force, name, value, refusal) = read_step(line);
-        let name = name.as_bytes();
-        let value = bytes(value);
+        let (name, value) = (name.as_bytes(), bytes(value));
         let foretold = vars.check(name, value, force, defaults).err();
-        assert_eq!(rt; name_of(foretold), refusal, "in {steps}");
         let found = vars.write(name, value, force, defaults).err();
-        assert_eq!(rt; name_of(found), refusal, "in {steps}");
+        assert_eq!(rt;
+            (name_of(foretold), name_of(found)),
+            (refusal, refusal),
+            "in {steps}"
+        );
     }
 }
 
-/// The variables as lines.
-fn text(alloc: Global, vars: &Vars) -> Result<Vec<u8>, AllocError> {
+/// The variables, with a `;` after each.
+pub(crate) fn text(alloc: Global, vars: &Vars) -> Result<Vec<u8>, AllocError> {
     let mut text = Vec::new(alloc);
     for line in vars.lines() {
         text.extend_from_slice(line)?;
@@ -101,68 +104,36 @@ fn variables_come_in_the_order_of_their_names(rt: HostRuntime) -> Result<(), Fai
 }
 
 /// The room, writes one after the other in an empty environment, and the variables that they leave.
-const WRITES: [(u32, &str, &str); 11] = [
-    (
-        4092,
-        ".flags=n:d,n:x;n=1f;n=zz|BadType;!n=zz|BadType",
-        ".flags=n:d,n:x;n=1f;",
-    ),
-    (
-        4092,
-        ".flags=k:so;k=1;k=2|NoOverwrite;k=1|NoOverwrite;!k=3;k|NoDelete;k=|NoDelete",
-        ".flags=k:so;k=3;",
-    ),
-    (
-        4092,
-        "n=zz;.flags=.flags:dr,n:d;.flags=n:s|BadType;.flags=1|NoOverwrite;.flags|NoDelete;n=zz|BadType;!.flags;n=z",
-        "n=z;",
-    ),
-    (4, "a=b|Full", ""),
-    (5, "a=b;a=bc|Full;b=c|Full;!b=c|Full;a;b=c", "b=c;"),
-    (
-        20,
-        "q;q=;=1|BadForm;!|BadForm;a\0|BadForm;!a=1\0|BadForm;!a=0123456789012345678\0|BadForm",
-        "",
-    ),
-    (
-        4092,
-        ".flags=n:x;n=0X1f;n=1g|BadType;n=0x|BadType;n=0xx|BadType",
-        ".flags=n:x;n=0X1f;",
-    ),
-    (
-        4092,
-        ".flags=n:b;n=1;n=F;n=T;n=yes|BadType;n=2|BadType;!n=2|BadType",
-        ".flags=n:b;n=T;",
-    ),
-    (
-        4092,
-        ".flags=n:i;n=192.168.0.1;n=999.0.0.0;n=1.2.3|BadType;n=1.2..4|BadType;n=1.2.3.0004|BadType",
-        ".flags=n:i;n=999.0.0.0;",
-    ),
-    (
-        4092,
-        ".flags=n:m;n=0:1b:2:3:4:FF;n=0:1b:2:3:4|BadType;n=0:1:2:3:4:100|BadType",
-        ".flags=n:m;n=0:1b:2:3:4:FF;",
-    ),
-    (
-        4092,
-        ".flags=n:sr;n=1|NoCreate;!n=1;n|NoDelete;n=2|NoOverwrite;!n=2;!n;n",
-        ".flags=n:sr;",
-    ),
-];
+const WRITES: &str = "\
+4092 .flags=n:d,n:x;n=1f;n=zz|BadType;!n=zz|BadType => .flags=n:d,n:x;n=1f;
+4092 .flags=k:so;k=1;k=2|NoOverwrite;k=1|NoOverwrite;!k=3;k|NoDelete;k=|NoDelete => .flags=k:so;k=3;
+4092 n=zz;.flags=.flags:dr,n:d;.flags=n:s|BadType;.flags=1|NoOverwrite;.flags|NoDelete;n=zz|BadType;!.flags;n=z => n=z;
+4 a=b|Full =>
+5 a=b;a=bc|Full;b=c|Full;!b=c|Full;a;b=c => b=c;
+20 q;q=;=1|BadForm;!|BadForm;a\0|BadForm;!a=1\0|BadForm;!a=0123456789012345678\0|BadForm =>
+4092 .flags=n:x;n=0X1f;n=1g|BadType;n=0x|BadType;n=0xx|BadType => .flags=n:x;n=0X1f;
+4092 .flags=n:b;n=1;n=F;n=T;n=yes|BadType;n=2|BadType;!n=2|BadType => .flags=n:b;n=T;
+4092 .flags=n:i;n=192.168.0.1;n=999.0.0.0;n=1.2.3|BadType;n=1.2..4|BadType;n=1.2.3.0004|BadType => .flags=n:i;n=999.0.0.0;
+4092 .flags=n:m;n=0:1b:2:3:4:FF;n=0:1b:2:3:4|BadType;n=0:1:2:3:4:100|BadType => .flags=n:m;n=0:1b:2:3:4:FF;
+4092 .flags=n:sr;n=1|NoCreate;!n=1;n|NoDelete;n=2|NoOverwrite;!n=2;!n;n => .flags=n:sr;
+";
 
 #[test]
 fn writes_are_made_or_refused(rt: HostRuntime) -> Result<(), Fail> {
     let defaults = Vars::empty(rt.alloc(), 4092);
-    for (room, steps, wanted) in WRITES {
-        let mut vars = Vars::empty(rt.alloc(), room.max(1));
+    for row in WRITES.lines() {
+        let (given, wanted) = row.split_once(" =>").ok_or("no row")?;
+        let (room, steps) = given.split_once(' ').ok_or("no room")?;
+        let room = room.parse::<u32>().ok().ok_or("no number")?.max(1);
+        let mut vars = Vars::empty(rt.alloc(), room);
         make(&rt, &mut vars, &defaults, steps);
+        let wanted = wanted.trim_start();
         has(&rt, &vars, wanted)?;
         assert_eq!(rt; vars.used() as usize, wanted.len() + 1);
     }
     let mut vars = Vars::empty(rt.alloc(), 20);
     let refusal = vars.write(b"a=b", Some(b"1"), true, &defaults).err();
-    assert_eq!(rt; name_of(refusal), "BadForm");
+    assert_eq!(rt; refusal, Some(Refusal::BadForm));
     Ok(())
 }
 
@@ -186,13 +157,8 @@ fn items_with_blanks_empty_items_and_further_letters(rt: HostRuntime) {
     has_attr(&rt, &vars, "a", Kind::Decimal, Access::ReadOnly);
     has_attr(&rt, &vars, "b", Kind::String, Access::Any);
     has_attr(&rt, &vars, "", Kind::String, Access::Any);
-    make(
-        &rt,
-        &mut vars,
-        &defaults,
-        "!a=x|BadType;!a=1;a=1|NoOverwrite",
-    );
-    make(&rt, &mut vars, &defaults, ".flags= c\t: dr ,e:dcr,f:zo");
+    let steps = "!a=x|BadType;!a=1;a=1|NoOverwrite;.flags= c\t: dr ,e:dcr,f:zo";
+    make(&rt, &mut vars, &defaults, steps);
     has_attr(&rt, &vars, "c", Kind::Decimal, Access::ReadOnly);
     has_attr(&rt, &vars, "e", Kind::Decimal, Access::ChangeDefault);
     has_attr(&rt, &vars, "f", Kind::String, Access::WriteOnce);

@@ -56,7 +56,7 @@ pub found_added : {K : Type 0} (bytes : K → List ℕ) (es : List (K × Attr)) 
 found_added bytes es k a item items n same key attr named =
     found-insert_entry bytes es k a n ∙ ap (λ is. cond (eq_by_cmp bytes_cmp n (bytes k)) (Some a) (found_among is n)) same ∙ ap (λ m. cond (eq_by_cmp bytes_cmp n m) (Some a) (found_among items n)) key ∙ ap (λ x. cond (eq_by_cmp bytes_cmp n item.0) (Some x) (found_among items n)) attr ∙ ap (λ b. cond (not b && eq_by_cmp bytes_cmp n item.0) (Some item.1) (found_among items n)) (sym (is_named item.0 named))
 
--- the items of some pieces of the text, the last in front
+-- the items of some pieces of the text, the last one first
 abbrev pub last_first : List (List ℕ) → List FlagsItem
 last_first pieces = reverse (filter names_one (map item_of pieces))
 

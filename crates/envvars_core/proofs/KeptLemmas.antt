@@ -1,4 +1,4 @@
--- What is kept beside an environment: the attributes that its `.flags` gives.
+-- What is kept with an environment: the attributes that its `.flags` gives.
 use Rattle.std.proofs.Common.{◌≡◌, ℕ, false, cond, List, [], Option, Some, None, unwrap_or, refl, sym, ap, ◌∙◌}
 use Rattle.std.specs.Ordering.{is_eq, eq_by_cmp}
 use Rattle.std.specs.declared.cmp.Ordering.TheVariants.{Less, Equal, Greater}

@@ -135,7 +135,7 @@ get_kept olds n old q None is =
       | Greater ↦ λ p. sym (or_none (env.get olds q))
     ] refl
 
--- one write in front of others, some of which change the name or none does
+-- one write before others, some of which change the name or none does
 kept_step : (m : Environment) (olds : OldValues) (n : List ℕ) (new : Option (List ℕ)) (q : List ℕ) (later : Bool) → option_or (env.get (kept_by m n new olds) q) (cond later (Some (env.get (after m n new) q)) None) ≡ option_or (env.get olds q) (cond ((eq_by_cmp bytes_cmp q n && not (same_value (env.get m n) (given new))) || later) (Some (env.get m q)) None)
 unfolding kept_by kept
 kept_step m olds n new q later =
@@ -204,7 +204,7 @@ places-from m (e ∷ es) all q v is =
     there None is f = absurd (false≢true (ap is_some is))
     there (Some x) is f = f
 
--- where `.flags` isn't kept the attributes stay
+-- if `.flags` isn't kept, the attributes stay
 pub attributes-restored : (m : Environment) (olds : OldValues) (n : List ℕ) → env.contains_key olds flags_name ≡ false → attributes m n ≡ attributes (restored m olds) n
 attributes-restored m olds n e =
     sym (attributes_by m (env.get m flags_name) n refl)

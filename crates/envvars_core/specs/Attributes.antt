@@ -67,7 +67,7 @@ access_of = meaning accesses Any
 abbrev pub plain : Attr
 plain = record { kind = String; access = Any }
 
--- a letter for the type and one for the access: where one is missing, a string and any, and what follows is ignored
+-- a letter for the type and one for the access: if one is missing, a string and any, and what follows is ignored
 abbrev pub attr_of : List ℕ → Attr
 attr_of [] = plain
 attr_of (t ∷ []) = record { kind = kind_of t; access = Any }
@@ -77,14 +77,14 @@ attr_of (t ∷ a ∷ more) = record { kind = kind_of t; access = access_of a }
 abbrev pub FlagsItem : Type 0
 FlagsItem = List ℕ × Attr
 
--- the name stands before the first ':', the attributes behind it, without the blanks around either
+-- the name is before the first ':', the attributes after it, without the blanks around either
 abbrev pub item_of : List ℕ → FlagsItem
 item_of piece = (trimmed (before_first is_colon piece), attr_of (trimmed (after_first is_colon piece)))
 
 abbrev pub names_one : FlagsItem → Bool
 names_one item = not (is_empty item.0)
 
--- the items of a text: what stands between its commas, but for items with an empty name
+-- the items of a text: what is between its commas, except items with an empty name
 abbrev pub flags_items : List ℕ → List FlagsItem
 flags_items text = filter names_one (map item_of (slice_split is_comma text))
 
@@ -92,7 +92,7 @@ flags_items text = filter names_one (map item_of (slice_split is_comma text))
 abbrev pub found_among : List FlagsItem → List ℕ → Option Attr
 found_among items n = option_map (λ item. item.1) (find (λ item. eq_by_cmp bytes_cmp n item.0) items)
 
--- the attributes of the first item for a name; a string and any where there is none
+-- the attributes of the first item for a name; a string and any if there is none
 abbrev pub attr_among : List FlagsItem → List ℕ → Attr
 attr_among items n = unwrap_or (found_among items n) plain
 

@@ -13,7 +13,7 @@ abbrev pub RestoredIs : Type 0
 RestoredIs =
     (env : Environment) (olds : OldValues) (n : List ℕ) → get (restored env olds) n ≡ unwrap_or (get olds n) (get env n)
 
--- where nothing is kept nothing is brought back
+-- if nothing is kept, nothing is brought back
 abbrev pub NothingRestored : Type 0
 NothingRestored = (env : Environment) → restored env finite.empty ≡ env
 

@@ -14,7 +14,7 @@ use Rattle.envvars_core.specs.declared.attributes.Access.TheVariants.{Any, ReadO
 use Rattle.envvars_core.specs.declared.refusals.Refusal.{Refusal}
 use Rattle.envvars_core.specs.declared.refusals.Refusal.TheVariants.{BadForm, BadType, NoCreate, NoDelete, NoOverwrite, Full, Memory}
 
--- a value as it is written: an empty one is none
+-- a value as it is written: an empty one is no value
 abbrev pub given : Option (List ℕ) → Option (List ℕ)
 given new = option_and_then value_of new
 
@@ -22,7 +22,7 @@ abbrev pub holds_no_zero : Option (List ℕ) → Bool
 holds_no_zero None = true
 holds_no_zero (Some v) = not (list_any is_zero v)
 
--- no value has every type
+-- an absent value has every type
 abbrev pub has_type_if_some : Kind → Option (List ℕ) → Bool
 has_type_if_some kind None = true
 has_type_if_some kind (Some v) = has_type kind v
@@ -69,7 +69,7 @@ forbidden force access old default new = if force then None else access_refusal 
 abbrev pub full : ℕ → Environment → Option Refusal
 full room env = if nat_lt room (used env) then Some Full else None
 
--- the refusal of a write into an environment whose data area has this room. An empty new value is none.
+-- the refusal of a write into an environment whose data area has this room. An empty new value is no value.
 unfoldable pub refusal : Environment → Environment → ℕ → List ℕ → Option (List ℕ) → Bool → Option Refusal
 refusal env defaults room n new force =
     first_refusal

@@ -1,4 +1,4 @@
--- What the code keeps beside an environment, and what its steps do; no promise speaks of it.
+-- What the code keeps with an environment, and what its steps do; no promise speaks of it.
 use Rattle.std.specs.Prelude.{◌≡◌, ℕ, ◌≤◌, IsSome, ◌&&◌, Bool, not, List, Option, Some, if◌then◌else◌}
 use Rattle.std.specs.Ordering.{eq_by_cmp}
 use Rattle.std.specs.FinMap.Entries.{find}
@@ -11,13 +11,13 @@ use Rattle.envvars_core.specs.declared.attributes.Attr.{Attr}
 use Rattle.envvars_core.specs.declared.refusals.Refusal.{Refusal}
 use Rattle.envvars_core.specs.declared.refusals.Refusal.TheVariants.{BadType}
 
--- what is kept beside an environment is what it says: the running size, which the room holds, and the attributes
+-- what is kept with an environment is what it says: the running size, which the room holds, and the attributes
 pub record IsKept (env : Environment) (flags : List FlagsItem) (size room : ℕ) : Type 0 where
   pub sized : size ≡ used env
   pub fits : size ≤ room
   pub parsed : (n : List ℕ) → attr_among flags n ≡ attributes env n
 
--- the attributes of the first item for a name, if there is one, with one more item in front, which counts where it
+-- the attributes of the first item for a name, if there is one, with one more item before them, which counts if it
 -- has a name
 abbrev pub found_after : FlagsItem → List FlagsItem → List ℕ → Option Attr
 found_after item items n = if names_one item && eq_by_cmp bytes_cmp n item.0 then Some item.1 else found_among items n

@@ -30,7 +30,7 @@ is_truth b = list_any (λ c. b == c) (codes "1yYtT0nNfF")
 abbrev pub is_group : (ℕ → Bool) → ℕ → List ℕ → Bool
 is_group test most group = nat_le 1 (length group) && nat_le (length group) most && list_all test group
 
--- so many groups, with the separator between them
+-- this many groups, with the separator between them
 abbrev pub are_groups : ℕ → ℕ → (List ℕ → Bool) → List ℕ → Bool
 are_groups count separator test v =
     let groups = slice_split (λ b. b == separator) v in

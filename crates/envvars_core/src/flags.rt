@@ -86,7 +86,7 @@ fn is_blank(byte: u8) -> bool
     byte == b' ' || byte == b'\t'
 }
 
-/// How many blanks stand at the front.
+/// How many blanks are at the front.
 fn leading_blanks(text: &[u8]) -> usize
     ensures blanks { result ≡ prefix_len is_blank text.now }
     ensures within { result ≤ length text.now }
@@ -94,7 +94,7 @@ fn leading_blanks(text: &[u8]) -> usize
     text.iter().take_while(|b| is_blank(**b)).count()
 }
 
-/// How many blanks stand at the end.
+/// How many blanks are at the end.
 fn trailing_blanks(text: &[u8]) -> usize
     ensures blanks { result ≡ suffix_len is_blank text.now }
     ensures within { result ≤ length text.now }
@@ -120,7 +120,7 @@ fn name_end(piece: &[u8]) -> usize
     piece.iter().take_while(|b| **b != b':').count()
 }
 
-/// An item: the name before the first `:`, and the attributes behind it.
+/// An item: the name before the first `:`, and the attributes after it.
 fn read_item(piece: &[u8]) -> (&[u8], Attr)
     ensures name { result.0.now ≡ (item_of piece.now).0 }
     ensures attr { result.1 ≡ (item_of piece.now).1 }

@@ -1,5 +1,5 @@
-//! Laws over the definitions alone: each function does nothing, and its contract is the law. Whoever calls `restore` owes
-//! that what comes back fits, and may begin with `nothing_restored`.
+//! Laws over the definitions alone: each function does nothing, and its contract is the law. A caller of `restore`
+//! shows that what comes back fits, and may begin with `nothing_restored`.
 ghost use Rattle.std.specs.Prelude.{◌≡◌, ◌+◌, ℕ, List, Option};
 ghost use Rattle.std.specs.FinMap as env;
 ghost use Rattle.envimg_core.specs.Environment.{Environment, used};
@@ -19,12 +19,12 @@ pub fn size_after_removal()
         used (env.remove m n) + size_of n (env.get m n) ≡ used m }
 {}
 
-/// What is kept, put back: each kept name has its old value, or none where it had none, and every other name stays.
+/// What is kept, put back: each kept name has its old value, or no value if it had none, and every other name stays.
 pub fn restored_is()
     ensures { RestoredIs }
 {}
 
-/// Where nothing is kept, nothing is brought back.
+/// If nothing is kept, nothing is brought back.
 pub fn nothing_restored()
     ensures { NothingRestored }
 {}

@@ -19,7 +19,7 @@ type Values = BTreeMap<Vec<u8>, Option<OwnedVariable>>;
 
 /// For each changed name its first old value, or that it had none.
 ///
-/// An old value stands as the variable that it was, so that bringing it back takes no memory.
+/// An old value is kept as the variable that it was, so that bringing it back takes no memory.
 #[derive(Drop)]
 pub struct Olds {
     pub(crate) values: Values,
@@ -55,7 +55,9 @@ impl Olds {
     pub fn len(&self) -> usize
         ensures { result ≡ env.len self.now }
     {
-        self.values.len()
+        // nothing else is kept: a further field would have to be named here
+        let Olds { values, alloc: _ } = self;
+        values.len()
     }
 
     /// The old value of a kept name, or that it had none.
@@ -76,7 +78,7 @@ impl Olds {
     }
 
     /// Keeps the old value of a name, unless one is kept already, and answers whether it is kept only now.
-    /// Where memory runs out, nothing has changed.
+    /// If memory runs out, nothing has changed.
     pub(crate) fn keep(&mut self, name: &[u8], old: Option<&[u8]>) -> Result<bool, Memory>
         requires name_form { IsTrue (is_name name.now) }
         requires value_form { IfSome (option_copied old) (λ v. IsTrue (is_value v)) }
@@ -91,7 +93,7 @@ impl Olds {
         Ok(true)
     }
 
-    /// Keeps a name no more, where it was kept only now. It takes no memory.
+    /// Stops keeping a name that was kept only now; otherwise it does nothing. It takes no memory.
     pub(crate) fn forget(&mut self, name: &[u8], added: bool)
         ensures { self.new ≡ (if added then env.remove self.old name.now else self.old) }
     {
@@ -130,7 +132,7 @@ impl Olds {
         put_back(&self.values, variables)
     }
 
-    /// Keeps the old value of a name that isn't kept yet. Where memory runs out, nothing has changed.
+    /// Keeps the old value of a name that isn't kept yet. If memory runs out, nothing has changed.
     fn add(&mut self, name: &[u8], old: Option<&[u8]>) -> Result<(), Memory>
         requires name_form { IsTrue (is_name name.now) }
         requires value_form { IfSome (option_copied old) (λ v. IsTrue (is_value v)) }

@@ -101,7 +101,7 @@ fn are_all_groups(value: &[u8], separator: u8, base: Base, most: usize) -> bool
         .all(|group| is_group(group, base, most))
 }
 
-/// Whether a value is so many groups of one to `most` digits, with the separator between them.
+/// Whether a value is `count` groups of one to `most` digits, with the separator between them.
 fn are_groups(value: &[u8], count: usize, separator: u8, base: Base, most: usize) -> bool
     ensures { result ≡ are_groups count separator (is_group (is_digit base) most) value.now }
 {

@@ -124,7 +124,7 @@ piece_read area at end m n goal p e is =
     ∙ sym (fold-append after_entry m (filter has_name (entry_of (slice_range area at end) ∷ [])) (entries_of (drop (end + 1) area)))
     ∙ ap (fold after_entry m) (sym p.next) ∙ e
 
--- the four ways of a piece: no '=', nothing before it, nothing behind it, a name and a value
+-- the four ways of a piece: no '=', nothing before it, nothing after it, a name and a value
 pub none_takes : (m : Environment) (xs : List ℕ) → 0 < length xs → IsFirstByte (is_byte 61) xs None → env.remove m xs ≡ fold after_entry m (filter has_name (entry_of xs ∷ []))
 none_takes m xs h f =
     ap (env.remove m) (sym (take_all (length xs) xs (omega arith))) ∙ sym (takes_away m xs (length xs) (missed (is_byte 61) xs f) h (omega arith) (omega arith))

@@ -1,4 +1,4 @@
--- What the code compares, said of the variables in order.
+-- What the code compares, stated for the variables in order.
 use Rattle.std.proofs.Common.{◌≡◌, ℕ, suc, ◌+◌, ◌-◌, ◌<◌, ◌≤◌, T, List, [], ◌∷◌, ◌++◌, length, take, drop, get_or, All, vec_len, sym, ap, subst, ◌∙◌, refl, arith, add-one, Ordering, Less, Equal, Greater}
 use Rattle.std.specs.FinMap.Entries.{is_sorted, below_all}
 use Rattle.std.proofs.Math.Seq.{drop-cons, take-suc}
@@ -167,7 +167,7 @@ gap_position q area runs r k x o at g =
           (starts_append q (pairs area (drop k (variables_at runs r))) _ (subst (StartsAfter q) (drop-map (pair_of area) k x.items ∙ ap (λ m. pairs area (drop k m)) (sym e)) g.after) o.after);
     }
 
--- what holds of a list's elements holds of those behind its first
+-- what holds of a list's elements holds of those after its first
 pub All_rest : {X : Type 0} (P : X → Type 0) (all more : List X) (x : X) → all ≡ x ∷ more → All P all → All P more
 All_rest P all more x e h =
     let g = subst (All P) e h in

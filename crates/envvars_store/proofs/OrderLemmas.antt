@@ -15,7 +15,7 @@ below_at : (n : List ℕ) (xs : List Pair) (e : Pair) (ys : List Pair) → T (be
 below_at n [] e ys h = is_less _ (and_left _ _ h)
 below_at n (x ∷ xs) e ys h = below_at n xs e ys (and_right _ _ h)
 
--- a name that doesn't come before an element comes after all that stand before that element
+-- a name that doesn't come before an element comes after all that are before that element
 pub all_before_greater : (q : List ℕ) (xs : List Pair) (e : Pair) (ys : List Pair) → T (is_sorted bytes_cmp (xs ++ e ∷ ys)) → bytes_cmp q e.0 ≡ Greater → AllBefore q xs
 all_before_greater q [] e ys h g = tt
 all_before_greater q (x ∷ xs) e ys h g =
@@ -50,7 +50,7 @@ pub find_at : (q : List ℕ) (xs : List Pair) (e : Pair) (ys : List Pair) → Al
 find_at q [] e ys b s = ap (λ o. cond (is_eq o) (Some e.1) (find bytes_cmp q ys)) s
 find_at q (x ∷ xs) e ys b s = ap (λ o. cond (is_eq o) (Some x.1) (find bytes_cmp q (xs ++ e ∷ ys))) b.0 ∙ find_at q xs e ys b.1 s
 
--- where the first comes after the name, all do
+-- if the first comes after the name, all do
 below_from : (q : List ℕ) (e : Pair) (ys : List Pair) → bytes_cmp q e.0 ≡ Less → T (below_all bytes_cmp e.0 ys) → T (below_all bytes_cmp q ys)
 below_from q e [] s h = tt
 below_from q e (y ∷ ys) s h = and_both _ _ (less_is _ (nat_list_cmp_total.trans q e.0 y.0 s (is_less _ (and_left _ _ h)))) (below_from q e ys s (and_right _ _ h))

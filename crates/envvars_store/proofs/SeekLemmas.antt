@@ -71,7 +71,7 @@ agree [] ys (suc n) h g e = absurd (omega arith)
 agree (x ∷ xs) [] (suc n) h g e = absurd (omega arith)
 agree (x ∷ xs) (y ∷ ys) (suc n) h g e = (λ i. e 0 (omega arith) i ∷ agree xs ys n (omega arith) (omega arith) (λ k l. e (suc k) (omega arith)) i)
 
--- the name goes on behind the last one, or differs from it by a greater byte
+-- the name goes on after the last one, or differs from it by a greater byte
 pub near_longer : (xs ys : List ℕ) (s n l : ℕ) → s < 32 → 32 ≤ length xs → n ≤ length xs → l ≤ length ys → 32 ≤ length ys → ((k : ℕ) → k < s → get_or xs k 0 ≡ get_or ys k 0) → l ≤ s → l < n → bytes_cmp (take n xs) (take l ys) ≡ Greater
 near_longer xs ys s n l b h w v g e le lt =
     let long : length (take l ys) ≡ l = length-take-le l ys v in
@@ -87,7 +87,7 @@ near_byte xs ys s n l b h w v g e sl sn lt =
     let shared : IsShared xs (take l ys) s = record { first = omega arith; second = omega arith; same = agree xs ys s (omega arith) (omega arith) e ∙ sym (take-take s l ys (omega arith)); differ = λ p q r. absurd (omega (arith, at, r)) } in
     ap (λ m. bytes_cmp (take m xs) (take l ys)) (sym all) ∙ rises_byte xs (take l ys) s (n - s) shared (omega arith) (omega arith) (omega arith) (omega arith)
 
--- the first in a text is the first in a front of it that reaches behind it
+-- the first in a text is the first in a prefix of it that reaches past it
 pub first_in_front : (a n : ℕ) (xs : List ℕ) (k : ℕ) → IsFirstByte (is_byte a) xs (Some k) → k < n → n ≤ length xs → IsFirstByte (is_byte a) (take n xs) (Some k)
 first_in_front a n xs k f l w =
     (record { low = omega arith; high = omega (arith, length-take-le n xs w); before = λ i b h t. f.0.before i b h (ap (is_byte a) (sym (get_or-take n xs i 0 (omega arith))) ∙ t) }, ap (is_byte a) (get_or-take n xs k 0 l) ∙ f.1)

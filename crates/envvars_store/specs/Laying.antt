@@ -6,7 +6,7 @@ use Rattle.envvars_store.specs.declared.variable.Extent.{Extent}
 use Rattle.envvars_store.specs.declared.variable.Variable.{Variable}
 use Rattle.envvars_store.specs.declared.variable.Variable.TheVariants.{Loaded, Written}
 
--- the text of an owned variable: the '=' stands in the middle, and what is on its sides are a name and a value
+-- the text of an owned variable: the '=' is in the middle, and what is on its sides are a name and a value
 pub record IsOwned (bytes : List ℕ) (middle : ℕ) : Type 0 where
   pub within : middle < length bytes
   pub equals : slice_index bytes middle ≡ equals

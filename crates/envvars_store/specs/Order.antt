@@ -1,4 +1,4 @@
--- Where a name stands among variables in the order of their names.
+-- Where a name belongs among variables in the order of their names.
 use Rattle.std.specs.Prelude.{◌≡◌, ◌≢◌, slice_index, ℕ, Bool, not, ◌<◌, ◌≤◌, List, [], ◌∷◌, length, take, drop, slice_index_or}
 use Rattle.std.specs.Ordering.{eq_by_cmp}
 use Rattle.std.specs.declared.cmp.Ordering.TheVariants.{Less, Equal, Greater}
@@ -20,17 +20,17 @@ pub record IsFound (name : List ℕ) (es : List Pair) (i : ℕ) : Type 0 where
   pub before : AllBefore name (take i es)
   pub equal : bytes_cmp name (slice_index_or es i ([], [])).0 ≡ Equal
 
--- no variable has the name, and the index is where one would stand
+-- no variable has the name, and the index is where one would be
 pub record IsGap (name : List ℕ) (es : List Pair) (i : ℕ) : Type 0 where
   pub within : i ≤ length es
   pub before : AllBefore name (take i es)
   pub after : StartsAfter name (drop i es)
 
--- whether a name is another than the first one
+-- whether a name differs from the first one
 abbrev pub is_other : List ℕ → List ℕ → Bool
 is_other q n = not (eq_by_cmp bytes_cmp q n)
 
--- two texts share as many bytes at their front, and no more
+-- two texts share this many bytes at their start, and no more
 pub record IsShared (xs ys : List ℕ) (n : ℕ) : Type 0 where
   pub first : n ≤ length xs
   pub second : n ≤ length ys

@@ -7,8 +7,8 @@ use Rattle.std.specs.FinMap.{insert}
 use Rattle.envvars_store.specs.Laying.{IsExtent}
 use Rattle.envvars_store.specs.declared.variable.Extent.{Extent}
 
--- a piece stands from one index to another, it is not empty, and the entries from its start on are its own and those
--- behind it
+-- a piece goes from one index to another, it is not empty, and the entries from its start on are its own and those
+-- after it
 pub record IsPiece (area : List ℕ) (start end : ℕ) : Type 0 where
   pub some : start < end
   pub within : end < length area

@@ -1,4 +1,4 @@
--- Variables in runs, one run after another, and where one stands in them.
+-- Variables in runs, one run after another, and where one is in them.
 use Rattle.std.specs.Prelude.{◌≡◌, ℕ, zero, suc, ◌<◌, ◌≤◌, T, List, [], ◌∷◌, ◌++◌, map, flat_map, length, take, drop, All, Vec, vec_len, slice_index_or}
 use Rattle.std.specs.declared.alloc.Global.{Global}
 use Rattle.std.specs.FinMap.Entries.{is_sorted}
@@ -31,7 +31,7 @@ variables_at [] r = []
 variables_at (x ∷ xs) zero = x.items
 variables_at (x ∷ xs) (suc r) = variables_at xs r
 
--- the variables before a position, those from it on, and those behind it
+-- the variables before a position, those from it on, and those after it
 abbrev pub front : List Run → Position → List Variable
 front runs s = flat (take s.run runs) ++ take s.index (variables_at runs s.run)
 
@@ -49,7 +49,7 @@ IsFilled r = 0 < vec_len r
 abbrev pub HoldsVariable : List ℕ → Variable → Type 0
 HoldsVariable area s = IsVariable (pair_of area s)
 
--- what holds of the runs over an area: no run is empty, each extent lies in the area, and the variables stand in the
+-- what holds of the runs over an area: no run is empty, each extent lies in the area, and the variables are in the
 -- order of their names, each of its form
 pub record AreInOrder (area : List ℕ) (runs : List Run) : Type 0 where
   pub filled : All IsFilled runs
@@ -71,7 +71,7 @@ pub record IsPositionOf (name area : List ℕ) (runs : List Run) (s : Position) 
   pub equal : (x : Variable) →
       x ≡ slice_index_or (variables_at runs s.run) s.index x → bytes_cmp name (pair_of area x).0 ≡ Equal
 
--- no variable has the name, and the position is where one would stand
+-- no variable has the name, and the position is where one would be
 pub record BelongsAt (name area : List ℕ) (runs : List Run) (s : Position) : Type 0 where
   pub index : s.index ≤ length (variables_at runs s.run)
   pub before : AllBefore name (pairs area (front runs s))

@@ -13,7 +13,7 @@ use crate::variable::Extent;
 use envimg_core::{END, EQUALS};
 use memchr::memchr;
 
-/// The extent of the entry that begins at an index, if it has a value and its name comes after another, which stands
+/// The extent of the entry that begins at an index, if it has a value and its name comes after another, which is
 /// before it.
 #[inline(always)]
 pub(crate) fn next_extent(area: &[u8], at: usize, from: usize, last: &[u8]) -> Option<Extent>
@@ -30,7 +30,7 @@ pub(crate) fn next_extent(area: &[u8], at: usize, from: usize, last: &[u8]) -> O
     }
 }
 
-/// The same, where the entry ends among the next `LOOK` bytes.
+/// The same, if the entry ends among the next `LOOK` bytes.
 #[inline(always)]
 fn near_extent(area: &[u8], at: usize, from: usize, last: &[u8]) -> Option<Extent>
     requires within { at ≤ length area.now }
@@ -75,7 +75,7 @@ fn far_extent(area: &[u8], at: usize, last: &[u8]) -> Option<Extent>
     })
 }
 
-/// Where the piece that begins at an index ends; none where no entry is left.
+/// Where the piece that begins at an index ends; `None` if no entry is left.
 pub(crate) fn piece_end(area: &[u8], at: usize) -> Option<usize>
     requires { at ≤ length area.now }
     ensures { MatchOption result (entries_of (drop at area.now) ≡ []) (IsPiece area.now at) }
@@ -103,7 +103,7 @@ fn rising_end(piece: &[u8], last: &[u8]) -> Option<usize>
     }
 }
 
-/// How many bytes two texts share at their front.
+/// How many bytes two texts share at their start.
 #[inline(always)]
 fn shared(text: &[u8], other: &[u8]) -> usize
     ensures { IsShared text.now other.now result }

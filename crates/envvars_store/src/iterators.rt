@@ -102,7 +102,7 @@ impl<'a> Iterator for Lines<'a> {
     }
 }
 
-/// The variables that are left: those of one run, and those of the runs behind it.
+/// The variables that are left: those of one run, and those of the runs after it.
 #[derive(Drop)]
 struct InOrder<'a> {
     run: &'a [Variable],

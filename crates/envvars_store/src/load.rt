@@ -51,7 +51,7 @@ fn loaded(alloc: Global, area: &[u8]) -> Result<Vec<Run>, AllocError>
 }
 
 /// Takes the entries up to the first whose name doesn't come after the last one, or that has no name or value, and
-/// answers where that one begins.
+/// returns where that one begins.
 fn rising(alloc: Global, area: &[u8], runs: &mut Vec<Run>) -> Result<usize, AllocError>
     requires empty { runs.old.items ≡ [] }
     requires size { length area.now ≤ greatest_size }
@@ -79,7 +79,7 @@ fn rising(alloc: Global, area: &[u8], runs: &mut Vec<Run>) -> Result<usize, Allo
     }
 }
 
-/// The extent of the entry behind another, if it has a value and its name comes after the other's.
+/// The extent of the entry after another, if it has a value and its name comes after the other's.
 #[inline(always)]
 fn extent_behind(area: &[u8], last: Extent) -> Option<Extent>
     requires extent { IsExtent area.now last }

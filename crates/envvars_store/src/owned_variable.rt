@@ -7,10 +7,10 @@ use smallvec::SmallVec;
 use std::alloc::{AllocError, Global};
 use std::marker::Model;
 
-/// How many bytes of name, `=` and value stand in the variable itself. Only a longer text takes memory.
+/// How many bytes of name, `=` and value are in the variable itself. Only a longer text takes memory.
 const INLINE: usize = 16;
 
-/// One variable that owns its bytes: name, `=` and value in one text. A short text stands beside its neighbours' among the
+/// One variable that owns its bytes: name, `=` and value in one text. A short text is next to its neighbours' among the
 /// variables, where a search compares it without another read of memory far away.
 /// Contracts see the pair of the name and the value.
 #[derive(Drop)]
@@ -34,7 +34,7 @@ impl Model for OwnedVariable {
 
 impl OwnedVariable {
     /// The variable `name` with the value `value`.
-    /// The name is a name and the value a value (docs/images.md); it is refused only for memory, of which there is none
+    /// The name is a name and the value a value (docs/images.md); it is refused only when out of memory, as always
     /// for a name of 4 GiB.
     pub fn new(alloc: Global, name: &[u8], value: &[u8]) -> Result<OwnedVariable, AllocError>
         requires name_form { IsTrue (is_name name.now) }

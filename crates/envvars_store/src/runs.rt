@@ -9,20 +9,20 @@ use std::mem::replace;
 /// A run of variables, at most `MOST` of them.
 pub(crate) type Run = Vec<Variable>;
 
-/// The most variables that a run has. A write moves at most so many.
+/// The most variables that a run has. A write moves at most this many.
 const MOST: usize = 96;
 
-/// Two runs side by side that have no more variables together become one. Each run has room for so many.
+/// Two neighbouring runs that have no more variables together become one. Each run has room for this many.
 pub(crate) const FEW: usize = 48;
 
-/// Where a variable stands: the index of its run, and its index in the run.
+/// Where a variable is: the index of its run, and its index in the run.
 #[derive(Clone, Copy)]
 pub(crate) struct Position {
     pub(crate) run: usize,
     pub(crate) index: usize,
 }
 
-/// Puts a variable behind those of a run that stands behind all others and not yet among them; a full one goes there
+/// Puts a variable after those of a run that comes after all others and is not yet among them; a full one goes there
 /// first.
 #[inline(always)]
 pub(crate) fn add(
@@ -45,7 +45,7 @@ pub(crate) fn add(
     Ok(())
 }
 
-/// Puts a variable in front of the one at a position.
+/// Puts a variable before the one at a position.
 pub(crate) fn insert_at(
     alloc: Global,
     runs: &mut Vec<Run>,
@@ -150,7 +150,7 @@ pub(crate) fn remove_at(runs: &mut Vec<Run>, at: Position)
     }
 }
 
-/// Takes a variable out of its run, and the run away where that was its last.
+/// Takes a variable out of its run, and the run away if that was its last.
 fn take_at(runs: &mut Vec<Run>, at: Position)
     requires run { at.run < length runs.old.items }
     requires index { at.index < length (variables_at runs.old.items at.run) }
@@ -164,7 +164,7 @@ fn take_at(runs: &mut Vec<Run>, at: Position)
     }
 }
 
-/// Makes a run and the one behind it one run, where they are short and it has the room.
+/// Makes a run and the one after it one run, if they are short and it has the room.
 fn join(runs: &mut Vec<Run>, first: usize)
     requires { All IsFilled runs.old.items }
     ensures variables { flat runs.new.items ≡ flat runs.old.items }

@@ -1,4 +1,4 @@
-//! Where a name stands among variables in the order of their names.
+//! Where a name belongs among variables in the order of their names.
 ghost use Rattle.std.specs.Prelude.{MatchOption, MatchResult, T, All};
 ghost use Rattle.std.specs.FinMap.Entries.{is_sorted};
 ghost use Rattle.envimg_core.specs.Environment.{bytes_cmp};
@@ -10,7 +10,7 @@ use crate::runs::{Position, Run};
 use crate::variable::Variable;
 use std::cmp::Ordering;
 
-/// Where the variable with the name stands, or the position where one would stand.
+/// Where the variable with the name is, or the position where one would be.
 pub(crate) fn locate(area: &[u8], runs: &[Run], name: &[u8]) -> Result<Position, Position>
     requires { AreInOrder area.now runs.now }
     ensures { MatchResult result (IsPositionOf name.now area.now runs.now) (BelongsAt name.now area.now runs.now) }

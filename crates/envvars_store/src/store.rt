@@ -73,7 +73,7 @@ impl Variables {
     }
 
     /// Gives a name a value. The name is a name and the value a value (docs/images.md).
-    /// It is refused only for memory, and then nothing has changed.
+    /// It is refused only when out of memory, and then nothing has changed.
     pub fn insert(&mut self, name: &[u8], value: &[u8]) -> Result<(), AllocError>
         requires name_form { IsTrue (is_name name.now) }
         requires value_form { IsTrue (is_value value.now) }
@@ -93,7 +93,7 @@ impl Variables {
     }
 
     /// Puts a variable in the place of the one that has its name, which takes no memory.
-    /// Where none has it, the variable that was given comes back and nothing has changed.
+    /// If none has it, the variable that was given comes back and nothing has changed.
     pub fn replace(&mut self, variable: OwnedVariable) -> Result<(), OwnedVariable>
         ensures present { IsOk result ↔ IsSome (env.get self.old variable.0) }
         ensures ok { OnOk result (self.new ≡ env.insert self.old variable.0 variable.1) }
@@ -165,7 +165,7 @@ pub(crate) fn set(
     Ok(())
 }
 
-/// Where the variable with the name stands, or where one would stand, in a run that has room for it: a full one is cut.
+/// Where the variable with the name is, or where one would be, in a run that has room for it: a full one is cut.
 fn locate_with_room(
     area: &[u8],
     runs: &mut Vec<Run>,

@@ -6,7 +6,7 @@ ghost use Rattle.envimg_core.specs.Environment.{entry_text};
 use crate::owned_variable::OwnedVariable;
 use std::alloc::{AllocError, Global};
 
-/// Where a variable lies in the area: its name begins at `start`, the `=` stands at `middle`, the value ends before
+/// Where a variable lies in the area: its name begins at `start`, the `=` is at `middle`, the value ends before
 /// `end`.
 #[derive(Clone, Copy)]
 pub(crate) struct Extent {

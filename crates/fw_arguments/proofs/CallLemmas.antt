@@ -1,4 +1,4 @@
--- What the words of a subcommand ask for, put together.
+-- What the arguments of a subcommand ask for, put together.
 use Rattle.std.proofs.Common.{◌≡◌, ◌++◌, ℕ, Bool, true, List, [], ◌∷◌, map, ap, sym, ◌∙◌, Option, Some, None, Bor, option_map, codes, refl}
 use Rattle.std.specs.Prelude.{Ok, Err, if◌then◌else◌, unwrap_or}
 use Rattle.std.proofs.lemmas.List.{map-append}
@@ -9,7 +9,7 @@ use Rattle.fw_arguments.specs.Calls.{Defaults, Job, defaults_of, is_client, job_
 use Rattle.fw_arguments.specs.Checks.{FileCheck, file_alone, file_check_of, names_environment}
 use Rattle.fw_arguments.specs.DryRuns.{DryRun, GivenScript, and_then, run_within, script_of, script_within}
 use Rattle.fw_arguments.specs.Values.{first_or}
-use Rattle.hush_commands.specs.Limits.{Bounds}
+use Rattle.run_limits.specs.Limits.{Bounds}
 use Rattle.fw_arguments.specs.Report.{Subject, in_order, report_of, subject_of}
 use Rattle.fw_arguments.specs.Words.{big_endian, either_order, order_by, source_in}
 
@@ -17,7 +17,7 @@ pub text_or : (o : Option (Bor (List ℕ))) (other : Bor (List ℕ)) → (unwrap
 text_or None other = refl
 text_or (Some s) other = refl
 
--- one more long name of an argument
+-- an argument with one more long name
 pub alias_rule : (old new : Arg) (alias : Bor (List ℕ)) (shown : Bool) (rule : Rule) → AddsAliases old new ((alias, shown) ∷ []) → rule_of old ≡ rule →
     rule_of new ≡ record rule { aliases = rule.aliases ++ alias.now ∷ [] }
 alias_rule old new alias shown rule (same, more) is =
@@ -42,7 +42,7 @@ pub report_is : (order chosen : Order) (rows : List Row) (subject : Subject) →
     chosen ≡ either_order order (order_by (source_in big_endian.id rows)) → Ok subject ≡ subject_of rows → Ok (record { order = chosen; subject = subject }) ≡ report_of order rows
 report_is order chosen rows subject p q = λ i. in_order (p i) (q i)
 
--- a check of a script in a file, where an environment is named as well
+-- a check of a script in a file, if an environment is named as well
 pub refused_file : (rows : List Row) (path text : List ℕ) → text ≡ file_alone → names_environment rows ≡ true → Err text ≡ file_check_of path rows
 refused_file rows path text is named =
     ap Err is ∙ ap (λ (b : Bool). if b then Err file_alone else Ok (let c : FileCheck = record { stand_ins = first_of (codes "stubs") rows; path = path } in c)) (sym named)

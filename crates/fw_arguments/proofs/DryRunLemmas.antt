@@ -2,7 +2,7 @@
 use Rattle.std.proofs.Common.{◌≡◌, ℕ, List, Some, None, ap, ◌∙◌, ◌++◌, codes}
 use Rattle.std.specs.Prelude.{Ok, Err}
 use Rattle.clap.specs.Words.{Row, Text}
-use Rattle.hush_commands.specs.Limits.{bounds}
+use Rattle.run_limits.specs.Limits.{bounds}
 use Rattle.fw_arguments.specs.DryRuns.{and_then, depth_of, dry_run_of, limits_of, number_in, number_or, output_of, run_within, steps_of, word_of}
 
 pub number_found : (why : Text) (most n : ℕ) (word word' : Text) → word ≡ word' → Some n ≡ number_in most word → Ok n ≡ number_or why word' (number_in most word')

@@ -1,4 +1,4 @@
--- What clap's rules say of some words, computed by the checker.
+-- What clap's rules report of some arguments, computed by the checker.
 use Rattle.std.proofs.Common.{◌≡◌, [], ◌∷◌, Some, None, codes, refl}
 use Rattle.clap.proofs.OnLiterals.{clap_on_literals}
 use Rattle.clap.specs.declared.error.kind.ErrorKind.TheVariants.{ArgumentConflict, DisplayHelp, DisplayVersion, InvalidSubcommand, MissingRequiredArgument, TooManyValues, UnknownArgument}
@@ -9,7 +9,7 @@ use Rattle.fw_arguments.specs.ProgramNames.{faults, name_in, order_of}
 use Rattle.fw_arguments.specs.declared.program_name.ProgramName.TheVariants.{Fwenv, FwenvWith, Printenv}
 use Rattle.fw_arguments.specs.declared.program_name.Subcommand.TheVariants as sub
 
--- no word but the program's own name
+-- no argument but the program's own name
 pub name_alone : faults (codes "fwenv" ∷ []) ≡ []
 unfolding clap_on_literals
 name_alone = refl
@@ -36,7 +36,7 @@ pub short_version : faults (codes "fwenv" ∷ codes "-V" ∷ []) ≡ DisplayVers
 unfolding clap_on_literals
 short_version = refl
 
--- a word, and an option
+-- an unknown argument, and an option
 pub unknown_word : faults (codes "fwenv" ∷ codes "bootcmd" ∷ []) ≡ UnknownArgument ∷ InvalidSubcommand ∷ []
 unfolding clap_on_literals
 unknown_word = refl
@@ -45,7 +45,7 @@ pub unknown_option : faults (codes "fwenv" ∷ codes "--write" ∷ []) ≡ Unkno
 unfolding clap_on_literals
 unknown_option = refl
 
--- the flag, and words that are nearly it
+-- the flag, and arguments that are nearly it
 pub flag : faults (codes "fwenv" ∷ codes "--big-endian" ∷ []) ≡ []
 unfolding clap_on_literals
 flag = refl
@@ -161,7 +161,7 @@ pub boots_nowhere_else : faults (codes "fwenv" ∷ codes "session" ∷ codes "--
 unfolding clap_on_literals
 boots_nowhere_else = refl
 
--- the name under which the program is called, and the subcommand after it
+-- the name that the program is called by, and the subcommand after it
 pub link_named : name_in (codes "/usr/bin/fw_printenv" ∷ codes "export" ∷ []) ≡ Printenv
 link_named = refl
 

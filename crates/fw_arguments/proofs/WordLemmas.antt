@@ -1,4 +1,4 @@
--- What the words choose.
+-- What the arguments choose.
 use Rattle.std.proofs.Common.{arith, ◌≡◌, ◌≤◌, ◌||◌, Bool, Bor, List, [], ◌∷◌, length, Option, Some, None, option_map, true, false, refl, sym, ap, ap₂, ◌∙◌, subst}
 use Rattle.std.specs.Prelude.{unwrap_or, codes, find, option_and_then}
 use Rattle.std.specs.Str.{bytes_eq}
@@ -64,7 +64,7 @@ app_free (FwenvWith sub.Session) = refl
 app_free Printenv = refl
 app_free Setenv = refl
 
--- the byte order by the matches is that by the words
+-- the byte order by the matches is that by the arguments
 pub order_chosen : (name : ProgramName) (app : App) (words : List Text) (m : ArgMatches) → app ≡ app_of_name name → HasMatchesOf app words m →
     order_in m ≡ order_under name words
 order_chosen name app words m is has =
@@ -88,7 +88,7 @@ tool_called name app words m is has =
 pub neither : (x y : Bool) → x ≡ false → y ≡ false → (x || y) ≡ false
 neither x y p q = λ i. p i || q i
 
--- one argument more, and one subcommand more
+-- one more argument, and one more subcommand
 pub with_one_more : (app : App) (rule : Rule) (old new : Command) (a : Arg) → IsTool app old → AddsArg old a new → rule_of a ≡ rule → a.global ≡ false → IsTool (with_rule app rule) new
 with_one_more app rule old new a is adds same local =
     (adds.shape local ∙ ap₂ with_rule is.0 same, adds.globals ∙ neither _ _ is.1 local)
@@ -96,7 +96,8 @@ with_one_more app rule old new a is adds same local =
 pub with_tool : (app tool : App) (old sub new : Command) → app_of old ≡ app → IsTool tool sub → AddsSubcommand old sub new → app_of new ≡ with_subcommand app tool.top
 with_tool app tool old sub new before is adds = adds.shape is.1 ∙ (λ i. with_subcommand (before i) (is.0 i).top)
 
--- clap finds nothing wrong with the program's own name alone, or with no word at all; no subcommand is called, and no byte order chosen
+-- clap finds nothing wrong with only the program's own name, or with no argument; no subcommand is called, no byte
+-- order chosen
 pub alone_is_right : (words : List Text) → length words ≤ 1 → fault_of fwenv words ≡ []
 unfolding clap_on_literals
 alone_is_right [] short = refl
@@ -133,7 +134,7 @@ none_there (Some t) f p = absurd (no p)
 called_is : (m : ArgMatches) (name : Text) (rows : List Row) → Some name ≡ subcommand_name_of m → Some rows ≡ option_map (λ p. p.1) (subcommand_rows (out-ArgMatches m).subcommand) → subcommand_rows_of m ≡ Some (name, rows)
 called_is m name rows is has = pair_there (out-ArgMatches m).subcommand (λ b. ((out-SubCommand (box_value b)).name.now, rows_of (found_of (out-SubCommand (box_value b)).matches))) name rows is has
 
--- the subcommand of matches as the code has it
+-- the subcommand of matches in the code's form
 pub called_found : (m : ArgMatches) (o : Option (Bor Text × Bor ArgMatches)) → option_map (λ p. p.0.now) o ≡ subcommand_name_of m →
     option_map (λ p. rows_of (found_of p.1.now)) o ≡ option_map (λ p. p.1) (subcommand_rows (out-ArgMatches m).subcommand) →
     option_map (λ p. (p.0.now, rows_of (found_of p.1.now))) o ≡ subcommand_rows_of m

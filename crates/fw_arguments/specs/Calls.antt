@@ -1,4 +1,4 @@
--- What the words of a subcommand ask for (docs/tools.md, "Subcommands over files").
+-- What the arguments of a subcommand ask for (docs/tools.md, "Subcommands over files").
 use Rattle.std.specs.Prelude.{ℕ, ◌||◌, Bool, true, false, List, [], ◌∷◌, ◌++◌, Option, Some, None, Result, Ok, Err, option_map, codes, if◌then◌else◌}
 use Rattle.std.specs.Borrow.{Bor}
 use Rattle.std.specs.Str.{bytes_eq}
@@ -19,8 +19,8 @@ use Rattle.fw_arguments.specs.declared.call.Job.TheVariants as job
 use Rattle.fw_arguments.specs.declared.task.Task as tasks
 use Rattle.fw_arguments.specs.declared.task.Task.TheVariants as code
 
--- what a tool is to do: print these names in a way; set a name to words; set what a file says; import one; export; make the
--- variables those of a file
+-- what a tool is to do: print these names in a way; set a name to words; apply a set script; import a file;
+-- export; replace the variables by those of a file
 pub data Task : Type 0 where
   Print : List Text → Printing → Task
   Set : Text → List Text → Task
@@ -29,25 +29,26 @@ pub data Task : Type 0 where
   Export : Task
   Restore : Text → Task
 
--- what a subcommand does over its session: a tool works on it; blocks of script and dot lines are tried; a script is run; its
--- scripts are looked at
+-- what a subcommand does over its session: a tool works on it; blocks of script and dot lines are tried; a
+-- script is run; its scripts are checked
 pub data Job : Type 0 where
   Tool : Task → Job
   Tries : DryRun → Job
   Runs : ScriptRun → Job
   Checks : EnvironmentCheck → Job
 
--- the default environment: its text's path, if there is one; whether that has plain lines, and is /etc/u-boot-initial-env if
--- none is given and it is there; whether a copy has to be good where there is none; and whether it is the whole environment,
--- so that no copy is missed
+-- the default environment: its text's path, if there is one; whether the text has plain lines, and is
+-- /etc/u-boot-initial-env if no path is given and that file is there; whether a copy has to be good if there
+-- is no text; and whether the text is the whole environment, so that no copy is missed
 pub record Defaults : Type 0 where
   pub path : Option Text
   pub plain : Bool
   pub need_copy : Bool
   pub whole : Bool
 
--- a subcommand with its files, the configuration, the default environment and the folder of the lock file, if there is one; the
--- size of the erased image in memory that is in the place of the configuration's copies, if it is; its byte order, whether copies are written back only where a variable changed, and what it does
+-- a subcommand with its files: the configuration, the default environment and the folder of the lock file, if
+-- there is one; the size of the erased image in memory that replaces the configuration's copies, if there is
+-- one; its byte order; whether copies are written back only if a variable changed; and what it does
 pub record Call : Type 0 where
   pub config : Text
   pub image : Option ℕ
@@ -70,18 +71,18 @@ writes (Tries run) = run.write
 writes (Runs run) = run.dry.write
 writes (Checks check) = false
 
--- whether it works under the lock under which the copies are read; a session takes it again to write
+-- whether it works under the lock under which the copies are read; a session takes that lock again to write
 abbrev pub keeps_lock : Job → Bool
 keeps_lock (Tool task) = changes task
 keeps_lock (Tries run) = false
 keeps_lock (Runs run) = run.dry.write
 keeps_lock (Checks check) = false
 
--- the end of what is said of wrong words: how they are to be
+-- the end of a message about wrong arguments: the right usage
 abbrev pub usage : Text → Text
 usage words = codes "Usage: " ++ words ++ 10 ∷ 10 ∷ codes "For more information, try '--help'." ++ 10 ∷ []
 
--- what is wrong with the words of setenv and of fw_setenv: a name and a script, or neither
+-- what is wrong with the arguments of setenv and of fw_setenv: a name and a script, or neither
 abbrev pub setenv_words : Text
 setenv_words = codes "fwenv setenv [OPTIONS] [NAME] [WORDS]..."
 
@@ -95,7 +96,7 @@ abbrev pub no_name : (option words : Text) → Text
 no_name option words =
     codes "error: the following required arguments were not provided:" ++ 10 ∷ codes "  <NAME|" ++ option ++ codes " <FILE>>" ++ 10 ∷ 10 ∷ usage words
 
--- setenv takes a name or a script; two texts say what is wrong with other words
+-- setenv takes a name or a script; two texts report what is wrong with other arguments
 abbrev pub set_task : (both neither : Text) → Option Text → Option Text → List Text → Result Task Text
 set_task both neither (Some name) (Some path) words = Err both
 set_task both neither (Some name) None words = Ok (Set name words)
@@ -106,7 +107,7 @@ set_task both neither None None words = Err neither
 abbrev pub script_file : Option Text → Option Text
 script_file path = option_map (λ p. if bytes_eq p (codes "-") then codes "/dev/stdin" else p) path
 
--- fw_printenv prints the values of any number of names, but one at least
+-- fw_printenv prints the values of any number of names, but at least one
 abbrev pub no_names : Text
 no_names =
     codes "error: the following required arguments were not provided:" ++ 10 ∷ codes "  <NAMES>..." ++ 10 ∷ 10 ∷ usage (codes "fw_printenv [OPTIONS] [NAMES]...")
@@ -119,7 +120,8 @@ abbrev pub print_task : List Text → Bool → Result Task Text
 print_task names true = values_task names
 print_task names false = Ok (Print names Lines)
 
--- the task by the subcommand's name and what clap's rules found of its words, or the text for what is wrong with them
+-- the task by the subcommand's name and what clap's rules found in its arguments, or the text for what is
+-- wrong with them
 abbrev pub tool_task : Text → List Row → Result Task Text
 tool_task name rows =
     if bytes_eq name (codes "printenv") then Ok (Print (all_values (codes "names") rows) (if is_given (codes "value-only") rows then OneValue else Lines))
@@ -152,7 +154,7 @@ abbrev pub called : Result Task Text → Result Job Text
 called (Ok task) = Ok (Tool task)
 called (Err text) = Err text
 
--- what the subcommand of this name does, or the text for what is wrong with its words
+-- what the subcommand of this name does, or the text for what is wrong with its arguments
 abbrev pub job_of : Text → List Row → Result Job Text
 job_of name rows =
     if bytes_eq name (codes "session") then tried (dry_run_of rows)
@@ -164,7 +166,7 @@ job_of name rows =
 abbrev pub is_client : Text → Bool
 is_client name = bytes_eq name (codes "fw_printenv") || bytes_eq name (codes "fw_setenv")
 
--- a text that is the whole environment is the default one over an erased image
+-- a text that is the whole environment is the default environment over an erased image
 abbrev pub defaults_by : Option Text → Text → List Row → Defaults
 defaults_by (Some path) name rows = record { path = Some path; plain = false; need_copy = false; whole = true }
 defaults_by None name rows = record {
@@ -199,11 +201,11 @@ with_files order name rows image job = record {
 abbrev pub with_image : Order → Text → List Row → Option ℕ → Result Call Text
 with_image order name rows image = and_then (job_of name rows) (λ job. Ok (with_files order name rows image job))
 
--- what words ask for that choose a byte order before the subcommand
+-- what arguments that choose a byte order before the subcommand ask for
 abbrev pub call_of : Order → Text → List Row → Result Call Text
 call_of order name rows = and_then (image_of name rows) (with_image order name rows)
 
--- the code's answers, seen so
+-- the code's answers, in this form
 abbrev pub task_view : tasks.Task → Task
 task_view (code.Print names printing) = Print (texts names) printing
 task_view (code.Set name words) = Set name.now (texts words)

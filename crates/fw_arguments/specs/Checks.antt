@@ -1,12 +1,12 @@
--- What the words of `check` ask for (docs/dry-runs.md, "Faults found before a run").
+-- What the arguments of `check` ask for (docs/dry-runs.md, "Faults found before a run").
 use Rattle.std.specs.Prelude.{◌||◌, Bool, List, Option, Result, Ok, Err, codes, if◌then◌else◌, option_map}
 use Rattle.clap.specs.Words.{Row, Text, first_of}
 use Rattle.fw_arguments.specs.DryRuns.{texts}
 use Rattle.fw_arguments.specs.Values.{all_values, is_given}
-use Rattle.fw_arguments.specs.declared.checks.EnvironmentCheck as environments
-use Rattle.fw_arguments.specs.declared.checks.FileCheck as files
+use Rattle.fw_arguments.specs.declared.check_requests.EnvironmentCheck as environments
+use Rattle.fw_arguments.specs.declared.check_requests.FileCheck as files
 
--- a check over an environment: the stand-ins' file, if there is one, and the names at which it begins
+-- a check over an environment: the stand-ins' file, if there is one, and the names that it begins with
 pub record EnvironmentCheck : Type 0 where
   pub stand_ins : Option Text
   pub names : List Text
@@ -24,7 +24,7 @@ abbrev pub names_environment : List Row → Bool
 names_environment rows =
     is_given (codes "names") rows || (is_given (codes "config") rows || (is_given (codes "default") rows || (is_given (codes "env") rows || is_given (codes "size") rows)))
 
--- what is wrong where the script of a file is asked for as well
+-- what is wrong if the script of a file is asked for as well
 abbrev pub file_alone : Text
 file_alone =
     codes "error: the argument '-f <FILE>' cannot be used with '[NAMES]...', '-c <FILE>', '--default <FILE>', '--env <FILE>' or '--size <N>'\n\nUsage: fwenv check [OPTIONS] [NAMES]...\n\nFor more information, try '--help'.\n"
@@ -33,7 +33,7 @@ abbrev pub file_check_of : Text → List Row → Result FileCheck Text
 file_check_of path rows =
     if names_environment rows then Err file_alone else Ok (record { stand_ins = first_of (codes "stubs") rows; path = path })
 
--- the code's answers, seen so
+-- the code's answers, in this form
 abbrev pub environment_check_view : environments.EnvironmentCheck → EnvironmentCheck
 environment_check_view c = record { stand_ins = option_map (λ p. p.now) c.stand_ins; names = texts c.names }
 

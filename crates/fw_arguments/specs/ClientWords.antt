@@ -1,4 +1,4 @@
--- The words of fw_printenv and fw_setenv, as clap's rules see them (docs/tools.md, "fw_printenv and fw_setenv").
+-- The arguments of fw_printenv and fw_setenv, in clap's rules (docs/tools.md, "fw_printenv and fw_setenv").
 use Rattle.std.specs.Prelude.{true, [], ◌∷◌, Some, codes}
 use Rattle.clap.specs.Simple.{new_shape}
 use Rattle.clap.specs.Words.{App, Rule, Text, new_rule, with_rule}

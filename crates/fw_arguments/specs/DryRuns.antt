@@ -1,10 +1,10 @@
--- What the words of `session` and `run` ask for (docs/dry-runs.md).
+-- What the arguments of `session` and `run` ask for (docs/dry-runs.md).
 use Rattle.std.specs.Prelude.{ℕ, ◌||◌, nat_le, Bool, List, [], ◌∷◌, ◌++◌, Option, Some, None, Result, Ok, Err, codes, if◌then◌else◌, map, option_map, option_and_then, unwrap_or, is_some}
 use Rattle.std.specs.Borrow.{Bor}
 use Rattle.clap.specs.Words.{Row, Text, first_of}
 use Rattle.text_parts.specs.declared.digits.Base.TheVariants.{Decimal}
 use Rattle.text_parts.specs.Numerals.{numeral}
-use Rattle.hush_commands.specs.Limits.{Bounds, bounds, most_steps, most_depth, most_word, most_output}
+use Rattle.run_limits.specs.Limits.{Bounds, bounds, most_steps, most_depth, most_word, most_output}
 use Rattle.fw_arguments.specs.Values.{all_values, first_or, is_given}
 use Rattle.fw_arguments.specs.Words.{usual_steps, usual_depth, usual_word, usual_output}
 use Rattle.fw_arguments.specs.declared.dry_runs.DryRun as dry_runs
@@ -12,17 +12,17 @@ use Rattle.fw_arguments.specs.declared.dry_runs.GivenScript as scripts
 use Rattle.fw_arguments.specs.declared.dry_runs.GivenScript.TheVariants as code
 use Rattle.fw_arguments.specs.declared.dry_runs.ScriptRun as script_runs
 
--- whether the copies are written back, the stand-ins' file, if there is one, and how far each block may go
+-- whether the copies are written back, the stand-ins' file, if there is one, and the limits of each block
 pub record DryRun : Type 0 where
   pub write : Bool
   pub stand_ins : Option Text
   pub limits : Bounds
 
--- the number, where it is at most so much
+-- the number, if it is at most `most`
 abbrev pub at_most : ℕ → ℕ → Option ℕ
 at_most most n = if nat_le n most then Some n else None
 
--- one or more decimal digits that spell at most so much
+-- one or more decimal digits whose value is at most `most`
 abbrev pub number_in : ℕ → Text → Option ℕ
 number_in most text = option_and_then (at_most most) (numeral Decimal text)
 
@@ -35,7 +35,7 @@ abbrev pub number_or : Text → Text → Option ℕ → Result ℕ Text
 number_or why word (Some n) = Ok n
 number_or why word None = Err (codes "error: invalid value '" ++ word ++ why)
 
--- the number that an option gives, or what it is where the words don't say
+-- the number that an option gives, or the usual one if it isn't given
 abbrev pub number_of : (id usual : Text) → ℕ → Text → List Row → Result ℕ Text
 number_of id usual most why rows = number_or why (first_or usual id rows) (number_in most (first_or usual id rows))
 
@@ -67,19 +67,19 @@ run_within rows limits = record { write = is_given (codes "write") rows; stand_i
 abbrev pub dry_run_of : List Row → Result DryRun Text
 dry_run_of rows = and_then (limits_of rows) (λ limits. Ok (run_within rows limits))
 
--- a script to run: starts of these variables, one after the other; a text among the words; that of a file
+-- a script to run: these variables, one after the other; a text among the arguments; that of a file
 pub data GivenScript : Type 0 where
   Names : List Text → GivenScript
   Words : Text → GivenScript
   File : Text → GivenScript
 
--- the run of a script, and the names of commands that don't come back
+-- the run of a script, and the names of commands that don't return
 pub record ScriptRun : Type 0 where
   pub dry : DryRun
   pub boots : List Text
   pub script : GivenScript
 
--- what is wrong where there is no script, or more than one
+-- what is wrong if there is no script, or more than one
 abbrev pub run_usage : Text
 run_usage = codes "Usage: fwenv run [OPTIONS] [NAMES]..." ++ 10 ∷ 10 ∷ codes "For more information, try '--help'." ++ 10 ∷ []
 
@@ -110,7 +110,7 @@ script_within rows limits =
 abbrev pub script_run_of : List Row → Result ScriptRun Text
 script_run_of rows = and_then (limits_of rows) (script_within rows)
 
--- the code's answers, seen so
+-- the code's answers, in this form
 abbrev pub texts : Option (Bor (List (Bor Text))) → List Text
 texts words = unwrap_or (option_map (λ w. map (λ x. x.now) w.now) words) []
 

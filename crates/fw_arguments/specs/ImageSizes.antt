@@ -1,4 +1,4 @@
--- The size of the image under an environment that is a text alone (docs/dry-runs.md, "An environment without a board").
+-- The image's size if the environment is only a text (docs/dry-runs.md, "An environment without a board").
 use Rattle.std.specs.Prelude.{ℕ, ◌||◌, ◌&&◌, Bool, List, [], ◌∷◌, ◌++◌, Option, Some, None, Result, Ok, Err, codes, if◌then◌else◌, option_and_then}
 use Rattle.std.specs.Str.{bytes_eq}
 use Rattle.clap.specs.Words.{Row, Text, first_of}
@@ -7,14 +7,14 @@ use Rattle.envcfg_core.specs.Sizes.{copy_size}
 use Rattle.fw_arguments.specs.Values.{first_or, is_given}
 use Rattle.fw_arguments.specs.Words.{usual_size}
 
--- the subcommands whose environment may be a text alone
+-- the subcommands whose environment may be only a text
 abbrev pub takes_text : Text → Bool
 takes_text name = bytes_eq name (codes "session") || (bytes_eq name (codes "run") || bytes_eq name (codes "check"))
 
 abbrev pub whole_text : Text → List Row → Option Text
 whole_text name rows = if takes_text name then first_of (codes "env") rows else None
 
--- what is wrong where `--env` is given and another option, or `--size` without it
+-- what is wrong if `--env` is given with another option, or `--size` without it
 abbrev pub help_ends : Text
 help_ends = 10 ∷ 10 ∷ codes "For more information, try '--help'." ++ 10 ∷ []
 
@@ -24,7 +24,7 @@ env_and other = codes "error: the argument '--env <FILE>' cannot be used with '"
 abbrev pub size_alone : Text
 size_alone = codes "error: the argument '--size <N>' is only for '--env <FILE>'" ++ help_ends
 
--- a size as a configuration has it, which an image may have
+-- a size that an image may have, in the form that a configuration has
 abbrev pub size_in : Text → Option ℕ
 size_in word = option_and_then copy_size (size_of word)
 
@@ -48,7 +48,7 @@ abbrev pub in_devices : Text → List Row → Result (Option ℕ) Text
 in_devices name rows =
     if takes_text name && is_given (codes "size") rows then Err size_alone else Ok None
 
--- none where the copies are those of a configuration
+-- `None` if the copies are those of a configuration
 abbrev pub image_by : Option Text → Text → List Row → Result (Option ℕ) Text
 image_by None name rows = in_devices name rows
 image_by (Some path) name rows = in_memory rows

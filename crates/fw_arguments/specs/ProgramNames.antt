@@ -1,5 +1,5 @@
--- The names that the program answers to, and what the words of the command line ask for under each (docs/tools.md,
--- "fw_printenv and fw_setenv").
+-- The names that the program answers to, and what the command line's arguments ask for under each
+-- (docs/tools.md, "fw_printenv and fw_setenv").
 use Rattle.std.specs.Prelude.{◌||◌, nat_eq, Bool, List, [], ◌∷◌, Option, Some, None, codes, if◌then◌else◌}
 use Rattle.std.specs.List.{ends_with}
 use Rattle.std.specs.Str.{bytes_eq}
@@ -36,12 +36,12 @@ abbrev pub called_or_all : Option Subcommand → ProgramName
 called_or_all (Some s) = FwenvWith s
 called_or_all None = Fwenv
 
--- fwenv with these words after its name
+-- fwenv with these arguments after its name
 abbrev pub fwenv_by : List Text → ProgramName
 fwenv_by [] = Fwenv
 fwenv_by (first ∷ words) = called_or_all (subcommand_named first)
 
--- the first word is the program's own name
+-- the first argument is the program's own name
 abbrev pub name_by : Text → List Text → ProgramName
 name_by path words = if is_named (codes "fw_printenv") path then Printenv else if is_named (codes "fw_setenv") path then Setenv else fwenv_by words
 
@@ -60,26 +60,27 @@ app_of_subcommand sub.Run = words.run
 app_of_subcommand sub.Check = words.check
 app_of_subcommand sub.Session = words.session
 
--- the command of a name, as clap's rules see it: where the first word after it is a subcommand, all that follows is that one's,
--- and the command has no other
+-- the command of a name, in clap's rules: if the first argument after it is a subcommand, all that follow are
+-- that one's, and the command has no other
 abbrev pub app_of_name : ProgramName → App
 app_of_name Fwenv = fwenv
 app_of_name (FwenvWith s) = with_subcommand top (app_of_subcommand s).top
 app_of_name Printenv = fw_printenv
 app_of_name Setenv = fw_setenv
 
--- what clap's rules say of the words: nothing, or the kind of what is wrong with them
+-- what clap's rules report of the arguments: nothing, or the kinds of what is wrong with them
 abbrev pub faults : List Text → Kinds
 faults words = fault_of (app_of_name (name_in words)) words
 
--- the byte order that the words before a subcommand choose
+-- the byte order that the arguments before a subcommand choose
 abbrev pub order_under : ProgramName → List Text → Order
 order_under name words = order_by (source_in big_endian.id (matches_of (app_of_name name) words))
 
 abbrev pub order_of : List Text → Order
 order_of words = order_under (name_in words) words
 
--- the subcommand that the words call, and what clap's rules find of it; fw_printenv and fw_setenv are called with all of them
+-- the subcommand that the arguments call, and what clap's rules find in it; fw_printenv and fw_setenv are
+-- called with all of the arguments
 abbrev pub called_under : ProgramName → List Text → Option (Text × List Row)
 called_under Fwenv words = subcommand_of fwenv words
 called_under (FwenvWith s) words = subcommand_of (app_of_name (FwenvWith s)) words
@@ -89,7 +90,7 @@ called_under Setenv words = Some (codes "fw_setenv", matches_of fw_setenv words)
 abbrev pub called_by : List Text → Option (Text × List Row)
 called_by words = called_under (name_in words) words
 
--- the same by what was found of the words
+-- the same by what was found in the arguments
 abbrev pub called_in : ProgramName → ArgMatches → Option (Text × List Row)
 called_in Fwenv m = subcommand_rows_of m
 called_in (FwenvWith s) m = subcommand_rows_of m

@@ -1,4 +1,4 @@
--- What the words of `status` ask for, and what those of any subcommand do (docs/tools.md, "Reports of copies").
+-- What the arguments of `status` and of any subcommand ask for (docs/tools.md, "Reports of copies").
 use Rattle.std.specs.Prelude.{Bool, true, false, List, [], ◌∷◌, ◌++◌, Option, Some, None, Result, Ok, Err, codes, if◌then◌else◌}
 use Rattle.std.specs.Str.{bytes_eq}
 use Rattle.clap.specs.Words.{Row, Text, first_of}
@@ -13,12 +13,12 @@ use Rattle.fw_arguments.specs.declared.report.Report as reports
 use Rattle.fw_arguments.specs.declared.report.Subject as subjects
 use Rattle.fw_arguments.specs.declared.report.Subject.TheVariants as code
 
--- what is reported of: the copies that the configuration at a path names, or the whole file at one
+-- what a report is about: the copies that the configuration at a path names, or the whole file at a path
 pub data Subject : Type 0 where
   Copies : Text → Subject
   File : Text → Subject
 
--- with its byte order
+-- that, with its byte order
 pub record Report : Type 0 where
   pub order : Order
   pub subject : Subject
@@ -29,7 +29,7 @@ pub data Asked : Type 0 where
   Look : Report → Asked
   Check : FileCheck → Asked
 
--- what is wrong where a configuration and a file are given
+-- what is wrong if a configuration and a file are given
 abbrev pub config_and_file : Text
 config_and_file =
     codes "error: the argument '-c <FILE>' cannot be used with '[FILE]'" ++ 10 ∷ 10 ∷ codes "Usage: fwenv status [OPTIONS] [FILE]" ++ 10 ∷ 10 ∷ codes "For more information, try '--help'." ++ 10 ∷ []
@@ -62,19 +62,19 @@ abbrev pub checked : Result FileCheck Text → Result Asked Text
 checked (Ok check) = Ok (Check check)
 checked (Err text) = Err text
 
--- the script in a file is looked at where one is given, else the scripts of an environment
+-- the script in a file is checked if one is given, else the scripts of an environment
 abbrev pub checked_by : Option Text → Order → List Row → Result Asked Text
 checked_by None order rows = worked (call_of order (codes "check") rows)
 checked_by (Some path) order rows = checked (file_check_of path rows)
 
--- what words ask for that choose a byte order before the subcommand, or the text for what is wrong with them
+-- what arguments that choose a byte order before the subcommand ask for, or the text for what is wrong
 abbrev pub asked_of : Order → Text → List Row → Result Asked Text
 asked_of order name rows =
     if bytes_eq name (codes "status") then looked (report_of order rows)
     else if bytes_eq name (codes "check") then checked_by (first_of (codes "script") rows) order rows
     else worked (call_of order name rows)
 
--- the code's answers, seen so
+-- the code's answers, in this form
 abbrev pub subject_view : subjects.Subject → Subject
 subject_view (code.Copies path) = Copies path.now
 subject_view (code.File path) = File path.now

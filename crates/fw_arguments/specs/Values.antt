@@ -1,11 +1,11 @@
--- What clap's rules found of the words, for one argument.
+-- What clap's rules found in the command line, for one argument.
 use Rattle.std.specs.Prelude.{Bool, true, false, List, [], Option, Some, unwrap_or}
 use Rattle.clap.specs.Words.{Row, Text, all_of, first_of}
 use Rattle.clap.specs.declared.parser.matches.ValueSource.{ValueSource}
 use Rattle.clap.specs.declared.parser.matches.ValueSource.TheVariants.{CommandLine}
 use Rattle.fw_arguments.specs.Words.{source_in}
 
--- a flag among the words
+-- a flag on the command line
 abbrev pub given_by : Option ValueSource → Bool
 given_by (Some CommandLine) = true
 given_by source = false
@@ -13,7 +13,7 @@ given_by source = false
 abbrev pub is_given : Text → List Row → Bool
 is_given id rows = given_by (source_in id rows)
 
--- the values of an argument, none where it isn't there
+-- the values of an argument, no value if it isn't there
 abbrev pub all_values : Text → List Row → List Text
 all_values id rows = unwrap_or (all_of id rows) []
 

@@ -1,4 +1,4 @@
--- The words of the command line, as clap's rules see them (docs/tools.md, "The command line").
+-- The arguments of the command line, in clap's rules (docs/tools.md, "The command line").
 use Rattle.std.specs.Prelude.{◌≡◌, true, false, List, [], ◌∷◌, Option, Some, codes, find}
 use Rattle.std.specs.Option.{option_and_then}
 use Rattle.std.specs.Str.{bytes_eq}
@@ -26,7 +26,7 @@ big_endian = record (flag (codes "big-endian")) { long = Some (codes "big-endian
 abbrev pub top : App
 top = with_rule (record { top = record (new_shape (codes "fwenv")) { has_version = true }; subs = [] }) big_endian
 
--- a subcommand with the options that all have
+-- a subcommand with the options that all of them have
 abbrev pub config : Rule
 config = record (new_rule (codes "config")) { short = Some 99; value_names = 1; defaults = codes "/etc/fw_env.config" ∷ [] }
 
@@ -87,7 +87,7 @@ stand_ins = file_option (codes "stubs")
 abbrev pub number : (id usual : Text) → Rule
 number id usual = record (one id) { long = Some id; defaults = usual ∷ [] }
 
--- the limits of a run where the words don't say: steps, starts inside one another, bytes of a word, bytes of the text
+-- the limits of a run if none are given: steps, starts inside one another, bytes of a word, bytes of the text
 abbrev pub usual_steps : Text
 usual_steps = codes "100000"
 
@@ -100,7 +100,7 @@ usual_word = codes "4096"
 abbrev pub usual_output : Text
 usual_output = codes "1048576"
 
--- the four options that say them
+-- the four options that give them
 abbrev pub with_steps : App → App
 with_steps app = with_rule app (number (codes "steps") usual_steps)
 
@@ -160,7 +160,7 @@ with_tools app = with_subcommand (with_subcommand (with_subcommand (with_subcomm
 abbrev pub fwenv : App
 fwenv = with_subcommand (with_subcommand (with_subcommand (with_subcommand (with_tools top) status.top) run.top) check.top) session.top
 
--- a command that clap's rules see so, and that may be the subcommand of another
+-- a command with these rules, which may be the subcommand of another
 abbrev pub IsTool : App → Command → Type 0
 IsTool app c = (app_of c ≡ app) × ((out-Command c).has_globals ≡ false)
 
@@ -168,16 +168,16 @@ IsTool app c = (app_of c ≡ app) × ((out-Command c).has_globals ≡ false)
 abbrev pub source_in : Text → List Row → Option ValueSource
 source_in id rows = option_and_then (λ r. r.source) (find (λ r. bytes_eq r.id id) rows)
 
--- the byte order by where the flag comes from: from the words, or from nowhere
+-- the byte order by where the flag comes from: from the command line, or from nowhere
 abbrev pub order_by : Option ValueSource → Order
 order_by (Some CommandLine) = Big
 order_by source = Little
 
--- the byte order by what was found of the words
+-- the byte order by what was found in the arguments
 abbrev pub order_in : ArgMatches → Order
 order_in m = order_by (option_and_then (λ a. a.source) (matched_of (found_of m) big_endian.id))
 
--- big-endian where one of two places chooses it
+-- big-endian if one of two places chooses it
 abbrev pub either_order : Order → Order → Order
 either_order Big other = Big
 either_order Little other = other

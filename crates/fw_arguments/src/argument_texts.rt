@@ -1,19 +1,19 @@
-//! The texts about words where clap's rules don't see what is wrong with them, each once; and the file that `-` is.
+//! The texts about wrong arguments that clap's rules don't detect, each once; and the file that `-` is.
 
 /// The file that is standard input.
 pub const STANDARD_INPUT: &str = "/dev/stdin";
 
-/// Standard error where `setenv` has a name and a script.
+/// Standard error if `setenv` has a name and a script.
 pub(crate) const NAME_AND_SCRIPT: &[u8] =
     b"error: the argument '-s <FILE>' cannot be used with '[NAME]'\n\n\
       Usage: fwenv setenv [OPTIONS] [NAME] [WORDS]...\n\nFor more information, try '--help'.\n";
 
-/// Standard error where `setenv` has neither a name nor a script.
+/// Standard error if `setenv` has neither a name nor a script.
 pub(crate) const NO_NAME: &[u8] =
     b"error: the following required arguments were not provided:\n  <NAME|-s <FILE>>\n\n\
       Usage: fwenv setenv [OPTIONS] [NAME] [WORDS]...\n\nFor more information, try '--help'.\n";
 
-/// The same of `fw_setenv`.
+/// The same for `fw_setenv`.
 pub(crate) const CLIENT_NAME_AND_SCRIPT: &[u8] =
     b"error: the argument '--script <FILE>' cannot be used with '[NAME]'\n\n\
       Usage: fw_setenv [OPTIONS] [NAME] [WORDS]...\n\nFor more information, try '--help'.\n";
@@ -22,20 +22,20 @@ pub(crate) const CLIENT_NO_NAME: &[u8] =
     b"error: the following required arguments were not provided:\n  <NAME|--script <FILE>>\n\n\
       Usage: fw_setenv [OPTIONS] [NAME] [WORDS]...\n\nFor more information, try '--help'.\n";
 
-/// Standard error where `fw_printenv` is to print values of no name.
+/// Standard error if `fw_printenv` is to print values without a name.
 pub(crate) const NO_NAMES: &[u8] =
     b"error: the following required arguments were not provided:\n  <NAMES>...\n\n\
       Usage: fw_printenv [OPTIONS] [NAMES]...\n\nFor more information, try '--help'.\n";
 
-/// Standard error where `status` has a configuration and a file.
+/// Standard error if `status` has a configuration and a file.
 pub(crate) const CONFIG_AND_FILE: &[u8] =
     b"error: the argument '-c <FILE>' cannot be used with '[FILE]'\n\n\
       Usage: fwenv status [OPTIONS] [FILE]\n\nFor more information, try '--help'.\n";
 
-/// Before a value that is no number within its limit.
+/// Before a value that isn't a number within its limit.
 pub(crate) const INVALID_VALUE: &[u8] = b"error: invalid value '";
 
-/// Behind such a value of each option.
+/// After such a value, for each option.
 pub(crate) const BAD_STEPS: &[u8] =
     b"' for '--steps <N>': not a number from 0 to 1000000\n\nFor more information, try '--help'.\n";
 
@@ -52,7 +52,7 @@ pub(crate) const BAD_SIZE: &[u8] =
     b"' for '--size <N>': not the size of an image in hexadecimal, 0x8 to 0x100000\n\n\
       For more information, try '--help'.\n";
 
-/// Standard error where an environment without a board is asked for, and what only a board has.
+/// Standard error if an environment without a board is asked for, and something that only a board has.
 pub(crate) const ENV_AND_CONFIG: &[u8] =
     b"error: the argument '--env <FILE>' cannot be used with '-c <FILE>'\n\n\
       For more information, try '--help'.\n";
@@ -69,12 +69,12 @@ pub(crate) const ENV_AND_WRITE: &[u8] =
     b"error: the argument '--env <FILE>' cannot be used with '--write'\n\n\
       For more information, try '--help'.\n";
 
-/// Standard error where a size is given without such an environment.
+/// Standard error if a size is given without such an environment.
 pub(crate) const SIZE_ALONE: &[u8] =
     b"error: the argument '--size <N>' is only for '--env <FILE>'\n\n\
       For more information, try '--help'.\n";
 
-/// Standard error where `run` has no script, or more than one.
+/// Standard error if `run` has no script, or more than one.
 pub(crate) const NO_SCRIPT: &[u8] =
     b"error: the following required arguments were not provided:\n  <NAMES|-e <SCRIPT>|-f <FILE>>\n\n\
       Usage: fwenv run [OPTIONS] [NAMES]...\n\nFor more information, try '--help'.\n";
@@ -83,7 +83,7 @@ pub(crate) const SEVERAL_SCRIPTS: &[u8] =
     b"error: only one of '[NAMES]...', '-e <SCRIPT>' and '-f <FILE>' can be given\n\n\
       Usage: fwenv run [OPTIONS] [NAMES]...\n\nFor more information, try '--help'.\n";
 
-/// What is wrong where the script of a file is to be checked and an environment is named.
+/// What is wrong if the script of a file is to be checked and an environment is named.
 pub(crate) const FILE_ALONE: &[u8] =
     b"error: the argument '-f <FILE>' cannot be used with '[NAMES]...', '-c <FILE>', \
     '--default <FILE>', '--env <FILE>' or '--size <N>'\n\nUsage: fwenv check [OPTIONS] [NAMES]...\n\n\

@@ -1,4 +1,4 @@
-//! What clap's rules found of the words: for one argument, the byte order, and which subcommand they call.
+//! What clap's rules found in the command line: for one argument, the byte order, and which subcommand it calls.
 ghost use Rattle.std.specs.Prelude.{◌≡◌, map, option_copied, option_map};
 ghost use Rattle.clap.specs.Words.{all_of, first_of, found_of, rows_of};
 ghost use Rattle.fw_arguments.specs.ProgramNames.{called_in};
@@ -18,7 +18,7 @@ pub(crate) fn first<'w>(found: &ArgMatches<'w>, id: &str) -> Option<&'w str>
     found.get_str(id)
 }
 
-/// The first value of an argument, or another text where it has none.
+/// The first value of an argument, or another text if it has none.
 pub(crate) fn first_or<'w>(found: &ArgMatches<'w>, id: &str, other: &'w str) -> &'w str
     ensures { result.now ≡ first_or other.now id.now (rows_of (found_of found.now)) }
 {
@@ -32,21 +32,21 @@ pub(crate) fn values<'m, 'w>(found: &'m ArgMatches<'w>, id: &str) -> Option<&'m 
     found.get_strs(id)
 }
 
-/// Whether a flag stands among the words.
+/// Whether a flag is on the command line.
 pub(crate) fn is_given(matches: &ArgMatches<'_>, id: &str) -> bool
     ensures { result ≡ is_given id.now (rows_of (found_of matches.now)) }
 {
     is_from_words(matches.value_source(id))
 }
 
-/// Whether a value comes from the words.
+/// Whether a value comes from the command line.
 fn is_from_words(source: Option<ValueSource>) -> bool
     ensures { result ≡ given_by source }
 {
     matches!(source, Some(ValueSource::CommandLine))
 }
 
-/// The byte order that the words chose.
+/// The byte order that the command line chose.
 pub fn chosen_order(matches: &ArgMatches<'_>) -> Order
     ensures { result ≡ order_in matches.now }
 {
@@ -56,7 +56,7 @@ pub fn chosen_order(matches: &ArgMatches<'_>) -> Order
     }
 }
 
-/// Big-endian where one of two places chooses it.
+/// Big-endian if one of two places chooses it.
 pub(crate) fn either_order(one: Order, other: Order) -> Order
     ensures { result ≡ either_order one other }
 {
@@ -66,7 +66,8 @@ pub(crate) fn either_order(one: Order, other: Order) -> Order
     }
 }
 
-/// The subcommand that the words call, and what was found of its words; under another name than `fwenv` all of them are.
+/// The subcommand that is called, and what was found in its arguments; under another name than `fwenv` these are all
+/// arguments.
 pub fn called<'m, 'w>(
     under: ProgramName,
     matches: &'m ArgMatches<'w>,

@@ -1,4 +1,4 @@
-//! What the words of a subcommand ask for.
+//! What the arguments of a subcommand ask for.
 ghost use Rattle.std.specs.Prelude.{◌≡◌, option_copied};
 ghost use Rattle.clap.specs.Words.{found_of, rows_of};
 ghost use Rattle.fw_arguments.specs.Calls.{call_of, call_view, called, defaults_of, defaults_view, is_client, job_of, job_view, keeps_lock, lock_of, ran, some_text, task_of, tried, with_image, writes};
@@ -6,7 +6,7 @@ ghost use Rattle.fw_arguments.specs.DryRuns.{dry_run_of, script_run_of};
 ghost use Rattle.fw_arguments.specs.WordFaults.{word_seen};
 
 use crate::arguments::{chosen_order, either_order, first, first_or, is_given};
-use crate::checks::{EnvironmentCheck, read_environment_check};
+use crate::check_requests::{EnvironmentCheck, read_environment_check};
 use crate::client_words::LOCK_FOLDER;
 use crate::command_line::CONFIG;
 use crate::dry_runs::{DryRun, ScriptRun, read_dry_run, read_script_run};
@@ -21,7 +21,7 @@ use envimg_core::Order;
 pub struct Call<'m, 'w> {
     /// The path of the configuration.
     pub config: &'w str,
-    /// The size of the erased image in memory that is in the place of the configuration's copies, if it is.
+    /// The size of the erased image in memory that replaces the configuration's copies, if there is one.
     pub image: Option<u32>,
     /// The default environment.
     pub defaults: Defaults<'w>,
@@ -29,7 +29,7 @@ pub struct Call<'m, 'w> {
     pub lock: Option<&'w str>,
     /// The byte order of the copies.
     pub order: Order,
-    /// Whether copies are written back only where a variable changed.
+    /// Whether copies are written back only if a variable changed.
     pub only_changes: bool,
     /// What it does over the session.
     pub job: Job<'m, 'w>,
@@ -42,7 +42,7 @@ pub struct Defaults<'w> {
     pub path: Option<&'w str>,
     /// Whether the text has plain lines `NAME=VALUE`, without escapes, and is that of the board's build if none is given.
     pub plain: bool,
-    /// Whether a copy has to be good where there is no text.
+    /// Whether a copy has to be good if there is no text.
     pub need_copy: bool,
     /// Whether the text is the whole environment, so that no copy is missed.
     pub whole: bool,
@@ -57,7 +57,7 @@ pub enum Job<'m, 'w> {
     DryRun(DryRun<'w>),
     /// A script is run over it.
     Script(ScriptRun<'m, 'w>),
-    /// Its scripts are looked at.
+    /// Its scripts are checked.
     Check(EnvironmentCheck<'m, 'w>),
 }
 
@@ -74,7 +74,7 @@ impl Job<'_, '_> {
         }
     }
 
-    /// Whether it works under that lock; a session lets go of it once the copies are read, and takes it again to write.
+    /// Whether it works under that lock; a session releases it once the copies are read, and takes it again to write.
     pub fn keeps_lock(&self) -> bool
         ensures { result ≡ keeps_lock (job_view self.now) }
     {
@@ -87,8 +87,8 @@ impl Job<'_, '_> {
     }
 }
 
-/// What the words of the subcommand `name` ask for, where `order` is the byte order that the words before it chose; or
-/// what is wrong with them, which clap's rules don't see.
+/// What the arguments of the subcommand `name` ask for, if the arguments before it chose `order`; or what is wrong with
+/// them that clap's rules don't detect.
 pub(crate) fn read_call<'m, 'w>(
     order: Order,
     name: &str,
@@ -102,7 +102,7 @@ pub(crate) fn read_call<'m, 'w>(
     }
 }
 
-/// The same with an image in memory, or none.
+/// The same with an image in memory, or with `None`.
 fn with_image<'m, 'w>(
     order: Order,
     name: &str,
@@ -125,7 +125,7 @@ fn with_image<'m, 'w>(
     }
 }
 
-/// What the words of the subcommand `name` ask to be done over its session.
+/// What the arguments of the subcommand `name` ask to be done over its session.
 fn read_job<'m, 'w>(name: &str, found: &'m ArgMatches<'w>) -> Result<Job<'m, 'w>, WordFault<'w>>
     ensures { word_seen job_view result ≡ job_of name.now (rows_of (found_of found.now)) }
 {
@@ -141,7 +141,7 @@ fn read_job<'m, 'w>(name: &str, found: &'m ArgMatches<'w>) -> Result<Job<'m, 'w>
     tool_job(name, found)
 }
 
-/// The dry run that the words of `session` ask for.
+/// The dry run that the arguments of `session` ask for.
 fn dry_job<'m, 'w>(found: &'m ArgMatches<'w>) -> Result<Job<'m, 'w>, WordFault<'w>>
     ensures { word_seen job_view result ≡ tried (dry_run_of (rows_of (found_of found.now))) }
 {
@@ -151,7 +151,7 @@ fn dry_job<'m, 'w>(found: &'m ArgMatches<'w>) -> Result<Job<'m, 'w>, WordFault<'
     }
 }
 
-/// The run of a script that the words of `run` ask for.
+/// The run of a script that the arguments of `run` ask for.
 fn script_job<'m, 'w>(found: &'m ArgMatches<'w>) -> Result<Job<'m, 'w>, WordFault<'w>>
     ensures { word_seen job_view result ≡ ran (script_run_of (rows_of (found_of found.now))) }
 {
@@ -161,7 +161,7 @@ fn script_job<'m, 'w>(found: &'m ArgMatches<'w>) -> Result<Job<'m, 'w>, WordFaul
     }
 }
 
-/// The tool that the words of another subcommand call.
+/// The tool that the arguments of another subcommand call.
 fn tool_job<'m, 'w>(name: &str, found: &'m ArgMatches<'w>) -> Result<Job<'m, 'w>, WordFault<'w>>
     ensures { word_seen job_view result ≡ called (task_of name.now (rows_of (found_of found.now))) }
 {
@@ -209,7 +209,7 @@ fn lock_of<'w>(name: &str, found: &ArgMatches<'w>) -> Option<&'w str>
     }
 }
 
-/// The text, or none where it is empty.
+/// The text, or `None` if it is empty.
 fn some_text(text: &str) -> Option<&str>
     ensures { option_copied result ≡ some_text text.now }
 {

@@ -9,7 +9,7 @@ use crate::command_line::{
 use clap::{Arg, ArgAction, Command};
 use std::alloc::{AllocError, Global};
 
-/// The folder of the lock file where the words name none.
+/// The folder of the lock file if none is given.
 pub(crate) const LOCK_FOLDER: &str = "/var/lock";
 
 /// `fw_printenv`

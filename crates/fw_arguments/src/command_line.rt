@@ -1,4 +1,4 @@
-//! The words that the program is called with.
+//! The arguments that the program is called with.
 ghost use Rattle.std.specs.Prelude.{◌≡◌, IfOk, codes, false, map};
 ghost use Rattle.clap.specs.Words.{FailsBy, app_of, fault_of, new_app, rule_of};
 ghost use Rattle.fw_arguments.specs.ProgramNames.{app_of_name, app_of_subcommand, called_in, called_under, order_under};
@@ -23,20 +23,20 @@ const ABOUT: &str =
 const EXAMPLE: &str =
     "Example:\n  dd if=/dev/mtd1 bs=64k count=1 | fwenv\n  fwenv printenv bootcmd";
 
-/// What `--version` prints behind the program's name.
+/// What `--version` prints after the program's name.
 pub(crate) const VERSION: &str = "0.2.0";
 
-/// The flag for images of big-endian boards, and what the help says of it.
+/// The flag for images of big-endian boards, and its help text.
 pub(crate) const BIG_ENDIAN: &str = "big-endian";
 
 const BIG_ENDIAN_HELP: &str =
     "The image is a big-endian board's: its checksum has the highest byte first";
 
-/// The configuration where the words name none.
+/// The configuration if none is given.
 pub(crate) const CONFIG: &str = "/etc/fw_env.config";
 
-/// Reads the words of the command line, which are those of the program under this name, its own name first. At an error its
-/// text is the help or the version, or says what is wrong with the words.
+/// Reads the arguments of the command line, the program's own name first, as those of the program under this name. The
+/// text of an error is the help, the version, or what is wrong with the arguments.
 pub fn read_words<'a, S: AsStr>(
     alloc: Global,
     under: ProgramName,
@@ -61,7 +61,7 @@ pub(crate) fn big_endian<'a>(alloc: Global) -> Arg<'a>
         .help(BIG_ENDIAN_HELP)
 }
 
-/// An argument that takes no value: it is there or not.
+/// An argument without a value: it is there or not.
 pub(crate) fn flag<'a>(alloc: Global, id: &'a str) -> Arg<'a>
     ensures rule { rule_of result ≡ words.flag id.entry.now }
     ensures local { result.global ≡ false }
@@ -143,7 +143,7 @@ fn command_of_name<'a>(alloc: Global, name: ProgramName) -> Result<Command<'a>, 
     }
 }
 
-/// The command, as clap knows it.
+/// The command, as clap's rules have it.
 fn command<'a>(alloc: Global) -> Result<Command<'a>, AllocError>
     ensures { IfOk result (λ c. app_of c ≡ fwenv) }
 {
@@ -160,7 +160,7 @@ fn command<'a>(alloc: Global) -> Result<Command<'a>, AllocError>
     Ok(talking)
 }
 
-/// The command with one subcommand alone: to make all of them takes longer than to print a small environment.
+/// The command with only one subcommand: to build all of them takes longer than to print a small environment.
 fn command_with<'a>(alloc: Global, subcommand: Subcommand) -> Result<Command<'a>, AllocError>
     ensures { IfOk result (λ c. app_of c ≡ app_of_name (FwenvWith subcommand)) }
 {
@@ -169,7 +169,7 @@ fn command_with<'a>(alloc: Global, subcommand: Subcommand) -> Result<Command<'a>
     Ok(command)
 }
 
-/// A subcommand, as clap knows it.
+/// A subcommand, as clap's rules have it.
 fn command_of<'a>(alloc: Global, subcommand: Subcommand) -> Result<Command<'a>, AllocError>
     ensures { IfOk result (IsTool (app_of_subcommand subcommand)) }
 {

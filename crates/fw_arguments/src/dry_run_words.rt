@@ -8,7 +8,7 @@ use crate::command_line::{bare, big_endian, config, default, flag, names, tool};
 use clap::{Arg, ArgAction, Command};
 use std::alloc::{AllocError, Global};
 
-/// The limits of a dry run where the words give none.
+/// The limits of a dry run if none are given.
 pub(crate) const STEPS: &str = "100000";
 
 pub(crate) const DEPTH: &str = "8";
@@ -17,7 +17,7 @@ pub(crate) const WORD: &str = "4096";
 
 pub(crate) const OUTPUT: &str = "1048576";
 
-/// The size of the image under an environment that is a text, if the words give none.
+/// The size of the image under an environment that is a text, if none is given.
 pub(crate) const SIZE: &str = "0x4000";
 
 const STAND_INS_HELP: &str =

@@ -11,7 +11,7 @@ use crate::arguments::{first, first_or, is_given, values};
 use crate::dry_run_words::{DEPTH, OUTPUT, STEPS, WORD};
 use crate::word_fault::WordFault;
 use clap::ArgMatches;
-use hush_commands::{Limits, MOST_DEPTH, MOST_OUTPUT, MOST_STEPS, MOST_WORD};
+use run_limits::{Limits, MOST_DEPTH, MOST_OUTPUT, MOST_STEPS, MOST_WORD};
 use text_parts::{Base, numeral};
 
 /// What a session and the run of a script have: `[--write] [--stubs FILE] [--steps N] [--depth N] [--word N] [--output N]`.
@@ -159,7 +159,7 @@ fn text_by<'m, 'w>(
     }
 }
 
-/// The number that an option gives, or what it is where the words don't say, which is at most `most`.
+/// The number that an option gives, or what it is without the option, which is at most `most`.
 fn number<'w>(
     found: &ArgMatches<'w>,
     id: &str,

@@ -1,4 +1,4 @@
-//! The size of the image under an environment that is a text alone.
+//! The size of the image under an environment that is only a text.
 ghost use Rattle.std.specs.Prelude.{◌≡◌, option_copied};
 ghost use Rattle.clap.specs.Words.{found_of, rows_of};
 ghost use Rattle.fw_arguments.specs.ImageSizes.{image_of, in_devices, in_memory, size_in, sized, takes_text, whole_text};
@@ -18,8 +18,8 @@ use text_parts::{Base, behind_0x, numeral};
 /// The least size of a single image, in bytes.
 const SIZE_MIN: u64 = 8;
 
-/// The size of the image in memory, if the words of the subcommand `name` say that the environment is a text alone; or what is
-/// wrong with them.
+/// The size of the image in memory, if the arguments of the subcommand `name` make the environment only a text; or what
+/// is wrong with them.
 pub(crate) fn read_image<'w>(
     name: &str,
     found: &ArgMatches<'w>,
@@ -43,14 +43,14 @@ pub(crate) fn whole_text<'w>(name: &str, found: &ArgMatches<'w>) -> Option<&'w s
     }
 }
 
-/// Whether the environment of this subcommand may be a text alone.
+/// Whether the environment of this subcommand may be only a text.
 fn takes_text(name: &str) -> bool
     ensures { result ≡ takes_text name.now }
 {
     name == "session" || name == "run" || name == "check"
 }
 
-/// None: the copies are those of a configuration.
+/// `None`: the copies are those of a configuration.
 fn in_devices<'w>(name: &str, found: &ArgMatches<'w>) -> Result<Option<u32>, WordFault<'w>>
     ensures { word_seen (λ size. size) result ≡ in_devices name.now (rows_of (found_of found.now)) }
 {
@@ -60,7 +60,7 @@ fn in_devices<'w>(name: &str, found: &ArgMatches<'w>) -> Result<Option<u32>, Wor
     Ok(None)
 }
 
-/// The size of an image in memory, with which nothing of a board is given.
+/// The size of an image in memory; nothing of a board may be given with it.
 fn in_memory<'w>(found: &ArgMatches<'w>) -> Result<Option<u32>, WordFault<'w>>
     ensures { word_seen (λ size. size) result ≡ in_memory (rows_of (found_of found.now)) }
 {
@@ -79,7 +79,7 @@ fn in_memory<'w>(found: &ArgMatches<'w>) -> Result<Option<u32>, WordFault<'w>>
     sized(first_or(found, "size", SIZE))
 }
 
-/// The size that a word spells.
+/// The size that an argument spells.
 fn sized(word: &str) -> Result<Option<u32>, WordFault<'_>>
     ensures { word_seen (λ size. size) result ≡ sized word.now }
 {
@@ -93,7 +93,8 @@ fn sized(word: &str) -> Result<Option<u32>, WordFault<'_>>
     }
 }
 
-/// A size as a configuration has it: hexadecimal digits, perhaps after `0x` or `0X`, that spell one which an image may have.
+/// The size of an image in a configuration's form: hexadecimal digits, possibly after `0x` or `0X`, whose value is one
+/// that an image may have.
 fn read_size(text: &[u8]) -> Option<u32>
     ensures { result ≡ size_in text.now }
 {

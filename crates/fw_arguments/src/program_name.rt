@@ -10,7 +10,7 @@ use std::convert::AsStr;
 pub enum ProgramName {
     /// `fwenv`, or any other name.
     Fwenv,
-    /// The same, and the word after it is a subcommand.
+    /// The same, and the argument after it is a subcommand.
     FwenvWith(Subcommand),
     /// `fw_printenv`
     Printenv,
@@ -42,7 +42,7 @@ pub enum Subcommand {
 }
 
 impl ProgramName {
-    /// The name that the words begin with.
+    /// The name that the arguments begin with.
     pub fn of<S: AsStr>(words: &[S]) -> ProgramName
         ensures { result ≡ name_in (map S.text words.now) }
     {
@@ -73,7 +73,7 @@ impl Subcommand {
     }
 }
 
-/// The name in a path, which these words follow.
+/// The name in a path, which these arguments follow.
 fn name_by<S: AsStr>(path: &[u8], words: &[S]) -> ProgramName
     ensures { result ≡ name_by path.now (map S.text words.now) }
 {
@@ -86,7 +86,7 @@ fn name_by<S: AsStr>(path: &[u8], words: &[S]) -> ProgramName
     fwenv_by(words)
 }
 
-/// `fwenv` with these words after its name.
+/// `fwenv` with these arguments after its name.
 fn fwenv_by<S: AsStr>(words: &[S]) -> ProgramName
     ensures { result ≡ fwenv_by (map S.text words.now) }
 {

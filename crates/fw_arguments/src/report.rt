@@ -1,4 +1,4 @@
-//! What the words of `status` ask for, and what those of any subcommand do.
+//! What the arguments of `status` and of any subcommand ask for.
 ghost use Rattle.std.specs.Prelude.{◌≡◌, codes, option_copied};
 ghost use Rattle.clap.specs.Words.{first_of, found_of, rows_of};
 ghost use Rattle.fw_arguments.specs.Calls.{call_of};
@@ -8,7 +8,7 @@ ghost use Rattle.fw_arguments.specs.WordFaults.{word_seen};
 use crate::argument_texts::CONFIG_AND_FILE;
 use crate::arguments::{chosen_order, either_order, first, first_or, is_given};
 use crate::call::{Call, read_call};
-use crate::checks::{FileCheck, read_file_check};
+use crate::check_requests::{FileCheck, read_file_check};
 use crate::command_line::CONFIG;
 use crate::word_fault::WordFault;
 use clap::ArgMatches;
@@ -19,7 +19,7 @@ use envimg_core::Order;
 pub enum Asked<'m, 'w> {
     /// Work over a session.
     Work(Call<'m, 'w>),
-    /// A look at what is stored.
+    /// A report of what is stored.
     Look(Report<'w>),
     /// A check of the script in a file.
     Check(FileCheck<'w>),
@@ -28,13 +28,13 @@ pub enum Asked<'m, 'w> {
 /// A report: `status [-c FILE] [--big-endian] [FILE]`.
 #[derive(Clone, Copy, Debug)]
 pub struct Report<'w> {
-    /// The byte order of what it looks at.
+    /// The byte order of what it reports.
     pub order: Order,
-    /// What it looks at.
+    /// What it reports.
     pub subject: Subject<'w>,
 }
 
-/// What a report looks at.
+/// What a report is about.
 #[derive(Clone, Copy, Debug)]
 pub enum Subject<'w> {
     /// The copies that the configuration at this path names.
@@ -43,8 +43,8 @@ pub enum Subject<'w> {
     File(&'w str),
 }
 
-/// What the words of the subcommand `name` ask for, where `order` is the byte order that the words before it chose; or
-/// what is wrong with them, which clap's rules don't see.
+/// What the arguments of the subcommand `name` ask for, if the arguments before it chose `order`; or what is wrong with
+/// them that clap's rules don't detect.
 pub fn read_asked<'m, 'w>(
     order: Order,
     name: &str,
@@ -61,7 +61,7 @@ pub fn read_asked<'m, 'w>(
     ask_to_work(order, name, found)
 }
 
-/// The check that the words of `check` ask for: of the script in a file, if one is given, else of an environment.
+/// The check that the arguments of `check` ask for: of the script in a file, if one is given, else of an environment.
 fn ask_to_check<'m, 'w>(
     order: Order,
     found: &'m ArgMatches<'w>,
@@ -77,7 +77,7 @@ fn ask_to_check<'m, 'w>(
     }
 }
 
-/// The report that the words of `status` ask for.
+/// The report that the arguments of `status` ask for.
 fn ask_to_look<'m, 'w>(
     order: Order,
     found: &'m ArgMatches<'w>,
@@ -90,7 +90,7 @@ fn ask_to_look<'m, 'w>(
     }
 }
 
-/// The work that the words of another subcommand ask for.
+/// The work that the arguments of another subcommand ask for.
 fn ask_to_work<'m, 'w>(
     order: Order,
     name: &str,
@@ -117,7 +117,7 @@ fn read_report<'w>(order: Order, found: &ArgMatches<'w>) -> Result<Report<'w>, W
     }
 }
 
-/// What a report looks at.
+/// What a report is about.
 fn read_subject<'w>(found: &ArgMatches<'w>) -> Result<Subject<'w>, WordFault<'w>>
     ensures { word_seen subject_view result ≡ subject_of (rows_of (found_of found.now)) }
 {
@@ -128,7 +128,7 @@ fn read_subject<'w>(found: &ArgMatches<'w>) -> Result<Subject<'w>, WordFault<'w>
     )
 }
 
-/// What a report looks at: a configuration's copies or a file, and not both.
+/// What a report is about: a configuration's copies or a file, and not both.
 fn subject_by<'w>(
     given: bool,
     config: &'w str,

@@ -1,4 +1,4 @@
-//! What the words of a subcommand ask a tool to do.
+//! What the arguments of a subcommand ask a tool to do.
 ghost use Rattle.std.specs.Prelude.{◌≡◌, if◌then◌else◌, option_copied};
 ghost use Rattle.clap.specs.Words.{found_of, rows_of};
 ghost use Rattle.fw_arguments.specs.Calls.{changes, print_task, script_file, seen, set_task, task_of, task_view, texts, tool_task, values_task};
@@ -15,9 +15,9 @@ use clap::ArgMatches;
 pub enum Printing {
     /// A line NAME=VALUE each.
     Lines,
-    /// The value of one name alone.
+    /// Only the value of one name.
     OneValue,
-    /// The values of names alone, a line each.
+    /// Only the values of names, a line each.
     Values,
 }
 
@@ -63,7 +63,7 @@ impl Task<'_, '_> {
     }
 }
 
-/// What the words of the subcommand `name` ask a tool to do.
+/// What the arguments of the subcommand `name` ask a tool to do.
 pub(crate) fn read_task<'m, 'w>(
     name: &str,
     found: &'m ArgMatches<'w>,
@@ -85,7 +85,7 @@ pub(crate) fn read_task<'m, 'w>(
     tool_task(name, found)
 }
 
-/// What the words of a subcommand of `fwenv` ask a tool to do.
+/// What the arguments of a subcommand of `fwenv` ask a tool to do.
 fn tool_task<'m, 'w>(name: &str, found: &'m ArgMatches<'w>) -> Result<Task<'m, 'w>, &'static [u8]>
     ensures { seen task_view result ≡ tool_task name.now (rows_of (found_of found.now)) }
 {
@@ -143,7 +143,7 @@ fn print_task<'m, 'w>(
     }
 }
 
-/// It takes one name at least to print values.
+/// It takes at least one name to print values.
 fn values_task<'m, 'w>(names: Option<&'m [&'w str]>) -> Result<Task<'m, 'w>, &'static [u8]>
     ensures { seen task_view result ≡ values_task (texts names.entry) }
 {
@@ -172,7 +172,7 @@ fn script_file(path: Option<&str>) -> Option<&str>
     }
 }
 
-/// `setenv` takes a name or a script; two texts say what is wrong with other words.
+/// `setenv` takes a name or a script; two texts report what is wrong with other arguments.
 fn set_task<'m, 'w>(
     both: &'static [u8],
     neither: &'static [u8],

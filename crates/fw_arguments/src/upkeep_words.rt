@@ -1,4 +1,4 @@
-//! The subcommands `restore` and `status`, and a file among the words.
+//! The subcommands `restore` and `status`, and the argument `FILE`.
 ghost use Rattle.std.specs.Prelude.{◌≡◌, IfOk, false};
 ghost use Rattle.clap.specs.Words.{rule_of};
 ghost use Rattle.fw_arguments.specs.Words.{IsTool};

@@ -61,7 +61,7 @@ pub return-none : (text : List ℕ) → IsFirstByte is_return text None → retu
 return-none text h =
     ap (λ (b : Bool). if b then warning_at (position_or_len is_return text) return_sentence ∷ [] else []) (sym (list_any-answer is_return text None h))
 
--- ---- what an Ok says
+-- ---- what an `Ok` tells
 
 pub ok-then : {T E : Type 0} (r : Result T E) (P Q : Type 0) → (P → Q) → OnOk r P → OnOk r Q
 ok-then (Ok x) P Q f p = f p

@@ -1,4 +1,4 @@
--- The parts of a node, by what it stands for.
+-- The parts of a node, by its statements.
 use Rattle.std.proofs.Common.{◌≡◌, ℕ, ◌+◌, ◌<◌, ◌≤◌, List, [], ◌∷◌, ◌++◌, map, Option, Some, None, refl, sym, ap, ◌∙◌, arith, append_assoc, append-nil, subst}
 use Rattle.std.specs.Prelude.{IsSome, OnOk, Result, Ok, Err}
 use Rattle.std.proofs.lemmas.Grind.{flat_map-append}
@@ -115,7 +115,7 @@ module _ (at : At) where
   size-append [] ys = omega arith
   size-append (x ∷ xs) ys = omega (arith, size-append xs ys)
 
-  -- what a node leaves to gather, by the statements that its parts are
+  -- the nodes that a node leaves to gather, by the statements of its parts
   pub none-first : (text : Written) (id : NodeId) (ids : List NodeId) (s : Subtree) (most : ℕ) → at id ≡ Some s → Are at ids (of_subtree (Some s)) most → most < size_of (Some s) → HasParts text at id [] ids
   none-first text id ids s most e are less = record {
     known = are.known;
@@ -172,7 +172,7 @@ gather-one (Err e) text at id it ids waiting new items new_items parts put added
 
 -- ---- the loop
 
--- each node that is to come is known, and they are what is missing of a script's statements
+-- each node that is still to come is known, and these are what is missing of a script's statements
 pub record StillGathers (text : Written) (at : At) (all : List Statement) (items : List Item) (waiting : List NodeId) : Type 0 where
   pub known : AreKnown at waiting
   pub same : map (statement_of text) items ++ still_to_come at waiting ≡ all

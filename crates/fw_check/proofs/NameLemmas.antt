@@ -43,7 +43,7 @@ turned Less = refl
 turned Equal = refl
 turned Greater = refl
 
--- names that the order does not tell apart are called alike
+-- names that the order does not tell apart are equal to the same names
 called-alike : (name x y : List ℕ) → bytes_cmp x y ≡ Equal → eq_by_cmp bytes_cmp name y ≡ eq_by_cmp bytes_cmp name x
 called-alike name x y e =
     ap is_eq (nat_list_cmp_total.antisymm name y) ∙ turned (bytes_cmp y name)
@@ -78,7 +78,7 @@ same-more names more set with new same added last name =
     (λ i. added i name) ∙ ap (λ (b : Bool). b || eq_by_cmp bytes_cmp name new) (same name)
     ∙ sym (among-more names new name) ∙ ap (λ (ns : List (List ℕ)). is_among ns name) (sym last)
 
--- a name after the others, as it is in memory
+-- a name after the others, in the code's form
 pub items-more : (old new : List (Vec ℕ Global)) (v : Vec ℕ Global) (name : List ℕ) → new ≡ old ++ v ∷ [] → v.items ≡ name →
     map (λ n. n.items) new ≡ map (λ n. n.items) old ++ name ∷ []
 items-more old new v name put v_is =

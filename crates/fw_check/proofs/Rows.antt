@@ -1,4 +1,4 @@
--- Small scripts, read and looked at by the definitions alone.
+-- Small scripts, read and checked by the definitions alone.
 use Rattle.std.proofs.Common.{◌≡◌, ℕ, ◌||◌, true, false, not, List, [], ◌∷◌, ◌++◌, map, codes, refl, ap, Option, Some, None, if◌then◌else◌}
 use Rattle.std.specs.Prelude.{is_some}
 use Rattle.std.specs.List.{flat_map}
@@ -80,7 +80,7 @@ foreseen_row = refl
 foreseen_first_row : flat_map foreseen_names (of_script (Some script)) ≡ codes "a" ∷ []
 foreseen_first_row = refl
 
--- an empty environment, where a script gives `a` to something, and foresees `c`
+-- an empty environment, in which a script gives `a` to something, and foresees `c`
 abbrev known : Known
 known = record { env = empty; given = is_among (codes "a" ∷ []); foreseen = is_among (codes "c" ∷ []) }
 

@@ -1,4 +1,4 @@
--- A variable is refused for its type where its value doesn't have it.
+-- A variable is refused for its type if its value doesn't have it.
 use Rattle.std.proofs.Common.{◌≡◌, ◌&&◌, ℕ, Bool, true, false, not, List, [], ◌∷◌, Option, Some, None, refl, sym, ap, ◌∙◌, if◌then◌else◌, nat_lt}
 use Rattle.std.specs.Prelude.{IsTrue, Result, Ok, Err, is_none}
 use Rattle.std.specs.FinMap.{get}

@@ -7,8 +7,8 @@ use Rattle.std.proofs.lemmas.Grind.{flat_map-append}
 use Rattle.envimg_core.specs.Environment.{Environment}
 use Rattle.hush_syntax.specs.FaultPlaces.{IsFaultOf}
 use Rattle.hush_syntax.specs.Reading.{read}
-use Rattle.hush_syntax.specs.declared.faults.FaultKind.TheVariants.{Memory}
-use Rattle.hush_syntax.specs.declared.faults.SyntaxFault.{SyntaxFault}
+use Rattle.hush_syntax.specs.declared.syntax_fault.FaultKind.TheVariants.{Memory}
+use Rattle.hush_syntax.specs.declared.syntax_fault.SyntaxFault.{SyntaxFault}
 use Rattle.hush_commands.specs.Stubs.{Statuses}
 use Rattle.fw_check.specs.Checking.{AreVisited, Faulty, Reports, Script, Visit, after_visit, in_all, is_among, is_set, known_after, reading_findings, value_in, with_name, with_names}
 use Rattle.fw_check.specs.Findings.{Known, Report, error_at, fault_sentence, return_findings}
@@ -20,7 +20,7 @@ use Rattle.fw_check.proofs.FoundLemmas.{found-append}
 use Rattle.fw_check.proofs.NameLemmas.{all-among, with-append}
 
 module _ (known : Option Known) (stubs : Option Statuses) where
-  -- a script, and a text that is none
+  -- a script, and a text that isn't one
   pub read-script : {E : Type 0} (r : Result (Unit {0}) E) (source text : List ℕ) (old new : Found) → source ≡ text → OnOk r (ReadsItems known stubs source old new) → OnOk r (Reads known stubs text old new)
   read-script (Ok u) source text old new same h = subst (λ t. Reads known stubs t old new) same (Script h.0, h.1, h.2)
   read-script (Err e) source text old new same h = tt

@@ -7,8 +7,8 @@ use Rattle.std.specs.Io.KnownBytes.{Keeps}
 use Rattle.hush_words.specs.Parts.{written}
 use Rattle.hush_syntax.specs.FaultPlaces.{IsFaultOf}
 use Rattle.hush_syntax.specs.Reading.{read}
-use Rattle.hush_syntax.specs.declared.faults.FaultKind.TheVariants.{Memory}
-use Rattle.hush_syntax.specs.declared.faults.SyntaxFault.{SyntaxFault}
+use Rattle.hush_syntax.specs.declared.syntax_fault.FaultKind.TheVariants.{Memory}
+use Rattle.hush_syntax.specs.declared.syntax_fault.SyntaxFault.{SyntaxFault}
 use Rattle.hush_commands.specs.Stubs.{Statuses}
 use Rattle.envimg_core.specs.Environment.{Environment, Pair, bytes_cmp}
 use Rattle.envvars_core.specs.Attributes.{attributes}
@@ -28,8 +28,8 @@ pub data Reading : Type 0 where
   Faulty : SyntaxFault → Reading
   Script : List Item → Reading
 
--- a text with a fault is no script, and that is where a fault of this kind is; which of its tokens is not expected, and
--- whether one is before the fault of a word, is not said here
+-- a text with a fault isn't a script, and has a fault of this kind at this place; which of its tokens is not
+-- expected, and whether such a token is before the fault of a word, is not stated here
 abbrev pub IsReading : List ℕ → Reading → Type 0
 IsReading text (Faulty fault) = (fault.kind ≢ Memory) × (read text ≡ None) × IsFaultOf text fault
 IsReading text (Script items) = AreItemsOf text items
@@ -62,14 +62,14 @@ is_among names name = list_any (eq_by_cmp bytes_cmp name) names
 abbrev pub is_set : Environment → List ℕ → Bool
 is_set env name = is_some (get env name)
 
--- a name is put after those that are there already, if it is defined and not among them
+-- a name is added after those that are there already, if it is defined and not among them
 abbrev pub with_name : Environment → List (List ℕ) → List ℕ → List (List ℕ)
 with_name env names name = if is_set env name && not (is_among names name) then names ++ name ∷ [] else names
 
 abbrev pub with_names : Environment → List (List ℕ) → List (List ℕ) → List (List ℕ)
 with_names env names more = fold (with_name env) names more
 
--- where a check begins that is given no names
+-- the names that a check begins with if it is given none
 abbrev pub usual_names : List (List ℕ)
 usual_names = codes "bootcmd" ∷ codes "altbootcmd" ∷ codes "preboot" ∷ []
 
@@ -90,13 +90,13 @@ first_report env names = fold (with_given env) no_lines names
 abbrev pub value_in : Environment → List ℕ → List ℕ
 value_in env name = unwrap_or (get env name) []
 
--- from the name of this index on these names are visited: those that the script of each runs come after all others
+-- from the name of this index on, these names are visited: those that each one's script runs are added last
 abbrev pub AreVisited : Environment → List (List ℕ) → ℕ → List (List ℕ) → Type 0
 AreVisited env names index [] = slice_get names index ≡ None
 AreVisited env names index (v ∷ vs) =
     (slice_get names index ≡ Some v) × AreVisited env (with_names env names (run_in (value_in env v))) (suc index) vs
 
--- the names in the scripts of all these, by those in a text
+-- the names in all these scripts, by those in a text
 abbrev pub in_all : (names_in : List ℕ → List (List ℕ)) → Environment → List (List ℕ) → List (List ℕ)
 in_all names_in env visited = flat_map (λ name. names_in (value_in env name)) visited
 
@@ -104,7 +104,7 @@ abbrev pub known_after : Environment → List (List ℕ) → Known
 known_after env visited =
     record { env = env; given = is_among (in_all given_in env visited); foreseen = is_among (in_all foreseen_in env visited) }
 
--- the script that a variable is
+-- a variable, and what its value is read as
 pub record Visit : Type 0 where
   pub name : List ℕ
   pub reading : Reading
@@ -116,13 +116,13 @@ abbrev pub after_visit : Environment → Option Known → Option Statuses → Re
 after_visit env known stubs report v =
     with_findings v.name (value_in env v.name) report (findings known stubs (value_in env v.name) v.reading)
 
--- with what is found in the scripts of these names a report that was this one is that one
+-- with what is found in the scripts of these names, `report` becomes `final`
 abbrev pub Reports : Environment → Option Known → Option Statuses → List (List ℕ) → Report → Report → Type 0
 Reports env known stubs names report final =
     (visits : List Visit) × (map (λ v. v.name) visits ≡ names) × AllByRecursion (IsVisit env) visits
     × (fold (after_visit env known stubs) report visits ≡ final)
 
--- a check that begins with these names and this report comes to that one
+-- a check that begins with these names and this report ends with `final`
 abbrev pub ComesTo : Environment → Option Statuses → List (List ℕ) → Report → Report → Type 0
 ComesTo env stubs names report final =
     (visited : List (List ℕ)) × AreVisited env names 0 visited
@@ -136,7 +136,8 @@ mistyped_line name = name ++ codes ": error: the value does not have the type th
 abbrev pub with_typed : Environment → Report → Pair → Report
 with_typed env report p = if has_type (attributes env p.0).kind p.1 then report else with_error report (mistyped_line p.0)
 
--- a line for each variable whose value doesn't have the type that `.flags` gives it, in ascending order of the names' bytes
+-- a line for each variable whose value doesn't have the type that `.flags` gives it, in ascending order of
+-- the names' bytes
 abbrev pub with_types : Environment → Report → Report
 with_types env report = fold (with_typed env) report (entries env)
 

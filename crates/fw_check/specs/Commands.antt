@@ -8,7 +8,7 @@ use Rattle.fw_check.specs.Literals.{is_called, is_word_of, literal_of}
 use Rattle.fw_check.specs.declared.commands.CommandFault.{CommandFault}
 use Rattle.fw_check.specs.declared.commands.CommandFault.TheVariants as command
 
--- what other shells have, and this one lacks
+-- what other shells have, and this one doesn't
 abbrev pub brackets : List (List ℕ)
 brackets = codes "[" ∷ codes "[[" ∷ []
 
@@ -24,7 +24,7 @@ abbrev pub begin_in_parentheses : List (List Atom) → Bool
 begin_in_parentheses [] = false
 begin_in_parentheses (word ∷ words) = is_called (codes "()") (literal_of word)
 
--- `opens` says whether the arguments begin so
+-- `opens`: the arguments begin so
 abbrev pub is_head : (opens : Bool) → List ℕ → Bool
 is_head opens name = ends_in_parentheses name || (opens && is_none (builtin_of name))
 
@@ -39,7 +39,7 @@ abbrev pub has_stand_in : Option Statuses → List ℕ → Bool
 has_stand_in None name = false
 has_stand_in (Some stubs) name = is_some (status_of_name stubs name)
 
--- which commands there are is known where there are stand-ins
+-- which commands there are is known if there are stand-ins
 abbrev pub is_unknown : Option Statuses → List ℕ → Bool
 is_unknown None name = false
 is_unknown (Some stubs) name = is_none (builtin_of name) && is_none (status_of_name stubs name)

@@ -1,4 +1,4 @@
--- What is expected of the next word of a test, as the code has it.
+-- What is expected of the next word of a test, in the code's form.
 use Rattle.std.specs.Prelude.{option_map}
 use Rattle.fw_check.specs.declared.operators.Suspect.{Suspect}
 use Rattle.fw_check.specs.declared.operators.Expected.{Expected}

@@ -1,4 +1,4 @@
--- What is found in a script, and the lines that say so (docs/tools.md, "Checks of scripts").
+-- What is found in a script, and the lines that report it (docs/tools.md, "Checks of scripts").
 use Rattle.std.specs.Prelude.{ℕ, ◌==◌, ◌||◌, nat_le, not, Bool, true, false, List, [], ◌∷◌, ◌++◌, length, fold, codes, Option, Some, None, is_some, if◌then◌else◌}
 use Rattle.std.specs.Fmt.{decimal}
 use Rattle.std.specs.List.{concat, flat_map, fold, list_any, position_or_len}
@@ -6,8 +6,8 @@ use Rattle.std.specs.FinMap.{get}
 use Rattle.hush_words.specs.Parts.{Written, word_atoms}
 use Rattle.hush_words.specs.declared.parts.Word.{Word}
 use Rattle.hush_syntax.specs.Trees.{words_in}
-use Rattle.hush_syntax.specs.declared.faults.FaultKind.{FaultKind}
-use Rattle.hush_syntax.specs.declared.faults.FaultKind.TheVariants as fault
+use Rattle.hush_syntax.specs.declared.syntax_fault.FaultKind.{FaultKind}
+use Rattle.hush_syntax.specs.declared.syntax_fault.FaultKind.TheVariants as fault
 use Rattle.hush_commands.specs.Stubs.{Statuses}
 use Rattle.envimg_core.specs.Environment.{Environment}
 use Rattle.fw_engines.specs.TextPlaces.{place_of}
@@ -23,7 +23,7 @@ use Rattle.fw_check.specs.declared.findings.Severity.TheVariants as severity
 use Rattle.fw_check.specs.declared.items.Item.{Item}
 use Rattle.fw_check.specs.declared.items.Item.TheVariants as item
 
--- so many bytes of the script are before it
+-- `count` bytes of the script are before it
 pub record Finding : Type 0 where
   pub count : ℕ
   pub severity : Severity
@@ -64,7 +64,7 @@ pub record Report : Type 0 where
 abbrev pub no_lines : Report
 no_lines = record { text = []; failed = false; cut = false }
 
--- no further line is added once there are so many bytes
+-- no further line is added once there are this many bytes
 abbrev pub most_text : ℕ
 most_text = 65536
 
@@ -84,7 +84,7 @@ with_finding name text report f = with_line report (line_of name text f) (is_err
 abbrev pub with_findings : (name text : List ℕ) → Report → List Finding → Report
 with_findings name text report fs = fold (with_finding name text) report fs
 
--- at their end it is said that there is more
+-- a note after them that there is more
 abbrev pub report_end : Bool → List ℕ
 report_end true = codes "more is found, and not printed\n"
 report_end false = []
@@ -93,7 +93,7 @@ report_end false = []
 abbrev pub with_error : Report → List ℕ → Report
 with_error report line = with_line report line true
 
--- ---- texts that are no scripts
+-- ---- texts that aren't scripts
 
 abbrev pub fault_sentence : FaultKind → List ℕ
 fault_sentence fault.Quote = codes "a quote is not closed (Quote)"
@@ -121,7 +121,8 @@ return_findings text = if list_any is_return text then warning_at (position_or_l
 
 -- ---- variables
 
--- where there is an environment: it, and whether a script that is looked at gives a name to something, or foresees it
+-- what is known if there is an environment: it, and whether one of the scripts checked gives a name to
+-- something, or foresees it
 pub record Known : Type 0 where
   pub env : Environment
   pub given : List ℕ → Bool
@@ -144,7 +145,7 @@ set_by_commands =
     ∷ codes "ipaddr" ∷ codes "mtdids" ∷ codes "mtdparts" ∷ codes "netmask" ∷ codes "partition" ∷ codes "rootpath"
     ∷ codes "serverip" ∷ codes "ver" ∷ []
 
--- nothing that is known defines a variable of this name
+-- neither the environment, U-Boot and its commands, nor one of the scripts defines a variable of this name
 abbrev pub is_lacking : Option Known → List ℕ → Bool
 is_lacking None name = false
 is_lacking (Some known) name = not (is_some (get known.env name) || is_word_of set_by_commands name || known.given name)
@@ -171,7 +172,7 @@ abbrev pub wrong_findings : Option Target → List Finding
 wrong_findings None = []
 wrong_findings (Some t) = error_at t.count (operator_sentence t.name) ∷ []
 
--- each word of a test is taken for one field, whatever it stands for
+-- each word of a test counts as one field, whatever its value
 abbrev pub after_field : Written → Expected → Word → Expected
 after_field text expected word = after_word expected word.start (literal_of (word_atoms text word))
 
@@ -207,7 +208,7 @@ lacking_sentence name = codes "`${" ++ name ++ codes "}` names a variable that n
 abbrev pub name_findings : Option Known → ℕ → List ℕ → List Finding
 name_findings known count name = if is_lacking known name then warning_at count (lacking_sentence name) ∷ [] else []
 
--- the same line is not repeated: nothing is found of a name if it is the last of which something was
+-- the same line is not repeated: there is no finding for a name that is the last one with a finding
 abbrev pub next_findings : Option Known → ℕ → (last : Option (List ℕ)) → List ℕ → List Finding
 next_findings known count last name = if is_called name last then [] else name_findings known count name
 

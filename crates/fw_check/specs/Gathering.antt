@@ -1,4 +1,4 @@
--- How the statements of a script are gathered: node by node, with the nodes that are still to come on a stack.
+-- How the statements of a script are gathered: node by node, with the nodes still to come on a stack.
 use Rattle.std.specs.Prelude.{◌≡◌, ℕ, ◌+◌, ◌<◌, List, [], ◌∷◌, ◌++◌, map, Option, Some, None, option_to_list, IsSome}
 use Rattle.std.specs.List.{flat_map}
 use Rattle.hush_words.specs.Parts.{Written}
@@ -15,7 +15,7 @@ of_subtree (Some (OfChains cs)) = of_list cs
 of_subtree (Some (OfChain c)) = of_chain c
 of_subtree (Some (OfCommand c)) = of_command c
 
--- what the nodes that are still to come stand for
+-- the statements of the nodes that are still to come
 abbrev pub still_to_come : At → List NodeId → List Statement
 still_to_come at ids = flat_map (λ id. of_subtree (at id)) ids
 
@@ -24,7 +24,7 @@ abbrev pub AreKnown : At → List NodeId → Type 0
 AreKnown at [] = Unit {0}
 AreKnown at (id ∷ ids) = IsSome (at id) × AreKnown at ids
 
--- more than the sizes of its parts together
+-- greater than the sizes of its parts together
 abbrev mutual
   pub command_size : Command → ℕ
   command_size (Simple words) = 1
@@ -67,7 +67,7 @@ branch_parts bs = flat_map (λ b. b.condition ∷ b.body ∷ []) bs
 abbrev pub if_parts : List branch.Branch → Option NodeId → List NodeId
 if_parts bs otherwise = branch_parts bs ++ option_to_list otherwise
 
--- a node is these items, and then what these nodes stand for, which are smaller together
+-- a node's statements are these items, and then those of these nodes, which are smaller together
 pub record HasParts (text : Written) (at : At) (id : NodeId) (items : List Item) (ids : List NodeId) : Type 0 where
   pub known : AreKnown at ids
   pub same : of_subtree (at id) ≡ map (statement_of text) items ++ still_to_come at ids

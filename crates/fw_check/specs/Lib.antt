@@ -7,7 +7,7 @@ pub mod Operators
 pub mod Commands
 pub mod Findings
 pub mod Checking
--- What the steps of the code do: no promise speaks of these.
+-- What the steps of the code do: no promise mentions these.
 pub mod Gathering
 pub mod NameSets
 pub mod Found

@@ -1,4 +1,4 @@
--- What names are looked up in, as the code has it.
+-- What names are looked up in, in the code's form.
 use Rattle.std.specs.Prelude.{Bool, true, false, Option, option_map}
 use Rattle.hush_commands.specs.Stubs.{Statuses}
 use Rattle.envvars_core.specs.declared.refusals.Refusal.{Refusal}

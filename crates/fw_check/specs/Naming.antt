@@ -31,7 +31,8 @@ run_in text = flat_map run_names (statements_in text)
 
 -- ---- names that are given to something
 
--- an argument without a substitution is such a name; in a test so are the names of the substitutions of the others
+-- an argument without a substitution is such a name; in a `test`, so are the names in the substitutions of
+-- other arguments
 abbrev pub given_or : (tests : Bool) → List Atom → Option (List ℕ) → List (List ℕ)
 given_or tests word None = if tests then substituted word else []
 given_or tests word (Some name) = name ∷ []
@@ -52,9 +53,9 @@ given_names (Binds name words) = name ∷ []
 abbrev pub given_in : List ℕ → List (List ℕ)
 given_in text = flat_map given_names (statements_in text)
 
--- ---- names that are foreseen: a command sets their variables, or tests them
+-- ---- names that are foreseen: a command sets their variables, tests them, or asks for them
 
--- what `setexpr` is called, by how much memory an address reads
+-- the names of `setexpr`, by how much memory an address reads
 abbrev pub calculations : List (List ℕ)
 calculations = codes "setexpr" ∷ codes "setexpr.b" ∷ codes "setexpr.w" ∷ codes "setexpr.l" ∷ codes "setexpr.q" ∷ []
 

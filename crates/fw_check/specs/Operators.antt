@@ -1,4 +1,4 @@
--- Words of `test` where an operator has to be, and that aren't one (docs/tools.md, "Checks of scripts").
+-- Words of `test` in the place of an operator that aren't one (docs/tools.md, "Checks of scripts").
 use Rattle.std.specs.Prelude.{ℕ, ◌==◌, ◌&&◌, ◌||◌, Bool, false, not, List, [], ◌∷◌, length, codes, map, Option, Some, None, if◌then◌else◌}
 use Rattle.std.specs.Char.{is_ascii_alphabetic}
 use Rattle.std.specs.List.{list_all}
@@ -14,7 +14,7 @@ begins_option (b ∷ c ∷ bs) = b == 45 && is_ascii_alphabetic c
 abbrev pub is_sign : ℕ → Bool
 is_sign b = b == 61 || b == 33 || b == 60 || b == 62 || b == 126
 
--- written as operators are: a `-` and a letter first, or bytes of `=!<>~` alone
+-- written as operators are: a `-` and a letter first, or only bytes of `=!<>~`
 abbrev pub looks_like_operator : List ℕ → Bool
 looks_like_operator bytes = begins_option bytes || not (length bytes == 0) && list_all is_sign bytes
 
@@ -24,14 +24,14 @@ is_comparison word = is_word_of (map spelling comparisons) word
 abbrev pub is_joint : List ℕ → Bool
 is_joint word = is_word_of (codes "-a" ∷ codes "-o" ∷ []) word
 
--- what is expected of the next word: the words before it are read as an expression, each as one field
+-- what is expected of the next word, if the words before it are read as an expression, each as one field
 pub data Expected : Type 0 where
   ATerm : Expected  -- `!`, `-n`, `-z`, or the first word of a comparison
   Operator : (first : Option Target) → Expected  -- that of a comparison; its first word may look like an operator itself
   Operand : Expected
   Joint : Expected  -- `-a` or `-o`
-  Nothing : Expected  -- the words are no expression, for another reason
-  Wrong : Target → Expected  -- this is no operator
+  Nothing : Expected  -- the words aren't an expression, for another reason
+  Wrong : Target → Expected  -- this isn't an operator
 
 -- a word that looks like an operator
 abbrev pub suspect : ℕ → List ℕ → Option Target
@@ -45,7 +45,7 @@ abbrev pub or_first : Option Target → Option Target → Expected
 or_first None first = ends_at first
 or_first (Some t) first = Wrong t
 
--- after one more word, at this place; none are the bytes of a word with a substitution
+-- after one more word, at this place; `None` for the bytes of a word with a substitution
 abbrev pub after_word : Expected → ℕ → Option (List ℕ) → Expected
 after_word ATerm count None = Operator None
 after_word ATerm count (Some bytes) =

@@ -15,10 +15,10 @@ module _ (known : Option Known) (stubs : Option Statuses) where
   ReadsItems text old new =
       (items : List Item) × AreItemsOf text items × (new ≡ found_more old (flat_map (item_findings known stubs (written text)) items))
 
-  -- the same of what a text is read as
+  -- the same for what a text is read as
   abbrev pub Reads : List ℕ → Found → Found → Type 0
   Reads text old new = (reading : Reading) × IsReading text reading × (new ≡ found_more old (reading_findings known stubs text reading))
 
-  -- a report went on with what is found in a script
+  -- a report was continued with what is found in a script
   abbrev pub GoesOn : (name text : List ℕ) → Report → Report → Type 0
   GoesOn name text old new = (reading : Reading) × IsReading text reading × (new ≡ with_findings name text old (findings known stubs text reading))

@@ -1,4 +1,4 @@
--- The commands of a script in the order of its text, at whatever depth they are (docs/tools.md, "Checks of scripts").
+-- The commands of a script in the order of its text, at whatever depth (docs/tools.md, "Checks of scripts").
 use Rattle.std.specs.Prelude.{◌≡◌, ℕ, List, [], ◌∷◌, ◌++◌, map, Option, Some, None}
 use Rattle.hush_words.specs.Words.{Atom}
 use Rattle.hush_words.specs.Parts.{Written, written, word_atoms}
@@ -47,11 +47,11 @@ abbrev pub of_reading : Option (Option Chains) → List Statement
 of_reading None = []
 of_reading (Some tree) = of_script tree
 
--- those of the script that a text is; a text that is no script has none
+-- those of the script that a text is; a text that isn't a script has none
 abbrev pub statements_in : List ℕ → List Statement
 statements_in text = of_reading (read text)
 
--- what an item of the code, whose words are ranges of the text, stands for
+-- the statement of an item of the code, whose words are ranges of the text
 abbrev pub statement_of : Written → Item → Statement
 statement_of text (item.Call words) = Calls (words_in text words.now)
 statement_of text (item.Assignment name value) = Assigns (name_in text name) (word_atoms text value)

@@ -1,4 +1,4 @@
--- Words of which something is found.
+-- Words that a finding is about.
 use Rattle.std.specs.Prelude.{ℕ, List}
 
 -- a word without a substitution: its place and its bytes

@@ -25,7 +25,7 @@ const BRACKETS: [&[u8]; 2] = [b"[", b"[["];
 
 const WORDS: [&[u8]; 5] = [b"break", b"continue", b"return", b"case", b"function"];
 
-/// What this shell lacks that a command of this name calls; `opens` says whether its arguments begin with `()`.
+/// What a command of this name needs and this shell lacks; `opens`: its arguments begin with `()`.
 pub(crate) fn lack_of(opens: bool, name: &[u8]) -> Option<CommandFault>
     ensures { result ≡ lack_of opens name.now }
 {

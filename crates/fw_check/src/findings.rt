@@ -10,10 +10,10 @@ use memchr::memchr;
 use std::alloc::{AllocError, Global};
 use std::marker::Model;
 
-/// How bad it is.
+/// How severe a finding is.
 #[derive(Clone, Copy, Debug, PartialEq, Eq)]
 pub(crate) enum Severity {
-    /// A board would meet a fault.
+    /// A board would run into a fault.
     Error,
     /// A board might do something else than the script's author thinks.
     Warning,
@@ -26,7 +26,7 @@ impl Severity {
         matches!(self, Severity::Error)
     }
 
-    /// What a line has between a place and a sentence.
+    /// What is between the place and the sentence of a line.
     fn text(self) -> &'static [u8]
         ensures { result.now ≡ severity_text self }
     {
@@ -37,7 +37,7 @@ impl Severity {
     }
 }
 
-/// No further line is added once there are so many bytes.
+/// No further line is added once there are this many bytes.
 const MOST_TEXT: usize = 65_536;
 
 /// The lines of a check.
@@ -59,7 +59,7 @@ impl Model for Report {
 }
 
 impl Report {
-    /// No lines. It takes no memory.
+    /// No lines. It allocates no memory.
     pub(crate) fn new(alloc: Global) -> Report
         ensures { result ≡ no_lines }
     {
@@ -70,7 +70,7 @@ impl Report {
         }
     }
 
-    /// Takes note of what was found, and answers whether it gets a line.
+    /// Notes what was found, and answers whether it gets a line.
     pub(crate) fn has_line(&mut self, severe: bool) -> bool
         ensures full { result ≡ not (is_full self.old) }
         ensures noted { self.new ≡ noted self.old severe }
@@ -93,7 +93,7 @@ impl Report {
     }
 }
 
-/// A report that goes on with what is found in a script of this name and text.
+/// A report that is continued with what is found in a script of this name and text.
 #[derive(Drop)]
 pub(crate) struct Findings<'s> {
     name: &'s [u8],
@@ -133,7 +133,7 @@ impl<'s> Findings<'s> {
         self.report
     }
 
-    /// One more, after so many bytes of the script, with a sentence in three parts.
+    /// Adds a finding, after `count` bytes of the script, with a sentence in three parts.
     pub(crate) fn add(
         &mut self,
         count: usize,
@@ -159,7 +159,7 @@ impl<'s> Findings<'s> {
         text.extend_from_slice(b"\n")
     }
 
-    /// The fault of a text that is no script.
+    /// Adds the fault of a text that isn't a script.
     pub(crate) fn add_fault(&mut self, fault: SyntaxFault) -> Result<(), AllocError>
         ensures { OnOk result
             (self.new ≡ found_more self.old (error_at fault.place (fault_sentence fault.kind) ∷ [])) }
@@ -173,7 +173,7 @@ impl<'s> Findings<'s> {
         )
     }
 
-    /// The first carriage return, if there is one.
+    /// Adds the first carriage return, if there is one.
     pub(crate) fn add_return(&mut self) -> Result<(), AllocError>
         ensures { OnOk result (self.new ≡ found_more self.old (return_findings self.old.text)) }
     {

@@ -1,4 +1,4 @@
-//! The names whose scripts are looked at.
+//! The names whose scripts are checked.
 ghost use Rattle.std.specs.Prelude.{◌≡◌, ◌<◌, [], ◌∷◌, ◌++◌, IfOk, OnOk, OnSome, map, slice_get, option_map, if◌then◌else◌};
 ghost use Rattle.fw_check.specs.Checking.{is_among, with_name};
 
@@ -27,7 +27,7 @@ impl Model for Names {
 }
 
 impl Names {
-    /// No names. It takes no memory.
+    /// No names. It allocates no memory.
     pub(crate) fn new(alloc: Global) -> Names
         ensures { result ≡ [] }
     {
@@ -44,7 +44,7 @@ impl Names {
         self.order.as_slice()
     }
 
-    /// A copy of the name of this index, if there are so many.
+    /// A copy of the name at this index, if there is one.
     pub(crate) fn copy(&self, alloc: Global, index: usize) -> Result<Option<Vec<u8>>, AllocError>
         ensures name { IfOk result (λ name. option_map (λ v. v.items) name ≡ slice_get self.now index) }
         ensures few { IfOk result (λ name. OnSome name (index < usize.MAX)) }
@@ -55,7 +55,7 @@ impl Names {
         }
     }
 
-    /// Puts a name after the others, if it is defined and not one of them.
+    /// Adds a name after the others, if it is defined and not one of them.
     pub(crate) fn follow(
         &mut self,
         alloc: Global,
@@ -70,7 +70,7 @@ impl Names {
         Ok(())
     }
 
-    /// Puts a name after the others, unless it is one of them.
+    /// Adds a name after the others, unless it is one of them.
     fn add(&mut self, alloc: Global, name: &[u8]) -> Result<(), AllocError>
         ensures { OnOk result
             (self.new ≡ (if is_among self.old name.now then self.old else self.old ++ name.now ∷ [])) }

@@ -1,4 +1,4 @@
-//! The names that a command foresees: it sets their variables, or tests them.
+//! The names that a command foresees: it sets their variables, tests them, or asks for them.
 ghost use Rattle.std.specs.Prelude.{◌≡◌, OnOk, option_map};
 ghost use Rattle.std.specs.List.{flat_map};
 ghost use Rattle.hush_syntax.specs.Trees.{words_in};
@@ -12,7 +12,7 @@ use crate::substitutions::gather_substitutions;
 use hush_syntax::{Text, Word};
 use std::alloc::{AllocError, Global};
 
-/// What `setexpr` is called, by how much memory an address reads.
+/// The names of `setexpr`, by how much memory an address reads.
 const CALCULATIONS: [&[u8]; 5] = [
     b"setexpr",
     b"setexpr.b",

@@ -47,7 +47,7 @@ impl Model for Waiting {
 }
 
 impl Waiting {
-    /// No nodes. It takes no memory.
+    /// No nodes. It allocates no memory.
     fn new(alloc: Global) -> Waiting
         ensures { result ≡ [] }
     {

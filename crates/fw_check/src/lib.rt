@@ -2,12 +2,11 @@
 //! names on, as lines. docs/tools.md states the rules.
 //!
 //! To read in this order: items, literals, name_set, substitutions, commands, lookups; findings; operators,
-//! variables, statements, script_check; followed, runs, foreseen, gives, follow; typed_values, visits.
+//! undefined_names, statements, script_check; followed, run_names, foreseen, gives, text_names; typed_values, visits.
 #![tactic(auto)]
 
 mod commands;
 mod findings;
-mod follow;
 mod followed;
 mod foreseen;
 mod gives;
@@ -16,12 +15,13 @@ mod literals;
 mod lookups;
 mod name_set;
 mod operators;
-mod runs;
+mod run_names;
 mod script_check;
 mod statements;
 mod substitutions;
+mod text_names;
 mod typed_values;
-mod variables;
+mod undefined_names;
 mod visits;
 
 pub use script_check::check_text;

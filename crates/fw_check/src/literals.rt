@@ -1,4 +1,4 @@
-//! Words that are one text whatever the variables are.
+//! Words without a substitution, as texts.
 ghost use Rattle.std.specs.Prelude.{◌≡◌, IfOk, map, option_copied, option_map};
 ghost use Rattle.hush_syntax.specs.Trees.{name_in};
 ghost use Rattle.hush_words.specs.Parts.{part_atoms, word_atoms};
@@ -9,7 +9,7 @@ use hush_calc::is_text;
 use hush_syntax::{Part, Text, Word};
 use std::alloc::{AllocError, Global};
 
-/// The bytes of a word without a substitution; none of another.
+/// The bytes of a word without a substitution; `None` for another.
 pub(crate) fn literal(alloc: Global, text: &Text, word: Word) -> Result<Option<Vec<u8>>, AllocError>
     ensures { IfOk result (λ bytes. option_map (λ v. v.items) bytes ≡ literal_of (word_atoms text.now word)) }
 {
@@ -24,7 +24,7 @@ pub(crate) fn literal(alloc: Global, text: &Text, word: Word) -> Result<Option<V
     Ok(Some(bytes))
 }
 
-/// The bytes of a part that is no substitution.
+/// The bytes of a part that isn't a substitution.
 fn literal_part(text: &Text, part: Part) -> Option<&[u8]>
     requires { Fits text.now.source part }
     ensures { option_copied result ≡ literal_of (part_atoms text.now.source part) }
@@ -38,7 +38,7 @@ fn literal_part(text: &Text, part: Part) -> Option<&[u8]>
     }
 }
 
-/// The name that a word is; no bytes where it is none.
+/// The name that a word is; no bytes if it isn't one.
 pub(crate) fn name_in(alloc: Global, text: &Text, word: Word) -> Result<Vec<u8>, AllocError>
     ensures { IfOk result (λ name. name.items ≡ name_in text.now word) }
 {

@@ -15,7 +15,7 @@ use std::alloc::Global;
 #[derive(Clone, Copy)]
 pub(crate) struct Variables<'k> {
     pub(crate) vars: &'k Vars,
-    /// What names the scripts give and foresee.
+    /// Which names the scripts give and foresee.
     pub(crate) names: &'k ScriptNames,
 }
 
@@ -66,13 +66,13 @@ impl<'k> Variables<'k> {
     }
 }
 
-/// What the names in a script are looked up in, and the memory that this takes.
+/// What the names in a script are looked up in, and the allocator for that.
 #[derive(Clone, Copy)]
 pub(crate) struct Lookups<'k> {
     pub(crate) alloc: Global,
-    /// None where names of variables aren't looked up.
+    /// `None` if names of variables aren't looked up.
     pub(crate) variables: Option<Variables<'k>>,
-    /// The stand-ins; none where names of commands aren't looked up.
+    /// The stand-ins; `None` if names of commands aren't looked up.
     pub(crate) stubs: Option<&'k Stubs>,
 }
 
@@ -107,7 +107,7 @@ impl<'k> Lookups<'k> {
         }
     }
 
-    /// What is wrong with a command of this name; `opens` says whether its arguments begin with `()`.
+    /// What is wrong with a command of this name; `opens`: its arguments begin with `()`.
     pub(crate) fn command_fault(&self, opens: bool, name: &[u8]) -> Option<CommandFault>
         ensures { result ≡ command_fault (stubs_in self.now) opens name.now }
     {
@@ -121,7 +121,7 @@ impl<'k> Lookups<'k> {
         }
     }
 
-    /// Whether a stand-in is called so.
+    /// Whether a stand-in has this name.
     fn has_stand_in(&self, name: &[u8]) -> bool
         ensures { result ≡ has_stand_in (stubs_in self.now) name.now }
     {
@@ -131,7 +131,7 @@ impl<'k> Lookups<'k> {
         }
     }
 
-    /// Whether no builtin and no stand-in is called so.
+    /// Whether no builtin and no stand-in has this name.
     fn is_unknown(&self, name: &[u8]) -> bool
         ensures { result ≡ is_unknown (stubs_in self.now) name.now }
     {

@@ -11,17 +11,17 @@ pub(crate) struct NameSet {
     names: BTreeSet<Vec<u8>>,
 }
 
-/// Names in scripts, by what these do with them.
+/// Names in scripts, by what the scripts do with them.
 #[derive(Drop)]
 pub(crate) struct ScriptNames {
     /// Those that are given to something.
     pub(crate) given: NameSet,
-    /// Those whose variables are set or tested.
+    /// Those whose variables are set, tested or asked for.
     pub(crate) foreseen: NameSet,
 }
 
 impl ScriptNames {
-    /// No names. It takes no memory.
+    /// No names. It allocates no memory.
     pub(crate) fn new(alloc: Global) -> ScriptNames
         ensures given { set_of result.given ≡ no_names }
         ensures foreseen { set_of result.foreseen ≡ no_names }
@@ -34,7 +34,7 @@ impl ScriptNames {
 }
 
 impl NameSet {
-    /// No names. It takes no memory.
+    /// No names. It allocates no memory.
     pub(crate) fn new(alloc: Global) -> NameSet
         ensures { set_of result ≡ no_names }
     {

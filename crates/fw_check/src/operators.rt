@@ -1,4 +1,4 @@
-//! Words of `test` where an operator has to be, and that aren't one.
+//! Words of `test` in the place of an operator that aren't one.
 ghost use Rattle.std.specs.Prelude.{◌≡◌, ◌==◌, ◌&&◌, not, fold, length, IfOk, option_map};
 ghost use Rattle.std.specs.List.{list_all};
 ghost use Rattle.fw_check.specs.Expecting.{expected_view, suspect_view};
@@ -28,9 +28,9 @@ enum Expected {
     Operand,
     /// `-a` or `-o`.
     Joint,
-    /// The words are no expression, for another reason than an operator.
+    /// The words aren't an expression, for another reason than an operator.
     Nothing,
-    /// This is no operator.
+    /// This isn't an operator.
     Wrong(Suspect),
 }
 
@@ -38,7 +38,7 @@ const COMPARISONS: [&[u8]; 10] = [
     b"=", b"!=", b"<", b">", b"-eq", b"-ne", b"-lt", b"-le", b"-gt", b"-ge",
 ];
 
-/// The first of these words of a test that is where an operator has to be and looks like one, but isn't.
+/// The first of these words of a test that is in the place of an operator and looks like one, but isn't.
 pub(crate) fn wrong_operator(
     alloc: Global,
     text: &Text,
@@ -158,7 +158,7 @@ fn suspected(count: usize, bytes: Vec<u8>) -> Option<Suspect>
     }
 }
 
-/// Whether a word is written as operators are: a `-` and a letter first, or bytes of `=!<>~` alone.
+/// Whether a word is written as operators are: a `-` and a letter first, or only bytes of `=!<>~`.
 fn looks_like_operator(word: &[u8]) -> bool
     ensures { result ≡ looks_like_operator word.now }
 {

@@ -1,8 +1,8 @@
-//! What is found in a script, and what is printed of one script alone.
+//! What is found in a script, and what is printed of a single script.
 ghost use Rattle.std.specs.Prelude.{◌≡◌, ◌≢◌, [], ◌∷◌, Some, IfOk, OnOk, option_map};
 ghost use Rattle.hush_syntax.specs.Grammar.{SpellsText};
 ghost use Rattle.hush_syntax.specs.Scripts.{source_of, tree_of};
-ghost use Rattle.hush_syntax.specs.declared.faults.FaultKind.TheVariants as kind;
+ghost use Rattle.hush_syntax.specs.declared.syntax_fault.FaultKind.TheVariants as kind;
 ghost use Rattle.fw_engines.specs.declared.tool_end.StreamFault.TheVariants as stream;
 ghost use Rattle.fw_check.specs.Checking.{ChecksText, PrintsReport};
 ghost use Rattle.fw_check.specs.Findings.{error_at, fault_sentence, report_end};
@@ -21,7 +21,7 @@ use hush_syntax::{FaultKind, Script, SyntaxFault};
 use std::alloc::{AllocError, Global};
 use std::io::Write;
 
-/// Prints on `output` what is found in one script. No environment is looked at; with stand-ins a command that is
+/// Prints on `output` what is found in one script. No environment is used; with stand-ins a command that is
 /// neither a builtin nor one of them is an error. The status is 1 if an error was found, else 0. docs/tools.md has the
 /// texts.
 ///
@@ -63,7 +63,7 @@ pub(crate) fn print_report<W: Write>(report: &Report, output: &mut W) -> ToolEnd
     }
 }
 
-/// After the lines of a report: that there is more, if it hasn't all.
+/// After the lines of a report: that there is more, if the report was cut.
 fn report_end(cut: bool) -> &'static [u8]
     ensures { result.now ≡ report_end cut }
 {
@@ -74,7 +74,7 @@ fn report_end(cut: bool) -> &'static [u8]
     }
 }
 
-/// The end where memory ran out.
+/// The end if memory ran out.
 pub(crate) fn lacks_memory() -> ToolEnd
     ensures { (result.status ≡ 1) × (result.fault ≡ Some stream.Memory) }
 {
@@ -84,7 +84,7 @@ pub(crate) fn lacks_memory() -> ToolEnd
     }
 }
 
-/// Goes on with a report by what is found in the script of this name and text.
+/// Continues a report with what is found in the script of this name and text.
 pub(crate) fn check_script(
     lookups: &Lookups<'_>,
     report: Report,
@@ -129,7 +129,7 @@ fn check_parsed(
     check_items(lookups, script.text(), &items, found)
 }
 
-/// Adds the fault of a text that is no script; memory that was refused is no finding.
+/// Adds the fault of a text that isn't a script; running out of memory is no finding.
 fn add_fault(fault: SyntaxFault, found: &mut Findings<'_>) -> Result<(), AllocError>
     ensures { OnOk result ((fault.kind ≢ kind.Memory) × (found.new ≡ found_more found.old
         (error_at fault.place (fault_sentence fault.kind) ∷ []))) }

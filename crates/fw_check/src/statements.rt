@@ -14,7 +14,7 @@ use crate::items::Item;
 use crate::literals::{is_called, literal};
 use crate::lookups::Lookups;
 use crate::operators::wrong_operator;
-use crate::variables::{check_word, check_words};
+use crate::undefined_names::{check_word, check_words};
 use hush_syntax::{Text, Word};
 use std::alloc::AllocError;
 
@@ -34,7 +34,7 @@ pub(crate) fn check_items(
     Ok(())
 }
 
-/// The same of one item.
+/// The same for one item.
 fn check_item(
     lookups: &Lookups<'_>,
     text: &Text,
@@ -57,7 +57,7 @@ fn check_item(
     }
 }
 
-/// The same of a simple command.
+/// The same for a simple command.
 fn check_call(
     lookups: &Lookups<'_>,
     text: &Text,
@@ -81,7 +81,7 @@ fn check_call(
     check_words(lookups, text, words, findings)
 }
 
-/// Adds what is found in the name of a command; `opens` says whether its arguments begin with `()`.
+/// Adds what is found in the name of a command; `opens`: its arguments begin with `()`.
 fn check_called(
     lookups: &Lookups<'_>,
     opens: bool,
@@ -138,7 +138,7 @@ fn add_command(
     }
 }
 
-/// Adds what is found in the words of a test, if they are those of one.
+/// Adds what is found in the arguments of a `test`, if this is one.
 fn check_operators(
     lookups: &Lookups<'_>,
     text: &Text,
@@ -164,7 +164,7 @@ fn check_operators(
     }
 }
 
-/// Adds what is found in arguments, if they are those of a `run`.
+/// Adds what is found in the arguments of a `run`, if this is one.
 fn check_targets(
     lookups: &Lookups<'_>,
     text: &Text,
@@ -185,7 +185,7 @@ fn check_targets(
     Ok(())
 }
 
-/// The same of one argument.
+/// The same for one argument.
 fn check_target(
     lookups: &Lookups<'_>,
     word: Word,
@@ -210,7 +210,7 @@ fn check_target(
     Ok(())
 }
 
-/// Adds what is found where a value is given to a name.
+/// Adds what is found if a value is given to a name.
 fn check_assigned(
     lookups: &Lookups<'_>,
     text: &Text,

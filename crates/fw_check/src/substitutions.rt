@@ -21,7 +21,7 @@ pub(crate) fn substituted(alloc: Global, text: &Text, word: Word) -> Result<Vec<
     Ok(names)
 }
 
-/// Appends the name of a part, if that is the substitution of one.
+/// Appends the name in a part, if the part is the substitution of one.
 fn push_name<'t>(names: &mut Vec<&'t [u8]>, text: &'t Text, part: Part) -> Result<(), AllocError>
     requires { Fits text.now.source part }
     ensures { OnOk result (map (λ n. n.now) names.new.items

@@ -13,7 +13,7 @@ use std::alloc::AllocError;
 /// After the name of a variable whose value doesn't have its type.
 const MISTYPED: &[u8] = b": error: the value does not have the type that .flags gives it\n";
 
-/// Goes on with a report by a line for each variable whose value doesn't have its type.
+/// Continues a report with a line for each variable whose value doesn't have its type.
 pub(crate) fn check_types(vars: &Vars, report: Report) -> Result<Report, AllocError>
     ensures { IfOk result (λ after. after ≡ with_types vars.now.env report) }
 {
@@ -24,7 +24,7 @@ pub(crate) fn check_types(vars: &Vars, report: Report) -> Result<Report, AllocEr
     Ok(so_far)
 }
 
-/// A line for a variable, if its value doesn't have its type.
+/// Adds a line for a variable, if its value doesn't have its type.
 fn check_type(vars: &Vars, name: &[u8], value: &[u8], report: &mut Report) -> Result<(), AllocError>
     requires name { IsTrue (is_name name.now) }
     requires value { IsTrue (is_value value.now) }
@@ -36,7 +36,7 @@ fn check_type(vars: &Vars, name: &[u8], value: &[u8], report: &mut Report) -> Re
     report.add_error(name, MISTYPED)
 }
 
-/// Whether a value has the type of a name: it isn't refused for it.
+/// Whether a value has the type of a name, that is, isn't refused for it.
 fn has_its_type(vars: &Vars, name: &[u8], value: &[u8]) -> bool
     requires name { IsTrue (is_name name.now) }
     requires value { IsTrue (is_value value.now) }

@@ -5,11 +5,11 @@ ghost use Rattle.fw_check.specs.Looking.{known_in, stubs_in};
 ghost use Rattle.fw_check.specs.NameSets.{set_of};
 
 use crate::findings::Report;
-use crate::follow::follow_text;
 use crate::followed::Names;
 use crate::lookups::{Lookups, Variables};
 use crate::name_set::ScriptNames;
 use crate::script_check::{check_script, lacks_memory, print_report};
+use crate::text_names::follow_text;
 use crate::typed_values::check_types;
 use envvars_core::Vars;
 use fw_engines::ToolEnd;
@@ -17,7 +17,7 @@ use hush_commands::Stubs;
 use std::alloc::{AllocError, Global};
 use std::io::Write;
 
-/// Where a check begins that is given no names.
+/// The names that a check begins with if it is given none.
 const USUAL: [&[u8]; 3] = [b"bootcmd", b"altbootcmd", b"preboot"];
 
 /// After a given name that isn't defined.
@@ -25,11 +25,11 @@ const UNDEFINED: &[u8] = b": error: no variable of this name is defined\n";
 
 /// Prints on `output` what is found in the scripts of an environment: in those of the given names, without names in
 /// those of `bootcmd`, `altbootcmd` and `preboot`, and in each that one of them runs by an argument without a
-/// substitution. Each is looked at once, in the order in which they are met. With stand-ins a command that is neither a
-/// builtin nor one of them is an error. So is a `run` of a name that neither the environment has nor one of these scripts
-/// sets or tests. A substitution of a name that neither the environment nor one of these scripts defines is a warning.
-/// Then comes a line for each variable of the environment whose value doesn't have the type that `.flags` gives it. The
-/// status is 1 if an error was found, else 0. docs/tools.md has the texts.
+/// substitution. Each is checked once, in the order in which they are met. With stand-ins a command that is neither a
+/// builtin nor one of them is an error. So is a `run` of a name that neither the environment has nor one of these
+/// scripts sets, tests or asks for with `env exists`. A substitution of a name that neither the environment nor one of
+/// these scripts defines is a warning. Then follows a line for each variable of the environment whose value doesn't
+/// have the type that `.flags` gives it. The status is 1 if an error was found, else 0. docs/tools.md has the texts.
 ///
 /// At the fault `Memory` nothing is printed.
 pub fn check<W: Write>(
@@ -130,8 +130,8 @@ fn names_in(alloc: Global, vars: &Vars, names: &[&[u8]]) -> Result<Names, AllocE
     Ok(followed)
 }
 
-/// Adds the names that the scripts of these names run, and theirs, to the end. What names all these scripts tell of is
-/// the answer.
+/// Adds the names that the scripts of these names run, and those that theirs run, at the end. The answer is which names
+/// all these scripts give and foresee.
 fn follow_all(alloc: Global, vars: &Vars, names: &mut Names) -> Result<ScriptNames, AllocError>
     ensures visited { OnOk result (AreVisited vars.now.env names.old 0 names.new) }
     ensures given { IfOk result
@@ -148,7 +148,7 @@ fn follow_all(alloc: Global, vars: &Vars, names: &mut Names) -> Result<ScriptNam
     Ok(gathered)
 }
 
-/// Goes on with a report by what is found in the scripts of these names.
+/// Continues a report with what is found in the scripts of these names.
 fn report_all(
     lookups: &Lookups<'_>,
     vars: &Vars,
@@ -165,7 +165,7 @@ fn report_all(
     Ok(so_far)
 }
 
-/// The value of a variable; no bytes where there is none.
+/// The value of a variable; no bytes if there is no such variable.
 fn value<'v>(vars: &'v Vars, name: &[u8]) -> &'v [u8]
     ensures { result.now ≡ value_in vars.now.env name.now }
 {

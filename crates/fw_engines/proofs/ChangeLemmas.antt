@@ -16,7 +16,7 @@ use Rattle.fw_engines.specs.declared.tool_end.ToolEnd.{ToolEnd}
 use Rattle.fw_engines.specs.declared.tool_end.StreamFault.{StreamFault}
 use Rattle.fw_engines.specs.declared.tool_end.StreamFault.TheVariants.{Read, Write, Memory}
 
--- ---- where memory ran out
+-- ---- if memory ran out
 
 pub at_write : (old now new : Held) (n : ℕ) (es : List Entry) (k : ℕ) (e : Entry) (rest : List Entry) → ◌≡◌ {A = Held × ℕ} (now, n) (imported old (take k es)) →
     drop k es ≡ e ∷ rest → IsChange now e → new ≡ now → LacksMemory old es n new
@@ -87,12 +87,12 @@ done_refused h name new r is = ap (λ o. cond (is_some o) h (written h name new)
 pub change_of_entry : (h : Held) (n m : List ℕ) (v w : Option (List ℕ)) → n ≡ m → v ≡ w → IsChange h (n, v) → IsChange h (m, w)
 change_of_entry h n m v w p q change = subst (IsChange h) (λ i. (p i, q i)) change
 
--- no word joined is empty
+-- no joined word is empty
 pub none_spaced : {X : Type 0} (g : X → List ℕ) (ws : List X) → length ws ≡ 0 → [] ≡ spaced (map g ws)
 none_spaced g [] h = refl
 none_spaced g (w ∷ ws) h = absurd (omega (arith, h))
 
--- one word is the value that words joined are
+-- a single word is the value that joining gives
 pub one_spaced : {X : Type 0} (g : X → List ℕ) (ws : List X) (d : X) → length ws ≡ 1 → g (get_or ws 0 d) ≡ spaced (map g ws)
 one_spaced g [] d h = absurd (omega (arith, h))
 one_spaced g (w ∷ []) d h = sym (append-nil (g w))

@@ -1,4 +1,4 @@
--- One entry more of a default environment.
+-- One more entry of a default environment.
 use Rattle.std.proofs.Common.{◌≡◌, ℕ, ◌<◌, ◌++◌, List, [], ◌∷◌, Option, Some, None, Result, Ok, Err, true, cond, length, refl, sym, ap, ◌∙◌, subst, arith}
 use Rattle.std.proofs.Math.Seq.{take-append_seam}
 use Rattle.std.proofs.lemmas.List.{append_assoc, append-nil}
@@ -12,7 +12,7 @@ use Rattle.envvars_core.specs.declared.refusals.Refusal.TheVariants.{BadForm, Ba
 use Rattle.fw_engines.specs.Defaults.{written, entry_refusal, refused_or, RanOut, RefusesDefaults}
 use Rattle.std.specs.Prelude.{slice_get, IfSome, IfNone, IsOkUnless, Bool, false, ◌&&◌, is_none, nat_lt}
 
--- a forced write asks no default environment
+-- a forced write doesn't depend on the default environment
 pub forced : (m d : Environment) (room : ℕ) (e : Entry) → refusal m d room e.name e.value true ≡ entry_refusal room m e
 unfolding refusal
 forced m d room e = refl
@@ -31,7 +31,7 @@ written-append room m n (x ∷ xs) ys e =
     by_refusal None f h = f h
     by_refusal (Some r) f h = cc
 
--- ---- the entries in front were written, and these are left
+-- ---- the entries before were written, and these are left
 
 abbrev pub IsWritten : ℕ → List Entry → List Entry → Environment → Type 0
 IsWritten room all rest m = (front : List Entry) × (all ≡ front ++ rest) × (written room env.empty front ≡ Ok m)
@@ -59,7 +59,7 @@ refused_at room all rest e m r w some =
     ∙ written-append room env.empty m w.0 (e ∷ rest) w.2
     ∙ ap (λ o. refused_or o e.line (written room (after m e.name e.value) rest)) some
 
--- what holds of the entry behind those in front
+-- what holds of the entry after those before it
 there : (P : Entry → Type 0) (front rest : List Entry) (e : Entry) → P e → IfSome (slice_get (front ++ e ∷ rest) (length front)) P
 there P [] rest e p = p
 there P (x ∷ front) rest e p = there P front rest e p

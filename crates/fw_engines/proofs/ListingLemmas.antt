@@ -1,4 +1,4 @@
--- A line is a joined variable with a newline behind it.
+-- A line is a joined variable with a newline after it.
 use Rattle.std.proofs.Common.{◌≡◌, List, [], ◌∷◌, ◌++◌, map, refl, ap}
 use Rattle.std.specs.List.{flat_map}
 use Rattle.envimg_core.specs.Environment.{Pair}

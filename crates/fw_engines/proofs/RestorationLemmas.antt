@@ -23,7 +23,7 @@ writes-append : (old mid new : Held) (xs ys : List Entry) → WritesAll old xs m
 writes-append old mid new [] ys p q = subst (λ h. WritesAll h ys new) p q
 writes-append old mid new (x ∷ xs) ys p q = (p.0, writes-append (written old x.name x.value) mid new xs ys p.1 q)
 
--- some first of all these writes were done, and the rest is left
+-- a prefix of all these writes was done, and the rest is left
 abbrev pub IsForced : Held → List Entry → List Entry → Held → Type 0
 IsForced old all rest now = (done : List Entry) × (all ≡ done ++ rest) × WritesAll old done now
 
@@ -54,7 +54,7 @@ forced_more now new e es none is =
 pub forced_refused : (now : Held) (e : Entry) (es : List Entry) (r : Refusal) → Some r ≡ refusal_in now e.name e.value true → forced_effect now (e ∷ es) ≡ refused_in_line r e now
 forced_refused now e es r some = ap (λ o. unless_refused_in o e now (forced_effect (written now e.name e.value) es)) (sym some)
 
--- ---- where memory ran out
+-- ---- if memory ran out
 
 pub forced_change_of : (h : Held) (e : Entry) (r : Result (Unit {0}) Refusal) → IfSome (refusal_in h e.name e.value true) (λ x. r ≡ Err x) →
     IfNone (refusal_in h e.name e.value true) (IsTrue (same_value (env.get h.now.env e.name) (given e.value)) → IsOk r) → r ≡ Err refusal.Memory → IsForcedChange h e

@@ -43,7 +43,7 @@ shown_bad order bytes text state w e e' end is means p =
     subst (λ s. Printed end.fault (record { output = w; errors = e }) (record { output = w; errors = e' }) (shown_in s bytes) end.status) (sym is)
     (subst (λ t. Printed end.fault (record { output = w; errors = e }) (record { output = w; errors = e' }) t end.status) (sym means) (complained end.fault end.status w e e' text p))
 
--- the bytes behind the first four, as a slice to the end
+-- the bytes after the first four, as a slice to the end
 pub shown_good_slice : (order : Order) (bytes : List ℕ) (flag : ℕ) (w w' e : Option (List ℕ)) (end : ToolEnd) → state_shown order bytes ≡ Good flag → Lists w w' (listing (vars_of (entries_of (take (length bytes - 4) (drop 4 bytes))))) end → Printed end.fault (record { output = w; errors = e }) (record { output = w'; errors = e }) (shown order bytes) end.status
 shown_good_slice order bytes flag w w' e end is p =
     shown_good order bytes flag w w' e end is (subst (λ a. Lists w w' (listing (vars_of (entries_of a))) end) (take_all (length bytes - 4) (drop 4 bytes) (omega (arith, length-drop 4 bytes))) p)

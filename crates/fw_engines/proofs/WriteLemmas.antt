@@ -15,14 +15,14 @@ nothing a = ([], [], refl, Appends-nil a)
 pub whole : (a b : Option (List ℕ)) (x : List ℕ) → Appends a b x → AppendsFront a b x
 whole a b x p = (x, [], sym (append-nil x), p)
 
--- a front of the first text is one of both
+-- a prefix of the first text is one of both together
 pub front_more : (a b : Option (List ℕ)) (x y : List ℕ) → AppendsFront a b x → AppendsFront a b (x ++ y)
 front_more a b x y p = (p.0, p.1 ++ y, ap (λ z. z ++ y) p.2 ∙ append_assoc p.0 p.1 y, p.3)
 
 pub part_more : (a b : Option (List ℕ)) (x y : List ℕ) → AppendsPart a b x → AppendsPart a b (x ++ y)
 part_more a b x y p = (p.0, p.1 ++ y, ap (λ z. z ++ y) p.2 ∙ append_assoc p.0 p.1 y, omega (arith, length-append p.1 y, p.3), p.4)
 
--- and so is the first text with a front of the second
+-- and so is the first text with a prefix of the second
 pub front_after : (a b c : Option (List ℕ)) (x y : List ℕ) → Appends a b x → AppendsFront b c y → AppendsFront a c (x ++ y)
 front_after a b c x y p q = (x ++ q.0, q.1, ap (λ z. x ++ z) q.2 ∙ sym (append_assoc x q.0 q.1), Appends-trans a b c x q.0 p q.3)
 
@@ -63,7 +63,7 @@ output_prints end e a b text p = by_fault end.fault p
     by_fault None h = ((h.0, Appends-nil e), h.1)
     by_fault (Some f) h = (h.0, inl (h.1, nothing e), h.2)
 
--- a tool without want of memory is one that may have it
+-- a tool that never runs out of memory is one that may run out of it
 pub prints_printed : (end : ToolEnd) (a b : Writers) (texts : Texts) → Prints a b texts end → Printed end.fault a b texts end.status
 prints_printed end a b texts p = by_fault end.fault p
   where

@@ -19,12 +19,12 @@ pub record Effect : Type 0 where
   pub status : ℕ
   pub session : Held
 
--- what a tool changes: the session, and what standard error holds where that is known
+-- what a tool changes: the session, and what standard error holds if that is known
 pub record Changing : Type 0 where
   pub session : Held
   pub errors : Option (List ℕ)
 
--- a session left without a word
+-- a session left without any output
 abbrev pub silent : Held → Effect
 silent h = record { text = []; status = 0; session = h }
 
@@ -32,7 +32,7 @@ silent h = record { text = []; status = 0; session = h }
 abbrev pub refused_by : Refusal → List ℕ → Held → Effect
 refused_by r name h = record { text = refusal_text r name; status = 1; session = h }
 
--- the refusal printed where there is one, with nothing changed; else what follows
+-- the refusal printed if there is one, with nothing changed; else what follows
 abbrev pub unless_refused : Option Refusal → List ℕ → Held → Effect → Effect
 unless_refused None name h rest = rest
 unless_refused (Some r) name h rest = refused_by r name h
@@ -59,26 +59,27 @@ count_status (suc n) = 1
 abbrev pub import_effect : Held → List Entry → Effect
 import_effect h es = record { text = count_text (imported h es).1; status = count_status (imported h es).1; session = saved (imported h es).0 }
 
--- where memory may run out: at a write that no check refuses and that changes a value, or behind the last one at a save of a
--- copy that wasn't saved since the last mark
+-- where memory may run out: at a write that no check refuses and that changes a value, or after the last one
+-- at a save of a copy that wasn't saved since the last mark
 abbrev pub NeedsMemory : Held → List Entry → Type 0
 NeedsMemory h [] = last_saved (side_of h) h.marks ≡ false
 NeedsMemory h (e ∷ es) = IsChange h e
 
--- memory ran out there behind the first of these writes, of which so many were refused; the session is what they leave
+-- memory ran out at such a point after a prefix of these writes, of which `refused` were refused; `new` is
+-- what they leave
 abbrev pub LacksMemory : Held → List Entry → ℕ → Held → Type 0
 LacksMemory old writes refused new = (k : ℕ) × ((new, refused) ≡ imported old (take k writes)) × NeedsMemory new (drop k writes)
 
--- or, where there are several, while words were joined
+-- or, if there are several, while words were joined
 abbrev pub LacksMemoryToSet : Held → List ℕ → List (List ℕ) → Held → Type 0
 LacksMemoryToSet old name words new = ((1 < length words) × (new ≡ old)) ⊎ LacksMemory old ((name, Some (spaced words)) ∷ []) 0 new
 
--- an import goes on behind what is refused
+-- an import goes on after what is refused
 abbrev pub LacksMemoryToImport : Held → List Entry → Held → Type 0
 LacksMemoryToImport old writes new = (refused : ℕ) × LacksMemory old writes refused new
 
--- how a tool that changes a session ends. Where memory ran out nothing was printed, no copy has changed, and some first of its
--- writes stand, as `lacks` says it
+-- how a tool that changes a session ends. If memory ran out, nothing was printed, no copy has changed, and a
+-- prefix of its writes is done, as `lacks` states it
 abbrev pub Ends : Option StreamFault → Changing → Changing → Effect → (Held → Type 0) → ℕ → Type 0
 Ends None old new effect lacks status = Appends old.errors new.errors effect.text × (status ≡ effect.status) × (new.session ≡ effect.session)
 Ends (Some Write) old new effect lacks status = AppendsPart old.errors new.errors effect.text × (status ≡ 1) × (new.session ≡ effect.session)

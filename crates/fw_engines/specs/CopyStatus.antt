@@ -42,7 +42,7 @@ fault_words BadLength = codes "length is wrong"
 fault_words BadCrc = codes "checksum is wrong"
 fault_words Unterminated = codes "list of entries isn't ended"
 
--- a layout that isn't the one that is meant
+-- a layout other than the one meant
 abbrev pub layout_words : Option Layout → Layout → List ℕ
 layout_words (Some Single) Single = []
 layout_words (Some Redundant) Redundant = []
@@ -51,23 +51,23 @@ layout_words (Some Single) Redundant = codes " as a copy with a flag"
 layout_words None Single = codes " as a single image"
 layout_words None Redundant = codes " as a copy with a flag"
 
--- a byte order that isn't the one that is meant
+-- a byte order other than the one meant
 abbrev pub order_words : Order → Order → List ℕ
 order_words Little Little = []
 order_words Big Big = []
 order_words Little Big = codes " with --big-endian"
 order_words Big Little = codes " without --big-endian"
 
--- a size that isn't the one that is meant
+-- a size other than the one meant
 abbrev pub size_words : ℕ → ℕ → List ℕ
 size_words meant size = if size == meant then [] else concat (codes " with size 0x" ∷ hexadecimal size ∷ [])
 
--- the way in which bytes are good, as far as it isn't the one that is meant
+-- the way in which bytes are good, as far as it differs from the one meant
 abbrev pub way_words : Meant → Option Shape → List ℕ
 way_words meant None = []
 way_words meant (Some way) = concat (codes ", good" ∷ layout_words meant.layout way.layout ∷ order_words meant.order way.order ∷ size_words meant.size way.size ∷ [])
 
--- what may help with bytes that aren't good as they are meant
+-- what may help if bytes aren't good as meant
 unfoldable pub hint_words : Meant → List ℕ → List ℕ
 hint_words meant bytes =
     if is_filled 255 (take meant.size bytes) then codes ", erased (all bytes FF)"
@@ -90,7 +90,7 @@ words_by_state BadLength shape bytes = bad_words BadLength (meant_by shape) byte
 words_by_state BadCrc shape bytes = bad_words BadCrc (meant_by shape) bytes
 words_by_state Unterminated shape bytes = bad_words Unterminated (meant_by shape) bytes
 
--- the copy at the front of some bytes
+-- the copy that some bytes begin with
 unfoldable pub copy_words : Shape → List ℕ → List ℕ
 copy_words shape bytes = words_by_state (state_of shape (take shape.size bytes)) shape bytes
 
@@ -98,12 +98,12 @@ abbrev pub current_words : Bool → List ℕ
 current_words true = codes ", current"
 current_words false = []
 
--- where a copy lies
+-- where a copy is
 abbrev pub place_words : List ℕ → Shape → FoundCopy → List ℕ
 place_words label shape copy =
     concat (label ∷ copy.device.now ∷ codes " at 0x" ∷ hexadecimal copy.start ∷ codes ", " ∷ decimal shape.size ∷ codes " bytes: " ∷ [])
 
--- that, its state, and whether it is current
+-- where it is, its state, and whether it is current
 unfoldable pub copy_line : List ℕ → Shape → Bool → FoundCopy → List ℕ
 copy_line label shape current copy =
     concat (place_words label shape copy ∷ copy_words shape copy.bytes.now ∷ current_words current ∷ (10 ∷ []) ∷ [])
@@ -130,7 +130,7 @@ copy_lines shape current first (Some second) =
 abbrev pub no_variables : List ℕ
 no_variables = codes "variables    none, no copy is good\n"
 
--- how many there are, and the bytes that they take of so many
+-- how many there are, and how many bytes of `room` they take
 abbrev pub counts_line : (variables taken room : ℕ) → List ℕ
 counts_line variables taken room =
     concat (codes "variables    " ∷ decimal variables ∷ codes ", " ∷ decimal taken ∷ codes " of " ∷ decimal room ∷ codes " bytes used\n" ∷ [])
@@ -153,7 +153,7 @@ current_copy First first second = Some first
 current_copy Second first second = second
 current_copy Neither first second = None
 
--- ---- the copy that a save writes, where there are two
+-- ---- the copy that a save writes, if there are two
 
 abbrev pub next_line : List ℕ → ℕ → List ℕ
 next_line label flag = concat (codes "next save    " ∷ label ∷ codes ", flag " ∷ decimal (flag_after flag) ∷ (10 ∷ []) ∷ [])
@@ -231,7 +231,7 @@ file_by (Some single) flagged order path bytes = good_file path bytes single
 file_by None (Some flagged) order path bytes = good_file path bytes flagged
 file_by None None order path bytes = bad_file order path bytes
 
--- the whole file as a single image of this byte order, or else as a copy with a flag, or else what is wrong with it
+-- the file as a single image of this byte order, or else as a copy with a flag, or else what is wrong with it
 abbrev pub file_status_of : Order → List ℕ → List ℕ → Report
 file_status_of order path bytes =
     file_by (good_as bytes (record { layout = Single; size = length bytes; order = order }))

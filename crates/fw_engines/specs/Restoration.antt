@@ -23,7 +23,7 @@ abbrev pub kept : Bool → Entry → List Entry
 kept true e = if is_flags e then e ∷ [] else []
 kept false e = if is_flags e then [] else e ∷ []
 
--- in their order, but `.flags` comes last: what it says is no reason to refuse another
+-- in their order, but `.flags` comes last: its attributes are no reason to refuse another
 abbrev pub flags_last : List Entry → List Entry
 flags_last es = flat_map (kept false) es ++ flat_map (kept true) es
 
@@ -73,14 +73,14 @@ abbrev pub NeedsMemoryToForce : Held → List Entry → Type 0
 NeedsMemoryToForce h [] = last_saved (side_of h) h.marks ≡ false
 NeedsMemoryToForce h (e ∷ es) = IsForcedChange h e
 
--- memory ran out behind the first of these writes; the session is what they leave
+-- memory ran out after a prefix of these writes; the session is what they leave
 abbrev pub LacksMemoryToForce : Held → List Entry → Held → Type 0
 LacksMemoryToForce old es new = (done : List Entry) × (rest : List Entry) × (es ≡ done ++ rest) × WritesAll old done new × NeedsMemoryToForce new rest
 
--- or before, while the writes were put in their order
+-- or before them, while the writes were put in their order
 abbrev pub LacksMemoryToRestore : Held → List Entry → Held → Type 0
 LacksMemoryToRestore old es new = (new ≡ old) ⊎ LacksMemoryToForce old (restoring old.now.env es) new
 
--- the code's writes, seen so
+-- a write of the code, as an entry
 abbrev pub write_view : ForcedWrite → Entry
 write_view w = record { name = w.name.now; value = option_copied w.value; line = w.line }

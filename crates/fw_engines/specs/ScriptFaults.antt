@@ -1,9 +1,9 @@
--- Where a text isn't a script, and why (docs/dry-runs.md, "A script's own status").
+-- Where and why a text isn't a script (docs/dry-runs.md, "A script's own status").
 use Rattle.std.specs.Prelude.{ℕ, List, [], ◌∷◌, codes}
 use Rattle.std.specs.Fmt.{decimal}
 use Rattle.std.specs.List.{concat}
-use Rattle.hush_syntax.specs.declared.faults.FaultKind.{FaultKind}
-use Rattle.hush_syntax.specs.declared.faults.FaultKind.TheVariants as fault
+use Rattle.hush_syntax.specs.declared.syntax_fault.FaultKind.{FaultKind}
+use Rattle.hush_syntax.specs.declared.syntax_fault.FaultKind.TheVariants as fault
 use Rattle.fw_engines.specs.TextPlaces.{place_of}
 use Rattle.fw_engines.specs.declared.text_places.Place.{Place}
 
@@ -32,7 +32,7 @@ fault_sentence fault.Assignment = codes "a word after an assignment"
 fault_sentence fault.Nul = codes "a byte 0"
 fault_sentence fault.Memory = codes "out of memory"
 
--- where a text isn't a script, and why
+-- where and why a text isn't a script
 abbrev pub fault_at : (name : List ℕ) → Place → (kind sentence : List ℕ) → List ℕ
 fault_at name place kind sentence =
     concat (codes "fwenv: " ∷ name ∷ codes ":" ∷ decimal place.line ∷ codes ":" ∷ decimal place.column ∷ codes ": " ∷ kind ∷ codes ": " ∷ sentence ∷ codes "\n" ∷ [])

@@ -1,4 +1,4 @@
--- The lines of a configuration from which nothing is taken (docs/texts.md, "Configuration").
+-- The lines of a configuration that are skipped (docs/texts.md, "Configuration").
 use Rattle.std.specs.Prelude.{ℕ, ◌-◌, ◌==◌, Bool, true, false, List, [], ◌∷◌, Result, Err, if◌then◌else◌}
 use Rattle.std.specs.List.{list_all}
 use Rattle.envcfg_core.specs.Config.{Settings, config_of, is_space}
@@ -11,7 +11,7 @@ abbrev pub has_no_copy : Result Settings ConfigFault → Bool
 has_no_copy (Err NoCopy) = true
 has_no_copy other = false
 
--- alone it names no copy
+-- as a configuration of its own it names no copy
 abbrev pub names_no_copy : List ℕ → Bool
 names_no_copy line = has_no_copy (config_of line)
 
@@ -19,12 +19,12 @@ names_no_copy line = has_no_copy (config_of line)
 abbrev pub is_idle : List ℕ → Bool
 is_idle line = if begins_with hash line then true else list_all is_space line
 
--- one line more, which isn't idle: it is taken if it names a copy and one is looked for yet
+-- one more line, which isn't idle: it is taken if it names a copy and `wanted` isn't 0 yet
 abbrev pub with_line : Bool → ℕ → ℕ → (ℕ → List ℕ) → List ℕ
 with_line true wanted number later = number ∷ later wanted
 with_line false wanted number later = if wanted == 0 then number ∷ later 0 else later (wanted - 1)
 
--- the numbers of those that aren't idle and are not taken, while so many copies are looked for
+-- the numbers of those that are neither idle nor taken, while `wanted` copies are looked for
 abbrev pub skipped_among : List Line → ℕ → List ℕ
 skipped_among [] wanted = []
 skipped_among (line ∷ lines) wanted =

@@ -7,7 +7,7 @@ use Rattle.envcfg_core.specs.Export.{exported, is_unreadable}
 use Rattle.fw_engines.specs.Messages.{about}
 use Rattle.fw_engines.specs.Tool.{Texts}
 
--- a variable in text form, where its name can be read back
+-- a variable in text form, if its name can be read back
 abbrev pub export_text : Pair → List ℕ
 export_text p = if is_unreadable p.0 then [] else exported p.0 p.1
 
@@ -20,7 +20,7 @@ abbrev pub status_for : List ℕ → ℕ
 status_for [] = 0
 status_for (b ∷ bs) = 1
 
--- every variable in ascending order of the names' bytes; the status is 1 where there is a message
+-- every variable in ascending order of the names' bytes; the status is 1 if there is a message
 abbrev pub export_texts : Environment → Texts
 export_texts env = record {
   output = flat_map export_text (entries env);

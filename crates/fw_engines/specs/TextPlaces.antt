@@ -12,6 +12,6 @@ abbrev pub after_bytes : Place → List ℕ → Place
 after_bytes p [] = p
 after_bytes p (b ∷ bs) = after_bytes (after_byte p b) bs
 
--- the place after so many bytes of a text
+-- the place after `count` bytes of a text
 abbrev pub place_of : (text : List ℕ) → (count : ℕ) → Place
 place_of text count = after_bytes (record { line = 1; column = 1 }) (take count text)

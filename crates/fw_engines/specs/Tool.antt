@@ -12,7 +12,7 @@ pub record Texts : Type 0 where
   pub errors : List ℕ
   pub status : ℕ
 
--- what was read: all, or some of it where reading or memory failed
+-- what was read: all, or some of it if reading or memory failed
 abbrev pub Took : Option StreamFault → Option (List ℕ) → Option (List ℕ) → ℕ → List ℕ → Type 0
 Took None = GaveAll
 Took (Some Write) = GaveAll
@@ -23,7 +23,7 @@ Took (Some Memory) = Gave
 abbrev pub Writes : Writers → Writers → Texts → Type 0
 Writes old new texts = Appends old.output new.output texts.output × Appends old.errors new.errors texts.errors
 
--- a front of each text was written, and something of one of them is left
+-- a prefix of each text was written, and something of one of them is left
 abbrev pub WritesPart : Writers → Writers → Texts → Type 0
 WritesPart old new texts =
     (AppendsPart old.output new.output texts.output × AppendsFront old.errors new.errors texts.errors)
@@ -33,25 +33,25 @@ WritesPart old new texts =
 abbrev pub WritesNothing : Writers → Writers → Type 0
 WritesNothing old new = Keeps old.output new.output × Keeps old.errors new.errors
 
--- what was written: both texts; less than that where writing failed; nothing where reading or memory failed
+-- what was written: both texts; less than that if writing failed; nothing if reading or memory failed
 abbrev pub Printed : Option StreamFault → Writers → Writers → Texts → ℕ → Type 0
 Printed None old new texts status = Writes old new texts × (status ≡ texts.status)
 Printed (Some Write) old new texts status = WritesPart old new texts × (status ≡ 1)
 Printed (Some Read) old new texts status = WritesNothing old new × (status ≡ 1)
 Printed (Some Memory) old new texts status = WritesNothing old new × (status ≡ 1)
 
--- the same of a tool that neither reads nor takes memory
+-- the same for a tool that neither reads nor allocates memory
 abbrev pub Prints : Writers → Writers → Texts → ToolEnd → Type 0
 Prints old new texts end =
     MatchOption end.fault (Writes old new texts × (end.status ≡ texts.status)) (λ fault. (fault ≡ Write) × WritesPart old new texts × (end.status ≡ 1))
 
--- a fault that comes before anything is written
+-- a fault before anything is written
 abbrev pub IsEarly : StreamFault → Type 0
 IsEarly Read = Unit {0}
 IsEarly Memory = Unit {0}
 IsEarly Write = ⊥
 
--- one text was written, and the status is this; or less than the text, and the end is the fault of writing
+-- one text was written with this status; or less than the text, and the fault is one of writing
 abbrev pub PrintsText : Option (List ℕ) → Option (List ℕ) → List ℕ → ℕ → ToolEnd → Type 0
 PrintsText old new text status end =
     MatchOption end.fault (Appends old new text × (end.status ≡ status)) (λ fault. (fault ≡ Write) × AppendsPart old new text × (end.status ≡ 1))

@@ -8,17 +8,17 @@ use Rattle.fw_engines.specs.Shown.{line_of, listing}
 use Rattle.fw_engines.specs.Streams.{Writers}
 use Rattle.fw_engines.specs.Tool.{Texts, Writes, WritesPart}
 
--- the line of a variable, or of its value alone
+-- the line of a variable, or of only its value
 abbrev pub line_or_value : Bool → List ℕ → List ℕ → List ℕ
 line_or_value true name value = value ++ 10 ∷ []
 line_or_value false name value = line_of (name, value)
 
--- on standard output: nothing where there is no value
+-- on standard output: nothing if there is no value
 abbrev pub line_if_there : Bool → List ℕ → Option (List ℕ) → List ℕ
 line_if_there value_only name None = []
 line_if_there value_only name (Some value) = line_or_value value_only name value
 
--- on standard error: that there is none
+-- on standard error: that there is no value
 abbrev pub message_if_absent : List ℕ → Option (List ℕ) → List ℕ
 message_if_absent name None = not_defined name
 message_if_absent name (Some value) = []
@@ -32,7 +32,7 @@ message_for env name = message_if_absent name (get env name)
 abbrev pub is_absent : Environment → List ℕ → Bool
 is_absent env name = is_none (get env name)
 
--- the status of a tool of which something failed, or nothing
+-- the status of a tool by whether something failed
 abbrev pub status_of : Bool → ℕ
 status_of true = 1
 status_of false = 0
@@ -45,14 +45,14 @@ named value_only env names = record {
   status = status_of (list_any (is_absent env) names);
 }
 
--- a message alone
+-- only a message
 abbrev pub complaint : List ℕ → Texts
 complaint text = record { output = []; errors = text; status = 1 }
 
 abbrev pub one_name : List ℕ
 one_name = codes "## Error: -n takes exactly one name" ++ 10 ∷ []
 
--- without names all variables; the value alone takes exactly one name
+-- without names, all variables; to print only the value takes exactly one name
 abbrev pub printed : Environment → List (List ℕ) → Bool → Texts
 printed env [] false = record { output = listing env; errors = []; status = 0 }
 printed env (n ∷ names) false = named false env (n ∷ names)

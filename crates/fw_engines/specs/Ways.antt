@@ -1,4 +1,4 @@
--- How bytes may be a good image when they aren't one as they are meant (docs/tools.md, "Reports of copies").
+-- How bytes may be a good image when they aren't one as meant (docs/tools.md, "Reports of copies").
 use Rattle.std.specs.Prelude.{ℕ, ◌+◌, ◌==◌, ◌&&◌, Bool, true, false, not, nat_le, List, [], ◌∷◌, length, take, Option, Some, None, unwrap_or, if◌then◌else◌}
 use Rattle.std.specs.List.{list_all}
 use Rattle.std.specs.Option.{option_or}
@@ -53,7 +53,7 @@ in_either_layout bytes layout order size = option_or (in_either_order bytes layo
 abbrev pub likely_sizes : ℕ → List ℕ
 likely_sizes meant = meant ∷ 4096 ∷ 8192 ∷ 16384 ∷ 32768 ∷ 65536 ∷ 131072 ∷ 262144 ∷ 524288 ∷ 1048576 ∷ []
 
--- good in the first of these sizes that serves
+-- good in the first of these sizes that fits
 unfoldable pub in_some_size : List ℕ → Layout → Order → List ℕ → Option Shape
 in_some_size bytes layout order [] = None
 in_some_size bytes layout order (size ∷ sizes) = option_or (in_either_layout bytes layout order size) (in_some_size bytes layout order sizes)
@@ -65,6 +65,6 @@ good_way meant bytes = in_some_size bytes (unwrap_or meant.layout Single) meant.
 abbrev pub are_all : ℕ → List ℕ → Bool
 are_all byte bytes = list_all (λ b. b == byte) bytes
 
--- some bytes, and each of them is this one
+-- at least one byte, and each of them is this one
 abbrev pub is_filled : ℕ → List ℕ → Bool
 is_filled byte bytes = not (length bytes == 0) && are_all byte bytes

@@ -21,11 +21,11 @@ use std::io::Write;
 use text_parts::joined;
 
 /// Writes the words, joined by one space, as the value of a name, and saves; without words the variable is deleted. The
-/// write is unforced. An accepted one is saved also where it changed nothing; a refused one prints its text on `errors`,
+/// write is unforced. An accepted one is saved even if it changed nothing; a refused one prints its text on `errors`,
 /// status 1, and nothing is saved.
 ///
-/// At the fault `Memory` nothing is printed, no copy has changed, and the write may stand. It comes where several words are
-/// joined, or where no check refuses the write.
+/// At the fault `Memory` nothing is printed, no copy has changed, and the write may have been done. This is possible if
+/// several words are joined, or if no check refuses the write.
 pub fn setenv<E: Write>(
     alloc: Global,
     session: &mut Session,
@@ -50,12 +50,12 @@ pub fn setenv<E: Write>(
     }
 }
 
-/// Takes the lines of a set script in their order as unforced writes, and saves once at the end, also where there is no
+/// Takes the lines of a set script in their order as unforced writes, and saves once at the end, even if there is no
 /// line. The first refusal ends it: its text is printed on `errors`, status 1, nothing is saved, and the lines before it
-/// stand in the session's variables.
+/// stay written in the session's variables.
 ///
-/// At the fault `Memory` nothing is printed, no copy has changed, and some first lines stand, none of which is refused; nor is
-/// the next, if there is one.
+/// At the fault `Memory` nothing is printed, no copy has changed, and a prefix of the lines is done, none of which is
+/// refused; nor is the next, if there is one.
 pub fn set_script<E: Write>(session: &mut Session, entries: &[TextEntry], errors: &mut E) -> ToolEnd
     ensures { Changes (record { session = session.old; errors = E.contents errors.old })
         (record { session = session.new; errors = E.contents errors.new })
@@ -71,11 +71,11 @@ pub fn set_script<E: Write>(session: &mut Session, entries: &[TextEntry], errors
     save(session)
 }
 
-/// Takes each entry in its order as an unforced write, saves, and says on `errors` how many were refused, if any were;
-/// the status is then 1.
+/// Takes each entry in its order as an unforced write, saves, and prints on `errors` how many were refused, if any
+/// were; the status is then 1.
 ///
-/// At the fault `Memory` nothing is printed, no copy has changed, and some first entries stand; the next, if there is one, is
-/// not refused.
+/// At the fault `Memory` nothing is printed, no copy has changed, and a prefix of the entries is done; the next, if
+/// there is one, is not refused.
 pub fn import<E: Write>(session: &mut Session, entries: &[TextEntry], errors: &mut E) -> ToolEnd
     ensures { Changes (record { session = session.old; errors = E.contents errors.old })
         (record { session = session.new; errors = E.contents errors.new })
@@ -125,7 +125,7 @@ fn write_entry(session: &mut Session, entry: &TextEntry) -> Result<Option<Refusa
     ensures unchanged { OnErr result (session.new ≡ session.old) }
     ensures growing { OnErr result (IsChange session.old (entry_in entry.now)) }
 {
-    // A match where the answer would do: it has the prover look at both endings apart.
+    // A match although the answer alone would do: it has the prover look at the two outcomes separately.
     match write(session, &entry.name, entry.value_bytes()) {
         Ok(refusal) => Ok(refusal),
         Err(Memory) => Err(Memory),
@@ -155,7 +155,7 @@ fn print_refusal<E: Write>(errors: &mut E, refusal: Refusal, name: &[u8]) -> Too
     }
 }
 
-/// Says how many entries were refused, if any were; the status is then 1.
+/// Prints how many entries were refused, if any were; the status is then 1.
 fn print_count<E: Write>(errors: &mut E, refused: usize) -> ToolEnd
     ensures { PrintsText (E.contents errors.old) (E.contents errors.new) (count_text refused) (count_status refused) result }
 {

@@ -1,12 +1,11 @@
-//! What the stored copies are good for, reported line by line.
+//! The state of the stored copies, reported line by line.
 ghost use Rattle.std.specs.Prelude.{◌≡◌, ◌++◌, IfOk, option_copied, option_map};
 ghost use Rattle.std.specs.List.{flat_map};
 ghost use Rattle.fw_engines.specs.CopyStatus.{Reports, chosen_in, copy_in, copy_line, copy_lines, current_copy, current_words, is_first, is_second, next_line, next_save, place_words, skipped_line, status_by, status_of};
 ghost use Rattle.env_session.specs.Session.{opening_choice};
 ghost use Rattle.fw_engines.specs.SkippedLines.{skipped_lines};
 
-use crate::copy_words::push_copy_words;
-use crate::line_parts::push_all;
+use crate::copy_words::{push_all, push_copy_words};
 use crate::skipped_lines::skipped_lines;
 use crate::tool_end::{StreamFault, ToolEnd, print_text};
 use crate::variable_count::push_variables;
@@ -25,11 +24,11 @@ pub struct FoundCopy<'a> {
     pub device: &'a [u8],
     /// Where the copy begins in the device, in bytes.
     pub start: u64,
-    /// The device's bytes from there on: a copy at least, and as many as the largest image has at most.
+    /// The device's bytes from there on: at least a copy, at most as many as the largest image has.
     pub bytes: &'a [u8],
 }
 
-/// What a configuration says, and the copies that it names.
+/// A configuration, and the copies that it names.
 #[derive(Clone, Copy, Debug)]
 pub struct Survey<'a> {
     /// The path of the configuration.
@@ -44,9 +43,9 @@ pub struct Survey<'a> {
     pub second: Option<FoundCopy<'a>>,
 }
 
-/// Prints what each copy is good for, which is current, its variables, and what the next save writes; then the lines of the
-/// configuration that are skipped. A copy that isn't good says why, with a hint if it is good in another way. The status is
-/// 0 if a copy is good, else 1. docs/tools.md has the texts.
+/// Prints the state of each copy, which is current, its variables, and what the next save writes; then the lines of
+/// the configuration that are skipped. For a copy that isn't good it prints why, with a hint if it is good in another
+/// way. The status is 0 if a copy is good, else 1. docs/tools.md has the texts.
 pub fn status<W: Write>(alloc: Global, survey: &Survey<'_>, output: &mut W) -> ToolEnd
     ensures { Reports (W.contents output.old) (W.contents output.new) (status_of survey.now) result }
 {
@@ -170,7 +169,7 @@ fn push_copy(
     push_all(text, &[current_words(current), b"\n"])
 }
 
-/// Appends where a copy lies.
+/// Appends where a copy is.
 fn push_place(
     text: &mut Vec<u8>,
     label: &[u8],
@@ -195,7 +194,7 @@ fn push_place(
     )
 }
 
-/// What is said of the current copy.
+/// What is reported of the current copy.
 fn current_words(current: bool) -> &'static [u8]
     ensures { result.now ≡ current_words current }
 {

@@ -1,15 +1,15 @@
 //! The words about one copy: good, or what is wrong with it and what may help.
-ghost use Rattle.std.specs.Prelude.{◌≡◌, ◌++◌, IfOk, option_copied};
+ghost use Rattle.std.specs.Prelude.{◌≡◌, ◌++◌, IfOk, map, option_copied};
+ghost use Rattle.std.specs.List.{concat};
 ghost use Rattle.fw_engines.specs.CopyStatus.{bad_words, copy_words, fault_words, good_words, hint_words, layout_words, meant_by, order_words, size_words, way_words};
 
-use crate::line_parts::push_all;
 use crate::ways::{Meant, first_bytes, good_way, is_filled};
 use envimg_core::{CopyState, Geometry, Layout, Order, check_copy};
 use envvars_core::Memory;
 use hush_calc::Hexadecimal;
 use itoa::Buffer;
 
-/// Appends the words about the copy at the front of these bytes.
+/// Appends the words about the copy that these bytes begin with.
 #[tactic(auto, unfolding(crate::specs::CopyStatus::copy_words))]
 pub(crate) fn push_copy_words(
     text: &mut Vec<u8>,
@@ -63,7 +63,7 @@ fn push_good(text: &mut Vec<u8>, layout: Layout, flag: u8) -> Result<(), Memory>
     }
 }
 
-/// Appends what may help with bytes that aren't good.
+/// Appends what may help if bytes aren't good.
 #[tactic(auto, unfolding(crate::specs::CopyStatus::hint_words))]
 fn push_hint(text: &mut Vec<u8>, meant: &Meant, bytes: &[u8]) -> Result<(), Memory>
     ensures { IfOk result (λ _. text.new.items ≡ text.old.items ++ hint_words meant.now bytes.now) }
@@ -81,7 +81,7 @@ fn push_hint(text: &mut Vec<u8>, meant: &Meant, bytes: &[u8]) -> Result<(), Memo
     }
 }
 
-/// Appends the way in which bytes are good, as far as it isn't the one that is meant.
+/// Appends the way in which bytes are good, as far as it differs from the one meant.
 fn push_way(text: &mut Vec<u8>, meant: &Meant, way: &Geometry) -> Result<(), Memory>
     ensures { IfOk result (λ _. text.new.items ≡ text.old.items ++ way_words meant.now (Some way.now)) }
 {
@@ -91,7 +91,7 @@ fn push_way(text: &mut Vec<u8>, meant: &Meant, way: &Geometry) -> Result<(), Mem
     push_size(text, meant.size, way.size() as usize)
 }
 
-/// Appends a size that isn't the one that is meant.
+/// Appends a size other than the one meant.
 fn push_size(text: &mut Vec<u8>, meant: usize, size: usize) -> Result<(), Memory>
     ensures { IfOk result (λ _. text.new.items ≡ text.old.items ++ size_words meant size) }
 {
@@ -114,7 +114,7 @@ fn fault_words(state: CopyState) -> &'static [u8]
     }
 }
 
-/// A layout that isn't the one that is meant.
+/// A layout other than the one meant.
 fn layout_words(meant: Option<Layout>, found: Layout) -> &'static [u8]
     ensures { result.now ≡ layout_words meant found }
 {
@@ -126,7 +126,7 @@ fn layout_words(meant: Option<Layout>, found: Layout) -> &'static [u8]
     }
 }
 
-/// A byte order that isn't the one that is meant.
+/// A byte order other than the one meant.
 fn order_words(meant: Order, found: Order) -> &'static [u8]
     ensures { result.now ≡ order_words meant found }
 {
@@ -136,4 +136,14 @@ fn order_words(meant: Order, found: Order) -> &'static [u8]
         (Order::Little, Order::Big) => b" with --big-endian",
         (Order::Big, Order::Little) => b" without --big-endian",
     }
+}
+
+/// Appends these parts in their order.
+pub(crate) fn push_all(text: &mut Vec<u8>, parts: &[&[u8]]) -> Result<(), Memory>
+    ensures { IfOk result (λ _. text.new.items ≡ text.old.items ++ concat (map (λ p. p.now) parts.now)) }
+{
+    for part in parts {
+        text.extend_from_slice(part)?;
+    }
+    Ok(())
 }

@@ -8,12 +8,12 @@ use envcfg_core::TextEntry;
 use envvars_core::{Refusal, Vars};
 use std::alloc::Global;
 
-/// The environment that the entries leave, written in their order into an empty one of this room, in bytes; the access
+/// The environment that the entries leave, written in their order into an empty one of `room` bytes; the access
 /// that `.flags` gives is not checked (forced writes).
 ///
 /// # Errors
 ///
-/// The line and the refusal of the first entry that is refused; `Memory` only where a growth was refused.
+/// The line and the refusal of the first entry that is refused; `Memory` only if memory ran out.
 pub fn defaults(alloc: Global, room: u32, entries: &[TextEntry]) -> Result<Vars, (usize, Refusal)>
     requires { 1 ≤ room }
     ensures { GivesDefaults room (map entry_view entries.now) result }

@@ -1,16 +1,15 @@
-//! The tools over readers, writers and sessions: what `printenv`, `setenv`, a set script, `import`, `restore` and `export`
-//! do to a session and print, what the program shows of an image, where a text isn't a script, what is reported of stored
-//! copies, and the default environment of a text. docs/tools.md states the rules.
+//! The tools over readers, writers and sessions: what `printenv`, `setenv`, a set script, `import`, `restore` and
+//! `export` do to a session and print, what the program shows of an image, where and why a text isn't a script, what is
+//! reported of stored copies, and the default environment of a text. docs/tools.md states the rules.
 //!
 //! To read in this order: tool_end, streams, tool_texts; single_image; variable_lines, text_form; changes, restoration,
-//! default_environment; text_places, script_fault; copy_status, with copy_words, ways, variable_count, skipped_lines and line_parts; whole_file.
+//! default_environment; text_places, script_fault; copy_status, with copy_words, ways, variable_count and skipped_lines; whole_file.
 #![tactic(auto)]
 
 mod changes;
 mod copy_status;
 mod copy_words;
 mod default_environment;
-mod line_parts;
 mod restoration;
 mod script_fault;
 mod single_image;

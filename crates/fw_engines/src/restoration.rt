@@ -26,7 +26,7 @@ const FLAGS: &[u8] = b".flags";
 #[derive(Clone, Copy)]
 struct ForcedWrite<'a> {
     name: &'a [u8],
-    /// The value; none to delete the variable.
+    /// The value; `None` to delete the variable.
     value: Option<&'a [u8]>,
     /// The line of its entry in the text, counted from 1; 0 for a variable that is deleted before the text's entries.
     line: usize,
@@ -36,8 +36,8 @@ struct ForcedWrite<'a> {
 /// are those of the text, and no others. All writes are forced: the access isn't checked. The first refusal ends it: its text
 /// is printed on `errors` with the line of its entry, status 1, and nothing is saved.
 ///
-/// At the fault `Memory` nothing is printed, no copy has changed, and some first writes stand, none of which is refused; nor
-/// is the next, if there is one.
+/// At the fault `Memory` nothing is printed, no copy has changed, and a prefix of the writes is done, none of which is
+/// refused; nor is the next, if there is one.
 pub fn restore<E: Write>(
     alloc: Global,
     session: &mut Session,

@@ -1,4 +1,4 @@
-//! Where a text isn't a script, and why.
+//! Where and why a text isn't a script.
 ghost use Rattle.std.specs.Prelude.{◌≡◌};
 ghost use Rattle.fw_engines.specs.ScriptFaults.{fault_at, fault_line, fault_name, fault_sentence};
 ghost use Rattle.fw_engines.specs.Streams.{AppendsFront};
@@ -9,7 +9,7 @@ use hush_syntax::{FaultKind, SyntaxFault};
 use itoa::Buffer;
 use std::io::Write;
 
-/// Says on `errors` where the text of this name isn't a script, and why, as far as they take it:
+/// Prints on `errors` where and why the text of this name isn't a script, as far as `errors` takes it:
 /// `fwenv: NAME:LINE:COLUMN: KIND: SENTENCE` and a newline.
 pub fn say_syntax_fault<E: Write>(errors: &mut E, name: &[u8], text: &[u8], fault: SyntaxFault)
     ensures { AppendsFront (E.contents errors.old) (E.contents errors.new)

@@ -18,11 +18,11 @@ const READ_LIMIT: usize = 1_048_577;
 /// The checksum before the data area of a single image, in bytes.
 const HEAD: usize = 4;
 
-/// Reads one single image whose checksum stands in this byte order and prints its variables, a line `name=value` for each,
+/// Reads one single image whose checksum is in this byte order and prints its variables, a line `name=value` for each,
 /// in ascending order of the names' bytes, names that begin with `.` among them. A bad image prints
 /// `## Error: bad image: KIND` on `errors`, status 1.
 ///
-/// Reads at most 1,048,577 bytes, the whole of the reader where it has no more. docs/tools.md has the texts.
+/// Reads at most 1,048,577 bytes, all that the reader has if it has no more. docs/tools.md has the texts.
 pub fn show<R: Read, W: Write, E: Write>(
     alloc: Global,
     order: Order,

@@ -1,4 +1,4 @@
-//! The lines of a configuration from which nothing is taken.
+//! The lines of a configuration that are skipped.
 ghost use Rattle.std.specs.Prelude.{◌≡◌, ◌++◌, ◌∷◌, List, IfOk};
 ghost use Rattle.std.specs.List.{list_all};
 ghost use Rattle.text_parts.specs.Lines.{Line};
@@ -10,7 +10,7 @@ use envvars_core::Memory;
 use std::alloc::Global;
 use text_parts::{begins_with_byte, numbered_lines};
 
-/// The numbers of the lines that are skipped: neither comments nor empty, and none of the two that name the copies.
+/// The numbers of the lines that are skipped: neither comments nor blank, and not among the two that name the copies.
 pub(crate) fn skipped_lines(alloc: Global, text: &[u8]) -> Result<Vec<usize>, Memory>
     ensures { IfOk result (λ numbers. numbers.items ≡ skipped_lines text.now) }
 {
@@ -22,7 +22,7 @@ pub(crate) fn skipped_lines(alloc: Global, text: &[u8]) -> Result<Vec<usize>, Me
     Ok(numbers)
 }
 
-/// Takes one line more while so many copies are looked for, and answers for how many is looked then.
+/// Takes one more line while `wanted` copies are looked for, and answers how many are looked for then.
 fn take_line(
     alloc: Global,
     numbers: &mut Vec<usize>,

@@ -10,7 +10,7 @@ use crate::tool_end::StreamFault;
 use std::alloc::Global;
 use std::io::{Read, Write};
 
-/// How many bytes one read asks for at the most.
+/// How many bytes one read asks for at most.
 const BLOCK: usize = 4_096;
 
 /// Reads until the reader ends or `limit` bytes are there. A read that fails is not tried again.
@@ -40,7 +40,7 @@ pub fn read_up_to<R: Read>(
     Ok(bytes)
 }
 
-/// Writes a text, as often as the writer takes a part of it; false where it fails or takes nothing, with a front of the
+/// Writes a text in as many writes as it takes; false if the writer fails or takes nothing, with a prefix of the
 /// text written and something of it left.
 pub fn write_text<W: Write>(writer: &mut W, text: &[u8]) -> bool
     ensures { MatchBool result (Appends (W.contents writer.old) (W.contents writer.new) text.now)
@@ -93,7 +93,7 @@ pub fn write_parts<W: Write>(writer: &mut W, parts: &[&[u8]]) -> bool
     true
 }
 
-/// Writes a number in decimal digits. It takes no memory: the digits before the last are written first.
+/// Writes a number in decimal digits. It allocates no memory: the digits before the last are written first.
 pub fn write_decimal<W: Write>(writer: &mut W, number: usize) -> bool
     ensures { MatchBool result (Appends (W.contents writer.old) (W.contents writer.new) (decimal number))
         (AppendsPart (W.contents writer.old) (W.contents writer.new) (decimal number)) }
@@ -108,7 +108,7 @@ pub fn write_decimal<W: Write>(writer: &mut W, number: usize) -> bool
     write_text(writer, &[digit])
 }
 
-/// Writes a text as far as the writer takes it: where that fails there is nothing left to say it on.
+/// Writes a text as far as the writer takes it: if that fails, there is nowhere left to report it.
 pub fn say<E: Write>(errors: &mut E, text: &[u8])
     ensures { AppendsFront (E.contents errors.old) (E.contents errors.new) text.now }
 {

@@ -34,7 +34,7 @@ pub fn export<W: Write, E: Write>(
     }
 }
 
-/// Prints a text on each writer; the status is 1 where there are messages.
+/// Prints a text on each writer; the status is 1 if there are messages.
 fn print_both<W: Write, E: Write>(
     text: &[u8],
     messages: &[u8],

@@ -16,15 +16,15 @@ pub struct Place {
 /// The start of a text.
 const START: Place = Place { line: 1, column: 1 };
 
-/// The place after so many bytes of a text.
+/// The place after `count` bytes of a text.
 pub fn place_of(text: &[u8], count: usize) -> Place
     ensures { result ≡ place_of text.now count }
 {
     Pointer::new(text).place(count)
 }
 
-/// A place in a text, that is moved on: places that are asked for in ascending order take one way through the text together.
-/// To ask for an earlier place begins at the start again.
+/// A place in a text that moves on: places that are asked for in ascending order take one pass over the text together.
+/// To ask for an earlier place starts at the beginning again.
 #[derive(Drop)]
 pub struct Pointer<'t> {
     text: &'t [u8],
@@ -57,7 +57,7 @@ impl<'t> Pointer<'t> {
         }
     }
 
-    /// The place after so many bytes of the text.
+    /// The place after `count` bytes of the text.
     pub fn place(&mut self, count: usize) -> Place
         ensures place { result ≡ place_of self.old count }
         ensures text { self.new ≡ self.old }
@@ -69,7 +69,7 @@ impl<'t> Pointer<'t> {
         self.place
     }
 
-    /// How many bytes are before a place that is known and isn't after so many bytes, and that place.
+    /// A known place at or before `count` bytes of the text: how many bytes are before it, and the place.
     fn known(&self, count: usize) -> (usize, Place)
         ensures before { result.0 ≤ count }
         ensures place { result.1 ≡ place_of self.now result.0 }
@@ -84,7 +84,7 @@ impl<'t> Pointer<'t> {
     }
 }
 
-/// The place after these bytes, if so many others and this place are before them.
+/// The place after these bytes, if `count` others and this place are before them.
 fn place_after(bytes: &[u8], first: Place, count: usize) -> Place
     requires few { count + length bytes.now ≤ usize.MAX - 2 }
     requires bound { first.line + first.column ≤ count + 2 }

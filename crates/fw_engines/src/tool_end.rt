@@ -19,7 +19,7 @@ pub struct ToolEnd {
 pub enum StreamFault {
     /// The reader failed. Nothing was written.
     Read,
-    /// A writer failed, or took no byte of a text that was not empty. A front of the text was written.
+    /// A writer failed, or took no byte of a text that was not empty. A prefix of the text was written.
     Write,
     /// Memory ran out. Nothing was written.
     Memory,

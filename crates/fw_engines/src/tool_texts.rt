@@ -1,20 +1,20 @@
 //! The texts that the tools print besides variables, each once.
 
-/// Standard error where the bytes read are no image: their length is none that an image has.
+/// Standard error if the bytes read are no image: their length is not one of an image.
 pub(crate) const BAD_LENGTH: &[u8] = b"## Error: bad image: BadLength\n";
 
-/// The checksum is another.
+/// The checksum is wrong.
 pub(crate) const BAD_CHECKSUM: &[u8] = b"## Error: bad image: BadCrc\n";
 
 /// The list of entries is not ended.
 pub(crate) const UNTERMINATED: &[u8] = b"## Error: bad image: Unterminated\n";
 
-/// Before and behind the name of a variable that is not there.
+/// Before and after the name of a variable that is not there.
 pub(crate) const ERROR_QUOTE: &[u8] = b"## Error: \"";
 
 pub(crate) const NOT_DEFINED: &[u8] = b"\" not defined\n";
 
-/// Standard error where `-n` has no name, or several.
+/// Standard error if `-n` has no name, or several.
 pub(crate) const ONE_NAME: &[u8] = b"## Error: -n takes exactly one name\n";
 
 /// Before a name that can not be exported.
@@ -23,7 +23,7 @@ pub(crate) const CANNOT_EXPORT: &[u8] = b"## Error: can't export \"";
 /// After that name.
 pub(crate) const QUOTE: &[u8] = b"\"\n";
 
-/// Before and behind the number of entries that an import refused.
+/// Before and after the number of entries that an import refused.
 pub(crate) const ERROR: &[u8] = b"## Error: ";
 
 pub(crate) const ENTRIES_REFUSED: &[u8] = b" entries refused\n";
@@ -33,5 +33,5 @@ pub(crate) const QUOTE_IN_LINE: &[u8] = b"\" in line ";
 
 pub(crate) const NEWLINE: &[u8] = b"\n";
 
-/// Standard error where memory ran out.
+/// Standard error if memory ran out.
 pub const OUT_OF_MEMORY: &[u8] = b"## Error: out of memory\n";

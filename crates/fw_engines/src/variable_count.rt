@@ -6,13 +6,13 @@ ghost use Rattle.envimg_core.specs.Pieces.{is_terminated};
 ghost use Rattle.fw_engines.specs.CopyStatus.{count_line, counts_line, no_variables, variables_line};
 ghost use Rattle.envimg_core.specs.Pieces.{entries_of, vars_of};
 
-use crate::line_parts::push_all;
+use crate::copy_words::push_all;
 use envimg_core::{CopyState, Geometry, check_copy};
 use envvars_core::{Memory, Vars};
 use itoa::Buffer;
 use std::alloc::Global;
 
-/// Appends the line about the variables of a copy; without a good one there are none.
+/// Appends the line about the variables of a copy; without a good copy there are no variables.
 pub(crate) fn push_variables(
     alloc: Global,
     text: &mut Vec<u8>,
@@ -35,7 +35,7 @@ pub(crate) fn push_variables(
     }
 }
 
-/// Appends that there are none.
+/// Appends that there are no variables.
 pub(crate) fn push_no_variables(text: &mut Vec<u8>) -> Result<(), Memory>
     ensures { IfOk result (λ _. text.new.items ≡ text.old.items ++ no_variables) }
 {
@@ -54,7 +54,7 @@ fn push_area(alloc: Global, text: &mut Vec<u8>, area: &[u8]) -> Result<(), Memor
     push_counts(text, variables, vars.used(), vars.room())
 }
 
-/// Appends how many variables there are, and how many bytes they take of so many.
+/// Appends how many variables there are, and how many bytes of the room they take.
 fn push_counts(text: &mut Vec<u8>, variables: usize, used: u32, room: u32) -> Result<(), Memory>
     ensures { IfOk result (λ _. text.new.items ≡ text.old.items ++ counts_line variables used room) }
 {

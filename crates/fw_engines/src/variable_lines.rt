@@ -18,7 +18,7 @@ use std::io::Write;
 /// follow, and the status is 1.
 ///
 /// `value_only` prints the value and a newline; without exactly one name that is refused with a message on `errors`,
-/// status 1. No memory is taken. docs/tools.md has the texts.
+/// status 1. No memory is allocated. docs/tools.md has the texts.
 pub fn printenv<W: Write, E: Write>(
     session: &Session,
     names: &[&[u8]],
@@ -44,7 +44,7 @@ pub fn printenv<W: Write, E: Write>(
 }
 
 /// Prints the value of each of these names, in their order, a line each. A name that has no value prints
-/// `## Error: "NAME" not defined` on `errors`, the others follow, and the status is 1. No memory is taken.
+/// `## Error: "NAME" not defined` on `errors`, the others follow, and the status is 1. No memory is allocated.
 pub fn print_values<W: Write, E: Write>(
     session: &Session,
     names: &[&[u8]],
@@ -92,7 +92,7 @@ fn print_named<W: Write, E: Write>(
     ToolEnd::done(status_of(absent))
 }
 
-/// Prints one name, and answers whether it has no value; none where writing failed.
+/// Prints one name, and answers whether it has no value; `None` if writing failed.
 fn print_name<W: Write, E: Write>(
     vars: &Vars,
     name: &[u8],
@@ -129,7 +129,7 @@ fn either(one: bool, other: bool) -> bool
     one || other
 }
 
-/// Writes the line of a variable, or of its value alone.
+/// Writes the line of a variable, or of only its value.
 fn write_line<W: Write>(writer: &mut W, value_only: bool, name: &[u8], value: &[u8]) -> bool
     ensures { MatchBool result
         (Appends (W.contents writer.old) (W.contents writer.new) (line_or_value value_only name.now value.now))
@@ -144,7 +144,7 @@ fn write_line<W: Write>(writer: &mut W, value_only: bool, name: &[u8], value: &[
     write_text(writer, b"\n")
 }
 
-/// The exit status of a tool of which something failed, or nothing.
+/// The exit status of a tool by whether something failed.
 fn status_of(failed: bool) -> u8
     ensures { result ≡ status_of failed }
 {

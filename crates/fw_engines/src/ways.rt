@@ -1,4 +1,4 @@
-//! How bytes may be a good image when they aren't one as they are meant.
+//! How bytes may be a good image when they aren't one as meant.
 ghost use Rattle.std.specs.Prelude.{◌≡◌, take};
 ghost use Rattle.fw_engines.specs.Ways.{are_all, good_as, good_way, in_either_layout, in_either_order, in_some_size, is_filled, likely_sizes, other_layout, other_order};
 
@@ -15,8 +15,8 @@ pub(crate) struct Meant {
     pub(crate) size: usize,
 }
 
-/// The first way in which the bytes, or the first of them, are a good image: as they are meant, in the other byte order, in
-/// the other layout, in both, and then so in each likely size.
+/// The first way in which the bytes, or a prefix of them, are a good image: as meant, in the other byte order,
+/// in the other layout, in both, and then likewise in each likely size.
 #[tactic(auto, unfolding(crate::specs::Ways::good_way))]
 pub(crate) fn good_way(meant: &Meant, bytes: &[u8]) -> Option<Geometry>
     ensures { result ≡ good_way meant.now bytes.now }
@@ -35,7 +35,7 @@ pub(crate) fn first_bytes(bytes: &[u8], size: usize) -> &[u8]
     }
 }
 
-/// Whether there are bytes and each is this one.
+/// Whether there is at least one byte and each is this one.
 pub(crate) fn is_filled(byte: u8, bytes: &[u8]) -> bool
     ensures { result ≡ is_filled byte bytes.now }
 {

@@ -1,10 +1,9 @@
-//! What a whole file is good for as one image.
+//! The state of a whole file as one image.
 ghost use Rattle.std.specs.Prelude.{◌≡◌, ◌++◌, IfOk};
 ghost use Rattle.envimg_core.specs.State.{flag_of};
 ghost use Rattle.fw_engines.specs.CopyStatus.{Reports, bad_file, file_status_of, good_file, path_words, whole_words};
 
-use crate::copy_words::push_bad;
-use crate::line_parts::push_all;
+use crate::copy_words::{push_all, push_bad};
 use crate::single_image::image_state;
 use crate::tool_end::{StreamFault, ToolEnd, print_text};
 use crate::variable_count::{push_no_variables, push_variables};
@@ -15,7 +14,7 @@ use itoa::Buffer;
 use std::alloc::Global;
 use std::io::Write;
 
-/// Prints what a whole file is good for, as a single image or as a copy with a flag, and its variables. The status is 0 if
+/// Prints the state of a whole file, as a single image or as a copy with a flag, and its variables. The status is 0 if
 /// it is good as one of these in this byte order, else 1. docs/tools.md has the texts.
 pub fn file_status<W: Write>(
     alloc: Global,
@@ -102,7 +101,7 @@ fn push_path(text: &mut Vec<u8>, path: &[u8], length: usize) -> Result<(), Memor
     )
 }
 
-/// Appends as which layout an image is good.
+/// Appends in which layout an image is good.
 fn push_whole(text: &mut Vec<u8>, layout: Layout, image: &[u8]) -> Result<(), Memory>
     ensures { IfOk result (λ _. text.new.items ≡ text.old.items ++ whole_words layout (flag_of layout image.now)) }
 {

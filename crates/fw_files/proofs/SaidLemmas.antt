@@ -1,4 +1,4 @@
--- Texts that are said one after the other.
+-- Texts that are printed one after the other.
 use Rattle.std.proofs.Common.{◌++◌, ℕ, List, Option, Some, None, Bool, true, false}
 use Rattle.std.specs.Prelude.{MatchBool}
 use Rattle.std.proofs.KnownBytes.{Appends-trans}

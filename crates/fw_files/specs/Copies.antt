@@ -30,14 +30,14 @@ overlap config first second = overlap_at config.first first.start config.size co
 abbrev pub stays : ReadCopy → ReadCopy → Bool
 stays old again = (old.start == again.start) && bytes_eq old.bytes.items again.bytes.items
 
--- why a copy may not be written that was read so at the start, and so just before the write
+-- why a copy may not be written, by its reads at the start and just before the write
 abbrev pub change_in_reads : ReadCopy → Result ReadCopy FileFault → Option FileFault
 change_in_reads old (Ok again) = if stays old again then None else Some (file.CannotWrite Changed)
 change_in_reads old (Err file.Memory) = Some file.Memory
 change_in_reads old (Err (file.CannotRead why)) = Some (file.CannotWrite why)
 change_in_reads old (Err fault) = Some (file.CannotWrite Changed)
 
--- a copy is written where its bytes are others than before
+-- a copy is written if its bytes changed
 abbrev pub to_write : List ℕ → List ℕ → Option (List ℕ)
 to_write old new = if bytes_eq old new then None else Some new
 

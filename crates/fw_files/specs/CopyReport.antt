@@ -15,7 +15,7 @@ use Rattle.fw_files.specs.Said.{Says, Stops}
 use Rattle.fw_files.specs.declared.copies.ReadCopy.{ReadCopy}
 use Rattle.fw_files.specs.declared.source.Source.{Source}
 
--- the lines were printed, and what stopped that is said
+-- the lines were printed, and what stopped that is reported
 abbrev pub PrintsReport : lines.Report → Writers → Writers → ℕ → Type 0
 PrintsReport report old new status =
     (end : ToolEnd) × Reports old.output new.output report end × Says end.fault old.errors new.errors × (status ≡ end.status)
@@ -42,7 +42,7 @@ IsSurveyOf order path survey =
 
 -- ---- the code's survey of what was read
 
--- the second device, where both its place and its copy are there
+-- the second device, if both its place and its copy are there
 abbrev pub device_in : Option Place → Option ReadCopy → Option (List ℕ)
 device_in (Some place) (Some copy) = Some (string_bytes place.device)
 device_in place copy = None

@@ -21,7 +21,7 @@ use Rattle.fw_engines.specs.declared.tool_end.StreamFault.TheVariants as stream
 abbrev pub file_limit : ℕ
 file_limit = 16777216
 
--- of a text that is refused
+-- the fault of a text that is refused
 abbrev pub text_fault : texts.TextFault → FileFault
 text_fault text.Memory = file.Memory
 text_fault fault = file.Text fault
@@ -33,7 +33,7 @@ AreStubsOf (Some path) stand_ins = (text : List ℕ) × (stand_ins_of text ≡ O
 
 -- ---- why
 
--- the reason that is said of an error of this kind; of the others nothing is said
+-- the reason that is reported for an error of this kind; for the others nothing is reported
 abbrev pub reason_of : ErrorKind → List ℕ
 reason_of NotFound = codes "no such file"
 reason_of PermissionDenied = codes "permission denied"
@@ -42,7 +42,7 @@ reason_of ReadOnlyFilesystem = codes "the file system is read-only"
 reason_of StorageFull = codes "no space is left"
 reason_of kind = []
 
--- and of each reason, which may also be one that std has no kind for
+-- and for each reason, which may also be one that std has no kind for
 abbrev pub reason_in : reasons.Reason → List ℕ
 reason_in reason.NoSuchFile = codes "no such file"
 reason_in reason.Denied = codes "permission denied"
@@ -80,7 +80,7 @@ fault_line explains path fault = None
 
 -- ---- faults
 
--- of a read that gave less than the copy
+-- of a read that didn't give the whole copy
 abbrev pub copy_fault : ErrorKind → FileFault
 copy_fault UnexpectedEof = file.TooShort
 copy_fault kind = file.CannotRead (reason_by kind)

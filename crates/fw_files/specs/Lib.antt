@@ -5,5 +5,5 @@ pub mod Opening
 pub mod Reasons
 pub mod Said
 pub mod Source
--- What the steps of the code do: no promise speaks of these.
+-- What the steps of the code do: no promise mentions these.
 pub mod Copies

@@ -1,4 +1,4 @@
--- Which subcommands say why a file can't be had (docs/tools.md, "Subcommands over files").
+-- Which subcommands report why a file can't be used (docs/tools.md, "Subcommands over files").
 use Rattle.std.specs.Prelude.{if◌then◌else◌}
 use Rattle.fw_arguments.specs.Calls.{Call, Checks, Job, Runs, Task, Tool, Tries}
 use Rattle.fw_arguments.specs.Calls as calls
@@ -16,6 +16,6 @@ explains_job (Tries run) = line.Nothing
 explains_job (Runs run) = line.Reason
 explains_job (Checks check) = line.Reason
 
--- and each tool under the names fw_printenv and fw_setenv, which alone ask for changes alone to be saved
+-- and each tool under the names fw_printenv and fw_setenv, the only ones that save nothing but changes
 abbrev pub explains : Call → Explains
 explains call = if call.only_changes then line.Reason else explains_job call.job

@@ -1,4 +1,4 @@
--- What the program says on standard error (docs/tools.md, "Ends").
+-- What the program prints on standard error (docs/tools.md, "Ends").
 use Rattle.std.specs.Prelude.{◌≡◌, ℕ, List, [], ◌∷◌, ◌++◌, Option, Some, None, codes}
 use Rattle.std.specs.Io.KnownBytes.{Appends}
 use Rattle.fw_engines.specs.Streams.{AppendsFront, Writers}
@@ -11,16 +11,16 @@ message_of Read = codes "fwenv: cannot read standard input" ++ 10 ∷ []
 message_of Write = codes "fwenv: cannot write standard output" ++ 10 ∷ []
 message_of Memory = codes "## Error: out of memory" ++ 10 ∷ []
 
--- it is said as far as standard error takes it
+-- it is printed as far as standard error takes it
 abbrev pub Says : Option StreamFault → Option (List ℕ) → Option (List ℕ) → Type 0
 Says None err err' = err' ≡ err
 Says (Some fault) err err' = AppendsFront err err' (message_of fault)
 
--- some text is said, or nothing: a contract knows nothing of the file that it is about
+-- some text is printed, or nothing: a contract knows nothing of the file that it is about
 abbrev pub SaysSome : Option (List ℕ) → Option (List ℕ) → Type 0
 SaysSome old new = (text : List ℕ) × Appends old new text
 
--- this text is said as far as standard error takes it, or some text where none is known
+-- this text is printed as far as standard error takes it; or some text, if it is `None`
 abbrev pub SaysLine : Option (List ℕ) → Option (List ℕ) → Option (List ℕ) → Type 0
 SaysLine None old new = SaysSome old new
 SaysLine (Some line) old new = AppendsFront old new line
@@ -29,6 +29,6 @@ SaysLine (Some line) old new = AppendsFront old new line
 abbrev pub SaysOnly : Writers → Writers → Type 0
 SaysOnly old new = (new.output ≡ old.output) × SaysSome old.errors new.errors
 
--- a file can't be used, or memory runs out: some text may say so, status 1
+-- a file can't be used, or memory runs out: some text may report it, status 1
 abbrev pub Stops : Writers → Writers → ℕ → Type 0
 Stops old new status = SaysOnly old new × (status ≡ 1)

@@ -16,7 +16,7 @@ use Rattle.fw_arguments.specs.Calls.{Defaults}
 use Rattle.fw_files.specs.declared.copies.ReadCopy.{ReadCopy}
 use Rattle.fw_files.specs.declared.source.Source.{Source}
 
--- what was read by a configuration: two copies where it names two
+-- what was read by a configuration: two copies if it names two
 pub record IsSourceOf (order : Order) (given : Config) (source : Source) : Type 0 where
   pub config : source.config ≡ given
   pub geometry : source.geometry ≡ record { layout = given.layout; size = given.size; order = order }
@@ -26,26 +26,26 @@ pub record IsSourceOf (order : Order) (given : Config) (source : Source) : Type 
 abbrev pub second_bytes : Option ReadCopy → Option (List ℕ)
 second_bytes copy = option_map (λ c. c.bytes.items) copy
 
--- where neither copy is good
+-- the warning if neither copy is good
 abbrev pub warning : Choice → List ℕ
 warning First = []
 warning Second = []
 warning Neither = codes "Warning: Bad CRC, using default environment" ++ 10 ∷ []
 
--- nothing is said of copies that aren't missed
+-- no warning if no copy is missed
 abbrev pub warned : (whole : Bool) → Choice → List ℕ
 warned true choice = []
 warned false choice = warning choice
 
--- the text of the board's build is taken where it is there
+-- the text of the board's build is taken if it is there
 abbrev pub takes_initial : Defaults → Bool
 takes_initial d = d.plain && is_none d.path
 
--- a default environment that is asked for is left so, or gets that text
+-- the default environment that is asked for, or the same with that text
 abbrev pub IsFound : Defaults → Defaults → Type 0
 IsFound asked found = (found ≡ asked) ⊎ ((takes_initial asked ≡ true) × (found ≡ record asked { path = Some (codes "/etc/u-boot-initial-env") }))
 
--- plain lines as a text for import: each backslash stands for itself
+-- plain lines as a text for import: each backslash is escaped
 abbrev pub escaped_byte : ℕ → List ℕ
 escaped_byte b = if b == 92 then b ∷ b ∷ [] else b ∷ []
 
@@ -61,7 +61,7 @@ AreDefaultsIn plain text room vars =
 abbrev pub AreDefaultsFrom : Bool → ℕ → Contents → Type 0
 AreDefaultsFrom plain room vars = (text : List ℕ) × AreDefaultsIn plain text room vars
 
--- of some text where a path is given, else there are none
+-- those of some text if a path is given, else no variables
 abbrev pub AreDefaultsOfPath : ℕ → Option (List ℕ) → Bool → Contents → Type 0
 AreDefaultsOfPath room None plain vars = vars ≡ record { env = env.empty; room = room }
 AreDefaultsOfPath room (Some path) plain vars = AreDefaultsFrom plain room vars
@@ -69,7 +69,7 @@ AreDefaultsOfPath room (Some path) plain vars = AreDefaultsFrom plain room vars
 abbrev pub AreDefaultsOf : ℕ → Defaults → Contents → Type 0
 AreDefaultsOf room d vars = AreDefaultsOfPath room d.path d.plain vars
 
--- a copy has to be good, and none is
+-- a copy has to be good, and no copy is
 abbrev pub lacks_copy : Defaults → Choice → Bool
 lacks_copy d Neither = d.need_copy && is_none d.path
 lacks_copy d choice = false

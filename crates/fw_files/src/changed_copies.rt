@@ -21,9 +21,9 @@ struct Change<'a> {
     bytes: &'a [u8],
 }
 
-/// Writes those copies back that are others than they were, the first before the second. Before that each copy is read
-/// again, and nothing is written if another program has changed one. A fault is said on `errors`, and nothing is written
-/// after it.
+/// Writes back those copies whose bytes changed, the first before the second. Before that each copy is read again, and
+/// nothing is written if another program has changed one. A fault is reported on `errors`, and nothing is written after
+/// it.
 pub fn write_back<X: Files + AllocGlobal, E: Write>(
     rt: &X,
     source: &Source,
@@ -36,7 +36,7 @@ pub fn write_back<X: Files + AllocGlobal, E: Write>(
     write_changes(rt, source, changes(source, stored), explains, errors)
 }
 
-/// The same, but the copy that was current at the start is written after the other, so that one of them is whole at any time.
+/// The same, but the copy that was current at the start is written last, so that one of them is whole at any time.
 pub fn write_other_first<X: Files + AllocGlobal, E: Write>(
     rt: &X,
     source: &Source,
@@ -52,7 +52,7 @@ pub fn write_other_first<X: Files + AllocGlobal, E: Write>(
     write_changes(rt, source, changes, explains, errors)
 }
 
-/// Two changes, that of the copy which was current at the start after the other.
+/// Two changes, the last one that of the copy which was current at the start.
 fn other_first<'a>(
     current: Choice,
     first: Option<Change<'a>>,
@@ -96,7 +96,7 @@ fn write_changes<X: Files + AllocGlobal, E: Write>(
     write_change(rt, other, explains, errors)
 }
 
-/// Sees that a copy still is what was read. A fault is said on `errors`.
+/// Checks that a copy still is what was read. A fault is reported on `errors`.
 fn find_as_read<X: Files + AllocGlobal, E: Write>(
     rt: &X,
     place: &Place,
@@ -116,7 +116,7 @@ fn find_as_read<X: Files + AllocGlobal, E: Write>(
     }
 }
 
-/// Writes a copy over its place, if there is one to write. A fault is said on `errors`.
+/// Writes a copy over its place, if there is one to write. A fault is reported on `errors`.
 fn write_change<X: Files + AllocGlobal, E: Write>(
     rt: &X,
     change: Option<Change<'_>>,
@@ -145,7 +145,7 @@ fn changes<'a>(source: &'a Source, stored: &'a Stored) -> [Option<Change<'a>>; 2
     [first, second]
 }
 
-/// The change of a copy to these bytes, where they are others than before.
+/// The change of a copy to these bytes, if they differ from the old ones.
 fn change_in<'a>(place: &'a Place, old: &ReadCopy, new: &'a [u8]) -> Option<Change<'a>>
     ensures { option_map change_view result ≡ change_in place.now old.now new.now }
 {

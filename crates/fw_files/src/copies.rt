@@ -52,7 +52,7 @@ pub(crate) fn read_copy<X: Files + AllocGlobal>(
     }
 }
 
-/// Reads at most so many bytes of a device from `start` on.
+/// Reads at most `most` bytes of a device from `start` on.
 fn read_from<X: Files + AllocGlobal>(
     rt: &X,
     place: &Place,
@@ -69,8 +69,8 @@ fn read_from<X: Files + AllocGlobal>(
     }
 }
 
-/// A copy with what follows it in its device, as many bytes in all as the largest image has; the copy alone if that can't be
-/// read.
+/// A copy with what follows it in its device, as many bytes in all as the largest image has; only the copy if that
+/// can't be read.
 pub(crate) fn with_following<X: Files + AllocGlobal>(
     rt: &X,
     place: &Place,
@@ -89,7 +89,8 @@ pub(crate) fn with_following<X: Files + AllocGlobal>(
     }
 }
 
-/// Why a copy that is read again, before anything is written, may not be written; none if it is what was read at the start.
+/// Why a copy that is read again, before anything is written, may not be written; `None` if it is what was read at the
+/// start.
 pub(crate) fn change_since<X: Files + AllocGlobal>(
     rt: &X,
     place: &Place,
@@ -99,7 +100,7 @@ pub(crate) fn change_since<X: Files + AllocGlobal>(
     change_in_reads(old, read_copy(rt, place, size))
 }
 
-/// Why a copy may not be written that was read so at the start, and now so.
+/// Why a copy may not be written, by its reads at the start and now.
 fn change_in_reads(old: &ReadCopy, again: Result<ReadCopy, FileFault>) -> Option<FileFault>
     ensures { result ≡ change_in_reads old.now again }
 {
@@ -177,14 +178,14 @@ pub(crate) fn share_a_byte(first: u64, second: u64, size: u32) -> bool
     }
 }
 
-/// What is to be written of a copy: its bytes, where they are others than before.
+/// What is to be written of a copy: its bytes, if they changed.
 pub(crate) fn to_write<'a>(old: &[u8], new: &'a [u8]) -> Option<&'a [u8]>
     ensures { option_copied result ≡ to_write old.now new.now }
 {
     if old == new { None } else { Some(new) }
 }
 
-/// The fault of a read that gave less than the copy.
+/// The fault of a read that didn't give the whole copy.
 fn short_or_unreadable(kind: ErrorKind) -> FileFault
     ensures { result ≡ copy_fault kind }
 {
@@ -194,7 +195,7 @@ fn short_or_unreadable(kind: ErrorKind) -> FileFault
     }
 }
 
-/// Whether so many bytes from `start` on lie inside a device of this length.
+/// Whether `count` bytes from `start` on lie inside a device of this length.
 fn lies_inside(start: u64, count: usize, length: u64) -> bool
     ensures { result ≡ nat_le (start + count) length }
 {

@@ -1,4 +1,4 @@
-//! `status`: what the copies that a configuration names are good for, or a whole file.
+//! `status`: the state of the copies that a configuration names, or of a whole file.
 ghost use Rattle.std.specs.Prelude.{◌≡◌, ◌≤◌, IfOk, MatchOption, is_some, option_map, string_bytes, unwrap_or};
 ghost use Rattle.envimg_core.specs.declared.geometry.Order.{Order};
 ghost use Rattle.fw_engines.specs.CopyStatus.{file_status_of};
@@ -37,7 +37,7 @@ pub fn run_report<X: System + AllocGlobal, W: Write, E: Write>(
     report_on(rt, asked, output, errors).unwrap_or(1)
 }
 
-/// Reports; none where a file can't be used.
+/// Reports; `None` if a file can't be used.
 fn report_on<X: System + AllocGlobal, W: Write, E: Write>(
     rt: &X,
     asked: &Report<'_>,
@@ -116,7 +116,7 @@ fn read_locked<X: System + AllocGlobal>(rt: &X, path: &str) -> Result<Vec<u8>, F
     read_file(rt, path)
 }
 
-/// Reads the copies under a lock, each with what follows it in its device. A fault is said on `errors`.
+/// Reads the copies under a lock, each with what follows it in its device. A fault is reported on `errors`.
 fn source_or_say<X: System + AllocGlobal, E: Write>(
     rt: &X,
     order: Order,
@@ -175,7 +175,7 @@ fn second_followed<X: Files + AllocGlobal>(
     }
 }
 
-/// What a report says of these copies.
+/// What is reported of these copies.
 fn survey_in<'a>(path: &'a str, config: &'a [u8], source: &'a Source) -> Survey<'a>
     ensures { IsSurveyIn path.now config.now source.now result }
 {

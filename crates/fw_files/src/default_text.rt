@@ -99,7 +99,7 @@ fn entries_in(alloc: Global, plain: bool, text: &[u8]) -> Result<Vec<TextEntry>,
     }
 }
 
-/// A text in which each backslash stands for itself.
+/// A text with each backslash escaped.
 fn escaped(alloc: Global, text: &[u8]) -> Result<Vec<u8>, AllocError>
     ensures { IfOk result (λ e. e.items ≡ flat_map escaped_byte text.now) }
 {

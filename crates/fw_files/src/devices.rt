@@ -8,13 +8,13 @@ use std::io::ErrorKind;
 use std::os::unix::fs::FileTypeExt;
 use std::rt::Files;
 
-/// Locks the device of a copy against other programs that lock it, until what is answered is dropped; none if it can't be
-/// opened or locked, and it is used without then.
+/// Locks the device of a copy against other programs that lock it, until the result is dropped; `None` if it can't be
+/// opened or locked, and it is then used without a lock.
 pub fn lock_device<X: System>(rt: &X, place: &Place, hold: Hold) -> Option<X::File> {
     lock_path(rt, place.device.as_str(), hold)
 }
 
-/// The same of the file at a path.
+/// The same for the file at a path.
 pub(crate) fn lock_path<X: System>(rt: &X, path: &str, hold: Hold) -> Option<X::File> {
     if is_pipe(rt, path) {
         return None;
@@ -34,18 +34,19 @@ fn locked<X: System>(rt: &X, device: X::File, hold: Hold) -> Option<X::File> {
     }
 }
 
-/// Whether the path names a pipe, which has no place to seek to; to open one may take until somebody opens its other end.
+/// Whether the path names a pipe, in which one can't seek; to open one may block until its other end is opened.
 pub(crate) fn is_pipe<X: Files>(rt: &X, path: &str) -> bool {
     matches!(kind_of(rt, path), Some(kind) if kind.is_fifo())
 }
 
-/// Whether the path names a character device, as raw flash is. That has to be erased before it is written, which nothing
-/// here does: bytes written over others would come out as both at once.
+/// Whether the path names a character device, such as raw flash. Flash has to be erased before it is written, which
+/// nothing here does: the bytes written would be combined with the old ones.
 pub(crate) fn is_raw<X: Files>(rt: &X, path: &str) -> bool {
     matches!(kind_of(rt, path), Some(kind) if kind.is_char_device())
 }
 
-/// Why the end of an open file can't be sought, by the kind of the error: on some file systems a directory has none.
+/// Why seeking to the end of an open file failed, by the kind of the error: on some file systems a directory has no
+/// end.
 pub(crate) fn why_not_sought<X: Files>(rt: &X, path: &str, error: ErrorKind) -> Reason {
     match kind_of(rt, path) {
         Some(kind) if kind.is_dir() => Reason::Directory,
@@ -53,7 +54,7 @@ pub(crate) fn why_not_sought<X: Files>(rt: &X, path: &str, error: ErrorKind) -> 
     }
 }
 
-/// What kind of file a path names, if that can be told.
+/// What kind of file a path names, if that is known.
 fn kind_of<X: Files>(rt: &X, path: &str) -> Option<FileType> {
     match fs::metadata(rt, path) {
         Ok(metadata) => Some(metadata.file_type()),

@@ -1,4 +1,4 @@
-//! Why a file can not be used, and what is said of it.
+//! Why a file can not be used, and what is reported of it.
 ghost use Rattle.std.specs.Prelude.{◌≡◌, ◌++◌, IfErr, MatchOption};
 ghost use Rattle.std.specs.IoError.{error_kind};
 ghost use Rattle.std.specs.Result.{result_ok};
@@ -26,7 +26,7 @@ pub enum FileFault {
     CannotRead(Reason),
     /// It can't be opened for writing, written, or flushed to storage.
     CannotWrite(Reason),
-    /// The copy doesn't lie wholly inside it.
+    /// The copy isn't wholly inside it.
     TooShort,
     /// Memory ran out.
     Memory,
@@ -56,7 +56,7 @@ impl From<io::Error> for FileFault {
     }
 }
 
-/// The value, or none, and then the fault is said on `errors`.
+/// The value; or `None`, and the fault is reported on `errors`.
 pub fn value_or_say<T: Drop, E: Write>(
     alloc: Global,
     errors: &mut E,
@@ -77,7 +77,7 @@ pub fn value_or_say<T: Drop, E: Write>(
     }
 }
 
-/// Says on `errors` why a file can not be used, as far as it is taken.
+/// Prints on `errors` why a file can not be used, as far as `errors` takes it.
 pub(crate) fn say_fault<E: Write>(
     alloc: Global,
     errors: &mut E,
@@ -112,14 +112,14 @@ pub(crate) fn say_fault<E: Write>(
     }
 }
 
-/// Says a text round a path.
+/// Prints a path between two texts.
 fn say_path<E: Write>(errors: &mut E, front: &[u8], path: &str, back: &[u8])
     ensures { AppendsFront (E.contents errors.old) (E.contents errors.new) (front.now ++ path.now ++ back.now) }
 {
     let _ = write_three(errors, front, path.as_bytes(), back);
 }
 
-/// Says why the text in a file is refused.
+/// Prints why the text in a file is refused.
 fn say_refused<E: Write>(errors: &mut E, path: &str, name: &[u8])
     ensures { SaysSome (E.contents errors.old) (E.contents errors.new) }
 {
@@ -129,7 +129,7 @@ fn say_refused<E: Write>(errors: &mut E, path: &str, name: &[u8])
     let _ = write_two(errors, name, NEWLINE);
 }
 
-/// Says which line of a file is refused, and why.
+/// Prints which line of a file is refused, and why.
 fn say_line<E: Write>(errors: &mut E, path: &str, name: &[u8], line: usize)
     ensures { SaysSome (E.contents errors.old) (E.contents errors.new) }
 {

@@ -8,7 +8,7 @@ pub(crate) const CANNOT_WRITE_FILE: &[u8] = b"fwenv: cannot write ";
 /// Before the path of a file in the other texts.
 pub(crate) const FWENV: &[u8] = b"fwenv: ";
 
-/// Behind the path of a device in which a copy doesn't lie wholly.
+/// After the path of a device that a copy isn't wholly inside.
 pub(crate) const TOO_SHORT: &[u8] = b" is too short\n";
 
 /// Between a path and the fault's name, and between that and the number of the line.
@@ -19,10 +19,10 @@ pub(crate) const IN_LINE: &[u8] = b" in line ";
 /// At the end of a text.
 pub(crate) const NEWLINE: &[u8] = b"\n";
 
-/// Standard error where two copies share a byte of one device.
+/// Standard error if two copies share a byte of one device.
 pub(crate) const COPIES_OVERLAP: &[u8] = b"fwenv: copies overlap\n";
 
-/// Standard error where neither copy is good.
+/// Standard error if neither copy is good.
 pub(crate) const BAD_CRC_DEFAULT: &[u8] = b"Warning: Bad CRC, using default environment\n";
 
 /// The default environment of a board's build.
@@ -31,7 +31,7 @@ pub(crate) const INITIAL_ENVIRONMENT: &str = "/etc/u-boot-initial-env";
 /// Before the path of a lock file that can't be opened or locked.
 pub(crate) const CANNOT_LOCK: &[u8] = b"fwenv: cannot lock ";
 
-/// Before the faults of the copies where none is good, and behind them.
+/// Before, between and after the faults of the copies if no copy is good.
 pub(crate) const NO_GOOD_COPY: &[u8] = b"fwenv: no good copy: ";
 
 pub(crate) const IN_FIRST: &[u8] = b" in the first copy, ";

@@ -72,7 +72,7 @@ pub(crate) fn import_from(alloc: Global, text: &[u8]) -> Result<Vec<TextEntry>, 
     }
 }
 
-/// The entries of the text for import at a path; a fault is said on `errors`.
+/// The entries of the text for import at a path; a fault is reported on `errors`.
 pub fn entries_or_say<X: Files + AllocGlobal, E: Write>(
     rt: &X,
     path: &str,

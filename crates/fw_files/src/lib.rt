@@ -1,5 +1,5 @@
 //! The files that the program's arguments name: configurations, copies in their devices, texts and stand-ins. The session
-//! over copies is opened here, copies are written back and reported on, and it is said why a file can not be used.
+//! over copies is opened here, copies are written back and reported on, and it is reported why a file can not be used.
 //! docs/tools.md states the rules.
 //!
 //! To read in this order: system, reasons, file_fault, files; devices, copies, source, default_text, opening,

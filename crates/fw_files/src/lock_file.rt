@@ -11,8 +11,8 @@ use std::fs::OpenOptions;
 use std::io::Write;
 use std::string::String;
 
-/// The lock file in this folder, locked alone until what is answered is dropped; it is made if need be. Nothing is locked
-/// without a folder. Where it can't be had that is said on `errors`.
+/// The lock file in this folder, locked exclusively until the result is dropped; it is created if need be. Nothing is
+/// locked without a folder. If the lock fails, that is reported on `errors`.
 pub fn lock_or_say<X: System + AllocGlobal, E: Write>(
     rt: &X,
     folder: Option<&str>,

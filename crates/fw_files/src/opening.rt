@@ -21,8 +21,9 @@ use std::alloc::{AllocError, Global};
 use std::io::Write;
 use std::rt::Files;
 
-/// The session over these copies, with the default environment of a text, or an empty one. Where neither copy is good
-/// that is said on `errors`, before a fault of the text; none where one has to be, and then the copies' faults are said.
+/// The session over these copies, with the default environment of a text, or an empty one. If neither copy is good,
+/// that is reported on `errors`, before a fault of the text; if one has to be, the result is `None`, and the copies'
+/// faults are reported.
 pub fn open<X: Files + AllocGlobal, E: Write>(
     rt: &X,
     source: &Source,
@@ -51,7 +52,7 @@ pub fn open<X: Files + AllocGlobal, E: Write>(
     }
 }
 
-/// The session, with a warning where neither copy is good; none where one has to be, and then their faults are said.
+/// The session, with a warning if neither copy is good; `None` if one has to be, and then their faults are reported.
 fn accept<E: Write>(
     source: &Source,
     asked: &Defaults<'_>,
@@ -69,7 +70,7 @@ fn accept<E: Write>(
     Some(session)
 }
 
-/// Whether a copy has to be good, and none is.
+/// Whether a copy has to be good, and no copy is.
 fn lacks_copy(asked: &Defaults<'_>, current: Choice) -> bool
     ensures { result ≡ lacks_copy (defaults_view asked.now) current }
 {
@@ -79,7 +80,7 @@ fn lacks_copy(asked: &Defaults<'_>, current: Choice) -> bool
     }
 }
 
-/// Says what is wrong with each copy, and what to look at.
+/// Prints what is wrong with each copy, and what to look at.
 fn say_faults<E: Write>(source: &Source, errors: &mut E)
     ensures { SaysSome (E.contents errors.old) (E.contents errors.new) }
 {
@@ -92,7 +93,7 @@ fn say_faults<E: Write>(source: &Source, errors: &mut E)
     }
 }
 
-/// Says what is wrong with the second copy, if there is one, and whether that was written.
+/// Prints what is wrong with the second copy, if there is one, and answers whether that was written.
 fn write_second_fault<E: Write>(source: &Source, errors: &mut E) -> bool
     ensures { SaysSome (E.contents errors.old) (E.contents errors.new) }
 {
@@ -105,7 +106,7 @@ fn write_second_fault<E: Write>(source: &Source, errors: &mut E) -> bool
     }
 }
 
-/// What is wrong with a copy of its right length.
+/// What is wrong with a copy of the right length.
 fn fault_of_copy(state: CopyState) -> &'static [u8]
     ensures { result.now ≡ fault_of_copy state }
 {
@@ -134,7 +135,7 @@ fn start(alloc: Global, source: &Source, given: Vars) -> Result<Session, FileFau
     let stored = copies_of(alloc, source)?;
     match Session::start(alloc, stored, given) {
         Ok(session) => Ok(session),
-        // no other refusal comes: each copy was read in the configuration's size, and the defaults have its room
+        // no other refusal is possible: each copy was read in the configuration's size, and the defaults have its room
         Err(_) => Err(FileFault::Memory),
     }
 }
@@ -168,7 +169,7 @@ fn current_of(source: &Source) -> Choice
     choose(check_copy(&source.geometry, &source.first.bytes), second)
 }
 
-/// Says on `errors` where neither copy is good, unless none has to be.
+/// Prints a warning on `errors` if neither copy is good, unless `whole`.
 fn warn<E: Write>(whole: bool, current: Choice, errors: &mut E)
     ensures { AppendsFront (E.contents errors.old) (E.contents errors.new) (warned whole current) }
 {

@@ -1,4 +1,4 @@
-//! Why a file can't be had, and which subcommands say so.
+//! Why a file can't be used, and which subcommands report it.
 ghost use Rattle.std.specs.Prelude.{◌≡◌};
 ghost use Rattle.fw_arguments.specs.Calls.{call_view, job_view, task_view};
 ghost use Rattle.fw_files.specs.Files.{ending, line_end, reason_by, reason_in, reason_of};
@@ -25,7 +25,7 @@ pub enum Reason {
     TooLong,
     /// Another program changed it between its reading and its writing.
     Changed,
-    /// Something else, of which nothing is said.
+    /// Something else, which is not reported.
     Unknown,
 }
 
@@ -45,7 +45,7 @@ impl Reason {
         }
     }
 
-    /// What follows the path of the file: the reason, if it is known and is said, and the end of the line.
+    /// What follows the path of the file: the reason, if it is known and reported, and the end of the line.
     pub(crate) fn ending(self, explains: Explains) -> &'static [u8]
         ensures { result.now ≡ ending explains self }
     {
@@ -72,7 +72,7 @@ impl Reason {
     }
 }
 
-/// Whether a line about a file that can't be had says why.
+/// Whether a line about a file that can't be used has the reason.
 #[derive(Clone, Copy, Debug, PartialEq, Eq)]
 pub enum Explains {
     /// It has no reason: the texts of the older subcommands are fixed to the byte.
@@ -82,13 +82,13 @@ pub enum Explains {
 }
 
 impl Explains {
-    /// Here it is decided for the files that subcommands share: the configuration, the copies, the default text and the file of a
-    /// tool. Those that only `run`, `check`, `status` or the other names have are always explained, the stand-ins of `session`
-    /// never.
+    /// Decides for the files that subcommands share: the configuration, the copies, the default text and the file of a
+    /// tool. For those that only `run`, `check`, `status` or the other names have, the reason is always reported, for
+    /// the stand-ins of `session` never.
     pub fn by(call: &Call<'_, '_>) -> Explains
         ensures { result ≡ explains (call_view call.now) }
     {
-        // fw_printenv and fw_setenv, and no others, ask for changes alone to be saved
+        // only fw_printenv and fw_setenv save nothing but changes
         if call.only_changes {
             Explains::Reason
         } else {
@@ -108,7 +108,7 @@ impl Explains {
         }
     }
 
-    /// The same of a tool.
+    /// The same for a tool.
     fn by_task(task: &Task<'_, '_>) -> Explains
         ensures { result ≡ explains_task (task_view task.now) }
     {

@@ -20,12 +20,12 @@ use std::io::Write;
 use std::rt::Files;
 use std::string::String;
 
-/// Where the copies of a session lie, and their bytes as they were read.
+/// Where the copies of a session are, and their bytes as they were read.
 #[derive(Drop)]
 pub struct Source {
-    /// Where they lie.
+    /// Where they are.
     pub config: Config,
-    /// What a copy is like.
+    /// The layout, the size of a copy, and the byte order.
     pub geometry: Geometry,
     /// The first copy.
     pub first: ReadCopy,
@@ -33,7 +33,7 @@ pub struct Source {
     pub second: Option<ReadCopy>,
 }
 
-/// Reads the configuration. A fault is said on `errors`.
+/// Reads the configuration. A fault is reported on `errors`.
 pub fn config_or_say<X: Files + AllocGlobal, E: Write>(
     rt: &X,
     path: &str,
@@ -45,7 +45,7 @@ pub fn config_or_say<X: Files + AllocGlobal, E: Write>(
     value_or_say(rt.alloc(), errors, explains, path, read_config(rt, path))
 }
 
-/// Reads the copies that a configuration names. The first fault is said on `errors`.
+/// Reads the copies that a configuration names. The first fault is reported on `errors`.
 pub fn read_source<X: Files + AllocGlobal, E: Write>(
     rt: &X,
     order: Order,
@@ -57,7 +57,7 @@ pub fn read_source<X: Files + AllocGlobal, E: Write>(
         (λ source. IsSourceOf order config source × (overlap source.config source.first source.second ≡ false)
         × (E.contents errors.new ≡ E.contents errors.old)) }
 {
-    // there is one: a configuration has no size that its layout refuses
+    // always `Some`: a configuration has no size that its layout refuses
     let geometry = Geometry::with_order(config.layout, config.size, order)?;
     let first = read_or_say(rt, &config.first, config.size, explains, errors)?;
     let second = second_or_say(rt, &config, explains, errors)?;
@@ -73,7 +73,7 @@ pub fn read_source<X: Files + AllocGlobal, E: Write>(
     })
 }
 
-/// A single image in memory, erased. Where there is no memory for it that is said on `errors`.
+/// A single image in memory, erased. If memory runs out, that is reported on `errors`.
 pub fn erased_or_say<E: Write>(
     alloc: Global,
     order: Order,
@@ -83,7 +83,7 @@ pub fn erased_or_say<E: Write>(
     ensures { MatchOption result (SaysSome (E.contents errors.old) (E.contents errors.new))
         (λ source. AreCopiesIn (Some size) order source × (E.contents errors.new ≡ E.contents errors.old)) }
 {
-    // there is one: the size is one that a single image may have
+    // always `Some`: the size is one that a single image may have
     let geometry = Geometry::with_order(Layout::Single, size, order)?;
     match erased(alloc, geometry) {
         Ok(source) => Some(source),
@@ -139,7 +139,7 @@ pub(crate) fn config_from(alloc: Global, text: &[u8]) -> Result<Config, FileFaul
     }
 }
 
-/// Reads a copy; a fault is said on `errors`.
+/// Reads a copy; a fault is reported on `errors`.
 fn read_or_say<X: Files + AllocGlobal, E: Write>(
     rt: &X,
     place: &Place,
@@ -153,7 +153,7 @@ fn read_or_say<X: Files + AllocGlobal, E: Write>(
     value_or_say(rt.alloc(), errors, explains, place.device.as_str(), copy)
 }
 
-/// Reads the second copy, if there is one; a fault is said on `errors`.
+/// Reads the second copy, if there is one; a fault is reported on `errors`.
 fn second_or_say<X: Files + AllocGlobal, E: Write>(
     rt: &X,
     config: &Config,

@@ -1,4 +1,4 @@
-//! What the program asks of its system besides std's files: locks on those that are open.
+//! What the program asks of its system besides std's files: locks on open files.
 
 use std::fs::File;
 use std::rt::Files;
@@ -12,9 +12,9 @@ pub enum Hold {
     Alone,
 }
 
-/// The system under the program. A test stands in for it, as for std's files.
+/// The system under the program. A test replaces it, as it does std's files.
 pub trait System: Files {
-    /// Waits for the advisory lock on an open file, which lasts until it is closed; false if there is none to be had.
+    /// Waits for the advisory lock on an open file, which lasts until the file is closed; false if it can't be locked.
     fn lock(&self, file: &Self::File, hold: Hold) -> bool;
 }
 

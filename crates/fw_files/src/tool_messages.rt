@@ -1,4 +1,4 @@
-//! What is said where a tool was stopped.
+//! What is reported of a tool that was stopped.
 ghost use Rattle.std.specs.Prelude.{◌≡◌};
 ghost use Rattle.fw_files.specs.Said.{Says, message_of};
 
@@ -6,7 +6,7 @@ use fw_engines::streams::say;
 use fw_engines::{OUT_OF_MEMORY, StreamFault, ToolEnd};
 use std::io::Write;
 
-/// Says on `errors` which fault stopped a tool, if one did, and answers the exit status.
+/// Prints on `errors` which fault stopped a tool, if one did, and answers the exit status.
 pub fn report<E: Write>(end: ToolEnd, errors: &mut E) -> u8
     ensures status { result ≡ end.status }
     ensures said { Says end.fault (E.contents errors.old) (E.contents errors.new) }

@@ -29,7 +29,7 @@ joined_joined a b [] = refl
 joined_joined a b (Block c ∷ items) = ap (λ t. Block t ∷ items) (sym (append_assoc a b c))
 joined_joined a b (Dot c ∷ items) = refl
 
--- a line behind a block that may have no bytes
+-- a line after a block that may be empty
 before_joined : (block line : List ℕ) (b : ℕ) (bs : List ℕ) (items : List Item) → line ≡ b ∷ bs → before block (joined line items) ≡ before (block ++ line) items
 before_joined [] line b bs items e = subst (λ l. joined l items ≡ before l items) (sym e) refl
 before_joined (c ∷ cs) line b bs items e = joined_joined (c ∷ cs) line items
@@ -188,7 +188,7 @@ line_ended bytes start byte p e = record {
 pub pending_none : IsPending [] 0
 pending_none = record { within = omega arith; plain = plain_none; unended = refl }
 
--- a line that is no dot line joins the block
+-- a line that isn't a dot line joins the block
 pub line_joins : (bytes : List ℕ) (start : ℕ) → IsLine bytes start → is_dot_line (drop start bytes) ≡ false → IsPending bytes (length bytes)
 line_joins bytes start p d =
     let d' : is_dot_line (p.line ++ 10 ∷ []) ≡ false = subst (λ t. is_dot_line t ≡ false) p.line_is d in

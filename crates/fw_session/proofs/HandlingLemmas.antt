@@ -13,7 +13,7 @@ use Rattle.fw_session.specs.declared.session_end.Stop.{Stop}
 use Rattle.fw_session.proofs.CutLemmas.{end_none, end_then, line_cuts, line_whole, whole_is, whole_alone, pending_more, pending_none, line_ended}
 use Rattle.fw_session.proofs.AnswerLemmas.{answered_none, answered_then, answered_cut_short}
 
--- bytes that wait behind others
+-- bytes that wait after others
 pub handled_waiting : (rules : Rules) (p a : List ℕ) (h : NamedSession) (out : Option (List ℕ)) (n : ℕ) → Handled rules p a (p ++ a) h h out out n n
 handled_waiting rules p a h out n = record { items = []; cuts = λ xs. ap items_of (sym (append_assoc p a xs)); whole = end_none; answered = answered_none rules h out n }
 

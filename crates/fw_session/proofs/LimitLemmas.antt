@@ -1,11 +1,11 @@
--- What is said of a run that a limit stopped.
+-- What is printed of a run that a limit stopped.
 use Rattle.std.proofs.Common.{◌≡◌, ◌⊎◌, List, ℕ, Option, refl, sym, ap, ◌∙◌, inl, inr}
 use Rattle.hush_run.specs.Runs.{ending_name}
 use Rattle.hush_run.specs.declared.ending.Ending.{Ending}
 use Rattle.hush_run.specs.declared.ending.Ending.TheVariants as ending
 use Rattle.fw_session.specs.ScriptRun.{ended_by_limit, ended_so}
 
--- what is said of a run that this limit stopped
+-- what is printed of a run that this limit stopped
 limit_here : (e limit : Ending) (place : Option (List ℕ)) (status steps : ℕ) (name : List ℕ) → e ≡ limit → ended_by_limit (ending_name limit) place steps ≡ ended_so limit place status steps → name ≡ ending_name e →
     ended_by_limit name place steps ≡ ended_so e place status steps
 limit_here e limit place status steps name is said named =

@@ -22,7 +22,7 @@ names_more names name = map-append name_of names (name ∷ [])
 pub one_unnamed : (names names' : List (Option (ArrayVec ℕ))) (n : ℕ) → names_of names ≡ replicate n None → names' ≡ names ++ None ∷ [] → names_of names' ≡ replicate (n + 1) None
 one_unnamed names names' n was is = ap names_of is ∙ names_more names None ∙ ap (λ v. v ++ None ∷ []) was ∙ sym (replicate_next n None)
 
--- the first names are those of the marks that stand
+-- the first names are those of the marks that exist
 pub names_taken : (names shown : List (Option (ArrayVec ℕ))) (h : Held) (k : ℕ) → shown ≡ take k names → take k names ≡ take (length h.marks) names → names_of shown ≡ standing (named_session h (names_of names))
 names_taken names shown h k is same = ap names_of (is ∙ same) ∙ sym (take-map name_of (length h.marks) names)
 

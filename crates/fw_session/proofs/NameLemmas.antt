@@ -1,4 +1,4 @@
--- The last mark of a name, as the table is gone over.
+-- The last mark of a name, in one pass over the table.
 use Rattle.std.proofs.Common.{◌≡◌, ℕ, suc, ◌<◌, ◌++◌, List, [], ◌∷◌, length, Bool, true, false, Option, Some, None, refl, sym, ap, ◌∙◌, arith}
 use Rattle.std.specs.Prelude.{map}
 use Rattle.std.proofs.lemmas.List.{length-take}
@@ -39,6 +39,6 @@ named_within name (x ∷ xs) k e = later_within (last_named name xs) (has_name n
     later_within None true n k below e = let is : k ≡ 0 = cc in omega (arith, is)
     later_within None false n k below e = absurd (cc)
 
--- a mark that is found stands
+-- a mark that is found exists
 pub found_within : (t : NamedSession) (name : List ℕ) (k : ℕ) (marks : List (Option (List ℕ))) → marks ≡ standing t → Some k ≡ last_named name marks → k < length t.held.marks
 found_within t name k marks s e = let lt = named_within name (standing t) k (e ∙ ap (last_named name) s) in omega (arith, lt, length-take (length t.held.marks) t.names)

@@ -7,7 +7,8 @@ use Rattle.hush_syntax.specs.Reading.{read}
 use Rattle.env_requests.specs.Requests.{Request, Run, Save, Print, Mark, Undo, Note, Through, Refused, Stopped}
 use Rattle.fw_session.specs.Input.{Item, Block, Dot}
 
--- nothing, and this is printed; a request, and the name of the mark if it makes one; an undo to the last mark of a name
+-- `Says`: nothing is asked for, and this is printed; `Asks`: a request, and the name of the mark if it makes
+-- one; `Seeks`: an undo to the last mark of a name
 pub data Asked : Type 0 where
   Says : List ℕ → Asked
   Asks : Request → Option (List ℕ) → Asked
@@ -38,7 +39,7 @@ abbrev pub skipped : List ℕ → List ℕ
 skipped [] = []
 skipped (b ∷ bs) = if is_blank b then skipped bs else b ∷ bs
 
--- one or more blanks, and then 1 to 32 bytes that are no blanks
+-- one or more blanks, and then 1 to 32 bytes that are not blanks
 abbrev pub is_name : List ℕ → Bool
 is_name name = nat_le 1 (length name) && nat_le (length name) 32 && not (list_any is_blank name)
 
@@ -73,12 +74,12 @@ asked_by_word word =
 unfoldable pub asked_by_line : List ℕ → Asked
 asked_by_line line = asked_by_word (trimmed line)
 
--- a block that is no script, or a run
+-- a block that isn't a script, or a run
 abbrev pub asked_by_script : Option (Option Chains) → Asked
 asked_by_script None = Says (with_newline (codes "[Syntax]"))
 asked_by_script (Some tree) = Asks (Run tree) None
 
--- memory may be refused while a block is read as a script
+-- memory may run out while a block is read as a script
 abbrev pub asked_by_block : List ℕ → Note → Asked
 asked_by_block text Through = asked_by_script (read text)
 asked_by_block text Refused = Says no_memory

@@ -22,12 +22,14 @@ pub record AllAnswered (rules : Rules) (h : NamedSession) (items : List Item) (o
   pub count : Counts n n' (turns rules h items notes).text
   pub session : h' ≡ (turns rules h items notes).session
 
--- after an item, of the same line: a block is answered at the dot line after it, or at the end
+-- nothing follows a dot line; a block is answered at the dot line after it, or at the end, and is followed by
+-- at most that line
 abbrev pub IsLast : Item → List Item → Type 0
 IsLast (Block text) after = (after ≡ []) ⊎ ((line : List ℕ) × (after ≡ Dot line ∷ []))
 IsLast (Dot line) after = after ≡ []
 
--- some were answered, and of the next one's text a prefix went out and no more; it was done, and nothing after it was begun
+-- some were answered, and of the next one's text only a prefix was written; it was done, and nothing after it
+-- was begun
 pub record CutShort (rules : Rules) (h : NamedSession) (items : List Item) (out out' : Option (List ℕ)) (n n' : ℕ)
     (h' : NamedSession) : Type 0 where
   pub before : List Item
@@ -82,11 +84,13 @@ Ends Memory rules h input input' out out' read written h' =
     (bytes : List ℕ) × IsRead input input' bytes read
     × ((front : List ℕ) × (rest : List ℕ) × (bytes ≡ front ++ rest) × AllAnswered rules h (to_last_dot (items_of front)) out out' 0 written h')
 
--- requests were obeyed, one after the other: what the headline says of a list of them holds of the session that is left
+-- requests were obeyed, one after the other: what the headline states of a list of them holds of the session
+-- that is left
 abbrev pub AreRequests : Rules → Held → Held → Type 0
 AreRequests rules h h' = (requests : List Request) × (told : List Reply) × Headline rules h requests told h'
 
--- after a whole input that ends with a `.undo`, for which `[Undone]` was printed, all is shown that was shown at the opening
+-- after a whole input that ends with a `.undo`, for which `[Undone]` was printed, what is shown is what was
+-- shown at the opening
 abbrev pub LastUndoRestores : SessionEnding → Held → Option (List ℕ) → Option (List ℕ) → Option (List ℕ) → Held → Type 0
 LastUndoRestores ending h input out out' h' =
     (bytes line begun printed : List ℕ) (items : List Item) → ending ≡ Done → input ≡ Some bytes →

@@ -1,4 +1,4 @@
--- A line after another: what is answered, and what waits.
+-- Line after line: what is answered, and what waits.
 use Rattle.std.specs.Prelude.{◌≡◌, ◌⊎◌, ℕ, ◌<◌, ◌≤◌, ◌==◌, Bool, true, not, List, [], ◌∷◌, ◌++◌, Option, length, take, drop}
 use Rattle.std.specs.List.{list_all}
 use Rattle.fw_session.specs.Input.{Item, Block, joined, items_of, to_last_dot}
@@ -15,12 +15,12 @@ abbrev pub block_items : List ℕ → List Item
 block_items [] = []
 block_items (b ∷ bs) = Block (b ∷ bs) ∷ []
 
--- a block, perhaps without bytes, before these items
+-- a block, possibly empty, before these items
 abbrev pub before : List ℕ → List Item → List Item
 before [] items = items
 before (b ∷ bs) items = joined (b ∷ bs) items
 
--- whole lines that are no dot lines
+-- whole lines that are not dot lines
 unfoldable pub IsPlain : List ℕ → Type 0
 IsPlain block = (xs : List ℕ) → items_of (block ++ xs) ≡ before block (items_of xs)
 
@@ -45,7 +45,7 @@ pub record IsLine (bytes : List ℕ) (start : ℕ) : Type 0 where
 unfoldable pub EndWhole : List Item → Type 0
 EndWhole items = (rest : List Item) → to_last_dot (items ++ rest) ≡ items ++ to_last_dot rest
 
--- the bytes `bytes` waited, and `piece` came: some items were answered, and the bytes `bytes'` wait
+-- the bytes `bytes` waited, and `piece` was read: some items were answered, and the bytes `bytes'` wait
 pub record Handled (rules : Rules) (bytes piece bytes' : List ℕ) (h h' : NamedSession) (out out' : Option (List ℕ))
     (n n' : ℕ) : Type 0 where
   pub items : List Item
@@ -69,7 +69,7 @@ pub record Answered (rules : Rules) (t : NamedSession) (asked : Asked) (out out'
   pub wrote : Writes out out' n n' (done rules t asked note).text ok
   pub session : t' ≡ (done rules t asked note).session
 
--- what a block asks for, or that memory was refused while it was read as a script
+-- what a block asks for, or that memory ran out while it was read as a script
 abbrev pub IsAskedByBlock : List ℕ → Asked → Type 0
 IsAskedByBlock text asked = (asked ≡ asked_by_script (read text)) ⊎ (asked ≡ Says no_memory)
 

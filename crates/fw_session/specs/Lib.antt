@@ -6,7 +6,7 @@ pub mod Turns
 pub mod Ends
 pub mod NamedSessions
 pub mod ScriptRun
--- What the steps of the code do: no promise speaks of these.
+-- What the steps of the code do: no promise mentions these.
 pub mod Views
 pub mod Handling
 pub mod Talks

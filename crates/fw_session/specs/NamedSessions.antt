@@ -1,4 +1,4 @@
--- What the code holds of a session with the names of its marks.
+-- The code's session, with the names of its marks.
 use Rattle.std.specs.Prelude.{◌≡◌, ℕ, ◌≤◌, List, length, map, replicate, Option, Some, None}
 use Rattle.env_session.specs.Session.{Held, most_marks}
 use Rattle.arrayvec.specs.ArrayVec.{ArrayVec}

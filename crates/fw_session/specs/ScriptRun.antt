@@ -13,14 +13,14 @@ use Rattle.fw_engines.specs.Streams.{Writers}
 use Rattle.fw_engines.specs.Tool.{Prints, Texts}
 use Rattle.fw_engines.specs.declared.tool_end.ToolEnd.{ToolEnd}
 
--- a run came to its end or to an `exit`, with status 0
+-- a run reached its end or an `exit`, with status 0
 abbrev pub is_well : Ending → (status : ℕ) → Bool
 is_well ending.Finished status = status == 0
 is_well ending.Exited status = status == 0
 is_well e status = false
 
--- what is said of a run that ended otherwise: with its status, if no limit stopped it; else with the variable in whose text
--- it was stopped, unless that was the script itself
+-- what is printed of a run that ended otherwise: that memory ran out; or its status, if no limit stopped it;
+-- or the variable in whose text a limit stopped it, unless that was the script itself
 abbrev pub ended_by_itself : (name : List ℕ) → (status steps : ℕ) → List ℕ
 ended_by_itself name status steps =
     concat (codes "fwenv: run ended as " ∷ name ∷ codes " with status " ∷ decimal status ∷ codes " after " ∷ decimal steps ∷ codes " steps\n" ∷ [])

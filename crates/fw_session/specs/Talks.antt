@@ -12,7 +12,7 @@ use Rattle.fw_session.specs.declared.session_end.Stop.{Stop}
 use Rattle.fw_session.specs.declared.session_end.SessionEnding.{SessionEnding}
 use Rattle.fw_session.specs.declared.session_end.SessionEnding.TheVariants.{Done, ReadFault, TooLong, WriteFault, Memory}
 
--- a piece, of which all was handled; a block and a line wait as before
+-- a piece, all of which was handled; a block and a line wait as before
 abbrev pub HandlesAll : Rules → List ℕ → Talk → Talk → Option (List ℕ) → Option (List ℕ) → Type 0
 HandlesAll rules piece old new out out' =
     IsPending new.bytes.items new.start
@@ -53,7 +53,7 @@ Finishes rules h bytes out out' n n' h' ReadFault = ⊥
 Finishes rules h bytes out out' n n' h' TooLong = ⊥
 Finishes rules h bytes out out' n n' h' Memory = ⊥
 
--- how far a call has come: what the reader gave, and what was handled of it
+-- how far a call is: what the reader gave, and what was handled of it
 pub record Reading (rules : Rules) (h : NamedSession) (input input' : Option (List ℕ)) (out out' : Option (List ℕ))
     (read : ℕ) (talk : Talk) : Type 0 where
   pub bytes : List ℕ

@@ -1,4 +1,4 @@
--- What the blocks and dot lines of a session print, and what they leave (docs/dry-runs.md, "What is printed").
+-- What the blocks and dot lines of a session print and leave (docs/dry-runs.md, "What is printed").
 use Rattle.std.specs.Prelude.{ℕ, suc, Bool, true, false, List, [], ◌∷◌, ◌++◌, length, take, codes, decimal, Option, Some, None, Ok, Err}
 use Rattle.std.specs.Str.{bytes_eq}
 use Rattle.envimg_core.specs.Environment.{Environment}
@@ -12,7 +12,7 @@ use Rattle.env_requests.specs.Requests.{UndoTo, Note, Reply, Ran, Wrote, Importe
 use Rattle.fw_session.specs.Input.{Item}
 use Rattle.fw_session.specs.Asked.{Asked, Says, Asks, Seeks, with_newline, no_memory, asked_by}
 
--- a session, and a name for each of its marks from the opening on; those that it had before have none
+-- a session, and a name for each of its marks from the opening on; those that it had before have no name
 pub record NamedSession : Type 0 where
   pub held : Held
   pub names : List (Option (List ℕ))
@@ -29,7 +29,7 @@ ending_line e status steps = codes "[" ++ ending_name e ++ codes " " ++ decimal 
 abbrev pub undone_text : List ℕ
 undone_text = with_newline (codes "[Undone]")
 
--- what is printed of a reply, over these variables; no block and no dot line asks for a single write or an import
+-- what is printed of a reply, over these variables; no block or dot line asks for a single write or an import
 abbrev pub text_of : Environment → Reply → List ℕ
 text_of vars (Ran e status steps text) = text ++ ending_line e status steps
 text_of vars (Wrote result) = []
@@ -44,7 +44,7 @@ text_of vars (Undone (Ok u)) = undone_text
 text_of vars (Undone (Err undo.Gone)) = with_newline (codes "[Gone]")
 text_of vars (Undone (Err undo.Memory)) = no_memory
 
--- the number of the mark that a reply tells of
+-- the number of the mark that a reply reports
 abbrev pub number_in : Reply → Option ℕ
 number_in (Ran e status steps text) = None
 number_in (Wrote result) = None
@@ -74,7 +74,7 @@ abbrev pub last_named : List ℕ → List (Option (List ℕ)) → Option ℕ
 last_named name [] = None
 last_named name (n ∷ ns) = later (last_named name ns) (has_name name n)
 
--- the names of the marks that stand
+-- the names of the marks that exist
 abbrev pub standing : NamedSession → List (Option (List ℕ))
 standing t = take (length t.held.marks) t.names
 
@@ -101,7 +101,7 @@ abbrev pub MaySeek : Rules → Held → Option ℕ → Note → Type 0
 MaySeek rules h None note = Unit {0}
 MaySeek rules h (Some n) note = MayBe rules h (UndoTo n) note
 
--- what memory may do to what is asked for
+-- whether this note is possible for what is asked for
 abbrev pub MayDo : Rules → NamedSession → Asked → Note → Type 0
 MayDo rules t (Says text) note = Unit {0}
 MayDo rules t (Asks request name) note = MayBe rules t.held request note
@@ -119,7 +119,7 @@ turns rules t [] notes = says [] t
 turns rules t (item ∷ items) [] = says [] t
 turns rules t (item ∷ items) (note ∷ notes) = and_then (turn rules t item note) (turns rules (turn rules t item note).session items notes)
 
--- one note for each item, and each where it may stand
+-- one note for each item, and each one possible for its item
 unfoldable pub AllStand : Rules → NamedSession → List Item → List Note → Type 0
 AllStand rules t [] [] = Unit {0}
 AllStand rules t [] (note ∷ notes) = ⊥

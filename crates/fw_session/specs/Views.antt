@@ -1,4 +1,4 @@
--- What the code holds of what a block or a dot line asks for.
+-- The code's form of what a block or a dot line asks for.
 use Rattle.std.specs.Prelude.{List, ℕ, Option, option_map}
 use Rattle.arrayvec.specs.ArrayVec.{ArrayVec}
 use Rattle.env_requests.specs.Views.{asked}

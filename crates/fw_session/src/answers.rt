@@ -6,7 +6,7 @@ ghost use Rattle.fw_session.specs.Streams.{Writes};
 use env_session::Session;
 use std::io::Write;
 
-/// Writes a text, as often as the writer takes a part of it; false where it fails or takes nothing, with a prefix of
+/// Writes a text in as many writes as it takes; false if the writer fails or takes nothing, with a prefix of
 /// the text written. Counts what was written.
 pub(crate) fn write_text<W: Write>(writer: &mut W, text: &[u8], written: &mut u64) -> bool
     ensures { Writes (W.contents writer.old) (W.contents writer.new) written.old written.new text.now result }

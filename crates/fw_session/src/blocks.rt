@@ -1,4 +1,4 @@
-//! Blocks: a script is read, and what its run comes to is written.
+//! Blocks: a script is read, and its run's outcome is written.
 ghost use Rattle.std.specs.Prelude.{◌≡◌, ◌+◌, ◌≤◌, ◌++◌, length};
 ghost use Rattle.fw_session.specs.Handling.{IsAskedByBlock};
 ghost use Rattle.fw_session.specs.Streams.{Writes};
@@ -59,7 +59,7 @@ fn ending_line(outcome: &Outcome) -> ArrayVec<u8, 64>
     line
 }
 
-/// Puts a short text at the end of a line.
+/// Appends a short text to a line.
 fn put(line: &mut ArrayVec<u8, 64>, text: &[u8])
     requires { length line.old.items + length text.now ≤ 64 }
     ensures { line.new.items ≡ line.old.items ++ text.now }

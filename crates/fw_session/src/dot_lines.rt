@@ -3,13 +3,13 @@ ghost use Rattle.std.specs.Prelude.{◌≡◌, take, drop};
 ghost use Rattle.fw_session.specs.Asked.{asked_by_line, asked_by_word, asked_with_name, is_end_blank};
 ghost use Rattle.fw_session.specs.Views.{asked_view};
 
-use crate::marks::{Name, name_in};
+use crate::mark_names::{Name, name_in};
 use env_requests::Request;
 
 /// What a block or a dot line asks for.
 #[derive(Drop)]
 pub(crate) enum Asked {
-    /// Nothing, and this is printed.
+    /// Nothing is asked for, and this is printed.
     Text(&'static [u8]),
     /// A request, and the name of the mark if it makes one.
     Request(Request, Option<Name>),
@@ -28,7 +28,7 @@ pub(crate) fn asked_by_line(line: &[u8]) -> Asked
     asked_by_word(&line[..length])
 }
 
-/// The same of a line without the blanks at its end.
+/// The same for a line without the blanks at its end.
 fn asked_by_word(word: &[u8]) -> Asked
     ensures { asked_view result ≡ asked_by_word word.now }
 {
@@ -43,7 +43,7 @@ fn asked_by_word(word: &[u8]) -> Asked
     }
 }
 
-/// The same of a line with a name, if it has one.
+/// The same for a line with a name, if it has one.
 fn asked_with_name(word: &[u8]) -> Asked
     ensures { asked_view result ≡ asked_with_name word.now }
 {

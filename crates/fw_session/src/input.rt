@@ -34,7 +34,7 @@ pub(crate) fn answer_rest<W: Write>(
     }
 }
 
-/// Answers the dot line that is there as far as it goes, and before it the block.
+/// Answers the dot line that waits, whole or not, and before it the block.
 fn answer_dot<W: Write>(talk: &mut Talk, stand_ins: &Stubs, limits: &Limits, output: &mut W) -> bool
     requires { talk.old.start ≤ length talk.old.bytes.items }
     ensures empty { talk.new.bytes.items ≡ [] }

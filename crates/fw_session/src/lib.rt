@@ -2,14 +2,14 @@
 //! own status.
 //! docs/dry-runs.md states the rules.
 //!
-//! To read in this order: session_end, talk, input; dot_lines, blocks; replies; marks; answers; script_run.
+//! To read in this order: session_end, talk, input; dot_lines, blocks; replies; mark_names; answers; script_run.
 #![tactic(auto)]
 
 mod answers;
 mod blocks;
 mod dot_lines;
 mod input;
-mod marks;
+mod mark_names;
 mod replies;
 mod script_run;
 mod session_end;

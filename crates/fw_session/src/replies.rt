@@ -14,7 +14,7 @@ ghost use Rattle.hush_run.specs.Runs.{rules};
 use crate::answers::{write_lines, write_text};
 use crate::blocks::write_outcome;
 use crate::dot_lines::Asked;
-use crate::marks::{Name, Names, last_named, name_mark, standing};
+use crate::mark_names::{Name, Names, last_named, name_mark, standing};
 use env_requests::{Reply, Request, obey};
 use env_session::{Session, Side, UndoFault};
 use hush_run::{Limits, Stubs};
@@ -52,7 +52,7 @@ pub(crate) fn answer<W: Write>(
     }
 }
 
-/// An undo to a mark that stands.
+/// An undo to a mark that exists.
 fn undo_to(session: &Session, found: usize) -> Request
     requires { found < length session.now.marks }
     ensures { asked result ≡ UndoTo found }

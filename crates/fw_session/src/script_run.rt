@@ -16,9 +16,9 @@ use itoa::Buffer;
 use std::alloc::Global;
 use std::io::Write;
 
-/// Runs a script over a session, under limits and with stand-ins, and prints its text on `output`. The status is 0 if it came
-/// to its end or to an `exit` with status 0, else 1, and then `errors` gets a line on how it ended. docs/dry-runs.md has the
-/// texts.
+/// Runs a script over a session, under limits and with stand-ins, and prints its text on `output`. The status is 0 if
+/// it reached its end or an `exit` with status 0, else 1, and then `errors` gets a line on how it ended.
+/// docs/dry-runs.md has the texts.
 pub fn run<W: Write, E: Write>(
     alloc: Global,
     session: &mut Session,
@@ -59,7 +59,7 @@ fn print_outcome<W: Write, E: Write>(
     ToolEnd::done(1)
 }
 
-/// Whether a run came to its end or to an `exit`, with status 0.
+/// Whether a run reached its end or an `exit`, with status 0.
 fn is_well(ending: Ending, status: u8) -> bool
     ensures { result ≡ is_well ending status }
 {
@@ -69,7 +69,7 @@ fn is_well(ending: Ending, status: u8) -> bool
     }
 }
 
-/// Says how a run ended that didn't end well.
+/// Prints how a run ended that didn't end well.
 fn write_ending<E: Write>(
     ending: Ending,
     place: &Option<StartedName>,
@@ -90,7 +90,7 @@ fn write_ending<E: Write>(
     }
 }
 
-/// Says how a run ended by itself.
+/// Prints how a run ended by itself.
 fn write_own_ending<E: Write>(name: &[u8], status: u8, steps: u32, errors: &mut E) -> bool
     ensures { MatchBool result (Appends (E.contents errors.old) (E.contents errors.new) (ended_by_itself name.now status steps))
         (AppendsPart (E.contents errors.old) (E.contents errors.new) (ended_by_itself name.now status steps)) }
@@ -111,7 +111,7 @@ fn write_own_ending<E: Write>(name: &[u8], status: u8, steps: u32, errors: &mut 
     )
 }
 
-/// Says at which limit a run was stopped, and in which variable's text.
+/// Prints at which limit a run was stopped, and in which variable's text.
 fn write_limit<E: Write>(
     name: &[u8],
     place: &Option<StartedName>,

@@ -7,7 +7,7 @@ ghost use Rattle.fw_session.specs.Talks.{Finishes};
 ghost use Rattle.hush_run.specs.Runs.{rules};
 
 use crate::input::{answer_rest, handle_piece};
-use crate::marks::{Names, unnamed};
+use crate::mark_names::{Names, unnamed};
 use crate::session_end::{SessionEnd, SessionEnding, Stop};
 use env_session::Session;
 use hush_run::{Limits, Stubs};
@@ -17,7 +17,7 @@ use std::io::{Read, Write};
 /// The most bytes that are handled.
 const INPUT_LIMIT: usize = 16_777_216;
 
-/// How many bytes one read asks for at the most.
+/// How many bytes one read asks for at most.
 const PIECE: usize = 4_096;
 
 /// A session with the part of its input that waits.
@@ -54,7 +54,7 @@ pub fn session<R: Read, W: Write>(
     ensures undone { LastUndoRestores result.ending session (R.remaining input.old) (W.contents output.old)
         (W.contents output.new) result.session }
 {
-    // Does nothing: it tells the prover that the opening stands.
+    // Does nothing: it tells the prover that the opening exists.
     let _marks = session.marks();
     answer_all(alloc, session, stand_ins, limits, input, output)
 }

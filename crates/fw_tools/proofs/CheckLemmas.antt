@@ -16,7 +16,7 @@ use Rattle.fw_arguments.specs.Checks.{EnvironmentCheck, FileCheck}
 use Rattle.fw_tools.specs.CheckRuns.{AreStandInsGiven, ChecksFile, ChecksOver}
 use Rattle.fw_files.specs.Said.{Says}
 
--- 1 where there is an error, else 0
+-- 1 if there is an error, else 0
 flag_small : (failed : Bool) → (if failed then 1 else 0) ≤ 1
 flag_small true = omega arith
 flag_small false = omega arith
@@ -52,7 +52,7 @@ file_check_small check old new status (inl stopped) = omega (arith, stopped.1)
 file_check_small check old new status (inr (stand_ins, text, end, given, checks, ends)) =
     omega (arith, ends.1, file_checks_small stand_ins check.path text old.output new.output end checks)
 
--- a check whose environment, stand-ins and names are these, with nothing said before it
+-- a check whose environment, stand-ins and names are these, with nothing printed before it
 pub checks-over : (check : EnvironmentCheck) (session : Held) (old new : Writers) (status : ℕ) (stand_ins seen : Option Statuses) (env : Environment) (names : List (List ℕ)) (end : ToolEnd) (said : Option (List ℕ)) →
     AreStandInsGiven check.stand_ins stand_ins → Checks env seen names old.output new.output end → env ≡ session.now.env → seen ≡ stand_ins → names ≡ check.names →
     status ≡ end.status → Says end.fault said new.errors → said ≡ old.errors → ChecksOver check session old new status

@@ -1,4 +1,4 @@
--- What is done by the words that clap finds nothing wrong with, and what is answered to others.
+-- What is done by the arguments that clap finds nothing wrong with, and what is answered to others.
 use Rattle.std.proofs.Common.{inl, inr, ◌≡◌, ◌⊎◌, ◌≤◌, ℕ, List, [], length, Option, Some, None, true, refl, sym, ap, ◌∙◌, subst}
 use Rattle.std.specs.Prelude.{Result}
 use Rattle.std.proofs.lemmas.Bool.{leb-true}
@@ -18,12 +18,12 @@ use Rattle.fw_arguments.specs.Report.{Asked, asked_of}
 use Rattle.fw_tools.specs.EntryPoint.{Does, LacksMemory, RepliesTo, Runs, ShowsAndSays, is_shown}
 use Rattle.fw_engines.specs.Streams.{Streams, writers_of}
 
--- what is done by the matches is done by the words
+-- what is done by the matches is done by the arguments
 pub done_by_words : (order order' : Order) (tool tool' : Option (Text × List Row)) (old new : Streams) (status : ℕ) → Does order tool old new status → order ≡ order' → tool ≡ tool' → Does order' tool' old new status
 done_by_words order order' tool tool' old new status does is calls =
     subst (λ t. Does order' t old new status) calls (subst (λ o. Does o tool old new status) is does)
 
--- so for no words but this name what is done is to show the image
+-- so for no arguments but this name what is done is to show the image
 pub alone_is_shown : (words : List Text) (old new : Streams) (status : ℕ) → name_in words ≡ Fwenv → length words ≤ 1 → ShowsAndSays Little old new status → Runs words old new status
 alone_is_shown words old new status is short shows =
     inl (
@@ -32,7 +32,7 @@ alone_is_shown words old new status is short shows =
           (sym (ap (λ n. called_under n words) is ∙ alone_calls_nothing words short)),
     )
 
--- and what is done by the matches under a name is done by the words that begin with it
+-- and what is done by the matches under a name is done by the arguments that begin with it
 pub runs_by : (name : ProgramName) (words : List Text) (m : ArgMatches) (old new : Streams) (status : ℕ) → name ≡ name_in words → fault_of (app_of_name name) words ≡ [] →
     order_in m ≡ order_under name words → called_in name m ≡ called_under name words → Does (order_in m) (called_in name m) old new status → Runs words old new status
 runs_by name words m old new status is right order called does =
@@ -42,7 +42,7 @@ runs_by name words m old new status is right order called does =
           (called ∙ ap (λ n. called_under n words) is),
     )
 
--- what is said of words under a name is said of the words that begin with it
+-- what is reported of arguments under a name is reported of the arguments that begin with it
 pub replies_by : (name : ProgramName) (words : List Text) (e : Error) (old new : Streams) (status : ℕ) → name ≡ name_in words → HasKind (fault_of (app_of_name name) words) e →
     new.input ≡ old.input → LacksMemory (writers_of old) (writers_of new) status ⊎ RepliesTo (kind_of e) (writers_of old) (writers_of new) status → Runs words old new status
 replies_by name words e old new status is fails same (inl lacks) = inr (same, inl lacks)
@@ -57,7 +57,7 @@ shown_under (FwenvWith s) count shown = absurd cc
 shown_under Printenv count shown = absurd cc
 shown_under Setenv count shown = absurd cc
 
--- what a call does is what its words do
+-- what a call does is what its arguments do
 pub called_does : (order : Order) (called : Option (Text × List Row)) (name : Text) (rows : List Row) (call : Result Asked Text) (old new : Streams) (status : ℕ) →
     called ≡ Some (name, rows) → call ≡ asked_of order name rows → Called call old new status → Does order called old new status
 called_does order called name rows call old new status is reads done =

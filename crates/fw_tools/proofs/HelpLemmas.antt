@@ -1,4 +1,4 @@
--- What is answered where the help breaks off.
+-- What is answered if the help breaks off.
 use Rattle.std.proofs.Common.{ℕ}
 use Rattle.std.specs.Prelude.{◌≢◌}
 use Rattle.clap.specs.declared.error.kind.ErrorKind.{ErrorKind}

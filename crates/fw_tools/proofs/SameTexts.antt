@@ -1,5 +1,5 @@
--- What tools and scripts both print is defined in fw_engines and in hush_commands, neither of which stands on the other: it is
--- the same in both.
+-- What tools and scripts both print is defined in fw_engines and in hush_commands, neither of which depends on the
+-- other: it is the same in both.
 use Rattle.std.proofs.Common.{◌≡◌, List, [], ◌∷◌, ◌++◌, refl, sym, ap, ◌∙◌, append_assoc}
 use Rattle.std.specs.List.{flat_map}
 use Rattle.std.specs.FinMap.{entries}

@@ -39,13 +39,13 @@ pub opens_so : (image : Option ℕ) (order : Order) (source : Source) (asked : D
 opens_so image order source asked session copies (defaults, are, is) =
     (source.geometry, source.first.bytes.items, second_bytes source.second, defaults, copies, are, is)
 
--- a session was opened, with a warning or none, and worked on
+-- a session was opened, with or without a warning, and worked on
 pub opened_session : (call : Call) (asked : Defaults) (old : Streams) (session : Held) (warned : Option (List ℕ)) (new : Streams) (status : ℕ) →
     IsFound call.defaults asked → IsOpening call.image call.order asked session → IsAccepted asked session old.errors warned →
     DoesJob call.job session (record { input = old.input; output = old.output; errors = warned }) new status → Uses call old new status
 opened_session call asked old session warned new status found opening accepted does = inr (asked, session, warned, found, opening, accepted, does)
 
--- what was done with nothing said before
+-- what was done with nothing printed before
 pub uses_after : (call : Call) (input output errors errors' : Option (List ℕ)) (new : Streams) (status status' : ℕ) → errors' ≡ errors → status' ≡ status →
     Uses call (record { input = input; output = output; errors = errors' }) new status → Uses call (record { input = input; output = output; errors = errors }) new status'
 uses_after call input output errors errors' new status status' same is uses =

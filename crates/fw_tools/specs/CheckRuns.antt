@@ -15,18 +15,18 @@ abbrev pub AreStandInsGiven : Option Text → Option Statuses → Type 0
 AreStandInsGiven None stand_ins = stand_ins ≡ None
 AreStandInsGiven (Some path) stand_ins = (read : Statuses) × AreStubsOf (Some path) read × (stand_ins ≡ Some read)
 
--- what stopped a check is said, if anything did
+-- what stopped a check is reported, if anything did
 abbrev pub Ends : ToolEnd → Option (List ℕ) → Option (List ℕ) → ℕ → Type 0
 Ends end old new status = Says end.fault old new × (status ≡ end.status)
 
--- the scripts of an environment are looked at; or before that a file can't be used, or memory runs out
+-- the scripts of an environment are checked; or before that a file can't be used, or memory runs out
 abbrev pub ChecksOver : EnvironmentCheck → Held → Writers → Writers → ℕ → Type 0
 ChecksOver check session old new status =
     Stops old new status
     ⊎ ((stand_ins : Option Statuses) × (end : ToolEnd) × AreStandInsGiven check.stand_ins stand_ins
     × Checks session.now.env stand_ins check.names old.output new.output end × Ends end old.errors new.errors status)
 
--- the same of the script in a file
+-- the same for the script in a file
 abbrev pub ChecksFile : FileCheck → Writers → Writers → ℕ → Type 0
 ChecksFile check old new status =
     Stops old new status

@@ -1,4 +1,4 @@
--- What the program does with its words and streams (docs/tools.md, "The command line").
+-- What the program does with its arguments and streams (docs/tools.md, "The command line").
 use Rattle.std.specs.Prelude.{◌≡◌, ◌⊎◌, ℕ, nat_le, Bool, false, List, [], ◌∷◌, ◌++◌, Option, Some, None, codes}
 use Rattle.std.specs.Io.KnownBytes.{Appends}
 use Rattle.std.specs.declared.io.ErrorKind as io_error
@@ -18,7 +18,7 @@ use Rattle.fw_arguments.specs.declared.program_name.ProgramName.TheVariants.{Fwe
 use Rattle.fw_engines.specs.declared.tool_end.ToolEnd.{ToolEnd}
 use Rattle.fw_engines.specs.declared.tool_end.StreamFault.TheVariants.{Write, Memory}
 
--- the text on standard error where the words can't be had
+-- the text on standard error if the arguments can't be read
 abbrev pub message_without_words : io_error.ErrorKind → List ℕ
 message_without_words io.OutOfMemory = message_of Memory
 message_without_words io.InvalidData = codes "fwenv: a word of the command line is not UTF-8" ++ 10 ∷ []
@@ -32,43 +32,44 @@ LacksMemory old new status = (new.output ≡ old.output) × AppendsFront old.err
 abbrev pub PrintsHelp : Writers → Writers → ℕ → List ℕ → Type 0
 PrintsHelp old new status text = Appends old.output new.output text × (new.errors ≡ old.errors) × (status ≡ 0)
 
--- less than the text was written, and that is said, status 1
+-- less than the text was written, and that is reported, status 1
 abbrev pub BreaksOff : Writers → Writers → ℕ → List ℕ → Type 0
 BreaksOff old new status text = AppendsPart old.output new.output text × AppendsFront old.errors new.errors (message_of Write) × (status ≡ 1)
 
 abbrev pub Helps : Writers → Writers → ℕ → Type 0
 Helps old new status = (text : List ℕ) × (PrintsHelp old new status text ⊎ BreaksOff old new status text)
 
--- a text was written on standard error, as far as it takes it, status 1
+-- a text was written on standard error, as far as it was taken, status 1
 abbrev pub Complains : Writers → Writers → ℕ → Type 0
 Complains old new status = (text : List ℕ) × (new.output ≡ old.output) × AppendsFront old.errors new.errors text × (status ≡ 1)
 
--- what is printed for words of which clap says this
+-- what is printed for arguments of which clap reports this
 abbrev pub RepliesTo : ErrorKind → Writers → Writers → ℕ → Type 0
 RepliesTo DisplayHelp = Helps
 RepliesTo DisplayVersion = Helps
 RepliesTo OutOfMemory = LacksMemory
 RepliesTo kind = Complains
 
--- it is shown under this name for so few words, whatever they are
+-- the image is shown under this name for this number of arguments, whatever they are
 abbrev pub is_shown : ProgramName → ℕ → Bool
 is_shown Fwenv count = nat_le count 1
 is_shown name count = false
 
--- the image on standard input is shown, and what stopped that is said
+-- the image on standard input is shown, and what stopped that is reported
 abbrev pub ShowsAndSays : Order → Streams → Streams → ℕ → Type 0
 ShowsAndSays order old new status =
     (end : ToolEnd) × (between : Option (List ℕ)) × Shows order old (record new { errors = between }) end
     × Says end.fault between new.errors × (status ≡ end.status)
 
--- words with something wrong are answered, and so is want of memory, with nothing read
+-- arguments that clap's rules refuse are answered, and so is running out of memory, with nothing read
 abbrev pub RepliesToWords : List Text → Streams → Streams → ℕ → Type 0
 RepliesToWords words old new status =
     (new.input ≡ old.input)
     × (LacksMemory (writers_of old) (writers_of new) status
     ⊎ ((kind : ErrorKind) × IsAmong kind (faults words) × RepliesTo kind (writers_of old) (writers_of new) status))
 
--- what is done for words with nothing wrong: a subcommand is called, or the image on standard input is shown in the byte order that they choose
+-- what is done for arguments that clap's rules accept: a subcommand is called, or the image on standard input
+-- is shown in the byte order that they choose
 abbrev pub Does : Order → Option (Text × List Row) → Streams → Streams → ℕ → Type 0
 Does order (Some called) old new status = Called (asked_of order called.0 called.1) old new status
 Does order None old new status = ShowsAndSays order old new status

@@ -1,4 +1,4 @@
--- What is said to somebody at a terminal before anything is read (docs/tools.md, "At a terminal").
+-- What is printed for a user at a terminal before anything is read (docs/tools.md, "At a terminal").
 use Rattle.std.specs.Prelude.{ℕ, ◌||◌, nat_le, Bool, true, false, List, [], ◌++◌, length, codes, if◌then◌else◌}
 use Rattle.std.specs.List.{list_any}
 use Rattle.std.specs.Str.{bytes_eq}
@@ -22,7 +22,7 @@ is_help word = bytes_eq word (codes "-h") || bytes_eq word (codes "--help")
 abbrev pub asks_help : List Text → Bool
 asks_help words = list_any is_help words
 
--- where an image is read whatever the words are, and where a session is called without a word for help
+-- a text if an image is read whatever the arguments are, or if a session is called and not its help
 abbrev pub greeting_under : ProgramName → List Text → List ℕ
 greeting_under Fwenv words = if nat_le (length words) 1 then image_awaited else []
 greeting_under (FwenvWith Session) words = if asks_help words then [] else dot_lines

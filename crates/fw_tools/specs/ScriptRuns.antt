@@ -6,7 +6,7 @@ use Rattle.env_session.specs.Session.{Held}
 use Rattle.hush_syntax.specs.Grammar.{Chains}
 use Rattle.hush_syntax.specs.FaultPlaces.{IsFaultOf}
 use Rattle.hush_syntax.specs.Reading.{read}
-use Rattle.hush_syntax.specs.declared.faults.SyntaxFault.{SyntaxFault}
+use Rattle.hush_syntax.specs.declared.syntax_fault.SyntaxFault.{SyntaxFault}
 use Rattle.hush_commands.specs.Stubs.{Statuses, with_boot}
 use Rattle.hush_run.specs.Runs.{rules}
 use Rattle.fw_engines.specs.ScriptFaults.{fault_line}
@@ -18,7 +18,7 @@ use Rattle.fw_arguments.specs.DryRuns.{GivenScript, Names, Words, File, ScriptRu
 use Rattle.fw_files.specs.Said.{Says, SaysSome, Stops, message_of}
 use Rattle.fw_files.specs.Files.{AreStubsOf}
 
--- a name in quotes, in which each quote is outside of them
+-- a byte of a name in quotes; a quote is outside of them
 abbrev pub quoted : ℕ → List ℕ
 quoted b = if b == 39 then codes "'\\''" else b ∷ []
 
@@ -29,26 +29,26 @@ quoted_name name = codes " '" ++ flat_map quoted name ++ codes "'"
 abbrev pub starts : List Text → List ℕ
 starts names = codes "run" ++ flat_map quoted_name names
 
--- the text that is run; of a file it is some text
+-- the text that is run; for a file it is some text
 abbrev pub IsTextOf : GivenScript → List ℕ → Type 0
 IsTextOf (Names names) text = text ≡ starts names
 IsTextOf (Words given) text = text ≡ given
 IsTextOf (File path) text = Unit {0}
 
--- its name where it is said to be no script
+-- the name that it has in a message that it isn't a script
 abbrev pub name_of_script : GivenScript → Text
 name_of_script (Names names) = codes "run"
 name_of_script (Words given) = codes "-e"
 name_of_script (File path) = path
 
--- it is said that memory ran out, or where a text isn't a script: at a fault that it has there
+-- it is reported that memory ran out, or where and why a text isn't a script: a fault that it has there
 abbrev pub Refuses : (name text : List ℕ) → Option (List ℕ) → Option (List ℕ) → Type 0
 Refuses name text old new =
     AppendsFront old new (message_of Memory)
     ⊎ ((fault : SyntaxFault) × (read text ≡ None) × IsFaultOf text fault ×
     AppendsFront old new (fault_line name text fault.place fault.kind))
 
--- the copies are written back where that was asked for and the status is 0
+-- the copies are written back if that was asked for and the status is 0
 abbrev pub is_kept : Bool → (status : ℕ) → Bool
 is_kept write status = write && status == 0
 
@@ -56,7 +56,7 @@ abbrev pub ClosesRun : Bool → ToolEnd → Option (List ℕ) → Option (List �
 ClosesRun true end old new status = (SaysSome old new × (status ≡ 1)) ⊎ (Says end.fault old new × (status ≡ end.status))
 ClosesRun false end old new status = Says end.fault old new × (status ≡ end.status)
 
--- a script with this tree is run over a session, and that is left
+-- a script with this tree is run over a session, and the session is left
 abbrev pub RunsTree : ScriptRun → Statuses → Option Chains → Held → Writers → Writers → ℕ → Type 0
 RunsTree run stand_ins tree session old new status =
     (after : Held) × (between : Option (List ℕ)) × (end : ToolEnd)
@@ -69,7 +69,7 @@ RunsText run stand_ins text session old new status =
     ((new.output ≡ old.output) × Refuses (name_of_script run.script) text old.errors new.errors × (status ≡ 1))
     ⊎ ((tree : Option Chains) × (read text ≡ Some tree) × RunsTree run stand_ins tree session old new status)
 
--- the stand-ins, of which those of these names boot
+-- the stand-ins, with those of these names made to boot
 abbrev pub with_boots : Statuses → List Text → Statuses
 with_boots stand_ins [] = stand_ins
 with_boots stand_ins (name ∷ names) = with_boots (with_boot stand_ins name) names

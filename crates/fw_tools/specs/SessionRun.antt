@@ -15,12 +15,12 @@ use Rattle.fw_files.specs.Said.{SaysSome, Stops, message_of}
 use Rattle.fw_engines.specs.Streams.{AppendsFront, Streams, writers_of}
 use Rattle.fw_engines.specs.declared.tool_end.StreamFault.TheVariants.{Read, Write, Memory}
 
--- the copies are written back where that was asked for and the whole input was handled
+-- the copies are written back if that was asked for and the whole input was handled
 abbrev pub is_kept : Bool → SessionEnding → Bool
 is_kept write ending.Done = write
 is_kept write other = false
 
--- what is said at an ending
+-- what is printed at an ending
 abbrev pub text_for : SessionEnding → Option Text
 text_for ending.Done = None
 text_for ending.ReadFault = Some (message_of Read)
@@ -28,12 +28,12 @@ text_for ending.TooLong = Some (codes "fwenv: input too long" ++ 10 ∷ [])
 text_for ending.WriteFault = Some (message_of Write)
 text_for ending.Memory = Some (message_of Memory)
 
--- it is said as far as standard error takes it, and the status is 1; or there is nothing to be said
+-- it is printed as far as standard error takes it, and the status is 1; or there is nothing to print
 abbrev pub Reports : Option Text → Option (List ℕ) → Option (List ℕ) → ℕ → Type 0
 Reports None old new status = (new ≡ old) × (status ≡ 0)
 Reports (Some text) old new status = AppendsFront old new text × (status ≡ 1)
 
--- where copies are written back, one of them may be one that can't be
+-- if copies are written back, that may fail
 abbrev pub ClosesDryRun : Bool → SessionEnding → Option (List ℕ) → Option (List ℕ) → ℕ → Type 0
 ClosesDryRun true end old new status = (SaysSome old new × (status ≡ 1)) ⊎ Reports (text_for end) old new status
 ClosesDryRun false end old new status = Reports (text_for end) old new status

@@ -39,7 +39,7 @@ pub record Scene : Type 0 where
 abbrev pub PrintsAll : Scene → Scene → Texts → ToolEnd → Type 0
 PrintsAll old new texts end = (new.session ≡ old.session) × Printed end.fault old.writers new.writers texts end.status
 
--- a tool that changes the session, and prints on standard error alone
+-- a tool that changes the session, and prints only on standard error
 abbrev pub changing : Scene → Changing
 changing s = record { session = s.session; errors = s.writers.errors }
 
@@ -66,15 +66,15 @@ Acts (Task.Import path) old new end = (entries : List Entry) × ChangesAll old n
 Acts Task.Export old new end = PrintsAll old new (export_texts old.session.now.env) end
 Acts (Task.Restore path) old new end = (text : List ℕ) × (entries : List text_entries.Entry) × RestoresFrom old new text entries end
 
--- a job that writes the copies back holds their device alone, also while it reads them
+-- a job that writes the copies back locks their device exclusively, already while it reads them
 abbrev pub hold_for : Job → Hold
 hold_for job = if writes job then Alone else Shared
 
--- what stopped a tool is said, if anything did; or some text, which may be empty, of a file that can't be written
+-- what stopped a tool is reported, if anything did; or a possibly empty text on a file that can't be written
 abbrev pub Closes : ToolEnd → Option (List ℕ) → Option (List ℕ) → ℕ → Type 0
 Closes end old new status = (SaysSome old new × (status ≡ 1)) ⊎ (Says end.fault old new × (status ≡ end.status))
 
--- the copies are left as they are by a job that saves only changes, where no name was changed and a copy was good
+-- the copies are left as they are by a job that saves only changes, if no name changed and a copy was good
 abbrev pub is_left : Bool → Choice → ℕ → Bool
 is_left only_changes Neither changed = false
 is_left only_changes choice changed = only_changes && changed == 0
@@ -86,14 +86,15 @@ UsesTool task session old new status =
     ⊎ ((after : Scene) × (end : ToolEnd) × Acts task (record { session = session; writers = old }) after end
     × (new.output ≡ after.writers.output) × Closes end after.writers.errors new.errors status)
 
--- what is done over a session; a tool doesn't read standard input, and neither does a check, nor the run of a script but for its file
+-- what is done over a session; a tool doesn't read standard input, nor does a check, nor a script's run
+-- except for its file
 abbrev pub DoesJob : Job → Held → Streams → Streams → ℕ → Type 0
 DoesJob (Tool task) session old new status = (new.input ≡ old.input) × UsesTool task session (writers_of old) (writers_of new) status
 DoesJob (Tries run) session old new status = TriesOver run session old new status
 DoesJob (Runs run) session old new status = (new.input ≡ old.input) × RunsOver run session (writers_of old) (writers_of new) status
 DoesJob (Checks check) session old new status = (new.input ≡ old.input) × ChecksOver check session (writers_of old) (writers_of new) status
 
--- a session is opened, with a warning where no copy is good, and worked on
+-- a session is opened, with a warning if no copy is good, and worked on
 abbrev pub UsesSession : Call → Streams → Streams → ℕ → Type 0
 UsesSession call old new status =
     (asked : Defaults) × (session : Held) × (warned : Option (List ℕ))
@@ -104,7 +105,7 @@ UsesSession call old new status =
 abbrev pub Uses : Call → Streams → Streams → ℕ → Type 0
 Uses call old new status = ((new.input ≡ old.input) × Stops (writers_of old) (writers_of new) status) ⊎ UsesSession call old new status
 
--- words of which clap's rules don't see what is wrong are answered with a text, and nothing is read
+-- wrong arguments that clap's rules don't detect are answered with a text, and nothing is read
 abbrev pub Called : Result Asked Text → Streams → Streams → ℕ → Type 0
 Called (Ok (Work call)) old new status = Uses call old new status
 Called (Ok (Look report)) old new status = (new.input ≡ old.input) × ReportsOn report (writers_of old) (writers_of new) status

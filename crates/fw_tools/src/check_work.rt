@@ -1,4 +1,4 @@
-//! `check`: the scripts of an environment, or that of a file, are looked at before anything runs.
+//! `check`: the scripts of an environment, or that of a file, are checked before anything runs.
 ghost use Rattle.std.specs.Prelude.{◌≤◌, MatchOption, ◌≡◌, IfOk, option_map, unwrap_or};
 ghost use Rattle.fw_arguments.specs.Checks.{environment_check_view, file_check_view};
 ghost use Rattle.fw_tools.specs.CheckRuns.{AreStandInsGiven, ChecksFile, ChecksOver};
@@ -13,7 +13,7 @@ use hush_run::Stubs;
 use std::io::Write;
 use std::rt::Files;
 
-/// Looks at the scripts of a session's environment, and answers the exit status; none where a file can't be used before.
+/// Checks the scripts of a session's environment, and answers the exit status; `None` if a file can't be used before.
 pub(crate) fn check_session<X: System + AllocGlobal, W: Write, E: Write>(
     rt: &X,
     session: &Session,
@@ -37,7 +37,7 @@ pub(crate) fn check_session<X: System + AllocGlobal, W: Write, E: Write>(
     Some(report(end, errors))
 }
 
-/// Looks at the script in a file, and answers the exit status.
+/// Checks the script in a file, and answers the exit status.
 pub(crate) fn run_file_check<X: System + AllocGlobal, W: Write, E: Write>(
     rt: &X,
     asked: &FileCheck<'_>,
@@ -52,7 +52,7 @@ pub(crate) fn run_file_check<X: System + AllocGlobal, W: Write, E: Write>(
     check_file(rt, asked, output, errors).unwrap_or(1)
 }
 
-/// The same; none where a file can't be used before.
+/// The same; `None` if a file can't be used before.
 fn check_file<X: System + AllocGlobal, W: Write, E: Write>(
     rt: &X,
     asked: &FileCheck<'_>,
@@ -81,7 +81,7 @@ fn check_file<X: System + AllocGlobal, W: Write, E: Write>(
     Some(report(end, errors))
 }
 
-/// The stand-ins, if a file of them is given; a fault of it is said on `errors`.
+/// The stand-ins, if a file of them is given; a fault of it is reported on `errors`.
 fn stand_ins_or_say<X: System + AllocGlobal, E: Write>(
     rt: &X,
     path: Option<&str>,

@@ -1,4 +1,4 @@
-//! The program over its words and streams.
+//! The program over its arguments and streams.
 ghost use Rattle.std.specs.Prelude.{◌≡◌, ◌⊎◌, ◌≤◌, Ok, map, option_map};
 ghost use Rattle.clap.specs.Words.{found_of, kind_of, rows_of};
 ghost use Rattle.fw_tools.specs.EntryPoint.{RepliesTo, Does, is_shown, LacksMemory, Runs, ShowsAndSays, message_without_words};
@@ -11,7 +11,6 @@ ghost use Rattle.fw_arguments.specs.Words.{order_in};
 ghost use Rattle.std.specs.IoError.{error_kind};
 
 use crate::check_work::run_file_check;
-use crate::program_texts::{NO_WORDS, NOT_UTF8};
 use crate::subcommands::run_call;
 use clap::error::ErrorKind;
 use clap::{ArgMatches, Error};
@@ -24,13 +23,19 @@ use std::alloc::Global;
 use std::convert::AsStr;
 use std::io::{self, Read, Write};
 
+/// Standard error if an argument of the command line is not UTF-8.
+const NOT_UTF8: &[u8] = b"fwenv: a word of the command line is not UTF-8\n";
+
+/// Standard error if the arguments of the command line can't be read.
+const NO_WORDS: &[u8] = b"fwenv: cannot read the command line\n";
+
 /// Runs the program and answers its exit status, 0 or 1. `words` begin with the program's own name.
 ///
-/// Without a subcommand the variables of the image on `input` are printed ([`show`]), and with `--big-endian` those of an
-/// image of a big-endian board. A subcommand works on the copies that a configuration names ([`printenv`], [`setenv`],
-/// [`set_script`], [`import`], [`export`], [`restore`], [`session`]), and writes back those that it changed, or says what they
-/// are good for ([`status`], or [`file_status`] of a whole file). Help goes to `output`, status 0; a fault of the command line
-/// to `errors`, status 1. docs/tools.md has each text.
+/// Without a subcommand the variables of the image on `input` are printed ([`show`]), and with `--big-endian` those of
+/// an image of a big-endian board. A subcommand works on the copies that a configuration names ([`printenv`],
+/// [`setenv`], [`set_script`], [`import`], [`export`], [`restore`], [`session`]), and writes back those that it
+/// changed, or reports their state ([`status`], or [`file_status`] of a whole file). Help goes to `output`, status 0; a
+/// fault of the command line to `errors`, status 1. docs/tools.md has each text.
 ///
 /// [`printenv`]: fw_engines::printenv
 /// [`setenv`]: fw_engines::setenv
@@ -57,7 +62,7 @@ pub fn program<X: System + AllocGlobal, S: AsStr, R: Read, W: Write, E: Write>(
     let alloc = rt.alloc();
     let name = ProgramName::of(words);
     if is_shown(name, words.len()) {
-        // what clap says of no word is known, and to ask it takes as long as to show a small image
+        // what clap reports of no argument is known, and to ask it takes as long as to show a small image
         return show_input(alloc, Order::Little, input, output, errors);
     }
     match read_words(alloc, name, words) {
@@ -66,7 +71,7 @@ pub fn program<X: System + AllocGlobal, S: AsStr, R: Read, W: Write, E: Write>(
     }
 }
 
-/// Says on `errors` why the words of the command line could not be had, and answers the exit status, 1.
+/// Prints on `errors` why the arguments of the command line could not be read, and answers the exit status, 1.
 pub fn words_failed<E: Write>(error: &io::Error, errors: &mut E) -> u8
     ensures status { result ≡ 1 }
     ensures said { AppendsFront (E.contents errors.old) (E.contents errors.new) (message_without_words (error_kind error.now)) }
@@ -80,7 +85,7 @@ pub fn words_failed<E: Write>(error: &io::Error, errors: &mut E) -> u8
     1
 }
 
-/// Does what words with nothing wrong ask for.
+/// Does what arguments that clap's rules accept ask for.
 fn act_on<X: System + AllocGlobal, R: Read, W: Write, E: Write>(
     rt: &X,
     under: ProgramName,
@@ -109,7 +114,7 @@ fn act_on<X: System + AllocGlobal, R: Read, W: Write, E: Write>(
     }
 }
 
-/// Says what is wrong with words, as far as `errors` take it.
+/// Prints what is wrong with arguments, as far as `errors` takes it.
 fn say_word_fault<E: Write>(fault: &WordFault<'_>, errors: &mut E)
     ensures { AppendsFront (E.contents errors.old) (E.contents errors.new) (fault_text fault.now) }
 {
@@ -137,7 +142,7 @@ fn run_asked<X: System + AllocGlobal, R: Read, W: Write, E: Write>(
     }
 }
 
-/// Whether the image on standard input is shown by words of this number under this name, whatever the words are.
+/// Whether the image on standard input is shown for this number of arguments under this name, whatever they are.
 fn is_shown(name: ProgramName, count: usize) -> bool
     ensures { result ≡ is_shown name count }
 {
@@ -147,7 +152,7 @@ fn is_shown(name: ProgramName, count: usize) -> bool
     }
 }
 
-/// Shows the image on `input`, says what stopped that, and answers the exit status.
+/// Shows the image on `input`, reports what stopped that, and answers the exit status.
 fn show_input<R: Read, W: Write, E: Write>(
     alloc: Global,
     order: Order,
@@ -165,7 +170,7 @@ fn show_input<R: Read, W: Write, E: Write>(
     report(end, errors)
 }
 
-/// Prints the help on `output`, or what is wrong with the words on `errors`.
+/// Prints the help on `output`, or what is wrong with the arguments on `errors`.
 fn print_error<W: Write, E: Write>(
     alloc: Global,
     error: &Error,

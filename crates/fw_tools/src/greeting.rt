@@ -1,4 +1,4 @@
-//! What is said to somebody at a terminal before anything is read.
+//! What is printed for a user at a terminal before anything is read.
 ghost use Rattle.std.specs.Prelude.{◌≡◌, map};
 ghost use Rattle.fw_tools.specs.Greeting.{asks_help, greeting, is_help, talks};
 ghost use Rattle.fw_engines.specs.Streams.{AppendsFront};
@@ -8,17 +8,17 @@ use fw_engines::streams::say;
 use std::convert::AsStr;
 use std::io::Write;
 
-/// What is said where an image is awaited.
+/// The text if an image is awaited.
 const IMAGE_AWAITED: &[u8] = b"Usage: fwenv [OPTIONS] [COMMAND]\n\
     An environment image is awaited on standard input; --help has the subcommands.\n";
 
-/// What is said where a session begins.
+/// The text if a session begins.
 const DOT_LINES: &[u8] =
     b"A dot line runs the lines of script before it, and Ctrl-D ends the session:\n\
     .print  .save  .mark NAME  .undo [NAME]\n";
 
-/// Says on `errors` what is awaited on standard input, which is a terminal: an image where no other word follows the program's
-/// name, the lines of a session where that is called and no help is asked for, else nothing.
+/// Prints on `errors` what is awaited on standard input, which is a terminal: an image if no other argument follows the
+/// program's name, the lines of a session if that is called and no help is asked for, else nothing.
 pub fn greet<S: AsStr, E: Write>(words: &[S], errors: &mut E)
     ensures { AppendsFront (E.contents errors.old) (E.contents errors.new) (greeting (map S.text words.now)) }
 {
@@ -30,7 +30,7 @@ pub fn greet<S: AsStr, E: Write>(words: &[S], errors: &mut E)
     say(errors, text);
 }
 
-/// Whether these words call a session, whose input is asked for line by line at a terminal.
+/// Whether these arguments call a session, whose input is asked for line by line at a terminal.
 pub fn talks<S: AsStr>(words: &[S]) -> bool
     ensures { result ≡ talks (map S.text words.now) }
 {
@@ -49,7 +49,7 @@ fn asks_help<S: AsStr>(words: &[S]) -> bool
     false
 }
 
-/// Whether a word asks for help.
+/// Whether an argument asks for help.
 fn is_help(word: &str) -> bool
     ensures { result ≡ is_help word.now }
 {

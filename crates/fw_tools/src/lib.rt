@@ -2,13 +2,12 @@
 //! the rules; fw_arguments reads the arguments, fw_files reads and writes the files.
 //!
 //! To read in this order: entry_point, greeting; subcommands, task_work, session_run, script_source, script_work,
-//! check_work; program_texts.
+//! check_work.
 #![tactic(auto)]
 
 mod check_work;
 mod entry_point;
 mod greeting;
-mod program_texts;
 mod script_source;
 mod script_work;
 mod session_run;

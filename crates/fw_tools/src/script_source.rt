@@ -16,7 +16,7 @@ use std::alloc::{AllocError, Global};
 use std::io::Write;
 use std::rt::Files;
 
-/// The name of a script where it is said to be none.
+/// The name that a script has in a message that it isn't one.
 pub(crate) fn name_of_script<'w>(given: &GivenScript<'_, 'w>) -> &'w str
     ensures { result.now ≡ name_of_script (script_view given.now) }
 {
@@ -35,7 +35,7 @@ fn path_of_script<'w>(given: &GivenScript<'_, 'w>) -> &'w str {
     }
 }
 
-/// The text of a script; a fault is said on `errors`.
+/// The text of a script; a fault is reported on `errors`.
 pub(crate) fn text_or_say<X: Files + AllocGlobal, E: Write>(
     rt: &X,
     given: &GivenScript<'_, '_>,
@@ -110,7 +110,7 @@ fn push_quoted(text: &mut Vec<u8>, byte: u8) -> Result<(), AllocError>
     Ok(())
 }
 
-/// The script in a text. If it is none that is said on `errors`, with its place.
+/// The script in a text. If it isn't one, that is reported on `errors`, with its place.
 pub(crate) fn script_or_say<E: Write>(
     alloc: Global,
     name: &str,
@@ -129,7 +129,7 @@ pub(crate) fn script_or_say<E: Write>(
     }
 }
 
-/// The same of a text and its copy.
+/// The same for a text and its copy.
 fn parsed_or_say<E: Write>(
     alloc: Global,
     name: &str,

@@ -20,7 +20,7 @@ use hush_syntax::Script;
 use std::alloc::{AllocError, Global};
 use std::io::Write;
 
-/// Runs the script that is asked for over a session, and leaves that; none where a file can't be used before.
+/// Runs the script that is asked for over a session, and leaves the session; `None` if a file can't be used before.
 pub(crate) fn run_given<X: System + AllocGlobal, W: Write, E: Write>(
     rt: &X,
     source: &Source,
@@ -38,7 +38,7 @@ pub(crate) fn run_given<X: System + AllocGlobal, W: Write, E: Write>(
     Some(run_text(rt, source, opened, asked, &stand_ins, &text, output, errors))
 }
 
-/// The stand-ins, of which some boot; a fault is said on `errors`.
+/// The stand-ins, with those asked for made to boot; a fault is reported on `errors`.
 fn stand_ins_or_say<X: System + AllocGlobal, E: Write>(
     rt: &X,
     asked: &ScriptRun<'_, '_>,
@@ -57,7 +57,7 @@ fn stand_ins_or_say<X: System + AllocGlobal, E: Write>(
     )
 }
 
-/// The stand-ins, of which some boot.
+/// The stand-ins, with those asked for made to boot.
 fn stand_ins_of<X: System + AllocGlobal>(
     rt: &X,
     asked: &ScriptRun<'_, '_>,
@@ -83,7 +83,7 @@ fn boot_given(
     }
 }
 
-/// The same of names that are there.
+/// The same for names that are there.
 fn boot_all(alloc: Global, stand_ins: &mut Stubs, names: &[&str]) -> Result<(), AllocError>
     ensures { IfOk result (λ _. stand_ins.new ≡ with_boots stand_ins.old (map (λ n. n.now) names.now)) }
 {
@@ -118,7 +118,7 @@ fn run_text<X: System + AllocGlobal, W: Write, E: Write>(
     }
 }
 
-/// Runs a script over a session, and leaves that.
+/// Runs a script over a session, and leaves the session.
 fn run_script<X: System + AllocGlobal, W: Write, E: Write>(
     rt: &X,
     source: &Source,
@@ -148,7 +148,7 @@ fn run_script<X: System + AllocGlobal, W: Write, E: Write>(
     leave(rt, source, asked.dry.write, current, session, end, errors)
 }
 
-/// Writes the copies back where that was asked for and the status is 0, and answers the exit status.
+/// Writes the copies back if that was asked for and the status is 0, and answers the exit status.
 fn leave<X: System + AllocGlobal, E: Write>(
     rt: &X,
     source: &Source,

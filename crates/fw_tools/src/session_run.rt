@@ -3,7 +3,6 @@ ghost use Rattle.std.specs.Prelude.{◌≡◌, option_map, unwrap_or};
 ghost use Rattle.fw_arguments.specs.DryRuns.{dry_run_view};
 ghost use Rattle.fw_tools.specs.SessionRun.{ClosesDryRun, Reports, TriesOver, is_kept, text_for};
 
-use crate::program_texts::TOO_LONG;
 use env_session::Session;
 use fw_arguments::DryRun;
 use fw_engines::StreamFault;
@@ -15,7 +14,10 @@ use fw_files::{
 use fw_session::{SessionEnd, SessionEnding, session};
 use std::io::{Read, Write};
 
-/// Answers the blocks and dot lines of `input` over a session, and leaves it; none where a file can't be used before.
+/// Standard error if the input of a session is longer than it may be.
+const TOO_LONG: &[u8] = b"fwenv: input too long\n";
+
+/// Answers the blocks and dot lines of `input` over a session, and leaves it; `None` if a file can't be used before.
 pub(crate) fn talk<X: System + AllocGlobal, R: Read, W: Write, E: Write>(
     rt: &X,
     source: &Source,
@@ -41,8 +43,8 @@ pub(crate) fn talk<X: System + AllocGlobal, R: Read, W: Write, E: Write>(
     Some(leave(rt, source, run.write, end, errors))
 }
 
-/// Writes the copies back where that was asked for and the whole input was handled, says what stopped the session before,
-/// if anything did, and answers the exit status.
+/// Writes the copies back if that was asked for and the whole input was handled, reports what stopped the session
+/// before, if anything did, and answers the exit status.
 fn leave<X: System + AllocGlobal, E: Write>(
     rt: &X,
     source: &Source,
@@ -73,7 +75,7 @@ fn is_kept(write: bool, ending: SessionEnding) -> bool
     }
 }
 
-/// Says on `errors` what stopped a session before the end of its input, if anything did, and answers the exit status.
+/// Prints on `errors` what stopped a session before the end of its input, if anything did, and answers the exit status.
 fn report_ending<E: Write>(ending: SessionEnding, errors: &mut E) -> u8
     ensures { Reports (text_for ending) (E.contents errors.old) (E.contents errors.new) result }
 {
@@ -86,7 +88,7 @@ fn report_ending<E: Write>(ending: SessionEnding, errors: &mut E) -> u8
     }
 }
 
-/// What is said at an ending.
+/// What is printed at an ending.
 fn text_for(ending: SessionEnding) -> Option<&'static [u8]>
     ensures { option_map (λ text. text.now) result ≡ text_for ending }
 {

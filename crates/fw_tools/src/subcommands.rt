@@ -1,4 +1,4 @@
-//! The subcommands over the files that the words name.
+//! The subcommands over the files that the arguments name.
 ghost use Rattle.std.specs.Prelude.{◌≡◌, ◌≤◌, None, MatchOption, if◌then◌else◌, unwrap_or};
 ghost use Rattle.fw_files.specs.Opening.{AreCopiesIn};
 ghost use Rattle.fw_tools.specs.Subcommands.{Closes, DoesJob, Uses, UsesTool, hold_for, is_left};
@@ -39,7 +39,7 @@ pub(crate) fn run_call<X: System + AllocGlobal, R: Read, W: Write, E: Write>(
     }
 }
 
-/// Opens the session and lets the subcommand work on it; none where a file can't be used.
+/// Opens the session and lets the subcommand work on it; `None` if a file can't be used.
 fn use_files<X: System + AllocGlobal, R: Read, W: Write, E: Write>(
     rt: &X,
     call: &Call<'_, '_>,
@@ -58,7 +58,7 @@ fn use_files<X: System + AllocGlobal, R: Read, W: Write, E: Write>(
     work(rt, &source, session, call, input, output, errors)
 }
 
-/// The copies for a subcommand, and the lock under which it works on them, if it has one; none where they can't be used.
+/// The copies for a subcommand, and the lock under which it works on them, if it has one; `None` if they can't be used.
 fn copies_for<X: System + AllocGlobal, E: Write>(
     rt: &X,
     call: &Call<'_, '_>,
@@ -76,7 +76,7 @@ fn copies_for<X: System + AllocGlobal, E: Write>(
     }
 }
 
-/// The same of the copies that the configuration names.
+/// The same for the copies that the configuration names.
 fn copies_in_devices<X: System + AllocGlobal, E: Write>(
     rt: &X,
     call: &Call<'_, '_>,
@@ -92,7 +92,7 @@ fn copies_in_devices<X: System + AllocGlobal, E: Write>(
     Some((source, lock_for_work(lock, &call.job)))
 }
 
-/// How the device of the first copy is locked while the copies are read: alone by a job that writes them back.
+/// How the device of the first copy is locked while the copies are read: exclusively by a job that writes them back.
 fn hold_for(job: &Job<'_, '_>) -> Hold
     ensures { result ≡ hold_for (job_view job.now) }
 {
@@ -103,15 +103,15 @@ fn hold_for(job: &Job<'_, '_>) -> Hold
     }
 }
 
-/// The lock under which a job works, if it writes what it read: the other jobs let go of it here. A dry run takes it again to
-/// write.
+/// The lock under which a job works, if it writes what it read: the other jobs release it here. A dry run takes it
+/// again to write.
 fn lock_for_work<L: Drop>(lock: Option<L>, job: &Job<'_, '_>) -> Option<L>
     ensures { result ≡ (if keeps_lock (job_view job.now) then lock else None) }
 {
     if job.keeps_lock() { lock } else { None }
 }
 
-/// Works on a session, and leaves it; none where a file can't be used.
+/// Works on a session, and leaves it; `None` if a file can't be used.
 fn work<X: System + AllocGlobal, R: Read, W: Write, E: Write>(
     rt: &X,
     source: &Source,
@@ -146,7 +146,7 @@ fn work<X: System + AllocGlobal, R: Read, W: Write, E: Write>(
     }
 }
 
-/// Lets a tool work on the session, and writes it back; none where a file can't be used.
+/// Lets a tool work on the session, and writes it back; `None` if a file can't be used.
 fn use_tool<X: System + AllocGlobal, W: Write, E: Write>(
     rt: &X,
     source: &Source,
@@ -170,8 +170,8 @@ fn use_tool<X: System + AllocGlobal, W: Write, E: Write>(
     finish(rt, source, session, end, explains, errors)
 }
 
-/// Whether the copies are left as they are, of which this was current at the start: where only changes are saved, so many
-/// names were changed, and there were good variables before.
+/// Whether the copies are left as they are: if only changes are saved, no name was changed (`changed` counts them), and
+/// one of the copies was good at the start (`current`).
 fn is_left(only_changes: bool, current: Choice, changed: usize) -> bool
     ensures { result ≡ is_left only_changes current changed }
 {
@@ -181,7 +181,7 @@ fn is_left(only_changes: bool, current: Choice, changed: usize) -> bool
     }
 }
 
-/// Writes the copies back that the subcommand changed, and says what stopped it, if anything did.
+/// Writes the copies back that the subcommand changed, and reports what stopped it, if anything did.
 fn finish<X: System + AllocGlobal, E: Write>(
     rt: &X,
     source: &Source,

@@ -22,7 +22,7 @@ use fw_files::{Explains, System, entries_or_say, read_file, script_from, value_o
 use std::alloc::{AllocError, Global};
 use std::io::Write;
 
-/// Does a task over the session; none where a file can't be used, or memory ran out before.
+/// Does a task over the session; `None` if a file can't be used, or memory ran out before.
 pub(crate) fn act<X: System + AllocGlobal, W: Write, E: Write>(
     rt: &X,
     task: Task<'_, '_>,
@@ -94,7 +94,7 @@ fn print_so(
     }
 }
 
-/// Writes a text on each writer at once, and ends with this status.
+/// Writes a whole text on each writer, and ends with this status.
 fn write_both<W: Write, E: Write>(
     text: &[u8],
     messages: &[u8],
@@ -192,7 +192,7 @@ fn restore_file<X: System + AllocGlobal, E: Write>(
     Some(restore(rt.alloc(), session, &entries, errors))
 }
 
-/// Words as bytes; where memory runs out that is said on `errors`.
+/// Arguments as bytes; if memory runs out, that is reported on `errors`.
 pub(crate) fn bytes_or_say<'a, E: Write>(
     alloc: Global,
     words: Option<&[&'a str]>,
@@ -210,7 +210,7 @@ pub(crate) fn bytes_or_say<'a, E: Write>(
     }
 }
 
-/// Words as bytes.
+/// Arguments as bytes.
 fn bytes_of<'a>(alloc: Global, words: Option<&[&'a str]>) -> Result<Vec<&'a [u8]>, AllocError>
     ensures { IfOk result (λ bytes. map (λ b. b.now) bytes.items ≡ texts words.entry) }
 {
@@ -220,7 +220,7 @@ fn bytes_of<'a>(alloc: Global, words: Option<&[&'a str]>) -> Result<Vec<&'a [u8]
     }
 }
 
-/// All these words as bytes.
+/// All these arguments as bytes.
 fn all_bytes<'a>(alloc: Global, words: &[&'a str]) -> Result<Vec<&'a [u8]>, AllocError>
     ensures { IfOk result (λ bytes. map (λ b. b.now) bytes.items ≡ map (λ w. w.now) words.now) }
 {

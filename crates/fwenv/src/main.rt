@@ -1,4 +1,4 @@
-//! `fwenv`: hands its words and streams to `fw_tools::program`.
+//! `fwenv`: hands its arguments and streams to `fw_tools::program`.
 #![tactic(auto)]
 
 use fw_tools::{greet, program, talks, words_failed};
@@ -14,7 +14,7 @@ fn main(rt: HostRuntime) -> ExitCode {
     ExitCode::from(status)
 }
 
-/// The words of the command line, the program's own name first.
+/// The arguments of the command line, the program's own name first.
 fn words(rt: &HostRuntime) -> io::Result<Vec<String>> {
     let mut words = Vec::new(rt.alloc());
     for word in env::args(rt)? {
@@ -23,7 +23,7 @@ fn words(rt: &HostRuntime) -> io::Result<Vec<String>> {
     Ok(words)
 }
 
-/// Runs the program. To somebody at a terminal it says what is awaited, and it asks for each line of a session.
+/// Runs the program. For a user at a terminal it prints what is awaited, and it asks for each line of a session.
 fn run(rt: &HostRuntime, words: &[String]) -> u8 {
     let mut input = rt.stdin();
     if !input.is_terminal() {
@@ -36,7 +36,7 @@ fn run(rt: &HostRuntime, words: &[String]) -> u8 {
     program(rt, words, &mut input, &mut rt.stdout(), &mut rt.stderr())
 }
 
-/// The same, with a prompt for each line. It isn't compiled into `main`, of which every run has the frame.
+/// The same, with a prompt for each line. It isn't inlined into `main`, whose stack frame every run has.
 #[inline(never)]
 fn run_prompted(rt: &HostRuntime, words: &[String], input: Stdin) -> u8 {
     let mut lines = Prompted {
@@ -55,7 +55,7 @@ struct Prompted {
 
 impl Read for Prompted {
     fn read(&mut self, buf: &mut [u8]) -> io::Result<usize> {
-        // where no prompt can be written, there is none
+        // if no prompt can be written, there is none
         let _ = self.errors.write(b"> ");
         self.input.read(buf)
     }

@@ -25,14 +25,14 @@ values = refl
 comparison : expression_of (codes "a" ∷ codes "<" ∷ codes "b" ∷ []) ≡ Some true
 comparison = refl
 
--- a front stands before the longer word, and the empty word before all
+-- a prefix comes before the longer word, and the empty word before all
 front_first : expression_of (codes "ab" ∷ codes ">" ∷ codes "a" ∷ codes "-a" ∷ [] ∷ codes "<" ∷ codes "a" ∷ []) ≡ Some true
 front_first = refl
 
 numbers_compared : expression_of (codes "010" ∷ codes "-eq" ∷ codes "8" ∷ codes "-a" ∷ codes "-5" ∷ codes "-lt" ∷ codes "0x1" ∷ []) ≡ Some true
 numbers_compared = refl
 
--- as bytes 10 stands before 9, as numbers behind it
+-- as bytes 10 comes before 9, as numbers after it
 bytes_or_numbers : expression_of (codes "10" ∷ codes "<" ∷ codes "9" ∷ codes "-a" ∷ codes "10" ∷ codes "-ge" ∷ codes "9" ∷ []) ≡ Some true
 bytes_or_numbers = refl
 
@@ -58,7 +58,7 @@ unary_is_no_text = refl
 not_is_no_text : expression_of (codes "!" ∷ codes "=" ∷ codes "!" ∷ []) ≡ None
 not_is_no_text = refl
 
--- other operators may stand as texts
+-- other operators may be texts
 operators_as_texts : expression_of (codes "=" ∷ codes "=" ∷ codes "=" ∷ codes "-a" ∷ codes "-a" ∷ codes "!=" ∷ codes "-o" ∷ []) ≡ Some true
 operators_as_texts = refl
 
@@ -66,11 +66,11 @@ no_expressions : map expression_of ([] ∷ (codes "a" ∷ []) ∷ (codes "a" ∷
     ≡ None ∷ None ∷ None ∷ None ∷ None ∷ None ∷ []
 no_expressions = refl
 
--- nor is one that goes on wrongly, whatever its front comes to
+-- nor is one that goes on wrongly, whatever its prefix evaluates to
 no_expressions_behind : map expression_of ((codes "-n" ∷ codes "a" ∷ codes "b" ∷ []) ∷ (codes "-n" ∷ codes "a" ∷ codes "-o" ∷ []) ∷ (codes "-n" ∷ codes "a" ∷ codes "-n" ∷ codes "b" ∷ []) ∷ []) ≡ None ∷ None ∷ None ∷ []
 no_expressions_behind = refl
 
--- what `setexpr v LEFT OPERATOR RIGHT` comes to
+-- what `setexpr v LEFT OPERATOR RIGHT` evaluates to
 calculation : List ℕ → List ℕ → List ℕ → Answer
 calculation left operator right = setexpr_of (codes "v" ∷ left ∷ operator ∷ right ∷ [])
 

@@ -5,7 +5,7 @@ use Rattle.hush_calc.specs.declared.comparison.Opening.TheVariants.{Not, Filled,
 use Rattle.hush_calc.specs.Test.{opening_of, signed, is_empty, from_term, from_operand, from_comparison}
 use Rattle.hush_calc.specs.TestSteps.{Reads}
 
--- what stands behind a term's first word, by what that word is
+-- what is after a term's first word, by what that word is
 abbrev behind_opening : (Bool → Bool) → Bool → List ℕ → List (List ℕ) → Opening → Option Bool
 behind_opening f odd w ws Not = from_term f (not odd) ws
 behind_opening f odd w ws Filled = from_operand (λ s. f (signed odd (not (is_empty s)))) ws

@@ -1,4 +1,4 @@
--- Words that have a value are those of an expression that comes to it.
+-- Words that have a value are those of an expression that evaluates to it.
 use Rattle.std.proofs.Common.{◌≡◌, ℕ, zero, suc, ◌≤◌, Bool, true, false, cond, find, not, List, [], ◌∷◌, ◌++◌, length, None, Some, refl, sym, ap, ◌∙◌, subst, ⊎_elim, append_assoc, arith, length-append}
 use Rattle.std.specs.Prelude.{codes}
 use Rattle.std.specs.Str.{bytes_eq}
@@ -66,7 +66,7 @@ joint-cases false false w j ands ors e = cc
 joint-is : (w : List ℕ) (j : Joint) → joint_of w ≡ Some j → w ≡ joint_word j
 joint-is w j e = joint-cases (bytes_eq (codes "-a") w) (bytes_eq (codes "-o") w) w j (same-word (codes "-a") w) (same-word (codes "-o") w) e
 
--- a last word of a primary, and what goes on behind it
+-- a last word of a primary, and what goes on after it
 record OperandFound (f : List ℕ → Bool) (ws : List (List ℕ)) (v : Bool) : Type 0 where
   operand : List ℕ
   rest : List (List ℕ)
@@ -137,7 +137,7 @@ term-found (w ∷ ws) f odd v e =
       | Word ↦ λ is. comparison-found f odd w ws v (sym is) (sym (term-cons f odd (w ∷ ws) w ws Word refl is) ∙ e)
     ] refl
 
--- further terms behind an expression
+-- further terms after an expression
 written-more : (e : Expression) (j : Joint) (t : Term) (w : List ℕ) (ws rest : List (List ℕ)) → w ≡ joint_word j → ws ≡ term_words t ++ rest →
     words_of (tree.Joined e j t) ++ rest ≡ words_of e ++ w ∷ ws
 written-more e j t w ws rest is front =

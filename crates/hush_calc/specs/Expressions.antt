@@ -17,7 +17,7 @@ pub data Term : Type 0 where
   Plain : Primary → Term
   Negated : Term → Term
 
--- what stands before the last joint, and the last term
+-- what is before the last joint, and the last term
 pub data Expression : Type 0 where
   First : Term → Expression
   Joined : Expression → Joint → Term → Expression

@@ -3,7 +3,7 @@ use Rattle.std.specs.Prelude.{ℕ, Bool, true, false, if◌then◌else◌, List,
 use Rattle.std.specs.Borrow.{Bor}
 use Rattle.std.specs.Str.{bytes_eq}
 
--- the pieces of a text that have these lengths, one behind the other; where the text ends, what is left of it
+-- the pieces of a text that have these lengths, one after the other; if the text ends, what is left of it
 abbrev pub pieces : (bytes : List ℕ) → (lengths : List ℕ) → List (List ℕ)
 pieces bytes [] = []
 pieces bytes (n ∷ ns) = take n bytes ∷ pieces (drop n bytes) ns

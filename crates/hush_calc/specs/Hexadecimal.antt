@@ -11,7 +11,7 @@ abbrev pub digits_of : (k : ℕ) → ℕ → List ℕ
 digits_of zero n = []
 digits_of (suc k) n = if n == 0 then [] else digits_of k (n / 16) ++ digit_of (n % 16) ∷ []
 
--- as many digits has a value at most
+-- the most digits that a value has
 abbrev pub most_digits : ℕ
 most_digits = 16
 

@@ -1,4 +1,4 @@
--- What the definitions come to.
+-- What follows from the definitions.
 use Rattle.std.specs.Prelude.{◌≡◌, ℕ, ◌<◌, Bool, List, Some}
 use Rattle.hush_calc.specs.Numbers.{modulus, value_of}
 use Rattle.hush_calc.specs.Hexadecimal.{hexadecimal}
@@ -9,10 +9,10 @@ use Rattle.hush_calc.specs.Expressions.{Expression, IsExpression, IsWritten, wor
 abbrev pub HexadecimalReadsBack : Type 0
 HexadecimalReadsBack = (n : ℕ) → n < modulus → value_of (hexadecimal n) ≡ n
 
--- the words of an expression come to its value
+-- the words of an expression evaluate to its value
 abbrev pub ExpressionsAreRead : Type 0
 ExpressionsAreRead = (e : Expression) → IsExpression e → expression_of (words_of e) ≡ Some (value e)
 
--- words that have a value are those of an expression that comes to it
+-- words that have a value are those of an expression that evaluates to it
 abbrev pub ExpressionsAreWritten : Type 0
 ExpressionsAreWritten = (words : List (List ℕ)) (v : Bool) → expression_of words ≡ Some v → IsWritten words v

@@ -1,4 +1,4 @@
--- Numbers, by the longest front of a text that is one (docs/test-and-setexpr.md, "Numbers").
+-- Numbers, by the longest prefix of a text that is one (docs/test-and-setexpr.md, "Numbers").
 use Rattle.std.specs.Prelude.{ℕ, ◌%◌, min, ◌==◌, List, [], ◌∷◌, ℤ, pos, neg_ℤ, if◌then◌else◌}
 use Rattle.std.specs.Option.{option_map_or}
 use Rattle.text_parts.specs.declared.digits.Base.{Base}
@@ -6,11 +6,11 @@ use Rattle.text_parts.specs.declared.digits.Base.TheVariants.{Hexadecimal}
 use Rattle.text_parts.specs.Digits.{number, digits_in_front}
 use Rattle.text_parts.specs.Numerals.{base_of, behind_0x, minus}
 
--- the number that the digits of a base at the front of a text spell: 0 where there are none
+-- the number that the digits of a base at the front of a text spell: 0 if there are none
 abbrev pub front_number : Base → List ℕ → ℕ
 front_number base text = number base (digits_in_front base text)
 
--- the number at the front of a text without a sign. `0x` without a digit behind it is 0, as its 0 alone is.
+-- the number at the front of a text without a sign. `0x` without a digit after it is 0, as its 0 alone is.
 abbrev pub magnitude_of : List ℕ → ℕ
 magnitude_of text = option_map_or (front_number Hexadecimal) (behind_0x text) (front_number (base_of text) text)
 

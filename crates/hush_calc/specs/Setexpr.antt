@@ -27,7 +27,7 @@ operators = And ∷ Or ∷ Xor ∷ Add ∷ Subtract ∷ Multiply ∷ Divide ∷ 
 abbrev pub operator_of : List ℕ → Option Operator
 operator_of word = find (λ operator. bytes_eq (spelling operator) word) operators
 
--- what an operator makes of two values, none where it divides by zero
+-- what an operator makes of two values, no value if it divides by zero
 abbrev pub computed : Operator → ℕ → ℕ → Option ℕ
 computed And m n = Some (bit_and m n)
 computed Or m n = Some (bit_or m n)
@@ -46,7 +46,7 @@ star = 42
 abbrev pub is_value : List ℕ → Bool
 is_value word = not (begins_with star word)
 
--- nor are the names of the forms that work on texts, where the first value stands
+-- nor are the names of the forms that work on texts, as the first value
 abbrev pub is_first_value : List ℕ → Bool
 is_first_value word = is_value word && not (bytes_eq (codes "sub") word || bytes_eq (codes "gsub") word || bytes_eq (codes "fmt") word)
 

@@ -1,4 +1,4 @@
--- The command `test` (docs/test-and-setexpr.md, "test"): an expression is terms, each joined with all that stands before it.
+-- The command `test` (docs/test-and-setexpr.md, "test"): an expression is terms, each joined with all before it.
 use Rattle.std.specs.Prelude.{ℕ, ◌==◌, ◌&&◌, ◌||◌, Bool, true, false, not, List, [], ◌∷◌, length, codes, find, Option, Some, None, unwrap_or, int_lt, int_le, if◌then◌else◌}
 use Rattle.std.specs.Option.{option_and_then}
 use Rattle.std.specs.Ordering.{nat_cmp, int_eq, is_lt, is_gt}
@@ -68,7 +68,7 @@ abbrev pub signed : (odd : Bool) → Bool → Bool
 signed false holds = holds
 signed true holds = not holds
 
--- what words come to from a place of an expression on: none where they don't go on as one.
+-- what words evaluate to from a place of an expression on: no value if they don't go on as one.
 -- `f` makes of a term's value that of all terms up to it.
 abbrev mutual
   -- a term: negations, then a primary
@@ -81,7 +81,7 @@ abbrev mutual
     | Word ↦ from_comparison (λ b. f (signed odd b)) w ws
   ]
 
-  -- the operator behind the first word of a comparison
+  -- the operator after the first word of a comparison
   pub from_comparison : (f : Bool → Bool) → List ℕ → List (List ℕ) → Option Bool
   from_comparison f s [] = None
   from_comparison f s (w ∷ ws) = option_and_then (λ comparison. from_operand (λ t. f (holds comparison s t)) ws) (comparison_of w)
@@ -96,7 +96,7 @@ abbrev mutual
   from_joint value [] = Some value
   from_joint value (w ∷ ws) = option_and_then (λ joint. from_term (λ b. joint_value joint value b) false ws) (joint_of w)
 
--- the value of an expression, none where the words aren't one
+-- the value of an expression, no value if the words aren't one
 abbrev pub expression_of : List (List ℕ) → Option Bool
 expression_of words = from_term (λ b. b) false words
 

@@ -20,16 +20,16 @@ pub struct Calculated<'a> {
 /// Why `setexpr` writes nothing.
 #[derive(Clone, Copy, Debug, PartialEq, Eq)]
 pub enum SetexprFault {
-    /// The words are none of its forms.
+    /// The words are in none of its forms.
     WrongUse,
     /// The divisor is 0.
     DivisionByZero,
 }
 
-/// What the words behind `setexpr` come to: a name and a value, or two values and an operator between them.
+/// What the words after `setexpr` evaluate to: a name and a value, or two values and an operator between them.
 ///
-/// `WrongUse` where another number of words stands, where the operator is none, where a value begins with `*`, or
-/// where the first is `sub`, `gsub` or `fmt`; else `DivisionByZero` where `/` or `%` divides by 0.
+/// `WrongUse` if the number of words is another, the operator isn't one, a value begins with `*`, or the first is
+/// `sub`, `gsub` or `fmt`; else `DivisionByZero` if `/` or `%` divides by 0.
 pub fn setexpr<'a>(words: Fields<'a>) -> Result<Calculated<'a>, SetexprFault>
     ensures { answer_view result ≡ setexpr_of words.entry }
 {

@@ -45,7 +45,7 @@ impl Comparison {
             .find(|comparison| is_text(word, comparison.text()))
     }
 
-    /// Whether it holds between two words. Bytes are compared as unsigned numbers, a front before the longer word.
+    /// Whether it holds between two words. Bytes are compared as unsigned numbers, a prefix before the longer word.
     pub(crate) fn holds(self, left: &[u8], right: &[u8]) -> bool
         ensures { result ≡ holds self left.now right.now }
     {
@@ -86,9 +86,9 @@ impl Comparison {
 pub(crate) enum Opening {
     /// `!`: a negation.
     Not,
-    /// `-n`: the word behind it has to have bytes.
+    /// `-n`: the word after it has to have bytes.
     Filled,
-    /// `-z`: the word behind it has to be empty.
+    /// `-z`: the word after it has to be empty.
     Empty,
     /// Any other word: the first of a comparison.
     Word,

@@ -6,9 +6,9 @@ ghost use Rattle.hush_calc.specs.TestSteps.{Reads};
 use crate::Fields;
 use crate::comparison::{Comparison, Joint, Opening};
 
-/// Whether the words behind `test` are an expression that is true.
+/// Whether the words after `test` are an expression that is true.
 ///
-/// It calls itself nowhere and takes no memory; its time is linear in the words and their bytes.
+/// It doesn't recurse and takes no memory; its time is linear in the words and their bytes.
 pub fn test(words: Fields<'_>) -> bool
     ensures { result ≡ test_of words.entry }
 {
@@ -18,7 +18,7 @@ pub fn test(words: Fields<'_>) -> bool
     }
 }
 
-/// The value of an expression, none where the words aren't one.
+/// The value of an expression, `None` if the words aren't one.
 fn read_expression(words: Fields<'_>) -> Option<bool>
     ensures { result ≡ expression_of words.entry }
 {
@@ -49,7 +49,7 @@ fn read_term(words: &mut Fields<'_>) -> Option<bool>
     None
 }
 
-/// Reads the word behind `-n`.
+/// Reads the word after `-n`.
 fn read_filled(words: &mut Fields<'_>) -> Option<bool>
     ensures value { Reads (λ f. from_operand (λ s. f (not (is_empty s))) words.old) words.new result }
     ensures shorter { length words.new ≤ length words.old }
@@ -60,7 +60,7 @@ fn read_filled(words: &mut Fields<'_>) -> Option<bool>
     }
 }
 
-/// Reads the word behind `-z`.
+/// Reads the word after `-z`.
 fn read_empty(words: &mut Fields<'_>) -> Option<bool>
     ensures value { Reads (λ f. from_operand (λ s. f (is_empty s)) words.old) words.new result }
     ensures shorter { length words.new ≤ length words.old }
@@ -83,7 +83,7 @@ fn read_comparison(left: &[u8], words: &mut Fields<'_>) -> Option<bool>
     }
 }
 
-/// The value under an odd number of negations, or none.
+/// The value under an odd number of negations, or `None`.
 fn signed(odd: bool, value: Option<bool>) -> Option<bool>
     ensures { result ≡ option_map (signed odd) value }
 {

@@ -9,7 +9,7 @@ use std::alloc::{AllocError, Global};
 use std::marker::Model;
 use text_parts::joined;
 
-/// The fields of a command that are left. They stand one behind the other in a text; each has its length.
+/// The fields of a command that are left. They are one after the other in a text; each has its length.
 #[derive(Drop)]
 pub struct Fields<'a> {
     bytes: &'a [u8],
@@ -23,9 +23,9 @@ impl<'a> Model for Fields<'a> {
 }
 
 impl<'a> Fields<'a> {
-    /// The fields of these lengths in `bytes`, one behind the other.
+    /// The fields of these lengths in `bytes`, one after the other.
     ///
-    /// Where the bytes end before the lengths do, a field has what is left for it, perhaps nothing.
+    /// If the bytes end before the lengths do, a field has what is left for it, perhaps nothing.
     pub fn new(bytes: &'a [u8], lengths: &'a [usize]) -> Fields<'a>
         ensures { result ≡ pieces bytes.now lengths.now }
     {

@@ -4,7 +4,7 @@ ghost use Rattle.hush_calc.specs.Hexadecimal.{digit_of, hexadecimal, most_digits
 
 use std::marker::Model;
 
-/// As many digits has a value at most.
+/// The most digits that a value has.
 const DIGITS: usize = 16;
 
 /// A value as text: lower-case hexadecimal digits without `0x` and without leading zeros, `0` for zero.

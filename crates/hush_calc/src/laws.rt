@@ -7,12 +7,12 @@ pub fn hexadecimal_reads_back()
     ensures { HexadecimalReadsBack }
 {}
 
-/// The words of an expression, which is a term or an expression, a joint and a term, come to its value.
+/// The words of an expression, which is a term or an expression, a joint and a term, evaluate to its value.
 pub fn expressions_are_read()
     ensures { ExpressionsAreRead }
 {}
 
-/// Words that have a value are those of an expression that comes to it.
+/// Words that have a value are those of an expression that evaluates to it.
 pub fn expressions_are_written()
     ensures { ExpressionsAreWritten }
 {}

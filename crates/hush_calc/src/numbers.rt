@@ -1,4 +1,4 @@
-//! Numbers, by the longest front of a text that is one (docs/test-and-setexpr.md, "Numbers").
+//! Numbers, by the longest prefix of a text that is one (docs/test-and-setexpr.md, "Numbers").
 ghost use Rattle.std.specs.Prelude.{◌≡◌, ◌%◌, min};
 ghost use Rattle.text_parts.specs.declared.digits.Base.TheVariants.{Hexadecimal};
 ghost use Rattle.text_parts.specs.Digits.{number};

@@ -40,7 +40,7 @@ impl Operator {
             .find(|operator| is_text(word, operator.text()))
     }
 
-    /// What it makes of two values, none where it divides by zero.
+    /// What it makes of two values, `None` if it divides by zero.
     pub(crate) fn computed(self, left: u64, right: u64) -> Option<u64>
         ensures { result ≡ computed self left right }
     {

@@ -35,7 +35,7 @@ no_builtin : command_of (codes "envs" ∷ codes "set" ∷ []) ≡ Other (codes "
 unfolding builtin_of
 no_builtin = refl
 
--- what follows where nothing has a stand-in
+-- what follows if nothing has a stand-in
 follow_after : List (List ℕ) → Follow
 follow_after fields = let none : Statuses = empty in follow_of none fields
 
@@ -51,7 +51,7 @@ wrong_exit_goes_on : follow_after (codes "exit" ∷ codes "256" ∷ []) ≡ Next
 unfolding follow_after builtin_of
 wrong_exit_goes_on = refl
 
--- what fields do after status 7 where nothing has a stand-in
+-- what fields do after status 7 if nothing has a stand-in
 done : List (List ℕ) → Held → Done
 done fields held = let none : Statuses = empty in done_of none fields 7 held
 
@@ -89,11 +89,11 @@ unknown_command = refl
 stand_in_command : other_of (Some 3) (codes "mmc") (codes "mmc" ∷ codes "dev" ∷ []) ≡ answer 3 (codes "+ mmc dev\n")
 stand_in_command = refl
 
--- a stand-in that boots ends the run where its status is 0
+-- a stand-in that boots ends the run if its status is 0
 boots_with_zero : map is_end (None ∷ Some (record { status = 0; boots = true }) ∷ Some (record { status = 1; boots = true }) ∷ Some (record { status = 0; boots = false }) ∷ []) ≡ false ∷ true ∷ false ∷ false ∷ []
 boots_with_zero = refl
 
--- stand-ins where `booti` alone has one, with this status, and boots
+-- stand-ins if `booti` alone has one, with this status, and boots
 booti : ℕ → Statuses
 booti status = let none : Statuses = empty in insert none (codes "booti") (record { status = status; boots = true })
 
@@ -105,6 +105,6 @@ failed_boot_goes_on : follow_of (booti 1) (codes "booti" ∷ []) ≡ Next
 unfolding booti builtin_of
 failed_boot_goes_on = simp (get-insert {X = Role} nat_list_cmp_total)
 
--- what is told of a stand-in with status 3 beside the file
+-- a name without a stand-in changes nothing
 told : with_boot (insert (let none : Statuses = empty in none) (codes "x") (record { status = 3; boots = false })) (codes "y") ≡ insert (let none : Statuses = empty in none) (codes "x") (record { status = 3; boots = false })
 told = simp (get-insert {X = Role} nat_list_cmp_total, get-empty)

@@ -20,7 +20,7 @@ use Rattle.hush_commands.specs.declared.expansion.ExpansionFault.TheVariants.{Wo
 abbrev making : List (List ℕ) → Option (List ℕ) → Made
 making done begun = record { done = done; begun = begun }
 
--- the fields of pieces of which the first stands behind what is begun
+-- the fields of pieces of which the first is after what is begun
 with_open : Option (List ℕ) → List (List Item) → List (List ℕ)
 with_open None ps = map bytes_of (filter is_there ps)
 with_open (Some f) [] = f ∷ []
@@ -54,7 +54,7 @@ pub fields_made : (done : List (List ℕ)) (is : List Item) → ended (with_item
 unfolding fields with_open
 fields_made done is = behind done None is
 
--- and where they aren't cut, one field
+-- and if they aren't cut, one field
 uncut_on : (f : List ℕ) (is : List Item) → with_items (making [] (Some f)) (map joined is) ≡ making [] (Some (f ++ bytes_of is))
 uncut_on f [] = ap (λ (x : List ℕ). making [] (Some x)) (sym (append-nil f))
 uncut_on f (Byte b ∷ is) = uncut_on (f ++ b ∷ []) is ∙ ap (λ (x : List ℕ). making [] (Some x)) (append_assoc f (b ∷ []) (bytes_of is))
@@ -91,7 +91,7 @@ size-substituted [] = refl
 size-substituted (b ∷ bs) =
     elim (splits b) as (λ s. size ((if s then Split b else Byte b) ∷ substituted false bs) ≡ suc (length bs)) [ true ↦ ap suc (size-substituted bs) | false ↦ ap suc (size-substituted bs) ]
 
--- bytes behind one another
+-- bytes one after another
 pub with_items-bytes : (m : Made) (b : ℕ) (bs : List ℕ) → with_items m (map Byte (b ∷ bs)) ≡ with_bytes m (b ∷ bs)
 with_items-bytes m b [] = refl
 with_items-bytes m b (k ∷ bs) =
@@ -135,7 +135,7 @@ pub kept-substituted : (uncut quoted : Bool) (bs : List ℕ) → kept uncut (sub
 kept-substituted false quoted bs = append-nil (substituted quoted bs)
 kept-substituted true quoted bs = ap (map joined) (append-nil (substituted quoted bs)) ∙ joined-substituted quoted bs
 
--- a text that is cut: up to its first blank, and behind it
+-- a text that is cut: up to its first blank, and after it
 split-at : (xs : List ℕ) (at : ℕ) → at < length xs → ((j : ℕ) → j < at → splits (get_or xs j 0) ≡ false) → splits (get_or xs at 0) ≡ true → substituted false xs ≡ map Byte (take at xs) ++ Split (get_or xs at 0) ∷ substituted false (drop (at + 1) xs)
 split-at [] at h before here = absurd (omega arith)
 split-at (x ∷ xs) zero h before here = rw here refl
@@ -209,7 +209,7 @@ pub status-part : (uncut quoted : Bool) (known : Known) (source : List ℕ) (p :
 status-part uncut quoted known source p digits e f =
     ap (substituted (uncut || quoted)) f ∙ sym (kept-substituted uncut quoted (decimal known.status)) ∙ ap (part_items uncut known source) (sym e)
 
--- the items of a part, and those behind it
+-- the items of a part, and those after it
 rest-items : (uncut : Bool) (known : Known) (source : List ℕ) (p : Part) (atoms rest : List Atom) → atoms ≡ part_atoms source p ++ rest → kept uncut (items_of known atoms) ≡ part_items uncut known source p ++ kept uncut (items_of known rest)
 rest-items uncut known source p atoms rest e =
     ap (λ (xs : List Atom). kept uncut (items_of known xs)) e
@@ -225,7 +225,7 @@ pub no-part : (uncut : Bool) (known : Known) (atoms : List Atom) (done whole : L
 no-part true known atoms done whole e read = sym (append-nil done) ∙ ap (λ (xs : List Atom). done ++ kept true (items_of known xs)) (sym e) ∙ read
 no-part false known atoms done whole e read = sym (append-nil done) ∙ ap (λ (xs : List Atom). done ++ kept false (items_of known xs)) (sym e) ∙ read
 
--- what was added, and what is added behind it
+-- what was added, and what is added after it
 pub adds-then : (xs ys : List Item) (left mid : ℕ) (a b c : Made) (r : Result ℕ ExpansionFault) → AddsItems xs left a b (Ok mid) → AddsPart ys mid b c r → AddsItems (xs ++ ys) left a c r
 adds-then xs ys left mid a b c (Ok rest) f g =
     (omega (arith, f.0, g.0, size-append xs ys), g.1 ∙ ap (λ (m : Made). with_items m ys) f.1 ∙ sym (fold-append with_item a xs ys))

@@ -1,4 +1,4 @@
--- What is printed, one text behind the other.
+-- What is printed, one text after the other.
 use Rattle.std.proofs.Common.{◌≡◌, ℕ, List, [], ◌++◌, length, Ok, Err, sym, ap, ◌∙◌, append_assoc, append-nil, arith, length-append}
 use Rattle.std.specs.Prelude.{Result}
 use Rattle.hush_commands.specs.declared.output.PrintFault.{PrintFault}

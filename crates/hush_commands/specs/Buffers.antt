@@ -22,7 +22,7 @@ abbrev pub closed : Option (List ℕ) → List (List ℕ)
 closed None = []
 closed (Some f) = f ∷ []
 
--- the field that is begun has these bytes too; one begins where none is begun
+-- the field that is begun has these bytes too; one begins if none is begun
 abbrev pub with_bytes : Made → List ℕ → Made
 with_bytes m bs = record { done = m.done; begun = Some (opened m.begun ++ bs) }
 
@@ -63,19 +63,19 @@ abbrev pub kept : (uncut : Bool) → List Item → List Item
 kept true is = map joined is
 kept false is = is
 
--- the text is what stands before its first blank, that blank, and what stands behind it
+-- the text is what is before its first blank, that blank, and what is after it
 pub record CutsAtBlank (text front back : List ℕ) : Type 0 where
   pub blank : ℕ
   pub items : substituted false text ≡ map Byte front ++ Split blank ∷ substituted false back
   pub shorter : length back < length text
 
--- items are put behind a buffer, where a word may have so many more: how many it may have then
+-- items are appended to a buffer, when a word may have this many more: how many it may have then
 abbrev pub AddsItems : List Item → ℕ → Made → Made → Result ℕ ExpansionFault → Type 0
 AddsItems is left old new (Ok rest) = (left ≡ size is + rest) × (new ≡ with_items old is)
 AddsItems is left old new (Err Word) = left < size is
 AddsItems is left old new (Err Memory) = Unit {0}
 
--- the same of a part, which takes memory only where it is within the limit
+-- the same of a part, which takes memory only if it is within the limit
 abbrev pub AddsPart : List Item → ℕ → Made → Made → Result ℕ ExpansionFault → Type 0
 AddsPart is left old new (Ok rest) = (left ≡ size is + rest) × (new ≡ with_items old is)
 AddsPart is left old new (Err Word) = left < size is
@@ -87,6 +87,6 @@ Expands wanted new (Ok u) = option_map whole wanted ≡ Some new
 Expands wanted new (Err Word) = wanted ≡ None
 Expands wanted new (Err Memory) = Unit {0}
 
--- the fields that are left behind the first `done`, whose bytes end at `start`
+-- the fields that are left after the first `done`, whose bytes end at `start`
 abbrev pub left_of : (bytes lengths : List ℕ) → (start done : ℕ) → List (List ℕ)
 left_of bytes lengths start done = pieces (drop start bytes) (drop done lengths)

@@ -117,7 +117,7 @@ takes_more (command.Exit own) = false
 takes_more (command.WrongUse called) = false
 takes_more (command.Other called fields) = true
 
--- where memory is refused to a command that takes it for its text alone, it has a text, and the text fits
+-- if memory is refused to a command that takes it for its text alone, it has a text, and the text fits
 abbrev pub RefusedBy : (more : Bool) → (text : List ℕ) → Printed → Result ℕ PrintFault → Type 0
 RefusedBy true text old result = Unit {0}
 RefusedBy false text old result = OnMemory result (LacksRoom text old)
@@ -125,12 +125,12 @@ RefusedBy false text old result = OnMemory result (LacksRoom text old)
 abbrev pub IsRefused : Command → Done → Printed → Result ℕ PrintFault → Type 0
 IsRefused command done old result = RefusedBy (takes_more command) done.0.text old result
 
--- the status that a command answers, beside what follows it
+-- the status that a command answers, without what follows it
 abbrev pub status_in : Result (ℕ × Follow) PrintFault → Result ℕ PrintFault
 status_in (Ok (status, follow)) = Ok status
 status_in (Err fault) = Err fault
 
--- the complaint of a write is told, if it has one
+-- the complaint of a write is reported, if it has one
 abbrev pub Tells : Result (Option Complaint) Memory → Printed → Printed → Result ℕ PrintFault → Type 0
 Tells (Ok None) old new result = (result ≡ Ok 0) × (new ≡ old)
 Tells (Ok (Some complaint)) old new result = Answers (answer 1 (text_of complaint.message complaint.name.now)) old new result

@@ -55,7 +55,7 @@ abbrev pub onto_first : Item → List (List Item) → List (List Item)
 onto_first i [] = (i ∷ []) ∷ []
 onto_first i (p ∷ ps) = (i ∷ p) ∷ ps
 
--- what stands between the splitting blanks
+-- what is between the splitting blanks
 abbrev pub cut : List Item → List (List Item)
 cut [] = [] ∷ []
 cut (Split b ∷ is) = [] ∷ cut is
@@ -84,10 +84,10 @@ fits known limit word = nat_le (size (items_of known word)) limit
 abbrev pub word_fields : Known → List Atom → List (List ℕ)
 word_fields known word = fields (items_of known word)
 
--- the fields of words; none where one of these is larger than the limit
+-- the fields of words; no value if one of these is larger than the limit
 abbrev pub expanded : Known → ℕ → List (List Atom) → Option (List (List ℕ))
 expanded known limit words = if list_all (fits known limit) words then Some (flat_map (word_fields known) words) else None
 
--- the value of an assignment, which isn't cut; none where it is larger than the limit
+-- the value of an assignment, which isn't cut; no value if it is larger than the limit
 abbrev pub expanded_value : Known → ℕ → List Atom → Option (List ℕ)
 expanded_value known limit word = if fits known limit word then Some (bytes_of (items_of known word)) else None

@@ -7,7 +7,7 @@ use Rattle.hush_commands.specs.declared.follow.Follow.TheVariants as follow
 use Rattle.hush_commands.specs.Commands.{command_of}
 use Rattle.hush_commands.specs.Stubs.{Statuses, ends_run}
 
--- a stand-in that boots ends the run where its status is 0
+-- a stand-in that boots ends the run if its status is 0
 abbrev pub follow_by : Statuses → Command → Follow
 follow_by stand_ins command.True = follow.Next
 follow_by stand_ins command.False = follow.Next

@@ -1,5 +1,4 @@
 -- What the public calls promise.
-pub mod Limits
 pub mod Builtins
 pub mod Statuses
 pub mod Commands

@@ -43,7 +43,7 @@ abbrev pub listed : (all : Bool) → Environment → List (List ℕ) → Answer
 listed all env [] = answer 0 (lines_of all (entries env))
 listed all env (name ∷ names) = answer (status_if (list_all (is_defined env) (name ∷ names))) (flat_map (line_in env) (name ∷ names))
 
--- a name is printed, and whether it is defined is answered
+-- a name is printed, and whether it is defined is returned
 abbrev pub PrintsNamed : Environment → List ℕ → Printed → Printed → Result Bool PrintFault → Type 0
 PrintsNamed env name old new (Ok defined) = (defined ≡ is_defined env name) × Prints (line_in env name) old new (Ok tt)
 PrintsNamed env name old new (Err fault) = Prints (line_in env name) old new (Err fault)

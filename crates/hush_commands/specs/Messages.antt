@@ -4,7 +4,7 @@ use Rattle.envvars_core.specs.Refusals.{before_name, after_name}
 use Rattle.hush_commands.specs.declared.messages.Message.{Message}
 use Rattle.hush_commands.specs.declared.messages.Message.TheVariants.{NotDefined, UnknownCommand, WrongUse, Refused, IsVariable, NoScript, DivisionByZero}
 
--- what stands before the name, the name, and what stands behind it up to the newline
+-- what is before the name, the name, and what is after it up to the newline
 abbrev pub parts_of : Message → List ℕ → List ℕ × List ℕ × List ℕ
 parts_of NotDefined name = (codes "## Error: \"", name, codes "\" not defined\n")
 parts_of UnknownCommand name = (codes "Unknown command '", name, codes "' - try 'help'\n")

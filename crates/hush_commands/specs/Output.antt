@@ -11,7 +11,7 @@ pub record Printed : Type 0 where
 abbrev pub printed : List ℕ → ℕ → Printed
 printed text limit = record { text = text; limit = limit }
 
--- what was printed stands, and perhaps something after it
+-- what was printed stays, and perhaps something after it
 abbrev pub GoesOn : Printed → Printed → Type 0
 GoesOn old new = (more : List ℕ) × (new ≡ printed (old.text ++ more) old.limit)
 
@@ -25,7 +25,7 @@ Prints text old new (Err Memory) = GoesOn old new
 abbrev pub LacksRoom : List ℕ → Printed → Type 0
 LacksRoom text old = (0 < length text) × (length (old.text ++ text) ≤ old.limit)
 
--- this where memory was refused
+-- this if memory was refused
 abbrev pub OnMemory : {X : Type 0} → Result X PrintFault → Type 0 → Type 0
 OnMemory (Ok x) fact = Unit {0}
 OnMemory (Err Output) fact = Unit {0}

@@ -11,7 +11,7 @@ abbrev pub saved_line : Side → List ℕ
 saved_line First = codes "Saved copy 1\n"
 saved_line Second = codes "Saved copy 2\n"
 
--- it is saved and told, or nothing has changed: the text doesn't fit, or it fits and memory was refused
+-- it is saved and reported, or nothing has changed: the text doesn't fit, or it fits and memory was refused
 abbrev pub Saves : Held → Held → Printed → Printed → Result (Unit {0}) PrintFault → Type 0
 Saves held saved_held old new (Ok u) = (saved_held ≡ saved held) × (new ≡ printed (old.text ++ saved_line (side_of held)) old.limit)
 Saves held after old new (Err Output) = (old.limit < length (old.text ++ saved_line (side_of held))) × (after ≡ held) × (new ≡ old)

@@ -18,7 +18,7 @@ StandIn = List ℕ × ℕ
 abbrev pub StandInLine : Type 0
 StandInLine = Result (Option StandIn) StubFault
 
--- the status of a stand-in by the words behind its name: 0 where there are none
+-- the status of a stand-in by the words after its name: 0 if there are none
 abbrev pub rest_status : List (List ℕ) → Option ℕ
 rest_status [] = Some 0
 rest_status (digits ∷ []) = status_of digits
@@ -32,7 +32,7 @@ abbrev pub read_words : ℕ → List (List ℕ) → StandInLine
 read_words number [] = Ok None
 read_words number (name ∷ words) = read_stand_in number name (rest_status words)
 
--- the words of a line: what stands between blanks, where something does
+-- the words of a line: what is between blanks, if something is
 abbrev pub words_of : List ℕ → List (List ℕ)
 words_of line = words_between is_blank line
 
@@ -40,7 +40,7 @@ words_of line = words_between is_blank line
 abbrev pub is_comment : List ℕ → Bool
 is_comment text = begins_with hash text
 
--- a line with a 0 byte is at fault, also where it is a comment
+-- a line with a 0 byte is at fault, even if it is a comment
 abbrev pub read_line : ℕ → List ℕ → StandInLine
 read_line number text =
     if list_any is_zero text then Err (Line number)

@@ -40,7 +40,7 @@ is_end (Some role) = role.boots && role.status == 0
 abbrev pub ends_run : Statuses → List ℕ → Bool
 ends_run stand_ins name = is_end (names.get stand_ins name)
 
--- the same where a stand-in of this name boots; a name without one changes nothing
+-- the same when a stand-in of this name boots; a name without one changes nothing
 abbrev pub booting : Statuses → List ℕ → Option ℕ → Statuses
 booting stand_ins name None = stand_ins
 booting stand_ins name (Some status) = names.insert stand_ins name (record { status = status; boots = true })

@@ -256,7 +256,7 @@ impl<'a> Command<'a> {
         }
     }
 
-    /// `exit` with a word that spells this status, or none.
+    /// `exit` with a word that spells this status, or no status.
     fn exit_with(called: &'a [u8], status: Option<u8>) -> Command<'a>
         ensures { result ≡ exit_with called.now status }
     {

@@ -21,12 +21,12 @@ use envvars_core::Memory;
 use hush_calc::{Fields, test};
 use std::alloc::Global;
 
-/// Carries out the simple command of these fields: answers its status and what follows it, and leaves its text and its
+/// Carries out the simple command of these fields: returns its status and what follows it, and leaves its text and its
 /// change.
 ///
-/// The names of `run` and `env delete` are steps of their own, which follow: here these leave the status. `exit` answers
-/// the status with which the run ends. If the text doesn't fit or memory is refused, nothing has changed. Memory is refused
-/// to `true`, `false`, `test`, `exit`, `env exists` and a wrong use only for a text that fits.
+/// The names of `run` and `env delete` are steps of their own, which follow: here these leave the status. `exit`
+/// returns the status with which the run ends. If the text doesn't fit or memory is refused, nothing has changed.
+/// Memory is refused to `true`, `false`, `test`, `exit`, `env exists` and a wrong use only for a text that fits.
 pub fn carry_out(
     alloc: Global,
     session: &mut Session,
@@ -156,7 +156,7 @@ fn stand_in(
     Ok(status)
 }
 
-/// Tells the complaint of a write, if it has one.
+/// Reports the complaint of a write, if it has one.
 fn tell(
     written: Result<Option<Complaint<'_>>, Memory>,
     output: &mut Output,

@@ -67,7 +67,7 @@ impl From<AllocError> for ExpansionFault {
 impl FieldBuffer {
     /// Makes the fields of words in place of those that it holds. A word has at most `limit` items that aren't marks.
     ///
-    /// Where they aren't made, what it holds then isn't said; the next expansion begins anew.
+    /// If they aren't made, what it holds then is unspecified; the next expansion begins anew.
     #[inline(always)]
     pub fn expand(
         &mut self,
@@ -104,7 +104,7 @@ impl FieldBuffer {
         Ok(())
     }
 
-    /// Adds the items of a word, which is cut or not. Of those that aren't marks it may have `limit`; answers how many
+    /// Adds the items of a word, which is cut or not. Of those that aren't marks it may have `limit`; returns how many
     /// more it could have.
     #[inline(always)]
     fn add_word(
@@ -205,7 +205,7 @@ impl FieldBuffer {
     }
 }
 
-/// What stands before the first blank or newline of a text, and behind it; none where it has none.
+/// What is before the first blank or newline of a text, and after it; `None` if it has none.
 fn cut_at_blank(text: &[u8]) -> Option<(&[u8], &[u8])>
     ensures { MatchOption result (substituted false text.now ≡ map Byte text.now)
         (λ found. CutsAtBlank text.now found.0.now found.1.now) }

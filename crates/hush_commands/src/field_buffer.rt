@@ -50,7 +50,7 @@ impl FieldBuffer {
         Fields::new(self.bytes.as_slice(), self.lengths.as_slice())
     }
 
-    /// Gives the fields away, and their memory with them.
+    /// Hands out the fields, and their memory with them.
     pub fn take(&mut self, alloc: Global) -> FieldQueue
         ensures fields { result ≡ self.old.done }
         ensures left { self.new ≡ whole [] }
@@ -77,7 +77,7 @@ impl FieldBuffer {
         self.begun = false;
     }
 
-    /// Puts bytes behind the field that is begun, or begins one with them; no bytes begin none.
+    /// Appends bytes to the field that is begun, or begins one with them; no bytes begin none.
     #[inline(always)]
     pub(crate) fn append(&mut self, bytes: &[u8]) -> Result<(), AllocError>
         ensures ok { OnOk result (self.new ≡ with_items self.old (map Byte bytes.now)) }
@@ -95,7 +95,7 @@ impl FieldBuffer {
         }
     }
 
-    /// Begins a field where none is begun.
+    /// Begins a field if none is begun.
     pub(crate) fn begin(&mut self)
         ensures { self.new ≡ with_bytes self.old [] }
     {

@@ -55,7 +55,7 @@ impl FieldQueue {
         self.fields().next().is_none()
     }
 
-    /// Leaves the first field behind, if one is left.
+    /// Passes the first field, if one is left.
     pub fn advance(&mut self)
         ensures { self.new ≡ drop 1 self.old }
     {

@@ -1,7 +1,7 @@
-//! One simple command of a dry run: its words are expanded to fields, and it is carried out by them. Also a run's limits,
-//! the stand-ins for commands that need hardware, and what is said when a command fails. docs/runs.md states the rules.
+//! One simple command of a dry run: its words are expanded to fields, and it is carried out by them. Also the stand-ins
+//! for commands that need hardware, and the messages of commands that fail. docs/runs.md states the rules.
 //!
-//! To read in this order: limits; builtins, stand_in_line, stand_ins; locals, expansion, field_buffer, field_queue;
+//! To read in this order: builtins, stand_in_line, stand_ins; locals, expansion, field_buffer, field_queue;
 //! command, follow, execution; writes, listing; messages, output.
 #![tactic(auto)]
 
@@ -12,7 +12,6 @@ mod expansion;
 mod field_buffer;
 mod field_queue;
 mod follow;
-mod limits;
 mod listing;
 mod locals;
 mod messages;
@@ -27,7 +26,6 @@ pub use expansion::{ExpansionFault, Scope};
 pub use field_buffer::FieldBuffer;
 pub use field_queue::FieldQueue;
 pub use follow::Follow;
-pub use limits::{Limits, MOST_DEPTH, MOST_OUTPUT, MOST_STEPS, MOST_WORD};
 pub use locals::Locals;
 pub use messages::Message;
 pub use output::{Output, PrintFault};

@@ -61,7 +61,7 @@ fn print_named(
     Ok(status_if(all_defined))
 }
 
-/// Prints the line of a name, or that it isn't defined; answers whether it is.
+/// Prints the line of a name, or that it isn't defined; returns whether it is.
 fn print_one(vars: &Vars, name: &[u8], output: &mut Output) -> Result<bool, PrintFault>
     ensures { PrintsNamed vars.now.env name.now output.old output.new result }
 {

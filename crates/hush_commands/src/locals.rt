@@ -49,7 +49,7 @@ impl Locals {
         }
     }
 
-    /// Gives a name a value. Where a growth is refused, nothing has changed.
+    /// Gives a name a value. If a growth is refused, nothing has changed.
     pub fn set(&mut self, alloc: Global, name: &[u8], value: &[u8]) -> Result<(), AllocError>
         ensures ok { OnOk result (self.new ≡ env.insert self.old name.now value.now) }
         ensures err { OnErr result (self.new ≡ self.old) }

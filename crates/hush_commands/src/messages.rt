@@ -1,4 +1,4 @@
-//! What a run prints where a command fails (docs/runs.md, "Messages").
+//! What a run prints when a command fails (docs/runs.md, "Messages").
 ghost use Rattle.std.specs.Prelude.{◌≡◌};
 ghost use Rattle.hush_commands.specs.Output.{Prints, PrintsWhole, Answers, LacksRoom, OnMemory, answer};
 ghost use Rattle.hush_commands.specs.Messages.{text_of, parts_of};
@@ -21,7 +21,7 @@ pub enum Message {
     IsVariable,
     /// The value that `run` was to start isn't a script.
     NoScript,
-    /// `setexpr` divides by zero; no name is told.
+    /// `setexpr` divides by zero; no name is reported.
     DivisionByZero,
 }
 
@@ -44,7 +44,7 @@ impl Message {
         Ok(1)
     }
 
-    /// What stands before the name, the name, and what stands behind it.
+    /// What is before the name, the name, and what is after it.
     fn parts(self, name: &[u8]) -> (&'static [u8], &[u8], &'static [u8])
         ensures { (result.0.now, result.1.now, result.2.now) ≡ parts_of self name.now }
     {

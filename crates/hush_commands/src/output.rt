@@ -94,7 +94,7 @@ impl Output {
         self.text.truncate(len);
     }
 
-    /// Prints three texts, or nothing. Room for all three is had before the first is printed.
+    /// Prints three texts, or nothing. Room for all three is reserved before the first is printed.
     pub(crate) fn print_parts(
         &mut self,
         front: &[u8],
@@ -115,7 +115,7 @@ impl Output {
         Ok(())
     }
 
-    /// `saveenv`: saves the session, and prints which copy was written. Its room is had before anything is saved.
+    /// `saveenv`: saves the session, and prints which copy was written. Its room is reserved before anything is saved.
     pub fn save(&mut self, session: &mut Session) -> Result<(), PrintFault>
         ensures { Saves session.old session.new self.old self.new result }
     {
@@ -133,7 +133,7 @@ impl Output {
     }
 }
 
-/// How many bytes three texts have together, where that is at most `room`.
+/// How many bytes three texts have together, if that is at most `room`.
 fn len_within(room: usize, front: &[u8], middle: &[u8], back: &[u8]) -> Option<usize>
     ensures { SomeIff result (length front.now + (length middle.now + length back.now) ≤ room)
         (length front.now + (length middle.now + length back.now)) }

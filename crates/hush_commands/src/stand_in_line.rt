@@ -49,7 +49,7 @@ impl<T: Drop> From<AllocFailed<T>> for StubFault {
     }
 }
 
-/// Reads a line: the name of a stand-in and its status, 0 where none is given; nothing where it is empty, blanks
+/// Reads a line: the name of a stand-in and its status, 0 if none is given; nothing if it is empty, blanks
 /// alone or a comment.
 pub(crate) fn read_line(number: usize, line: &[u8]) -> Result<Option<(&[u8], u8)>, StubFault>
     ensures { line_view result ≡ read_line number (strip_carriage_return line.now) }
@@ -71,7 +71,7 @@ pub(crate) fn read_line(number: usize, line: &[u8]) -> Result<Option<(&[u8], u8)
     }
 }
 
-/// Reads what stands behind a name: a status or nothing, which is 0; none where it is anything else.
+/// Reads what is after a name: a status or nothing, which is 0; `None` if it is anything else.
 fn read_rest(rest: &[u8]) -> Option<u8>
     ensures { result ≡ rest_status (words_of rest.now) }
 {

@@ -10,12 +10,12 @@ use std::collections::BTreeMap;
 use std::marker::Model;
 use text_parts::numbered_lines;
 
-/// What a stand-in does, beside its line.
+/// What a stand-in does, besides printing its line.
 #[derive(Clone, Copy)]
 pub(crate) struct Role {
     /// The status that it answers.
     pub(crate) status: u8,
-    /// Whether the run ends with it where its status is 0, as at a command that doesn't come back.
+    /// Whether the run ends with it if its status is 0, as at a command that doesn't come back.
     pub(crate) boots: bool,
 }
 
@@ -76,7 +76,7 @@ impl Stubs {
         }
     }
 
-    /// From now on a stand-in of this name boots: it ends a run where its status is 0. Where the name has no stand-in, or
+    /// From now on a stand-in of this name boots: it ends a run if its status is 0. If the name has no stand-in, or
     /// a growth is refused, nothing has changed.
     pub fn boot(&mut self, alloc: Global, name: &[u8]) -> Result<(), AllocError>
         ensures ok { OnOk result (self.new ≡ with_boot self.old name.now) }
@@ -88,7 +88,7 @@ impl Stubs {
         }
     }
 
-    /// Gives a name a stand-in that boots. Where a growth is refused, nothing has changed.
+    /// Gives a name a stand-in that boots. If a growth is refused, nothing has changed.
     fn set_boot(&mut self, alloc: Global, name: &[u8], status: u8) -> Result<(), AllocError>
         ensures ok { OnOk result (self.new ≡ booting self.old name.now (Some status)) }
         ensures err { OnErr result (self.new ≡ self.old) }
@@ -132,8 +132,8 @@ impl Stubs {
         }
     }
 
-    /// Adds the stand-in of a name, which may have none yet. If it has one, that is replaced, and these stand-ins are used
-    /// no more.
+    /// Adds the stand-in of a name, which may have none yet. If it has one, that is replaced, and these stand-ins are
+    /// no longer used.
     fn add(
         &mut self,
         alloc: Global,

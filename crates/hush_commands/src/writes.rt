@@ -59,8 +59,8 @@ fn write<'a>(
     }
 }
 
-/// Deletes a name of `env delete`: answers the status, which is 1 if this or an earlier name of the command failed. If its
-/// message doesn't fit or memory is refused, nothing has changed.
+/// Deletes a name of `env delete`: returns the status, which is 1 if this or an earlier name of the command failed.
+/// If its message doesn't fit or memory is refused, nothing has changed.
 pub fn delete(
     session: &mut Session,
     name: &[u8],

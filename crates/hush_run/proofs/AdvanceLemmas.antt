@@ -1,4 +1,4 @@
--- Steps one behind the other.
+-- Steps one after the other.
 use Rattle.std.proofs.Common.{◌≡◌, ℕ, suc, ◌+◌, ◌-◌, ◌≤◌, Bool, true, false, if◌then◌else◌, List, [], ◌∷◌, length, get_or, drop, Option, Some, None, Result, Ok, Err, refl, sym, ap, subst, ◌∙◌, arith, is_some, IfOk}
 use Rattle.hush_syntax.specs.declared.nodes.NodeId.{NodeId}
 use Rattle.hush_syntax.specs.Scripts.{Parsed, tree_of, subtree_at, RootIs}
@@ -164,7 +164,7 @@ module _ (rules : Rules) (calls : List Parsed) (old : List Frame) (capacity : �
   start_stops (Some x) b = ended_alike _ _ x t (place_of old) (first_start rules.limits.steps) (ends_at rules calls old _ x t (ap (λ (o : Out). o >>= if_ok (in_turn (begin_in rules calls) left) Goes) b))
   start_stops None b = (ap (λ (x : State). x.steps) b.0, halted rules calls old (due.Start names) s ready.is_due tt ∙ sym b.0)
 
--- what is due where something is over, and its step
+-- what is due when something is over, and its step
 pub rise_then : (rules : Rules) (calls calls1 calls2 : List Parsed) (old frames1 new : List Frame) (status1 capacity : ℕ) (due1 : Due) (s t : State) (r : Result Due Ending) → s.steps ≤ rules.limits.steps → IsLeft calls old s.status calls1 frames1 status1 due1 → Advances rules calls1 frames1 due1 (with_status status1 s) calls2 new capacity t r → Advances rules calls old due.Over s calls2 new capacity t r
 rise_then rules calls calls1 calls2 old frames1 new status1 capacity due1 s t (Ok d) le l a = (a.0, a.1, λ n h. l.5 (within n rules) s (omega (arith, h)) ∙ a.2 n h)
 rise_then rules calls calls1 calls2 old frames1 new status1 capacity due1 s t (Err x) le l a = so (reason_of x) a
@@ -173,7 +173,7 @@ rise_then rules calls calls1 calls2 old frames1 new status1 capacity due1 s t (E
     so (Some e) h = ended_alike _ _ e t (place_of new) (l.5 rules s le) h
     so None h = (h.0, ap (λ (o : Out). (ended o).1) (l.5 (within s.steps rules) s (omega arith)) ∙ h.1)
 
--- the run from a state is what is due, and the frames behind it
+-- the run from a state is what is due, and the frames after it
 abbrev pub Same : Rules → Option Chains → State → List Parsed → List Frame → Due → State → Type 0
 Same rules tree s calls frames d now = (n : ℕ) → now.steps ≤ n → script (within n rules) (start (within n rules) rules.limits.depth) tree s ≡ due_left (within n rules) calls frames d now
 

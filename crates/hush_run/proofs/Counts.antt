@@ -89,7 +89,7 @@ enough_turns rules (suc m) (suc n) wanted c d last cc cd s le hm hn =
     (bind_same (suc t.steps) rules.limits.steps (d t) _ _ (cd t hi) (λ u low high.
     enough_turns rules m n wanted c d u.status cc cd u high (omega (arith, lo, low, hm)) (omega (arith, lo, low, hn)))))
 
--- a loop is its condition, and what it does behind that
+-- a loop is its condition, and what it does after that
 pub turns-again : (rules : Rules) (wanted : Bool) (c d : State → Out) (last : ℕ) → Counts rules c → Counts rules d → (s : State) → s.steps ≤ rules.limits.steps → turns (suc rules.limits.steps) wanted c d last s ≡ c s >>= looks rules wanted c d last
 unfolding turns
 turns-again rules wanted c d last cc cd s le =

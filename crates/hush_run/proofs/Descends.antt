@@ -4,7 +4,7 @@ use Rattle.hush_syntax.specs.declared.nodes.NodeId.{NodeId}
 use Rattle.hush_run.specs.declared.frames.Frame.{Frame}
 use Rattle.hush_syntax.specs.Scripts.{Parsed, subtree_at}
 use Rattle.hush_run.specs.Meaning.{Rules, Out, ◌>>=◌}
-use Rattle.hush_run.specs.Resume.{begin_in, subtree_does, frame_does, at_in, frame_room, owners, resume, text_above, within_text, IsFrame, IsStack, FirstPart, Leads, levels}
+use Rattle.hush_run.specs.Resume.{begin_in, subtree_does, frame_does, at_in, frame_room, owners, resume, variable_above, within_text, IsFrame, IsStack, FirstPart, Leads, levels}
 use Rattle.hush_run.specs.Stacks.{script_frames}
 use Rattle.hush_run.proofs.Counts.{start-counts}
 use Rattle.hush_run.proofs.PlaceLemmas.{no_text}
@@ -15,7 +15,7 @@ leads_here script frames id known = (known, (λ scripts stack fits. (stack, fits
 -- a frame on top, whose scripts are those that run
 pub resume-frame : (rules : Rules) (scripts : List Parsed) (f : Frame) (fs : List Frame) (o : Out) → 1 ≤ length scripts → owners f scripts ≡ scripts → resume rules scripts (f ∷ fs) o ≡ resume rules scripts fs (o >>= frame_does rules (begin_in rules scripts) (at_in scripts) f)
 resume-frame rules scripts f fs o some same =
-    ap (λ (ps : List Parsed). resume rules ps fs (within_text (text_above f) o >>= frame_does rules (begin_in rules ps) (at_in ps) f)) same
+    ap (λ (ps : List Parsed). resume rules ps fs (within_text (variable_above f) o >>= frame_does rules (begin_in rules ps) (at_in ps) f)) same
     ∙ ap (λ (n : Option (List ℕ)). resume rules scripts fs (within_text n o >>= frame_does rules (begin_in rules scripts) (at_in scripts) f)) (no_text f scripts some same)
 
 pub stack-frame : (scripts : List Parsed) (f : Frame) (fs : List Frame) → owners f scripts ≡ scripts → 1 ≤ length scripts → IsFrame (at_in scripts) f → length fs + frame_room (at_in scripts) f ≤ script_frames * length scripts → IsStack scripts fs → IsStack scripts (f ∷ fs)

@@ -11,13 +11,13 @@ use Rattle.hush_syntax.specs.Keywords.{keyword_of}
 use Rattle.hush_syntax.specs.Reading.{command, read}
 use Rattle.hush_commands.specs.Builtins.{builtin_of}
 use Rattle.hush_commands.specs.Expansion.{fields}
-use Rattle.hush_commands.specs.Limits.{bounds}
+use Rattle.run_limits.specs.Limits.{bounds}
 use Rattle.hush_commands.specs.declared.stand_ins.Role.{Role}
 use Rattle.hush_commands.specs.Stubs.{Statuses}
 use Rattle.hush_run.specs.Meaning.Reason.{Finished, Exited, Steps, Depth, Word, Output}
 use Rattle.hush_run.specs.Meaning.{Reason, Rules, State, step, effect, turns, start, looked_up, meaning, place}
 
--- what a run tells: ending, status, counted steps and text
+-- what a run reports: ending, status, counted steps and text
 abbrev Told : Type 0
 Told = Reason × ℕ × ℕ × List ℕ
 
@@ -31,7 +31,7 @@ under steps depth word output = record { stand_ins = (let none : Statuses = empt
 abbrev usual : Rules
 usual = under 1000 4 256 4096
 
--- what the run of a text comes to, where the text is a script
+-- what the run of a text evaluates to, if the text is a script
 abbrev comes_to : Rules → Held → List ℕ → Option Told
 comes_to rules held text = option_map (λ tree. told (meaning rules tree held)) (read text)
 
@@ -144,7 +144,7 @@ first_that_fails : (held : Held) → get held.now.env (codes "a") ≡ Some (code
 unfolding read tokens_of lexeme_at passed_at piece_at is_bare ends_word is_special is_blank command keyword_of is_plain name_of assignment_of begins_name is_in_name dollar_at follows_dollar digits start meaning step builtin_of effect fields
 first_that_fails held h = simp (h, looked_up)
 
--- where a limit is met in a text that was started, that is its place
+-- if a limit is met in a text that was started, that is its place
 place_of_a_start : (held : Held) → get held.now.env (codes "r") ≡ Some (codes "run r") → ends_in (under 1000 1 256 4096) held (codes "run r") ≡ Some (Some (codes "r"))
 unfolding read tokens_of lexeme_at passed_at piece_at is_bare ends_word is_special is_blank command keyword_of is_plain name_of assignment_of begins_name is_in_name start place step builtin_of effect fields
 place_of_a_start held h = simp (h, looked_up)
@@ -209,7 +209,7 @@ each_field : (held : Held) → get held.now.env (codes "i") ≡ None → comes_t
 unfolding read tokens_of lexeme_at passed_at piece_at is_bare ends_word is_special is_blank command keyword_of is_plain name_of assignment_of begins_name is_in_name dollar_at follows_dollar meaning step builtin_of effect fields
 each_field held h = simp (h, get-insert {X = List ℕ} nat_list_cmp_total)
 
--- words are cut, but for what stands in quotes
+-- words are cut, except what is in quotes
 fields_of_words : (held : Held) → get held.now.env (codes "x") ≡ None → comes_to usual held (codes "x=\"1 2\"; echo $x \"3 4\" \"\"") ≡ Some (Finished, 0, 2, codes "1 2 3 4 \n")
 unfolding read tokens_of lexeme_at passed_at piece_at is_bare ends_word is_special is_blank command keyword_of is_plain name_of assignment_of begins_name is_in_name dollar_at follows_dollar double_at inner_at inner_escape is_inner is_escaped meaning step builtin_of effect fields
 fields_of_words held h = simp (h, get-insert {X = List ℕ} nat_list_cmp_total)

@@ -47,7 +47,7 @@ pub name_is : (atoms : List Atom) → is_some (name_of atoms) ≡ true → plain
 unfolding name_of
 name_is atoms h = sym (ap (λ (o : Option (List ℕ)). unwrap_or o []) (named false atoms h))
 
--- a part's plain bytes, and what stands behind it
+-- a part's plain bytes, and what is after it
 pub plain_of : (source : List ℕ) (p : Part) (span : Span) (bytes : List ℕ) → p ≡ part.Plain span → bytes ≡ span_bytes source span → bytes ≡ plain_bytes (part_atoms source p)
 plain_of source p span bytes is b =
     b ∙ sym (plain-plain (span_bytes source span)) ∙ ap (λ (q : Part). plain_bytes (part_atoms source q)) (sym is)

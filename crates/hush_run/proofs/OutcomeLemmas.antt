@@ -1,4 +1,4 @@
--- What a run stopped with is what its outcome tells.
+-- What a run stopped with is what its outcome reports.
 use Rattle.std.proofs.Common.{◌≡◌, ℕ, List, Option, Some, None, sym, ap, ◌∙◌, Vec, Global}
 use Rattle.env_session.specs.Session.{Held}
 use Rattle.hush_syntax.specs.Grammar.{Chains}

@@ -5,7 +5,7 @@ use Rattle.hush_run.specs.declared.due.Due.{Due}
 use Rattle.hush_run.specs.declared.due.Due.TheVariants as due
 use Rattle.hush_run.specs.declared.turns.Turn.{Turn}
 use Rattle.hush_run.specs.Meaning.{Rules, Out, ◌>>=◌, with_status}
-use Rattle.hush_run.specs.Resume.{begin_in, at_in, resume, levels, frame_does, frame_room, owners, behind, text_above, IsStack, IsFrame}
+use Rattle.hush_run.specs.Resume.{begin_in, at_in, resume, levels, frame_does, frame_room, owners, behind, variable_above, IsStack, IsFrame}
 use Rattle.hush_run.specs.declared.frames.Frame.TheVariants as frame
 use Rattle.hush_syntax.specs.Scripts.{Parsed, subtree_at}
 use Rattle.hush_syntax.specs.Nodes.{At}
@@ -20,7 +20,7 @@ use Rattle.hush_run.proofs.Descends.{resume-frame, stack-frame}
 pub left_here : (scripts : List Parsed) (frames : List Frame) (status : ℕ) → IsStack scripts frames → 1 ≤ length scripts → length frames ≤ script_frames * length scripts → IsLeft scripts frames status scripts frames status due.Over
 left_here scripts frames status stack some fits = (stack, tt, some, omega arith, omega (arith, fits), λ rules s le. refl)
 
--- behind what is due
+-- after what is due
 resume-behind : (rules : Rules) (scripts : List Parsed) (behind : Option Frame) (due : Due) (most : ℕ) (frames : List Frame) (o : Out) → 1 ≤ length scripts → Behind (at_in scripts) most due behind → resume rules scripts frames (o >>= behind_does rules (begin_in rules scripts) (at_in scripts) behind) ≡ resume rules scripts (with_behind behind frames) o
 resume-behind rules scripts None due most frames o some b = ap (λ (x : Out). resume rules scripts frames x) (bind_goes o)
 resume-behind rules scripts (Some f) due most frames o some b = sym (resume-frame rules scripts f frames o some (b.2 scripts))
@@ -40,7 +40,7 @@ left_on scripts scripts1 scripts2 frames frames2 status status1 f turn l own t f
       more.1,
       λ rules s le.
           l.5 rules s le
-          ∙ ap (λ (o : Out). resume rules (owners f scripts1) frames2 (o >>= frame_does rules (begin_in rules (owners f scripts1)) (at_in (owners f scripts1)) f)) (within-goes (text_above f) (with_status status1 s))
+          ∙ ap (λ (o : Out). resume rules (owners f scripts1) frames2 (o >>= frame_does rules (begin_in rules (owners f scripts1)) (at_in (owners f scripts1)) f)) (within-goes (variable_above f) (with_status status1 s))
           ∙ ap (λ (ps : List Parsed). resume rules ps frames2 (frame_does rules (begin_in rules ps) (at_in ps) f (with_status status1 s))) (sym own)
           ∙ ap (λ (o : Out). resume rules scripts2 frames2 o) (t.2 rules (begin_in rules scripts2) (start-counts rules (levels rules scripts2)) s le)
           ∙ resume-behind rules scripts2 turn.behind turn.due (frame_room (at_in scripts2) f) frames2 (due_does rules (begin_in rules scripts2) (at_in scripts2) turn.due (with_status turn.status s)) stack.0 t.1,

@@ -57,7 +57,7 @@ step_left rules effect s u k lt leaves is =
     ∙ ap (done s) leaves
     ∙ ap (λ (j : ℕ). Ends Exited None (counting j u)) (sym is)
 
--- where a command was carried out
+-- when a command was carried out
 abbrev pub carried : Done → State → State
 carried d s = record s { held = d.1; status = d.0.status; printed = printed (s.printed.text ++ d.0.text) s.printed.limit }
 
@@ -245,7 +245,7 @@ module _ (rules : Rules) (name field : List ℕ) (rest : List (List ℕ)) (body 
       either true = step_halts rules _ s le
       either false = ap (λ (o : Out). o >>= body rules begin >>= bindings rules name (body rules begin) rest) (step_halts rules (λ t. Does (record t { locals = map.insert t.locals name field })) s le)
 
-  -- where the name is a variable's, it is as the step that fails
+  -- if the name is a variable's, it is as the step that fails
   pub bind_refused : (t : State) → has_variable s name ≡ true → Did rules (λ r begin. step r (fails IsVariable name)) (λ (u : Unit {0}) r begin. Goes) s t (Ok tt) → Did rules (λ r begin. bindings r name (body r begin) (field ∷ rest)) (λ bound r begin. if bound then (body r begin then bindings r name (body r begin) rest) else Goes) s t (Ok false)
   bind_refused t taken did = (did.0, λ n begin le. ap (λ (b : Bool). if b then step (within n rules) (fails IsVariable name) s else (step (within n rules) (λ t. Does (record t { locals = map.insert t.locals name field })) s >>= body (within n rules) begin >>= bindings (within n rules) name (body (within n rules) begin) rest)) taken ∙ did.1 n begin le)
 
@@ -322,7 +322,7 @@ start_done rules (suc below) name text s p k lt some e reads is =
           ∙ ap (λ (o : Out). o >>= (λ t. in_text name (script (within n rules) (start (within n rules) below) (tree_of p) t))) (did.1 n le),
     )
 
--- a step with another effect that comes to the same
+-- a step with another effect that evaluates to the same
 step-same : (r : Rules) (effect other : State → Effect) (s : State) → effect s ≡ other s → step r effect s ≡ step r other s
 unfolding step
 step-same r effect other s e = ap (λ (x : Effect). if nat_lt s.steps r.limits.steps then done s x else Ends Steps None s) e

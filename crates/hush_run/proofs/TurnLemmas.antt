@@ -1,4 +1,4 @@
--- What the frames come to.
+-- What the frames result in.
 use Rattle.std.proofs.Common.{◌≡◌, ℕ, zero, suc, ◌+◌, ◌==◌, ◌<◌, ◌≤◌, Bool, true, false, List, [], ◌∷◌, drop, length, get_or, Option, Some, None, refl, sym, ap, subst, ◌∙◌, arith, if◌then◌else◌, is_some, add-one, length-drop}
 use Rattle.std.proofs.Math.ListN.{drop_of_length-le}
 use Rattle.std.proofs.Math.Seq.{get_or-drop}
@@ -135,7 +135,7 @@ fi_is at (Elif e f r) a = absurd a
 fi_is at (Else d) a = absurd a
 fi_is at Fi a = refl
 
--- where the status isn't 0, the branches behind are looked at
+-- if the status isn't 0, the branches after it are looked at
 to_rest : (rules : Rules) (begin : Begin) (k status : ℕ) (whole rest : Branches) (d : Chains) (s : State) → branch_does rules begin k whole ≡ if_ok (chains rules begin d) (otherwise rules begin rest) → (status == 0) ≡ false → branch_does rules begin k whole (with_status status s) ≡ otherwise rules begin rest (with_status status s)
 to_rest rules begin k status whole rest d s does nz =
     ap (λ (g : State → Out). g (with_status status s)) does ∙ ap (λ (t : Bool). if t then chains rules begin d (with_status status s) else otherwise rules begin rest (with_status status s)) nz

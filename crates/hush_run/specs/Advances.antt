@@ -1,4 +1,4 @@
--- One step of a run, whatever it is. (How the code goes about it; what a run means stands in Meaning.)
+-- One step of a run, whatever it is. (How the code goes about it; what a run means is in Meaning.)
 use Rattle.std.specs.Prelude.{◌≡◌, ℕ, suc, ◌+◌, ◌*◌, ◌≤◌, List, length, Option, Some, None, Result, Ok, Err}
 use Rattle.hush_syntax.specs.Scripts.{Parsed}
 use Rattle.hush_syntax.specs.Grammar.{Chains}
@@ -12,7 +12,7 @@ use Rattle.hush_run.specs.Turns.{due_does, due_room, IsDue}
 use Rattle.hush_run.specs.Steps.{Counted}
 use Rattle.hush_run.specs.Stacks.{script_frames, frame_limit}
 
--- what is due, and behind it the frames
+-- what is due, and after it the frames
 abbrev pub due_left : Rules → List Parsed → List Frame → Due → State → Out
 due_left rules calls frames due s = resume rules calls frames (due_does rules (begin_in rules calls) (at_in calls) due s)
 

@@ -2,7 +2,7 @@
 use Rattle.std.specs.Prelude.{ℕ, suc, ◌≤◌, List}
 use Rattle.hush_run.specs.Meaning.{Rules, Begin, State, Out, Goes, Ends}
 
--- where it goes on, so many steps are counted
+-- if it goes on, this many steps are counted
 abbrev pub Within : ℕ → ℕ → Out → Type 0
 Within low high (Goes t) = (low ≤ t.steps) × (t.steps ≤ high)
 Within low high (Ends e place t) = Unit {0}

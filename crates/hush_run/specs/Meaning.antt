@@ -1,4 +1,4 @@
--- What a script comes to (docs/runs.md, "Meaning").
+-- What a script evaluates to (docs/runs.md, "Meaning").
 use Rattle.std.specs.Prelude.{ℕ, zero, suc, ◌==◌, nat_lt, Bool, true, false, not, if◌then◌else◌, List, [], ◌∷◌, ◌++◌, length, Option, Some, None, is_some, unwrap_or}
 use Rattle.std.specs.FinMap as map
 use Rattle.envimg_core.specs.Environment.{Environment}
@@ -12,7 +12,7 @@ use Rattle.hush_commands.specs.declared.messages.Message.{Message}
 use Rattle.hush_commands.specs.declared.messages.Message.TheVariants.{NotDefined, IsVariable, NoScript}
 use Rattle.hush_commands.specs.declared.follow.Follow.{Follow}
 use Rattle.hush_commands.specs.declared.follow.Follow.TheVariants as follow
-use Rattle.hush_commands.specs.Limits.{Bounds}
+use Rattle.run_limits.specs.Limits.{Bounds}
 use Rattle.hush_commands.specs.Stubs.{Statuses}
 use Rattle.hush_commands.specs.Messages.{text_of}
 use Rattle.hush_commands.specs.Output.{Printed, printed, answer}
@@ -42,13 +42,13 @@ pub data Reason : Type 0 where
   Word : Reason
   Output : Reason
 
--- what a part of a script comes to: it goes on from a state, or the run has ended there; its place is the name of the
--- variable in whose text that was, if this part started one
+-- what a part of a script evaluates to: it goes on from a state, or the run has ended there; its place is the name of
+-- the variable in whose text that was, if this part started one
 pub data Out : Type 0 where
   Goes : State → Out
   Ends : Reason → (place : Option (List ℕ)) → State → Out
 
--- first this, and where it goes on, that
+-- first this, and if it goes on, that
 infixl 10 ◌>>=◌
 abbrev pub ◌>>=◌ : Out → (State → Out) → Out
 (Goes s) >>= f = f s
@@ -58,7 +58,7 @@ infixr 12 ◌then◌
 abbrev pub ◌then◌ : (State → Out) → (State → Out) → State → Out
 p then q = λ s. p s >>= q
 
--- what a step comes to: it is done, or it is done and ends the run, or the run stops and it isn't done
+-- what a step ends as: it is done, or it is done and ends the run, or the run stops and it isn't done
 pub data Effect : Type 0 where
   Does : State → Effect
   Exits : State → Effect
@@ -77,7 +77,7 @@ done s (Stops reason) = Ends reason None s
 unfoldable pub step : Rules → (State → Effect) → State → Out
 step rules effect s = if nat_lt s.steps rules.limits.steps then done s (effect s) else Ends Steps None s
 
--- a command is carried out where its text fits
+-- a command is carried out if its text fits
 abbrev pub carries : Done → State → Effect
 carries d s =
     if nat_lt s.printed.limit (length (s.printed.text ++ d.0.text))
@@ -92,7 +92,7 @@ fails message name s = carries (answer 1 (text_of message name), s.held) s
 abbrev pub known_in : State → Known
 known_in s = record { env = s.held.now.env; locals = s.locals; status = s.status }
 
--- the fields of words; none where one of these is larger than the limit
+-- the fields of words; no value if one of these is larger than the limit
 abbrev pub fields_of : Rules → List (List Atom) → State → Option (List (List ℕ))
 fields_of rules words s = expanded (known_in s) rules.limits.word words
 
@@ -122,7 +122,7 @@ assigned_to name (Some value) s =
 abbrev pub assigned : Rules → List ℕ → List Atom → State → Effect
 assigned rules name value s = assigned_to name (expanded_value (known_in s) rules.limits.word value) s
 
--- this where the status is 0, and else that
+-- this if the status is 0, and else that
 abbrev pub if_ok : (State → Out) → (State → Out) → State → Out
 if_ok p q s = if s.status == 0 then p s else q s
 
@@ -130,7 +130,7 @@ abbrev pub joins : Operator → Bool → Bool
 joins And ok = ok
 joins Or ok = not ok
 
--- a while goes on where the status is 0, an until where it isn't
+-- a while goes on if the status is 0, an until if it isn't
 abbrev pub goes_on : (wanted : Bool) → State → Bool
 goes_on true s = s.status == 0
 goes_on false s = not (s.status == 0)
@@ -158,14 +158,14 @@ deletions rules force failed (name ∷ names) =
     λ s. step rules (λ t. carries (deletion_of t.held name force failed) t) s
     >>= λ t. deletions rules force (not (t.status == 0)) names t
 
--- what comes behind a simple command
+-- what comes after a simple command
 abbrev pub follows : Rules → Begin → Follow → State → Out
 follows rules start follow.Next = Goes
 follows rules start follow.End = Goes
 follows rules start (follow.Starts names) = in_turn start names
 follows rules start (follow.Deletes force names) = deletions rules force false names
 
--- a simple command with these fields, and what comes behind it
+-- a simple command with these fields, and what comes after it
 abbrev pub simple : Rules → Begin → Option (List (List ℕ)) → State → Out
 simple rules start None s = step rules (λ t. Stops Word) s
 simple rules start (Some fields) s = step rules (effect rules.stand_ins fields) s >>= follows rules start (follow_of rules.stand_ins fields)
@@ -215,7 +215,7 @@ module _ (rules : Rules) (start : Begin) where
   script None = Goes
   script (Some cs) = chains cs
 
--- a start of a variable by run: where the environment has it, its text is entered
+-- a start of a variable by run: if the environment has it, its text is entered
 abbrev pub looked_up : Rules → Begin → List ℕ → State → Out
 looked_up rules enter name s =
     elim (map.get s.held.now.env name) [
@@ -228,12 +228,12 @@ abbrev pub in_text : List ℕ → Out → Out
 in_text name (Goes s) = Goes s
 in_text name (Ends e place s) = Ends e (Some (unwrap_or place name)) s
 
--- where a text spells a tree, the status becomes 0 and the tree is run
+-- if a text spells a tree, the status becomes 0 and the tree is run
 abbrev pub entered : Rules → (Option Chains → State → Out) → List ℕ → Option (Option Chains) → State → Out
 entered rules run name None = step rules (fails NoScript name)
 entered rules run name (Some tree) = step rules (λ s. Does (with_status 0 s)) then λ s. in_text name (run tree s)
 
--- a start where so many levels may still be opened
+-- a start when this many levels may still be opened
 unfoldable pub start : Rules → (levels : ℕ) → Begin
 start rules zero name = looked_up rules (λ text. step rules (λ s. Stops Depth)) name
 start rules (suc levels) name = looked_up rules (λ text. entered rules (script rules (start rules levels)) name (read text)) name
@@ -243,7 +243,7 @@ abbrev pub ended : Out → Reason × State
 ended (Goes s) = (Finished, s)
 ended (Ends e place s) = (e, s)
 
--- the variable in whose text a run ended; none at the end of a script, or in the script that was given
+-- the variable in whose text a run ended; no value at the end of a script, or in the script that was given
 abbrev pub place_in : Out → Option (List ℕ)
 place_in (Goes s) = None
 place_in (Ends e place s) = place

@@ -1,4 +1,4 @@
--- What is left of a run, by its frames. (How the code goes about it; what a run means stands in Meaning.)
+-- What is left of a run, by its frames. (How the code goes about it; what a run means is in Meaning.)
 use Rattle.std.specs.Prelude.{◌≡◌, ℕ, zero, suc, ◌+◌, ◌-◌, ◌*◌, ◌<◌, ◌≤◌, ◌==◌, Bool, true, false, if◌then◌else◌, List, [], ◌∷◌, map, drop, length, Option, Some, None, IsSome, get_or}
 use Rattle.std.specs.Option.{option_or}
 use Rattle.hush_syntax.specs.declared.nodes.NodeId.{NodeId}
@@ -46,15 +46,15 @@ abbrev pub run_links : Rules → Begin → List (Option Operator × Command) →
 run_links rules begin [] = Goes
 run_links rules begin (l ∷ ls) = (λ s. if joined l.0 s.status then command rules begin l.1 s else Goes s) then run_links rules begin ls
 
--- what a loop does behind its condition
+-- what a loop does after its condition
 abbrev pub looks : Rules → Bool → (State → Out) → (State → Out) → ℕ → State → Out
 looks rules wanted c d last t = if goes_on wanted t then (d t >>= λ u. turns (suc rules.limits.steps) wanted c d u.status u) else Goes (with_status last t)
 
--- and behind its body
+-- and after its body
 abbrev pub looks_again : Rules → Bool → (State → Out) → (State → Out) → State → Out
 looks_again rules wanted c d u = turns (suc rules.limits.steps) wanted c d u.status u
 
--- behind the condition of a branch
+-- after the condition of a branch
 abbrev pub branch_does : Rules → Begin → ℕ → Branches → State → Out
 branch_does rules begin zero (Elif c d b) = if_ok (chains rules begin d) (otherwise rules begin b)
 branch_does rules begin zero (Else d) = Goes
@@ -108,7 +108,7 @@ of_for rules begin fields (For name words d) = bindings rules name (chains rules
 of_for rules begin fields (While c d) = Goes
 of_for rules begin fields (Until c d) = Goes
 
--- what a frame does behind what stands above it
+-- what a frame does after what is above it
 abbrev pub frame_does : Rules → Begin → At → Frame → State → Out
 frame_does rules begin at (frame.List node next) = run_chains rules begin (drop next (list_in (at node)))
 frame_does rules begin at (frame.Chain node next) = run_links rules begin (drop next (links_in (at node)))
@@ -118,7 +118,7 @@ frame_does rules begin at (frame.Body node) = at_command Goes (of_loop rules beg
 frame_does rules begin at (frame.Bindings node fields) = at_command Goes (of_for rules begin fields) (at node)
 frame_does rules begin at (frame.Started names) = if_ok (in_turn begin (drop 1 names)) Goes
 
--- how many levels may still be opened where these scripts run, the innermost first
+-- how many levels may still be opened when these scripts run, the innermost first
 abbrev pub levels : Rules → List Parsed → ℕ
 levels rules [] = 0
 levels rules (p ∷ ps) = rules.limits.depth - length ps
@@ -144,31 +144,31 @@ owners (frame.Body node) scripts = scripts
 owners (frame.Bindings node fields) scripts = scripts
 owners (frame.Started names) scripts = behind scripts
 
--- the variable whose text a frame is behind, if any is
-abbrev pub text_above : Frame → Option (List ℕ)
-text_above (frame.List node next) = None
-text_above (frame.Chain node next) = None
-text_above (frame.Branch node branch) = None
-text_above (frame.Condition node last) = None
-text_above (frame.Body node) = None
-text_above (frame.Bindings node fields) = None
-text_above (frame.Started names) = Some (get_or names 0 [])
+-- the variable whose text a frame comes after, if any
+abbrev pub variable_above : Frame → Option (List ℕ)
+variable_above (frame.List node next) = None
+variable_above (frame.Chain node next) = None
+variable_above (frame.Branch node branch) = None
+variable_above (frame.Condition node last) = None
+variable_above (frame.Body node) = None
+variable_above (frame.Bindings node fields) = None
+variable_above (frame.Started names) = Some (get_or names 0 [])
 
 -- the variable whose text runs above these frames, the innermost first
 abbrev pub place_of : List Frame → Option (List ℕ)
 place_of [] = None
-place_of (f ∷ fs) = option_or (text_above f) (place_of fs)
+place_of (f ∷ fs) = option_or (variable_above f) (place_of fs)
 
 abbrev pub within_text : Option (List ℕ) → Out → Out
 within_text None o = o
 within_text (Some name) o = in_text name o
 
--- what a part comes to, and then the frames, the innermost first
+-- what a part evaluates to, and then the frames, the innermost first
 abbrev pub resume : Rules → List Parsed → List Frame → Out → Out
 resume rules scripts [] o = o
 resume rules scripts (f ∷ fs) o =
     resume rules (owners f scripts) fs
-    (within_text (text_above f) o >>= frame_does rules (begin_in rules (owners f scripts)) (at_in (owners f scripts)) f)
+    (within_text (variable_above f) o >>= frame_does rules (begin_in rules (owners f scripts)) (at_in (owners f scripts)) f)
 
 -- how many frames a part may need: three for each level, and for a list three, for a chain two, for a command one
 abbrev pub room : Option Subtree → ℕ
@@ -197,7 +197,7 @@ IsFrame at (frame.Body node) = IsSome (at node)
 IsFrame at (frame.Bindings node fields) = IsSome (at node)
 IsFrame at (frame.Started names) = Unit {0}
 
--- each frame belongs to a script that runs, and what may stand above it has room
+-- each frame belongs to a script that runs, and what may be above it has room
 abbrev pub IsStack : List Parsed → List Frame → Type 0
 IsStack scripts [] = Unit {0}
 IsStack scripts (f ∷ fs) =
@@ -217,7 +217,7 @@ IsStep (Some (OfCommand (For name words d))) = Unit {0}
 IsStep (Some (OfCommand (While c d))) = ⊥
 IsStep (Some (OfCommand (Until c d))) = ⊥
 
--- the first part of a node, and the frame that is left behind for the others; none where the node is a step
+-- the first part of a node, and the frame that is left for the others; no value if the node is a step
 abbrev pub FirstPart : At → NodeId → Option (Frame × NodeId) → Type 0
 FirstPart at id None = IsStep (at id)
 FirstPart at id (Some part) =

@@ -1,4 +1,4 @@
--- What is left where a part is done. (How the code goes about it; what a run means stands in Meaning.)
+-- What is left when a part is done. (How the code goes about it; what a run means is in Meaning.)
 use Rattle.std.specs.Prelude.{◌≡◌, ℕ, ◌+◌, ◌*◌, ◌≤◌, List, [], ◌∷◌, length, Option, Some, None}
 use Rattle.hush_run.specs.declared.frames.Frame.{Frame}
 use Rattle.hush_run.specs.declared.due.Due.{Due}
@@ -17,7 +17,7 @@ IsEnd (due.Binding node fields) frames = Unit {0}
 IsEnd (due.Start names) frames = Unit {0}
 IsEnd (due.Delete force failed names) frames = Unit {0}
 
--- what is left of a run is what is due, and behind it the frames
+-- what is left of a run is what is due, and after it the frames
 abbrev pub IsLeft : List Parsed → List Frame → ℕ → List Parsed → List Frame → ℕ → Due → Type 0
 IsLeft scripts frames status scripts' frames' status' due =
     IsStack scripts' frames' × IsDue (at_in scripts') due × (1 ≤ length scripts') × (length scripts' ≤ length scripts)

@@ -1,8 +1,8 @@
--- What a run leaves, and what its outcome tells (docs/runs.md, "Meaning").
+-- What a run leaves, and what its outcome reports (docs/runs.md, "Meaning").
 use Rattle.std.specs.Prelude.{◌≡◌, ◌≤◌, ℕ, List, codes, Option, Some, None}
 use Rattle.env_session.specs.Session.{Held}
 use Rattle.hush_syntax.specs.Grammar.{Chains}
-use Rattle.hush_commands.specs.Limits.{Bounds}
+use Rattle.run_limits.specs.Limits.{Bounds}
 use Rattle.hush_commands.specs.Stubs.{Statuses}
 use Rattle.hush_run.specs.declared.ending.Ending.{Ending}
 use Rattle.hush_run.specs.declared.ending.Ending.TheVariants as ending
@@ -14,7 +14,7 @@ use Rattle.hush_run.specs.Meaning.Reason.{Finished, Exited, Steps, Depth, Word, 
 abbrev pub rules : Statuses → Bounds → Rules
 rules stand_ins limits = record { stand_ins = stand_ins; limits = limits }
 
--- the ending of the definition; none where memory was refused
+-- the ending of the definition; no value if memory was refused
 abbrev pub reason_of : Ending → Option Reason
 reason_of ending.Finished = Some Finished
 reason_of ending.Exited = Some Exited
@@ -24,7 +24,7 @@ reason_of ending.Word = Some Word
 reason_of ending.Output = Some Output
 reason_of ending.Memory = None
 
--- the ending that tells it
+-- the ending that reports it
 abbrev pub ending_of : Reason → Ending
 ending_of Finished = ending.Finished
 ending_of Exited = ending.Exited
@@ -51,7 +51,7 @@ pub record Shows (s : State) (now : Held) (outcome : Outcome) : Type 0 where
   pub text : outcome.text.items ≡ s.printed.text
 
 -- by the definition's ending: it is the meaning's and so is all that the run leaves; or memory was refused, and what
--- stands is what the run leaves that may count no more steps than were counted
+-- is left is what the run leaves that may count no more steps than were counted
 abbrev pub RunsBy : Option Reason → Rules → Option Chains → (old new : Held) → Outcome → Type 0
 RunsBy (Some reason) rules tree old new outcome = ((meaning rules tree old).0 ≡ reason) × Shows (meaning rules tree old).1 new outcome
 RunsBy None rules tree old new outcome = (outcome.steps ≤ rules.limits.steps) × Shows (meaning (within outcome.steps rules) tree old).1 new outcome

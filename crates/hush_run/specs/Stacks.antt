@@ -13,7 +13,7 @@ pub record Stack : Type 0 where
 abbrev pub script_frames : ℕ
 script_frames = 3 * nest_limit + 3
 
--- the frames of a script and of so many starts inside one another
+-- the frames of a script and of this many starts inside one another
 abbrev pub frame_limit : ℕ → ℕ
 frame_limit depth = (depth + 1) * script_frames
 

@@ -1,4 +1,4 @@
--- What a step of a run did. (How the code goes about it; what a run means stands in Meaning.)
+-- What a step of a run did. (How the code goes about it; what a run means is in Meaning.)
 use Rattle.std.specs.Prelude.{◌≡◌, ℕ, suc, ◌<◌, ◌≤◌, ◌==◌, true, false, List, [], ◌∷◌, option_map, Option, Some, None, Result, Ok, Err}
 use Rattle.env_session.specs.Session.{Held}
 use Rattle.hush_words.specs.Words.{Atom}

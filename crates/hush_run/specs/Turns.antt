@@ -1,4 +1,4 @@
--- What a frame comes to where what stood above it is done. (How the code goes about it; what a run means stands in Meaning.)
+-- What a frame results in when what was above it is done. (How the code goes about it; what a run means is in Meaning.)
 use Rattle.std.specs.Prelude.{◌≡◌, ℕ, suc, ◌<◌, ◌≤◌, List, length, Option, Some, None, IsSome}
 use Rattle.hush_syntax.specs.declared.nodes.NodeId.{NodeId}
 use Rattle.hush_run.specs.declared.frames.Frame.{Frame}
@@ -58,7 +58,7 @@ IsPart (due.Binding node fields) = Unit {0}
 IsPart (due.Start names) = Unit {0}
 IsPart (due.Delete force failed names) = Unit {0}
 
--- the frame that is left behind: there is none where nothing is due
+-- the frame that is left: there is none if nothing is due
 abbrev pub Behind : At → ℕ → Due → Option Frame → Type 0
 Behind at most due None = due_room at due ≤ most
 Behind at most due (Some f) =

@@ -1,17 +1,17 @@
 //! What is due: a step, whatever it is, and what is due after it.
 ghost use Rattle.std.specs.Prelude.{◌≡◌, ◌≤◌, ◌+◌, ◌-◌, length};
-ghost use Rattle.hush_commands.specs.Limits.{most_depth};
+ghost use Rattle.run_limits.specs.Limits.{most_depth};
 ghost use Rattle.hush_run.specs.Advances.{Advances, IsReady};
 ghost use Rattle.hush_run.specs.Rises.{IsEnd};
 ghost use Rattle.hush_run.specs.Steps.{state_of, rules_of};
 ghost use Rattle.hush_run.specs.declared.due.Due.TheVariants as due;
 
+use crate::descent::{descend, rise_up};
 use crate::ending::Ending;
 use crate::frames::{Calls, Frame, Frames};
 use crate::node_step::node_step;
 use crate::progress::{Given, Progress};
 use crate::steps::{bind_step, delete_step, start_step};
-use crate::walk::{descend, rise_up};
 use env_session::Session;
 use hush_commands::FieldQueue;
 use hush_syntax::{Node, NodeId};
@@ -200,7 +200,7 @@ fn levels_left(given: &Given<'_>, calls: &Calls<'_>) -> u32
     given.limits.depth() + 1 - calls.len() as u32
 }
 
-/// The deletion of a name, and then of those behind it.
+/// The deletion of a name, and then of those after it.
 fn delete_due(
     given: &Given<'_>,
     session: &mut Session,

@@ -5,7 +5,7 @@ ghost use Rattle.hush_run.specs.Runs.{ending_name};
 use hush_commands::{ExpansionFault, PrintFault};
 use std::alloc::AllocError;
 
-/// How a run ended. The meaning of a script has the same endings but for `Memory`, which it knows nothing of (`Reason` of
+/// How a run ended. The meaning of a script has the same endings except `Memory`, which it doesn't know (`Reason` of
 /// specs/Meaning.antt).
 #[derive(Clone, Copy, Debug, PartialEq, Eq)]
 pub enum Ending {

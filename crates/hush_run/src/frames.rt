@@ -1,15 +1,16 @@
 //! The stack of a run (docs/runs.md, "The stack"), and the scripts that its frames belong to.
 ghost use Rattle.std.specs.Prelude.{◌≡◌, ◌<◌, ◌≤◌, [], ◌∷◌, IfOk, IfSome, IfNone, length};
-ghost use Rattle.hush_commands.specs.Limits.{most_depth};
+ghost use Rattle.run_limits.specs.Limits.{most_depth};
 ghost use Rattle.hush_run.specs.Resume.{behind};
 
 use envvars_core::Memory;
-use hush_commands::{FieldQueue, MOST_DEPTH};
+use hush_commands::FieldQueue;
 use hush_syntax::{NodeId, Script};
+use run_limits::MOST_DEPTH;
 use std::alloc::{AllocError, Global};
 use std::marker::Model;
 
-/// What is left to do where a part of a script is done.
+/// What is left to do when a part of a script is done.
 #[derive(Drop)]
 pub enum Frame {
     /// The chains of a list from one on.
@@ -26,7 +27,7 @@ pub enum Frame {
         /// The index of the command.
         next: usize,
     },
-    /// By the status of a branch's condition, its body or the branches behind it.
+    /// By the status of a branch's condition, its body or the branches after it.
     Branch {
         /// The `if`.
         node: NodeId,
@@ -37,7 +38,7 @@ pub enum Frame {
     Condition {
         /// The loop.
         node: NodeId,
-        /// The status of the body before; 0 where there was none.
+        /// The status of the body before; 0 if there was none.
         last: u8,
     },
     /// The condition of a loop again.
@@ -52,14 +53,14 @@ pub enum Frame {
         /// The fields that aren't bound yet.
         fields: FieldQueue,
     },
-    /// The names that `run` is still to start behind a script that it started.
+    /// The names that `run` is still to start after a script that it started.
     Started {
         /// The name of that script, and those names.
         names: FieldQueue,
     },
 }
 
-/// How many levels of nesting a script has at most: `NEST_LIMIT` of hush_syntax, once more. That both are one number is
+/// How many levels of nesting a script has at most: `NEST_LIMIT` of hush_syntax, again. That both are one number is
 /// proved: contracts here speak of its `nest_limit`.
 const NEST_LIMIT: usize = 64;
 
@@ -125,7 +126,7 @@ pub(crate) struct Calls<'s> {
 impl<'s> Model for Calls<'s> {
     ghost use Rattle.std.specs.Prelude.{List, vec_capacity, ◌≤◌};
     ghost use Rattle.hush_syntax.specs.Scripts.{Parsed};
-    ghost use Rattle.hush_commands.specs.Limits.{most_depth};
+    ghost use Rattle.run_limits.specs.Limits.{most_depth};
     ghost use Rattle.hush_run.specs.Stacks.{calls_of};
 
     ghost Value = { List Parsed };

@@ -1,9 +1,10 @@
 //! Dry runs of boot scripts: a script run over a session under limits, with hardware answered by stand-ins.
 //! docs/runs.md states the rules.
 //!
-//! To read in this order: ending, outcome; progress, frames, started_name, due; walk, turns; node_step, steps; laws.
+//! To read in this order: ending, outcome; progress, frames, started_name, due; descent, turns; node_step, steps; laws.
 #![tactic(auto)]
 
+mod descent;
 mod due;
 mod ending;
 pub mod frames;
@@ -14,9 +15,9 @@ mod progress;
 mod started_name;
 mod steps;
 mod turns;
-mod walk;
 
 pub use ending::Ending;
-pub use hush_commands::{Limits, MOST_DEPTH, MOST_OUTPUT, MOST_STEPS, MOST_WORD, StubFault, Stubs};
+pub use hush_commands::{StubFault, Stubs};
 pub use outcome::{Outcome, run, run_with_place};
+pub use run_limits::{Limits, MOST_DEPTH, MOST_OUTPUT, MOST_STEPS, MOST_WORD};
 pub use started_name::StartedName;

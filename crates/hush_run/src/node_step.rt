@@ -17,7 +17,7 @@ use env_session::Session;
 use hush_commands::{FieldQueue, Follow};
 use hush_syntax::{Node, NodeId, Script};
 
-/// Does the step that a node is: what is due behind it.
+/// Does the step that a node is: what is due after it.
 #[inline(always)]
 pub(crate) fn node_step(
     given: &Given<'_>,
@@ -59,7 +59,7 @@ pub(crate) fn node_step(
     }
 }
 
-/// What is due behind a simple command.
+/// What is due after a simple command.
 #[inline(always)]
 fn due_behind(follow: Follow) -> Due
     ensures due { (at : At) → IsDue at result × (due_room at result ≤ 1) }
@@ -88,7 +88,7 @@ fn due_behind(follow: Follow) -> Due
     }
 }
 
-/// What is due behind the head of a `for` with these fields.
+/// What is due after the head of a `for` with these fields.
 fn due_binding(node: NodeId, fields: FieldQueue) -> Due
     ensures due { (at : At) (name : List ℕ) (words : List (List Atom)) (d : Chains) → at node ≡ Some
         (OfCommand (For name words d)) → IsDue at result × (due_room at result ≤ room (at node)) }

@@ -2,7 +2,7 @@
 //! them in room that is taken at the start.
 ghost use Rattle.std.specs.Prelude.{◌≡◌, ◌≤◌};
 ghost use Rattle.hush_syntax.specs.Scripts.{tree_of};
-ghost use Rattle.hush_commands.specs.Limits.{most_depth};
+ghost use Rattle.run_limits.specs.Limits.{most_depth};
 ghost use Rattle.hush_run.specs.Advances.{Ran};
 ghost use Rattle.hush_run.specs.Runs.{rules, EndsIn, Runs, reason_of};
 ghost use Rattle.hush_run.specs.Steps.{state_of, rules_of};
@@ -13,11 +13,12 @@ use crate::frames::{Calls, Frames};
 use crate::progress::{Given, Progress};
 use crate::started_name::{StartedName, running_name};
 use env_session::Session;
-use hush_commands::{Limits, Stubs};
+use hush_commands::Stubs;
 use hush_syntax::Script;
+use run_limits::Limits;
 use std::alloc::Global;
 
-/// What a run came to.
+/// The outcome of a run.
 #[derive(Debug, Drop)]
 pub struct Outcome {
     /// How it ended.
@@ -32,8 +33,8 @@ pub struct Outcome {
 
 /// Runs a script over a session under limits: what docs/runs.md, "Meaning", gives for it, whatever the session holds.
 ///
-/// A run begins with status 0 and no local variables; it makes no mark and lets none go. Where a growth is refused it
-/// ends as `Memory`, and what stands is what a run with the limit of the counted steps leaves. It doesn't recurse: the
+/// A run begins with status 0 and no local variables; it makes no mark and removes none. If a growth is refused it
+/// ends as `Memory`, and what is left is what a run with the limit of the counted steps leaves. It doesn't recurse: the
 /// room for frames and scripts is taken at the start.
 pub fn run(
     alloc: Global,
@@ -48,7 +49,7 @@ pub fn run(
     outcome
 }
 
-/// The same, and the variable in whose text the run ended: none if that was in the script itself.
+/// The same, and the variable in whose text the run ended: `None` if that was in the script itself.
 pub fn run_with_place(
     alloc: Global,
     session: &mut Session,

@@ -2,13 +2,14 @@
 ghost use Rattle.std.specs.Prelude.{◌≡◌, ◌<◌, map, IfOk};
 ghost use Rattle.hush_words.specs.Parts.{word_atoms};
 ghost use Rattle.env_session.specs.Session.{Held};
-ghost use Rattle.hush_commands.specs.Limits.{most_steps};
+ghost use Rattle.run_limits.specs.Limits.{most_steps};
 ghost use Rattle.hush_run.specs.Meaning.{Rules, Goes, step, fails, fields_of, first_state};
 
 use crate::ending::Ending;
 use env_session::Session;
-use hush_commands::{FieldBuffer, Limits, Locals, Message, Output, Scope, Stubs};
+use hush_commands::{FieldBuffer, Locals, Message, Output, Scope, Stubs};
 use hush_syntax::{Text, Word};
+use run_limits::Limits;
 use std::alloc::Global;
 
 /// What a run is given: what stands in for hardware, and its limits.
@@ -19,7 +20,7 @@ pub(crate) struct Given<'a> {
     pub(crate) limits: Limits,
 }
 
-/// What a run changes, but for the session.
+/// What a run changes, except the session.
 #[derive(Drop)]
 pub(crate) struct Progress {
     pub(crate) locals: Locals,
@@ -50,7 +51,7 @@ impl Progress {
         }
     }
 
-    /// Where one more step may be counted, expands words to the fields of that step.
+    /// If one more step may be counted, expands words to the fields of that step.
     #[inline(always)]
     pub(crate) fn expand(
         &mut self,
@@ -76,7 +77,7 @@ impl Progress {
         Ok(())
     }
 
-    /// Where one more step may be counted, expands the word of an assignment to the one field of that step.
+    /// If one more step may be counted, expands the word of an assignment to the one field of that step.
     pub(crate) fn expand_value(
         &mut self,
         given: &Given<'_>,

@@ -32,7 +32,7 @@ impl StartedName {
     }
 }
 
-/// Takes frames until one is behind a text that `run` started: its name. None if no text was started.
+/// Takes frames until one comes after a text that `run` started: its name. `None` if no text was started.
 pub(crate) fn running_name(frames: &mut Frames) -> Option<StartedName>
     ensures { result ≡ place_of frames.old.frames }
 {

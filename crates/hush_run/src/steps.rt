@@ -13,7 +13,7 @@ use hush_commands::{FieldQueue, Follow, Message, carry_out, delete};
 use hush_syntax::{FaultKind, Part, Parts, Script, Text, Word};
 use std::alloc::AllocError;
 
-/// A simple command of these words: what comes behind it.
+/// A simple command of these words: what comes after it.
 #[inline(always)]
 pub(crate) fn simple_step(
     given: &Given<'_>,
@@ -140,7 +140,7 @@ pub(crate) fn delete_step(
     Ok(progress.status != 0)
 }
 
-/// The start of a variable where so many levels may still be opened: the script that is to be run, or none where a
+/// The start of a variable when this many levels may still be opened: the script that is to be run, or `None` if a
 /// message says why there is none.
 pub(crate) fn start_step(
     given: &Given<'_>,
@@ -175,7 +175,7 @@ pub(crate) fn start_step(
     }
 }
 
-/// Reads the name that a word is, in place of what `name` holds; an empty one where it is none.
+/// Reads the name that a word is, in place of what `name` holds; an empty one if it isn't one.
 fn read_name(text: &Text, word: Word, name: &mut Vec<u8>) -> Result<(), AllocError>
     ensures { OnOk result (name.new.items ≡ name_in text.now word) }
 {

@@ -1,4 +1,4 @@
-//! What a frame comes to where what stood above it is done.
+//! What a frame results in when what was above it is done.
 ghost use Rattle.std.specs.Prelude.{◌≡◌, ◌<◌, IsSome, get_or, length};
 ghost use Rattle.hush_syntax.specs.Scripts.{subtree_at};
 ghost use Rattle.hush_syntax.specs.Nodes.{At};
@@ -11,7 +11,7 @@ use crate::frames::Frame;
 use hush_commands::FieldQueue;
 use hush_syntax::{Branch, Node, NodeId, Operator, Script};
 
-/// What a frame comes to: what is due, the frame that is left behind it, and the status.
+/// What a frame results in: what is due, the frame that is left after it, and the status.
 #[derive(Drop)]
 pub(crate) struct Turn {
     pub(crate) due: Due,
@@ -19,7 +19,7 @@ pub(crate) struct Turn {
     pub(crate) status: u8,
 }
 
-/// What a frame comes to where the part above it ended with this status. The script is the one that it belongs to.
+/// What a frame results in when the part above it ended with this status. The script is the one that it belongs to.
 pub(crate) fn turn_of(script: &Script, frame: Frame, status: u8) -> Turn
     requires { IsFrame (subtree_at script.now) frame }
     ensures { Turns (subtree_at script.now) frame status result }
@@ -73,7 +73,7 @@ fn list_turn(script: &Script, node: NodeId, next: usize, status: u8) -> Turn
     goes_to(member(chains, next), Some(behind), status)
 }
 
-/// Whether a command behind this operator is run.
+/// Whether a command after this operator is run.
 fn is_joined(operator: Option<Operator>, status: u8) -> bool
     ensures { result ≡ joined operator status }
 {

@@ -2,8 +2,8 @@
 use Rattle.std.proofs.Common.{◌≡◌, ℕ, Bool, List, sym, ◌∙◌, ap, Option, Some}
 use Rattle.hush_words.specs.Parts.{Written}
 use Rattle.hush_words.specs.Tokens.{Token}
-use Rattle.hush_syntax.specs.declared.faults.FaultKind.{FaultKind}
-use Rattle.hush_syntax.specs.declared.faults.FaultKind.TheVariants as fault
+use Rattle.hush_syntax.specs.declared.syntax_fault.FaultKind.{FaultKind}
+use Rattle.hush_syntax.specs.declared.syntax_fault.FaultKind.TheVariants as fault
 use Rattle.hush_syntax.specs.declared.table.Builder.{Builder}
 use Rattle.hush_syntax.specs.Answers.{Refuses}
 use Rattle.hush_syntax.specs.Grammar.{begins}
@@ -40,7 +40,7 @@ refuses_always fault.Memory a = tt
 pub tested : (text asked : List ℕ) (now : List Token) (b v : Bool) → b ≡ begins (is asked) now → asked ≡ text → b ≡ v → begins (is text) now ≡ v
 tested text asked now b v called same value = ap (λ x. begins (is x) now) (sym same) ∙ sym called ∙ value
 
--- what a call that answered has found, put behind what stood
+-- what a call that answered has found, put after what was there
 abbrev pub Found : {X Y : Type 0} → (At → X → Y → Type 0) → Written → Option (X × List Token) → Builder → Builder → List Token → Y → Type 0
 Found {X} Is text found old new left y =
     (x : X) × (found ≡ Some (x, left)) × Grows old.table new.table × ((more : Members) → Is (later text new.table more) x y) × (waiting new ≡ waiting old)

@@ -19,7 +19,7 @@ use Rattle.hush_syntax.proofs.ChainLoop.{ChainSoFar, chain-starts_with, chain-en
 use Rattle.hush_syntax.proofs.Building.{joined, Each, links-up, settled-links, SoFar, Keeps, still-are, so_far-one, so_far-push, puts, grows-both, link-longer, chain-at, LinkAt}
 use Rattle.hush_syntax.proofs.Calls.{Found}
 
--- how far the loop over a chain's commands has come; where no operator follows, one stands behind the first
+-- how far the loop over a chain's commands has come; if no operator follows, one is after the first
 abbrev pub ChainGoes : ℕ → Option (Chain × List Token) → Option Operator → List Token → List (Option Operator × Command) → Type 0
 ChainGoes room found next now xs =
     (first : Command) × (others : List (Operator × Command)) × (xs ≡ (None, first) ∷ map joined others) × (next ≡ None → 1 ≤ length others) × ChainSoFar room found xs now
@@ -35,7 +35,7 @@ keeps-link at more e x l h = link-longer at more e x l h
 pub mark-kept : (old after : Builder) (mark : ℕ) → waiting after ≡ waiting old → mark ≡ length after.waiting.links.items → mark ≡ length old.waiting.links.items
 mark-kept old after mark same at = at ∙ ap (λ (w : Waiting). length w.links) same
 
--- an operator that is asked for, and passed where it is there
+-- an operator that is asked for, and passed if it is there
 abbrev pub after_operator : Option Operator → List Token → List Token
 after_operator next ts = if is_some next then behind ts else ts
 
@@ -47,7 +47,7 @@ one-there : (next : Option Operator) (b : Bool) → is_some next ≡ not b → b
 one-there next b is t none = let no : false ≡ true = sym (ap is_some none) ∙ is ∙ ap not t in cc
 
 module _ (text : Written) (room : ℕ) where
-  -- the loop, where an operator was asked for behind the last command
+  -- the loop, when an operator was asked for after the last command
   pub record Joining (found : Option (Chain × List Token)) (old mid : Builder) (next : Option Operator) (now : List Token) : Type 0 where
     pub before : List Token
     pub at : next ≡ operator_at before
@@ -89,7 +89,7 @@ module _ (text : Written) (room : ℕ) where
       let gone = operator-shorter m p (sym at) in
       rw is (omega (arith, shorter, fewer, gone, ap length newlines, ap length passed))
 
-  -- where the loop goes on, an operator is passed
+  -- if the loop goes on, an operator is passed
   is-passed : (found : Option (Chain × List Token)) (old mid : Builder) (next : Option Operator) (o : Operator) (now skipped : List Token) → (j : Joining found old mid next now) → next ≡ Some o → skipped ≡ skip is_newline now →
       command room (skip is_newline (behind j.before)) ≡ command room skipped
   is-passed found old mid next o now skipped j is newlines =

@@ -10,7 +10,7 @@ use Rattle.hush_words.specs.declared.forms.Assignment.{Assignment}
 use Rattle.hush_words.specs.declared.parts.Word as part
 use Rattle.hush_words.specs.Tokens.{Token}
 use Rattle.hush_words.specs.Tokens.Token.{Word}
-use Rattle.hush_syntax.specs.declared.faults.SyntaxFault.{SyntaxFault}
+use Rattle.hush_syntax.specs.declared.syntax_fault.SyntaxFault.{SyntaxFault}
 use Rattle.hush_syntax.specs.declared.keywords.Keyword.{Keyword}
 use Rattle.hush_syntax.specs.declared.stored.Block.{Block}
 use Rattle.hush_syntax.specs.declared.table.Builder.{Builder}
@@ -35,7 +35,7 @@ block-told text old new ws told block more e taken at len =
     ap (words_in text) (block-is block old new ws more e at n)
     ∙ append_cancel_left (words_in text old) (words_in text ws) told (sym (map-append (word_atoms text) old ws) ∙ sym (ap (words_in text) e) ∙ taken)
 
--- a name and words behind it, and the two sides of an assignment
+-- a name and words after it, and the two sides of an assignment
 pub named-told : (text : Written) (old pushed new ws : List part.Word) (name : part.Word) (told : List (List Atom)) (block : Block) (more : List part.Word) → pushed ≡ old ++ name ∷ [] → new ≡ pushed ++ ws →
     words_in text new ≡ words_in text pushed ++ told → block.first ≡ length old → block.len ≡ length new - block.first → words_in text (block_of block (new ++ more)) ≡ word_atoms text name ∷ told
 named-told text old pushed new ws name told block more first e taken at len =

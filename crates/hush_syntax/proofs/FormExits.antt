@@ -26,7 +26,7 @@ use Rattle.hush_syntax.proofs.Calls.{Found}
 keeps-branch : Keeps BranchAt
 keeps-branch at more e x b h = branch-longer at more e x b h
 
--- words that are a name and what stands behind it
+-- words that are a name and what is after it
 named-for : (text : Written) (ws : List part.Word) (n : part.Word) (told : List (List Atom)) (d : Chains) → words_in text ws ≡ word_atoms text n ∷ told → for_of text ws d ≡ Some (OfCommand (For (name_in text n) told d))
 named-for text [] n told d e = absurd (cc)
 named-for text (w ∷ ws) n told d e =

@@ -22,7 +22,7 @@ bytes_plain [] (b ∷ bytes) = refl
 bytes_plain (t ∷ text) [] = refl
 bytes_plain (t ∷ text) (b ∷ bytes) = ap (λ r. b == t && r) (bytes_plain text bytes)
 
--- a word's forms are told exactly
+-- a word's forms are reported exactly
 pub record FormsAreTold : Type 0 where
   pub plain : PlainIsTold
   pub name : NameIsTold

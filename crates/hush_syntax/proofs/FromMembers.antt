@@ -30,7 +30,7 @@ chains_from [] = no_chains
 chains_from (c ∷ []) = Last c
 chains_from (c ∷ d ∷ cs) = More c (chains_from (d ∷ cs))
 
--- from each condition with its body, and what stands behind `else`
+-- from each condition with its body, and what is after `else`
 abbrev pub branches_from : List (Chains × Chains) → Option Chains → Branches
 branches_from [] None = Fi
 branches_from [] (Some d) = Else d

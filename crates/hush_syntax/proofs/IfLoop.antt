@@ -123,7 +123,7 @@ module _ (room : ℕ) where
   if-ends found bs o now r s e f =
       s.same ∙ ap (branches_found ((s.condition, s.body) ∷ s.others)) (branches-end (command room) s.n now s.short e) ∙ rw (f, s.are, branches_before-end s.others o)
 
--- no branch is read where none is found first
+-- no branch is read if none is found first
 pub branch-none : (room : ℕ) (ts : List Token) → branch (command room) ts ≡ None → compound (command room) keyword.If ts ≡ None
 branch-none room ts e =
     branch-joined (command room) If (branches (command room)) ts

@@ -18,8 +18,8 @@ use Rattle.std.proofs.lemmas.Bool.{both_ways}
 use Rattle.hush_words.proofs.Fronts.{on_test}
 use Rattle.hush_words.proofs.FaultLemmas.{not-nul}
 use Rattle.hush_syntax.specs.declared.cursor.Tokens.{Tokens}
-use Rattle.hush_syntax.specs.declared.faults.SyntaxFault.{SyntaxFault}
-use Rattle.hush_syntax.specs.declared.faults.FaultKind.TheVariants as fault
+use Rattle.hush_syntax.specs.declared.syntax_fault.SyntaxFault.{SyntaxFault}
+use Rattle.hush_syntax.specs.declared.syntax_fault.FaultKind.TheVariants as fault
 use Rattle.hush_syntax.specs.declared.keywords.Keyword.{Keyword}
 use Rattle.hush_syntax.specs.Answers.{with_behind, left_in, placed_behind, placed_in, EndsBehind, EndsRight, IsAt, IsAfterAssignment, HasFaultOf, assigned_of}
 use Rattle.hush_syntax.specs.Faults.{word_kind, word_fault, first_fault, fault_at, nested_kind, assignment_fault}
@@ -118,7 +118,7 @@ nested-faults text c k f r at there same place kind =
     let place' : (fault_at c).place ≡ r.place = sym (place ∙ ap (λ (g : SyntaxFault). g.place) same) in
     subst (λ p. HasFault text.source r.kind p) place' (subst (λ n. HasFault text.source n (fault_at c).place) kind' (nested text c k at there))
 
--- behind an assignment
+-- after an assignment
 pub assigns : (text : Written) (a : Assignment) (o : Option (List ℕ × List Atom)) → ◌≡◌ {A = Option (List ℕ × List Atom)} (Some (assigned_of text a)) o → is_some o ≡ true
 assigns text a o e = ap (λ (x : Option (List ℕ × List Atom)). is_some x) (sym e)
 

@@ -3,7 +3,7 @@ use Rattle.std.specs.Prelude.{◌≡◌, ℕ, ◌-◌, length, take, drop, List,
 use Rattle.hush_words.specs.Parts.{Written, word_atoms}
 use Rattle.hush_words.specs.Tokens.{Token}
 use Rattle.hush_words.specs.declared.parts.Word.{Word}
-use Rattle.hush_syntax.specs.declared.faults.SyntaxFault.{SyntaxFault}
+use Rattle.hush_syntax.specs.declared.syntax_fault.SyntaxFault.{SyntaxFault}
 use Rattle.hush_syntax.specs.declared.nodes.NodeId.{NodeId}
 use Rattle.hush_syntax.specs.declared.nodes.Link as link
 use Rattle.hush_syntax.specs.declared.nodes.Branch as branch
@@ -26,7 +26,7 @@ members words chains links branches = record { words = words; chains = chains; l
 abbrev pub members_of : Table → Members
 members_of t = members t.words.items t.chains.items t.links.items t.branches.items
 
--- members, and more behind them
+-- members, and more after them
 abbrev pub followed : Members → Members → Members
 followed m n = members (m.words ++ n.words) (m.chains ++ n.chains) (m.links ++ n.links) (m.branches ++ n.branches)
 
@@ -99,11 +99,11 @@ SettlesBranches old new mark block =
     (members_of new.table ≡ followed (members_of old.table) (only_branches (drop mark old.waiting.branches.items))) ×
     (waiting new ≡ waits_of old.waiting.chains.items old.waiting.links.items (take mark old.waiting.branches.items))
 
--- what the nodes of a table stand for where its members go on with more
+-- what the nodes of a table stand for when its members go on with more
 abbrev pub later : Written → Table → Members → At
 later text t more = subtree_in text (followed (members_of t) more) t.nodes.items
 
--- what stood stands still
+-- what was there is still there
 abbrev pub Grows : Table → Table → Type 0
 Grows old new =
     (nodes : List Stored) × (more : Members) × (new.nodes.items ≡ old.nodes.items ++ nodes) × (members_of new ≡ followed (members_of old) more)
@@ -127,7 +127,7 @@ OtherwiseAt at (Some d) (Some id) = at id ≡ Some (OfChains d)
 abbrev pub LoopAt : (Chains → Chains → Command) → At → Command → NodeId × NodeId → Type 0
 LoopAt form at x p = (c d : Chains) × (x ≡ form c d) × (at p.0 ≡ Some (OfChains c)) × (at p.1 ≡ Some (OfChains d))
 
--- what the reader found is what was put behind what stood, with the same tokens left and no member waiting; or it
+-- what the reader found is what was put after what was there, with the same tokens left and no member waiting; or it
 -- found nothing
 abbrev pub Builds :
     {X Y : Type 0} → (At → X → Y → Type 0) → Written → Builder → Builder → Option (X × List Token) → List Token →
@@ -148,13 +148,13 @@ BuildsScript text builder found (Err f) = Refuses f.kind (found ≡ None)
 
 -- What the tables hold, as the private functions say it.
 
--- an `if` stands for this; what stands behind `else` is a list, or nothing
+-- an `if` stands for this; what is after `else` is a list, or nothing
 abbrev pub HoldsIf : Members → At → Option Subtree → Block → Option NodeId → Type 0
 HoldsIf members at subtree branches otherwise =
     (c d : Chains) × (b : Branches) × (subtree ≡ Some (OfCommand (If c d b))) × AreBranches at (block_of branches members.branches) otherwise (Elif c d b)
 
--- a node as it is stored stands for this, where its children stand for what `at` says; the words of a `for` are its name and
--- then those behind `in`, those of an assignment its name and its value
+-- a node as it is stored stands for this, if its children stand for what `at` says; the words of a `for` are its name
+-- and then those after `in`, those of an assignment its name and its value
 abbrev pub Holds : Written → Members → At → Option Subtree → Stored → Type 0
 Holds text members at subtree (stored.List chains) = (cs : Chains) × (subtree ≡ Some (OfChains cs)) × AreChains at (block_of chains members.chains) cs
 Holds text members at subtree (stored.Chain links) =

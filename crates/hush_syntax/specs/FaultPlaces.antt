@@ -1,6 +1,6 @@
 -- Which fault a text has, and where: what is answered of a text that is no script (docs/scripts.md, "Faults"). A byte 0
--- precedes all else, and the faults of words and operators precede each other from the left. Of a token that can't be where
--- it is only its place is said: not that it is the first, nor that it precedes the fault of a word.
+-- precedes all else, and the faults of words and operators precede each other from the left. For a token that can't be
+-- where it is, only the place is specified: not that it is the first, nor that it precedes the fault of a word.
 use Rattle.std.specs.Prelude.{◌≡◌, ℕ, true, false, List, [], ◌∷◌, ◌++◌, Some, is_some, length}
 use Rattle.hush_words.specs.Words.{Atom}
 use Rattle.hush_words.specs.Tokens.{Token, has_no_nul}
@@ -10,9 +10,9 @@ use Rattle.hush_words.specs.Reading.{lexeme_end}
 use Rattle.hush_words.specs.Faults.{Placed, placed_tokens, token_fault, first_nul}
 use Rattle.hush_words.specs.declared.faults.FaultKind as words
 use Rattle.hush_words.specs.declared.faults.FaultKind.TheVariants as word
-use Rattle.hush_syntax.specs.declared.faults.FaultKind.{FaultKind}
-use Rattle.hush_syntax.specs.declared.faults.FaultKind.TheVariants as fault
-use Rattle.hush_syntax.specs.declared.faults.SyntaxFault.{SyntaxFault}
+use Rattle.hush_syntax.specs.declared.syntax_fault.FaultKind.{FaultKind}
+use Rattle.hush_syntax.specs.declared.syntax_fault.FaultKind.TheVariants as fault
+use Rattle.hush_syntax.specs.declared.syntax_fault.SyntaxFault.{SyntaxFault}
 use Rattle.hush_syntax.specs.declared.keywords.Keyword.{Keyword}
 use Rattle.hush_syntax.specs.Keywords.{keyword_of}
 use Rattle.hush_syntax.specs.Reading.{is_closing}
@@ -37,13 +37,13 @@ OpensForm text place =
     (before : List Placed) × (w : List Atom) × (after : List Placed) × (placed_tokens text ≡ before ++ (place, Word w) ∷ after) ×
     (k : Keyword) × (keyword_of w ≡ Some k) × (is_closing k ≡ false)
 
--- a word that stands next to an assignment
+-- a word right after an assignment
 abbrev pub FollowsAssignment : List ℕ → ℕ → Type 0
 FollowsAssignment text place =
     (before : List Placed) × (p : ℕ) × (a w : List Atom) × (after : List Placed) ×
     (placed_tokens text ≡ before ++ (p, Word a) ∷ (place, Word w) ∷ after) × (is_some (assignment_of a) ≡ true)
 
--- a text without a byte 0 has a fault of this kind at this place; one that memory was refused has none of its own
+-- a text without a byte 0 has a fault of this kind at this place; a refusal of memory has no place of its own
 abbrev pub HasFault : List ℕ → FaultKind → ℕ → Type 0
 HasFault text fault.Quote place = StopsTokens text word.Quote place
 HasFault text fault.Backslash place = StopsTokens text word.Backslash place

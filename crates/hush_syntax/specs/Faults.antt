@@ -5,9 +5,9 @@ use Rattle.hush_words.specs.declared.faults.FaultKind as words
 use Rattle.hush_words.specs.declared.faults.FaultKind.TheVariants as word
 use Rattle.hush_words.specs.declared.tokens.Token.{Token}
 use Rattle.hush_syntax.specs.declared.cursor.Tokens.{Tokens}
-use Rattle.hush_syntax.specs.declared.faults.FaultKind.{FaultKind}
-use Rattle.hush_syntax.specs.declared.faults.FaultKind.TheVariants as fault
-use Rattle.hush_syntax.specs.declared.faults.SyntaxFault.{SyntaxFault}
+use Rattle.hush_syntax.specs.declared.syntax_fault.FaultKind.{FaultKind}
+use Rattle.hush_syntax.specs.declared.syntax_fault.FaultKind.TheVariants as fault
+use Rattle.hush_syntax.specs.declared.syntax_fault.SyntaxFault.{SyntaxFault}
 use Rattle.hush_syntax.specs.declared.keywords.Keyword.{Keyword}
 use Rattle.hush_syntax.specs.Reading.{is_closing}
 
@@ -22,7 +22,7 @@ word_kind word.Nul = fault.Nul
 abbrev pub word_fault : Fault → SyntaxFault
 word_fault f = record { place = f.place; kind = word_kind f.kind }
 
--- what is wrong where the next token can't stand, or where there is none and something must still come
+-- what is wrong if the next token can't be here, or if there is none and something must still come
 abbrev pub first_fault : Result Token SyntaxFault → SyntaxFault
 first_fault (Err end) = end
 first_fault (Ok t) = record { place = t.place; kind = fault.Unexpected }
@@ -30,7 +30,7 @@ first_fault (Ok t) = record { place = t.place; kind = fault.Unexpected }
 abbrev pub fault_at : Tokens → SyntaxFault
 fault_at tokens = first_fault tokens.next
 
--- what is wrong where a text of so many bytes ends and something must still come
+-- what is wrong if a text of this many bytes ends and something must still come
 abbrev pub missing_at : ℕ → SyntaxFault
 missing_at len = record { place = len; kind = fault.Missing }
 
@@ -51,11 +51,11 @@ is_missing fault.Assignment = false
 is_missing fault.Nul = false
 is_missing fault.Memory = false
 
--- what is wrong with a word behind an assignment
+-- what is wrong with a word after an assignment
 abbrev pub assignment_fault : Tokens → SyntaxFault
 assignment_fault tokens = record { place = (fault_at tokens).place; kind = fault.Assignment }
 
 -- what is wrong with a reserved word for which there is no room: an opening word is too deep, a closing one can't
--- stand there at all
+-- be there at all
 abbrev pub nested_kind : Keyword → FaultKind → FaultKind
 nested_kind keyword kind = if is_closing keyword then kind else fault.Nest

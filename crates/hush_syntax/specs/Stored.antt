@@ -18,19 +18,19 @@ use Rattle.hush_syntax.specs.Nodes.{Subtree, OfChains, OfChain, OfCommand, At, c
 abbrev pub block_of : {X : Type 0} → Block → List X → List X
 block_of b xs = take b.len (drop b.first xs)
 
--- what the members of nodes stand in
+-- what the members of nodes are in
 pub record Members : Type 0 where
   pub words : List Word
   pub chains : List NodeId
   pub links : List link.Link
   pub branches : List branch.Branch
 
--- the name and behind it the words
+-- the name and after it the words
 abbrev pub for_of : Written → List Word → Chains → Option Subtree
 for_of text [] d = None
 for_of text (n ∷ ws) d = Some (OfCommand (For (name_in text n) (words_in text ws) d))
 
--- the name and behind it the value
+-- the name and after it the value
 abbrev pub assign_of : Written → List Word → Option Subtree
 assign_of text [] = None
 assign_of text (n ∷ []) = None
@@ -84,7 +84,7 @@ module _ (at : At) where
 abbrev pub found : List (Option Subtree) → At
 found subtrees id = bind (slice_get subtrees id.index) (λ o. o)
 
--- the nodes from left to right: a node's children stand before it
+-- the nodes from left to right: a node's children come before it
 abbrev pub subtrees_from : Written → Members → List (Option Subtree) → List Stored → List (Option Subtree)
 subtrees_from text members subtrees [] = subtrees
 subtrees_from text members subtrees (n ∷ ns) = subtrees_from text members (subtrees ++ built (found subtrees) text members n ∷ []) ns

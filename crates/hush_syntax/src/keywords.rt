@@ -65,7 +65,7 @@ impl Keyword {
         }
     }
 
-    /// The same of a word that is these bytes, as most words are: they aren't read anew for each reserved word.
+    /// The same for a word that is these bytes, as most words are: they aren't read anew for each reserved word.
     #[tactic(auto, unfolding(crate::specs::Keywords::keyword_of))]
     fn of_bare(bytes: &[u8]) -> Option<Keyword>
         ensures { result ≡ keyword_of (map Plain bytes.now) }
@@ -76,7 +76,7 @@ impl Keyword {
             .find(|keyword| keyword.is_spelled(bytes))
     }
 
-    /// The same of a word with quotes, substitutions, escapes or joined lines.
+    /// The same for a word with quotes, substitutions, escapes or joined lines.
     #[tactic(auto, unfolding(crate::specs::Keywords::keyword_of))]
     fn of_written(word: Word, text: &Text) -> Option<Keyword>
         ensures { result ≡ keyword_of (word_atoms text.now word) }

@@ -11,7 +11,7 @@ pub fn one_tree()
     scripts_are_read();
 }
 
-/// The script that is read of a list of tokens is exactly the one that they spell.
+/// The script that is read from a list of tokens is exactly the one that they spell.
 pub fn trees_are_read()
     ensures { TreesAreRead }
 {
@@ -20,7 +20,7 @@ pub fn trees_are_read()
     assignment_is_told();
 }
 
-/// The script that is read of a text is exactly the one that it spells.
+/// The script that is read from a text is exactly the one that it spells.
 pub fn scripts_are_read()
     ensures { ScriptsAreRead }
 {

@@ -1,7 +1,7 @@
 //! The tables that hold a script's nodes.
 
 ghost use Rattle.std.specs.Prelude.{◌≡◌, ◌≤◌, ◌-◌, ◌++◌, [], ◌∷◌, length, take, drop, IfOk, IfErr, OnOk};
-ghost use Rattle.hush_syntax.specs.declared.faults.FaultKind.TheVariants.{Memory};
+ghost use Rattle.hush_syntax.specs.declared.syntax_fault.FaultKind.TheVariants.{Memory};
 
 use crate::SyntaxFault;
 use crate::cursor::Tokens;
@@ -20,7 +20,7 @@ pub(crate) struct Table {
     pub(crate) branches: Vec<Branch>,
 }
 
-/// The members of the nodes that aren't whole yet: those of an inner node behind those of the node that it stands in.
+/// The members of the nodes that aren't whole yet: those of an inner node after those of the node that it is in.
 #[derive(Debug, Drop)]
 pub(crate) struct Waiting {
     pub(crate) chains: Vec<NodeId>,
@@ -63,7 +63,7 @@ impl Builder {
         }
     }
 
-    /// Puts a node behind the others.
+    /// Puts a node after the others.
     pub(crate) fn put(&mut self, node: Stored) -> Result<NodeId, AllocError>
         ensures { IfOk result (λ id. Put self.old self.new node id) }
     {
@@ -212,7 +212,7 @@ fn count<T>(members: &Vec<T>) -> usize
     members.len()
 }
 
-/// A count as a number of 32 bits. A larger one, to which no text comes that the program reads, has the answer of a refused
+/// A count in 32 bits. A larger one, which no text that the program reads reaches, is reported as a refused
 /// allocation, and isn't one.
 fn number(count: usize) -> Result<u32, AllocError>
     ensures { IfOk result (λ number. number ≡ count) }
@@ -234,7 +234,7 @@ fn block_from<T>(first: usize, members: &Vec<T>) -> Result<Block, AllocError>
     Ok(Block { first, len })
 }
 
-/// Moves the members that wait, from this one on, behind those that a table has.
+/// Moves the members that wait, from this one on, after those that a table has.
 fn settle<T: Copy>(
     table: &mut Vec<T>,
     waiting: &mut Vec<T>,

@@ -3,7 +3,7 @@ use Rattle.std.proofs.Common.{◌≡◌, ℕ, zero, suc, ◌+◌, ◌<◌, ◌�
 use Rattle.hush_words.specs.Words.{is_blank, ends_word, is_special, is_bare}
 use Rattle.hush_words.specs.declared.classes.bare.TheConstants.{BARE}
 
--- what a test answers of so many numbers, from this one on
+-- what a test answers of this many numbers, from this one on
 abbrev answers : (ℕ → Bool) → ℕ → ℕ → List Bool
 answers test i zero = []
 answers test i (suc n) = test i ∷ answers test (i + 1) n

@@ -1,4 +1,4 @@
--- What a `$` begins, by the byte behind it, as the code tells them apart.
+-- What a `$` begins, by the byte after it, as the code tells them apart.
 use Rattle.std.specs.Prelude.{◌≡◌, ℕ, suc, ◌+◌, ◌-◌, ◌<◌, ◌≤◌, ◌==◌, Bool, true, false, List, [], ◌∷◌, length, take, drop, Option, Some, None}
 use Rattle.std.specs.Option.{option_map}
 use Rattle.std.proofs.Common.{refl, sym, ◌∙◌, ap, subst, arith, get_or, length-take, length-drop, inl, inr}
@@ -11,7 +11,7 @@ use Rattle.hush_words.specs.Words.Dollar.{Name, Braces, LastStatus, Alone}
 use Rattle.hush_words.specs.Reading.{Found, found, front, behind, braces, dollar_at}
 use Rattle.hush_words.specs.Parts.{part_atoms}
 use Rattle.hush_words.specs.Steps.{begins, StandsAt, IsRun, dollar_read, ReadsByte, ReadsBraces, ReadsDollar}
-use Rattle.hush_words.specs.declared.steps.PartRead.{PartRead}
+use Rattle.hush_words.specs.declared.reads.PartRead.{PartRead}
 
 pub begins-here : (byte : ℕ) (xs : List ℕ) (at : ℕ) → begins byte (drop at xs) ≡ true → StandsAt xs at byte
 begins-here byte xs at e =

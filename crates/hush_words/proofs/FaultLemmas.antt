@@ -1,4 +1,4 @@
--- The fault at a place, by what stands there, and the places of tokens.
+-- The fault at a place, by what is there, and the places of tokens.
 use Rattle.std.specs.Prelude.{◌≡◌, ℕ, Option, ◌+◌, ◌-◌, ◌<◌, ◌≤◌, ◌==◌, ◌||◌, true, List, [], ◌∷◌, ◌++◌, map, length, take, drop, Some, None}
 use Rattle.std.specs.Option.{option_map}
 use Rattle.std.proofs.Common.{refl, sym, ◌∙◌, ap, subst, arith, length-append, inl, inr}
@@ -71,7 +71,7 @@ backslash-stops source at here = stops-by source at 92 fault.Backslash here stop
 pub single-stops : (source : List ℕ) (at : ℕ) → StandsAt source at 39 → StopsAt source at (fault_of fault.Quote at)
 single-stops source at here = stops-by source at 39 fault.Quote here stop-single
 
--- a pair of double quotes that isn't closed: the text ends, or another byte than the quote stands where it can't go on
+-- a pair of double quotes that isn't closed: the text ends, or another byte than the quote is where it can't go on
 double-stop : (source : List ℕ) (place at : ℕ) → StandsAt source place 34 → inner_at (drop at source) ≡ None →
     inner_end (drop at source) ≡ inner_end (drop (place + 1) source) →
     stop_at (drop place source) ≡ Some (double_stop (drop place source) (drop at source))
@@ -121,7 +121,7 @@ operator-fault source at b here e =
       | inr h ↦ operator-fault-of source at 124 (subst (StandsAt source at) (eqb-true b 124 h) here) ends-124 stop-or
     ]
 
--- the places of tokens, a lexeme behind the other
+-- the places of tokens, one lexeme after the other
 placed-one : (place : ℕ) (bs : List ℕ) (l : Lexeme) (r : List ℕ) → lexeme_at bs ≡ found l r →
     placed_left place bs ≡ map (λ t. (place, t)) (lexeme_tokens l) ++ placed_left (place + length (lexeme_text l)) r
 unfolding placed_left

@@ -69,7 +69,7 @@ not_after_dollar b e =
     let s = or_parts _ _ r.1 in
     (q.0, r.0, s.0)
 
--- behind a `$`
+-- after a `$`
 dollar-name : (n r : List ℕ) → is_name n ≡ true → next (λ b. not (is_in_name b)) r ≡ true → dollar_at (n ++ r) ≡ found (Name n) r
 unfolding dollar_at is_name
 dollar-name [] r e stops = absurd (both_ways false refl e)

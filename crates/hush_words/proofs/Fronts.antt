@@ -1,4 +1,4 @@
--- Tests, and the longest front whose bytes pass one.
+-- Tests, and the longest prefix whose bytes pass one.
 use Rattle.std.specs.Prelude.{◌≡◌, ℕ, ◌==◌, Bool, true, false, not, if◌then◌else◌, List, [], ◌∷◌, ◌++◌, ◌≤◌, length}
 use Rattle.std.specs.List.{list_all}
 use Rattle.std.proofs.Common.{refl, sym, ap, subst, arith}

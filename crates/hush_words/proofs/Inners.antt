@@ -37,7 +37,7 @@ inner-run (b ∷ bs) =
       | inr e ↦ (rw e refl, rw e refl)
     ]
 
--- one piece, by what stands at the place
+-- one piece, by what is at the place
 pub one-inner : (source : List ℕ) (at end : ℕ) (p : Inner) (atoms : List Atom) →
     inner_at (drop at source) ≡ found p (drop end source) → inner_atoms p ≡ atoms →
     (inner_left (drop at source) ≡ atoms ++ inner_left (drop end source)) × (inner_end (drop at source) ≡ inner_end (drop end source))
@@ -101,7 +101,7 @@ read-run source start end run =
       r.1 ∙ ap inner_end (sym run.3),
     )
 
--- behind a `\`
+-- after a `\`
 pub at-escaped : (source : List ℕ) (at b : ℕ) → StandsAt source at 92 → StandsAt source (at + 1) b → is_escaped b ≡ true →
     inner_at (drop at source) ≡ found (EscapedInner b) (drop (at + 1 + 1) source)
 at-escaped source at b here next' e =

@@ -1,4 +1,4 @@
--- What stands at the front of a text where no word is open.
+-- What is at the front of a text where no word is open.
 use Rattle.std.specs.Prelude.{◌≡◌, ℕ, ◌≤◌, ◌==◌, true, false, not, List, [], ◌∷◌, ◌++◌, None, length}
 use Rattle.std.specs.List.{flat_map}
 use Rattle.std.proofs.Common.{refl, ◌∙◌, ap, arith, length-append}

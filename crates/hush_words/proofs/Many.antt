@@ -5,7 +5,7 @@ use Rattle.std.proofs.Common.{refl, sym, ◌∙◌, ap, subst, arith, length-app
 use Rattle.hush_words.specs.Words.{FitAll}
 use Rattle.hush_words.specs.Reading.{Found, found, many, many_from, all}
 
--- what is found stands there, and fits
+-- what is found is there, and fits
 abbrev pub FoundFits : {P : Type 0} → (P → List ℕ) → (P → List ℕ → Type 0) → List ℕ → Found P → Type 0
 FoundFits text Fits bs None = Unit {0}
 FoundFits text Fits bs (Some f) = (bs ≡ text f.0 ++ f.1) × Fits f.0 f.1
@@ -21,7 +21,7 @@ Takes {P} text Fits = (p : P) (r : List ℕ) → Fits p r → 1 ≤ length (text
 abbrev pub Finds : {P : Type 0} → (P → List ℕ) → (P → List ℕ → Type 0) → (List ℕ → Found P) → Type 0
 Finds text Fits at = (bs : List ℕ) → FoundFits text Fits bs (at bs)
 
--- parts that stand next to each other are found, up to where none is
+-- parts that are next to each other are found, up to where none is
 pub many-list : {P : Type 0} (text : P → List ℕ) (Fits : P → List ℕ → Type 0) (at : List ℕ → Found P) →
     Heads text Fits at → Takes text Fits → (ps : List P) (a : List ℕ) (n : ℕ) → FitAll text Fits ps a →
     at a ≡ None → length (flat_map text ps ++ a) ≤ n → many at n (flat_map text ps ++ a) ≡ (ps, a)
@@ -94,7 +94,7 @@ many-stops at less zero (b ∷ bs) enough = absurd (omega arith)
 many-stops at less (suc n) bs enough =
     many_from-stops at (many at n) n (many-stops at less n) bs enough (at bs) refl (less bs)
 
--- how many at most plays no part, where there are enough
+-- how many at most plays no part, if there are enough
 many_from-enough : {P : Type 0} (more most : List ℕ → List P × List ℕ) (bs : List ℕ) (o : Found P) → Shorter bs o →
     ((cs : List ℕ) → length cs < length bs → more cs ≡ most cs) → many_from more bs o ≡ many_from most bs o
 many_from-enough more most bs None h same = refl
@@ -123,7 +123,7 @@ all-from at less b bs None h = refl
 all-from at less b bs (Some f) h =
     ap (λ q. (f.0 ∷ q.0, q.1)) (many-enough at less (length bs) (length f.1) f.1 (omega arith) (omega arith))
 
--- all that are found are the first, and all behind it
+-- all that are found are the first, and all after it
 pub all-step : {P : Type 0} (at : List ℕ → Found P) → Shortens at → (bs : List ℕ) →
     all at bs ≡ many_from (all at) bs (at bs)
 all-step at less [] = let e : at [] ≡ None = nothing_shorter (at []) (less []) in rw e refl

@@ -144,7 +144,7 @@ step-on source start mid end begun now xs ys low high f g h k = (
   both-on false begun now xs ys g k,
 )
 
--- where nothing goes on with a name, what stands there is none of it
+-- where nothing goes on with a name, what is there is no part of it
 abbrev Other : (begun : Bool) → ℕ → Found Piece → Type 0
 Other begun b None = Unit {0}
 Other begun b (Some f) =
@@ -210,7 +210,7 @@ stopped-by begun b bs (Some f) e other =
     let o = other (piece_atoms_left f.1) in
     (λ h. ap (name_from begun) one ∙ o.0, λ h. ap (assignment_from begun) one ∙ o.1 h)
 
--- a name is one where no piece stands behind it
+-- a name is one if no piece is after it
 pub name-not : (begun : Bool) (text : List ℕ) → NameStops begun text → is_some (piece_at text) ≡ true → name_from begun (piece_atoms_left text) ≡ None
 name-not begun [] stops e = absurd (both_ways (is_some (piece_at [])) (ap (λ o. is_some o) nothing-left) e)
 name-not begun (b ∷ bs) stops e = (stopped-by begun b bs (piece_at (b ∷ bs)) refl (piece-other begun b bs stops)).0 e

@@ -50,7 +50,7 @@ pub bare-read : (bytes : List ℕ) → list_all is_bare bytes ≡ true → piece
 bare-read bytes all =
     ap piece_atoms_left (sym (append-nil bytes)) ∙ (piece-run bytes [] all).0 ∙ ap (λ l. map Plain bytes ++ l) nothing ∙ append-nil (map Plain bytes)
 
--- one piece, told by what stands behind it
+-- one piece, by what is after it
 goes-by : (bs rest : List ℕ) (o : Found Piece) → piece_at bs ≡ o → option_map (λ (f : Piece × List ℕ). f.1) o ≡ Some rest →
     (is_some (piece_at bs) ≡ true) × (piece_end rest ≡ piece_end bs)
 goes-by bs rest None e h = absurd (cc)
@@ -62,7 +62,7 @@ pub piece-goes : (bs rest : List ℕ) → option_map (λ (f : Piece × List ℕ)
     (is_some (piece_at bs) ≡ true) × (piece_end rest ≡ piece_end bs)
 piece-goes bs rest h = goes-by bs rest (piece_at bs) refl h
 
--- ranges that stand next to each other
+-- ranges that are next to each other
 pub range-rest : (source : List ℕ) (start end : ℕ) → start ≤ end → drop start source ≡ range_bytes source start end ++ drop end source
 range-rest source start end ordered =
     let place : start + (end - start) ≡ end = omega arith in
@@ -86,7 +86,7 @@ run-read source start end ordered bare =
     let whole = range-rest source start end ordered in
     (ap piece_atoms_left whole ∙ r.0, sym r.1 ∙ ap piece_end (sym whole))
 
--- what fits before a text fits before its front alone, since it looks at the byte behind it and no further
+-- what fits before a text fits before its prefix alone, since it looks at the byte after it and no further
 next-front : (test : ℕ → Bool) (front rest : List ℕ) → next test (front ++ rest) ≡ true → next test front ≡ true
 next-front test [] rest e = refl
 next-front test (b ∷ bs) rest e = e

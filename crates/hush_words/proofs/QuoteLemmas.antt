@@ -11,7 +11,7 @@ use Rattle.hush_words.specs.Words.Piece.{Single, Double}
 use Rattle.hush_words.specs.Reading.{found, front, behind, all, closed, inner_at, single_at, double_at, piece_at, piece_atoms_left}
 use Rattle.hush_words.specs.Steps.{StandsAt, IsRun, begins, inner_left, inner_end, atoms_left, Closes}
 use Rattle.hush_words.specs.Parts.{range_bytes}
-use Rattle.hush_words.specs.declared.steps.Inside.TheVariants as inside
+use Rattle.hush_words.specs.declared.reads.Inside.TheVariants as inside
 use Rattle.hush_words.proofs.Fronts.{behind-next}
 use Rattle.hush_words.proofs.Pieces.{piece-single, piece-double}
 use Rattle.hush_words.proofs.Inners.{inner-none}
@@ -58,7 +58,7 @@ single-read : (text : List ℕ) → single_at text ≡ closed 39 (Single (front 
 unfolding single_at
 single-read text = refl
 
--- where a run up to a byte ends before the text does, the byte stands there
+-- where a run up to a byte ends before the text does, the byte is there
 pub run-stops : (byte : ℕ) (source : List ℕ) (start end : ℕ) → IsRun (λ b. not (b == byte)) source start end →
     (end ≡ length source → ⊥) → begins byte (drop end source) ≡ true
 run-stops byte source start end run more =
@@ -90,7 +90,7 @@ single-closes source place end here run more =
     (single-there source place end here run
     ∙ closed-here 39 (Single (take (end - (place + 1)) (drop (place + 1) source))) source end (run-stops 39 source (place + 1) end run more))
 
--- what closes stands there, if something ends behind it
+-- what closes is there, if something ends after it
 closed-some : {P : Type 0} (k : ℕ) (p : P) (bs rest : List ℕ) → option_map (λ (f : P × List ℕ). f.1) (closed k p bs) ≡ Some rest → begins k bs ≡ true
 closed-some k p [] rest e = absurd (cc)
 closed-some k p (b ∷ bs) rest e =
@@ -153,7 +153,7 @@ double-left source at none shut =
           ∙ ap (λ l. piece_atoms_left (drop 1 l)) e.1 ∙ ap piece_atoms_left (drop-drop 1 at source),
     )
 
--- what stands before it
+-- what is before it
 pub double-on : (left more rest : List Atom) (end after : List ℕ) → left ≡ more ++ rest → end ≡ after →
     (left ++ piece_atoms_left (drop 1 end) ≡ more ++ (rest ++ piece_atoms_left (drop 1 after)))
 double-on left more rest end after e f =

@@ -1,4 +1,4 @@
--- Ranges of a source, and of a front of it.
+-- Ranges of a source, and of a prefix of it.
 use Rattle.std.specs.Prelude.{◌≡◌, ℕ, ◌+◌, ◌-◌, ◌≤◌, List, [], ◌∷◌, map, length, take, drop}
 use Rattle.std.proofs.Common.{refl, sym, ◌∙◌, ap, arith, length-take, inl, inr}
 use Rattle.std.proofs.lemmas.Bool.{cases_lt}
@@ -15,7 +15,7 @@ use Rattle.hush_words.specs.declared.parts.Span.{Span}
 pub byte-within : (source : List ℕ) (place b : ℕ) → StandsAt source place b → (place ≤ place + 1) × (place + 1 ≤ length source)
 byte-within source place b here = (omega arith, omega (arith, here.0))
 
--- what is left of a front of a source
+-- what is left of a prefix of a source
 pub front-drop : (source : List ℕ) (start end : ℕ) → drop start (take end source) ≡ range_bytes source start end
 front-drop source start end =
     elim (cases_lt start end) [
@@ -27,7 +27,7 @@ front-drop source start end =
           drop_all start (take end source) (omega (arith, length-take end source)) ∙ sym (ap (λ n. take n (drop start source)) none)
     ]
 
--- a range of a front is one of the source
+-- a range of a prefix is one of the source
 pub front-range : (source : List ℕ) (start mid end : ℕ) → mid ≤ end → range_bytes (take end source) start mid ≡ range_bytes source start mid
 front-range source start mid end le =
     ap (take (mid - start)) (front-drop source start end) ∙ take-take (mid - start) (end - start) (drop start source) (omega arith)

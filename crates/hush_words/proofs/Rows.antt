@@ -16,7 +16,7 @@ quoted bytes = map Quoted bytes
 abbrev w : List ℕ → Token
 w bytes = Word (plain bytes)
 
--- words and what stands between them
+-- words and what is between them
 words_row : tokens_of (codes "a b;c") ≡ Some (w (codes "a") ∷ w (codes "b") ∷ Semicolon ∷ w (codes "c") ∷ [])
 unfolding tokens_of lexeme_at passed_at piece_at is_bare ends_word is_special is_blank
 words_row = refl
@@ -141,7 +141,7 @@ dollar_row : tokens_of (codes "a$,b") ≡ Some (w (codes "a$,b") ∷ [])
 unfolding tokens_of lexeme_at passed_at piece_at dollar_at begins_name follows_dollar is_bare ends_word is_special is_blank
 dollar_row = refl
 
--- what stands before a fault
+-- what is before a fault
 before_fault_row : tokens_left (codes "a; 'b") ≡ w (codes "a") ∷ Semicolon ∷ []
 unfolding tokens_left lexeme_at passed_at piece_at single_at is_bare ends_word is_special is_blank
 before_fault_row = refl

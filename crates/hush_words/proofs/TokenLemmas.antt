@@ -1,4 +1,4 @@
--- The token that comes next behind a place, by what stands there.
+-- The token that comes next after a place, by what is there.
 use Rattle.std.specs.Prelude.{◌≡◌, ℕ, ◌+◌, ◌<◌, ◌≤◌, List, [], ◌∷◌, length, drop, Some, None, Ok, Err}
 use Rattle.std.specs.Option.{option_map}
 use Rattle.std.proofs.Common.{sym, ◌∙◌, ap, arith}
@@ -13,7 +13,7 @@ use Rattle.hush_words.specs.declared.tokens.TokenRead.{TokenRead}
 use Rattle.hush_words.proofs.FaultLemmas.{placed-none, read-placed}
 use Rattle.hush_words.proofs.TextLemmas.{nothing-at-end, lexeme-none, read-lexeme}
 
--- the token that a lexeme is, behind those that are passed over
+-- the token that a lexeme is, after those that are passed over
 pub token-behind : (source : List ℕ) (place at end : ℕ) (kind : TokenKind) (r : TokenRead) → r.token.kind ≡ kind → r.token.place ≡ at → r.end ≡ end →
     place ≤ at → at < end → end ≤ length source →
     option_map lexeme_read (lexeme_at (drop at source)) ≡ Some (optional_token (written source) (Some kind), drop end source) →

@@ -6,7 +6,7 @@ use Rattle.hush_words.specs.Parts.{part_atoms}
 use Rattle.hush_words.specs.Ranges.{Fits, FitsSome, PartsLeft, TakesPart}
 use Rattle.hush_words.specs.Steps.{atoms_left, optional_atoms, StepsTo}
 use Rattle.hush_words.specs.declared.parts.Part.{Part}
-use Rattle.hush_words.specs.declared.steps.Place.{Place}
+use Rattle.hush_words.specs.declared.reads.Place.{Place}
 use Rattle.hush_words.proofs.RangeLemmas.{front-atoms, front-fits}
 
 -- a part that was read, and none
@@ -19,7 +19,7 @@ pub no-part : (source : List ℕ) (p : Option Part) (left rest whole : List Atom
     left ≡ optional_atoms source p ++ rest → left ≡ whole → rest ≡ whole
 no-part source p left rest whole is read same = sym (read ∙ ap (λ o. optional_atoms source o ++ rest) is) ∙ same
 
--- what is left behind a place of a word that ends there
+-- what is left after a place of a word that ends there
 abbrev pub left_of : List ℕ → ℕ → Place → PartsLeft
 left_of source end p = record { source = source; atoms = atoms_left p.inside (drop p.at (take end source)); bytes = end - p.at }
 

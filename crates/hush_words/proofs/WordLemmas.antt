@@ -80,7 +80,7 @@ joined-there source at b here next' e =
     ∙ escape-newline (drop (at + 1 + 1) source)
     ∙ ap (λ n. found Joined (drop n source)) two
 
--- a `\` and the byte behind it
+-- a `\` and the byte after it
 pub escape-ends : (source : List ℕ) (at b : ℕ) → StandsAt source at 92 → StandsAt source (at + 1) b →
     option_map (λ (f : Piece × List ℕ). f.1) (piece_at (drop at source)) ≡ Some (drop (at + 2) source)
 escape-ends source at b here next' =

@@ -84,7 +84,7 @@ nothing_passed b bs e comment line =
     let n5 : (b == 35) ≡ false = ne_eqb b 35 comment in
     rw (n0, n1, n2, n3, n4, n5) (last_passed b bs line)
 
--- the word that stands here, given that one opens
+-- the word that is here, given that one opens
 abbrev WordThere : List ℕ → Found Piece → Type 0
 WordThere text None = lexeme_at text ≡ passed_at text
 WordThere text (Some f) = lexeme_at text ≡ word_of (all piece_at text).0 (all piece_at text).1

@@ -8,7 +8,7 @@ use Rattle.hush_words.specs.declared.faults.Fault.{Fault}
 use Rattle.hush_words.specs.declared.faults.FaultKind.{FaultKind}
 use Rattle.hush_words.specs.declared.faults.FaultKind.TheVariants as fault
 
--- a token, and how many bytes of the text stand before its first byte
+-- a token, and how many bytes of the text are before its first byte
 abbrev pub Placed : Type 0
 Placed = ℕ × Token
 
@@ -17,11 +17,11 @@ abbrev pub placed : ℕ → List Lexeme → List Placed
 placed place [] = []
 placed place (l ∷ ls) = map (λ t. (place, t)) (lexeme_tokens l) ++ placed (place + length (lexeme_text l)) ls
 
--- the tokens that are read of what a text has left at a place, up to the first fault
+-- the tokens that are read from what a text has left at a place, up to the first fault
 unfoldable pub placed_left : ℕ → List ℕ → List Placed
 placed_left place left = placed place (all lexeme_at left).0
 
--- the tokens that are read of a text from the left, up to the first fault, each with its place
+-- the tokens that are read from a text from the left, up to the first fault, each with its place
 abbrev pub placed_tokens : List ℕ → List Placed
 placed_tokens text = placed_left 0 text
 
@@ -49,7 +49,7 @@ stop_at (b ∷ bs) =
 abbrev pub fault_in : List ℕ → Stop → Fault
 fault_in source stop = record { kind = stop.0; place = length source - length stop.1 }
 
--- what is wrong where no lexeme begins what a source has left: the pieces of a word go on up to the byte at fault
+-- what is wrong if no lexeme begins what a source has left: the pieces of a word go on up to the byte at fault
 unfoldable pub left_fault : List ℕ → List ℕ → Option Fault
 left_fault source left = option_map (fault_in source) (stop_at (piece_end left))
 
@@ -57,6 +57,6 @@ left_fault source left = option_map (fault_in source) (stop_at (piece_end left))
 abbrev pub token_fault : List ℕ → Option Fault
 token_fault text = left_fault text (lexeme_end text)
 
--- the first byte 0, where a text has one
+-- the first byte 0, if a text has one
 abbrev pub first_nul : List ℕ → Fault
 first_nul text = record { kind = fault.Nul; place = length (front (λ b. not (b == nul)) text) }

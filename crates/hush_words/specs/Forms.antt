@@ -9,11 +9,11 @@ use Rattle.hush_words.specs.Words.Atom.{Plain, Quoted, Mark, Value, Status}
 abbrev pub IsPlain : (text : List ℕ) → List Atom → Type 0
 IsPlain text atoms = atoms ≡ map Plain text
 
--- unquoted plain bytes alone that are a name, as behind `for`
+-- unquoted plain bytes alone that are a name, as after `for`
 abbrev pub IsNameWord : (name : List ℕ) → List Atom → Type 0
 IsNameWord name atoms = (is_name name ≡ true) × IsPlain name atoms
 
--- unquoted plain bytes at the front that are a name and `=`, and what stands behind them
+-- unquoted plain bytes at the front that are a name and `=`, and what is after them
 abbrev pub IsAssignment : (name : List ℕ) → (value : List Atom) → List Atom → Type 0
 IsAssignment name value atoms = (is_name name ≡ true) × (atoms ≡ map Plain name ++ Plain equals ∷ value)
 

@@ -26,7 +26,7 @@ abbrev pub FitsSome : List ℕ → Option Part → Type 0
 FitsSome source None = Unit {0}
 FitsSome source (Some part) = Fits source part
 
--- the parts of a word that aren't taken yet: of this source they are ranges, these atoms they stand for, and so many
+-- the parts of a word that aren't taken yet: of this source they are ranges, these atoms they stand for, and this many
 -- bytes of the word are left
 pub record PartsLeft : Type 0 where
   pub source : List ℕ

@@ -11,11 +11,11 @@ use Rattle.hush_words.specs.Words.Piece.{Bare, Escaped, Joined, Single, Double, 
 use Rattle.hush_words.specs.Tokens.{Token, Lexeme, opens_word, lexeme_tokens, has_no_nul}
 use Rattle.hush_words.specs.Tokens.Lexeme.{WordOf, EndOfLine, SemicolonLexeme, And, Or, Blank, JoinedLine, Comment}
 
--- a piece at the front of a text, and the text behind it
+-- a piece at the front of a text, and the text after it
 abbrev pub Found : Type 0 → Type 0
 Found P = Option (P × List ℕ)
 
--- the longest front whose bytes pass, and the rest
+-- the longest prefix whose bytes pass, and the rest
 abbrev pub front : (ℕ → Bool) → List ℕ → List ℕ
 front test [] = []
 front test (b ∷ bs) = if test b then b ∷ front test bs else []
@@ -27,7 +27,7 @@ behind test (b ∷ bs) = if test b then behind test bs else b ∷ bs
 abbrev pub found : {P : Type 0} → P → List ℕ → Found P
 found p rest = Some (p, rest)
 
--- one that was found, and those behind it
+-- one that was found, and those after it
 abbrev pub many_from : {P : Type 0} → (List ℕ → List P × List ℕ) → List ℕ → Found P → List P × List ℕ
 many_from more text None = ([], text)
 many_from more text (Some f) = (f.0 ∷ (more f.1).0, (more f.1).1)
@@ -41,7 +41,7 @@ many at (suc n) text = many_from (many at n) text (at text)
 abbrev pub all : {P : Type 0} → (List ℕ → Found P) → List ℕ → List P × List ℕ
 all at text = many at (length text) text
 
--- what this byte closes, if it stands there
+-- what this byte closes, if it is there
 abbrev pub closed : {P : Type 0} → ℕ → P → List ℕ → Found P
 closed quote p [] = None
 closed quote p (b ∷ bs) = if b == quote then Some (p, bs) else None
@@ -50,7 +50,7 @@ abbrev pub braces : List ℕ → List ℕ → Found Dollar
 braces [] rest = None
 braces (b ∷ bs) rest = closed closing_brace (Braces (b ∷ bs)) rest
 
--- behind a `$`
+-- after a `$`
 unfoldable pub dollar_at : List ℕ → Found Dollar
 dollar_at [] = Some (Alone, [])
 dollar_at (b ∷ bs) =
@@ -66,7 +66,7 @@ as_inner f = (DollarInner f.0, f.1)
 abbrev pub as_piece : Dollar × List ℕ → Piece × List ℕ
 as_piece f = (DollarPiece f.0, f.1)
 
--- behind a `\` between double quotes
+-- after a `\` between double quotes
 unfoldable pub inner_escape : List ℕ → Found Inner
 inner_escape [] = Some (Backslash, [])
 inner_escape (b ∷ bs) =
@@ -83,16 +83,16 @@ inner_at (b ∷ bs) =
     else if b == backslash then inner_escape bs
     else None
 
--- behind a `\`
+-- after a `\`
 unfoldable pub escape_at : List ℕ → Found Piece
 escape_at [] = None
 escape_at (b ∷ bs) = if b == newline then Some (Joined, bs) else Some (Escaped b, bs)
 
--- behind a single quote
+-- after a single quote
 unfoldable pub single_at : List ℕ → Found Piece
 single_at text = closed single_quote (Single (front (λ b. not (b == single_quote)) text)) (behind (λ b. not (b == single_quote)) text)
 
--- behind a double quote
+-- after a double quote
 unfoldable pub double_at : List ℕ → Found Piece
 double_at text = closed double_quote (Double (all inner_at text).0) (all inner_at text).1
 
@@ -107,7 +107,7 @@ piece_at (b ∷ bs) =
     else if b == double_quote then double_at bs
     else None
 
--- what the pieces at the front stand for, as far as there are any, and, below, the text behind them
+-- what the pieces at the front stand for, as far as there are any, and, below, the text after them
 unfoldable pub piece_atoms_left : List ℕ → List Atom
 piece_atoms_left text = flat_map piece_atoms (all piece_at text).0
 
@@ -142,13 +142,13 @@ abbrev pub tokens_if_whole : List Lexeme × List ℕ → Option (List Token)
 tokens_if_whole (ls, []) = Some (flat_map lexeme_tokens ls)
 tokens_if_whole (ls, b ∷ bs) = None
 
--- the tokens at the front, up to the end or to where no lexeme can stand, and, below, the text behind them
+-- the tokens at the front, up to the end or to where no lexeme can be, and, below, the text after them
 unfoldable pub tokens_left : List ℕ → List Token
 tokens_left text = flat_map lexeme_tokens (all lexeme_at text).0
 
 unfoldable pub lexeme_end : List ℕ → List ℕ
 lexeme_end text = (all lexeme_at text).1
 
--- the tokens of a text, none where it has none; a byte 0 is looked for before all else
+-- the tokens of a text, no value if it has none; a byte 0 is looked for before all else
 unfoldable pub tokens_of : List ℕ → Option (List Token)
 tokens_of text = if has_no_nul text then tokens_if_whole (all lexeme_at text) else None

@@ -1,4 +1,4 @@
--- What the readers of this crate promise each other: a reader stands at a place of the source, and says what was
+-- What the readers of this crate promise each other: a reader is at a place of the source, and reports what was
 -- read there and where it went on from.
 use Rattle.std.specs.Prelude.{◌≡◌, ℕ, ◌+◌, ◌-◌, ◌<◌, ◌≤◌, ◌==◌, Bool, true, false, not, ◌&&◌, List, [], ◌∷◌, ◌++◌, map, Option, Some, None, is_some, Result, Ok, Err, length, take, drop}
 use Rattle.std.specs.List.{flat_map}
@@ -19,14 +19,14 @@ use Rattle.hush_words.specs.declared.classes.Class.TheVariants as class
 use Rattle.hush_words.specs.declared.faults.Fault.{Fault}
 use Rattle.hush_words.specs.declared.parts.Part.{Part}
 use Rattle.hush_words.specs.declared.tokens.TokenKind.{TokenKind}
-use Rattle.hush_words.specs.declared.steps.PartRead.{PartRead}
-use Rattle.hush_words.specs.declared.steps.InnerRead.{InnerRead}
-use Rattle.hush_words.specs.declared.steps.LexemeRead.{LexemeRead}
-use Rattle.hush_words.specs.declared.steps.Inside.{Inside}
-use Rattle.hush_words.specs.declared.steps.Inside.TheVariants as inside
-use Rattle.hush_words.specs.declared.steps.Place.{Place}
-use Rattle.hush_words.specs.declared.steps.PlaceRead.{PlaceRead}
-use Rattle.hush_words.specs.declared.steps.NamePlace.{NamePlace}
+use Rattle.hush_words.specs.declared.reads.PartRead.{PartRead}
+use Rattle.hush_words.specs.declared.reads.InnerRead.{InnerRead}
+use Rattle.hush_words.specs.declared.reads.LexemeRead.{LexemeRead}
+use Rattle.hush_words.specs.declared.reads.Inside.{Inside}
+use Rattle.hush_words.specs.declared.reads.Inside.TheVariants as inside
+use Rattle.hush_words.specs.declared.reads.Place.{Place}
+use Rattle.hush_words.specs.declared.reads.PlaceRead.{PlaceRead}
+use Rattle.hush_words.specs.declared.reads.NamePlace.{NamePlace}
 
 abbrev pub passes : Class → ℕ → Bool
 passes class.Plain b = is_bare b
@@ -39,7 +39,7 @@ abbrev pub begins : ℕ → List ℕ → Bool
 begins byte [] = false
 begins byte (b ∷ bs) = b == byte
 
--- a byte of the source, and what stands behind it
+-- a byte of the source, and what is after it
 abbrev pub StandsAt : List ℕ → ℕ → ℕ → Type 0
 StandsAt source at b = (at < length source) × (drop at source ≡ b ∷ drop (at + 1) source)
 
@@ -64,7 +64,7 @@ ReadsPart source at quoted f (Some r) =
     (at ≤ r.end) × (r.end ≤ length source) ×
     (option_map (dollar_read quoted) f ≡ Some (part_atoms source r.part, drop r.end source))
 
--- what a `$` begins, read from the byte behind it
+-- what a `$` begins, read from the byte after it
 abbrev pub ReadsDollar : List ℕ → ℕ → (quoted : Bool) → Option PartRead → Type 0
 ReadsDollar source at quoted r = ReadsPart source at quoted (dollar_at (drop at source)) r
 
@@ -96,7 +96,7 @@ ReadsInner source at (Some r) =
     (inner_left (drop at source) ≡ optional_atoms source r.part ++ inner_left (drop r.end source)) ×
     (inner_end (drop at source) ≡ inner_end (drop r.end source))
 
--- what is wrong with what stands at a place of a word
+-- what is wrong with what is at a place of a word
 abbrev pub StopsAt : List ℕ → ℕ → Fault → Type 0
 StopsAt source at f = option_map (fault_in source) (stop_at (drop at source)) ≡ Some f
 
@@ -111,7 +111,7 @@ abbrev pub FitsInner : List ℕ → Option InnerRead → Type 0
 FitsInner source None = Unit {0}
 FitsInner source (Some r) = FitsSome source r.part
 
--- the pieces at a place; none where the word ends, a fault where something else stands
+-- the pieces at a place; no value if the word ends, a fault if something else is there
 abbrev pub ReadsPieces : List ℕ → ℕ → Result (Option ℕ) Fault → Type 0
 ReadsPieces source at (Ok (Some end)) =
     (at < end) × (end ≤ length source) × (is_some (piece_at (drop at source)) ≡ true) ×
@@ -119,7 +119,7 @@ ReadsPieces source at (Ok (Some end)) =
 ReadsPieces source at (Ok None) = (piece_at (drop at source) ≡ None) × (next ends_word (drop at source) ≡ true)
 ReadsPieces source at (Err f) = (piece_at (drop at source) ≡ None) × (next ends_word (drop at source) ≡ false) × StopsAt source at f
 
--- where pieces end no byte that stands for itself stands
+-- where pieces end, there is no byte that stands for itself
 abbrev pub EndsPlain : List ℕ → Result (Option ℕ) Fault → Type 0
 EndsPlain source (Ok (Some end)) = next (λ b. not (is_bare b)) (drop end source) ≡ true
 EndsPlain source (Ok None) = Unit {0}
@@ -141,14 +141,14 @@ Closes inside.Double text = begins double_quote (inner_end text) ≡ true
 abbrev pub place_in : Inside → ℕ → Place
 place_in inside at = record { at = at; inside = inside }
 
--- a step through a word: a part, or none for what is passed over, and where it goes on; none where the word ends
+-- a step through a word: a part, or no part for what is passed over, and where it goes on; no value if the word ends
 abbrev pub Steps : List ℕ → Place → Option PlaceRead → Type 0
 Steps source p None = atoms_left p.inside (drop p.at source) ≡ []
 Steps source p (Some r) =
     (p.at < r.next.at) × (r.next.at ≤ length source) × Closes r.next.inside (drop r.next.at source) × FitsSome source r.part ×
     (atoms_left p.inside (drop p.at source) ≡ optional_atoms source r.part ++ atoms_left r.next.inside (drop r.next.at source))
 
--- the part that comes next, and where the word goes on; none where no part is left
+-- the part that comes next, and where the word goes on; no value if no part is left
 abbrev pub StepsTo : List ℕ → Place → Option (Part × Place) → Type 0
 StepsTo source p None = atoms_left p.inside (drop p.at source) ≡ []
 StepsTo source p (Some r) =
@@ -169,7 +169,7 @@ ReadsLexeme source at (Ok r) =
     (option_map lexeme_read (lexeme_at (drop at source)) ≡ Some (optional_token (written source) r.kind, drop r.end source))
 ReadsLexeme source at (Err f) = (lexeme_at (drop at source) ≡ None) × (left_fault source (drop at source) ≡ Some f)
 
--- the first atom is another than a plain byte
+-- there is a first atom, and it isn't a plain byte
 abbrev pub begins_otherwise : List Atom → Bool
 begins_otherwise [] = false
 begins_otherwise (Plain b ∷ atoms) = false
@@ -187,7 +187,7 @@ ArePlain atoms (Some bytes) = atoms ≡ map Plain bytes
 abbrev pub behind_front : List ℕ → Option (List ℕ × List Atom) → Option (List ℕ × List Atom)
 behind_front front f = option_map (λ a. (front ++ a.0, a.1)) f
 
--- what a text has left to be, behind these atoms
+-- what a text has left to be, after these atoms
 abbrev pub PlainRest : List Atom → List ℕ → Option (List ℕ) → Type 0
 PlainRest atoms text None = (more : List Atom) → is_plain text (atoms ++ more) ≡ false
 PlainRest atoms text (Some rest) = (more : List Atom) → is_plain text (atoms ++ more) ≡ is_plain rest more
@@ -195,13 +195,13 @@ PlainRest atoms text (Some rest) = (more : List Atom) → is_plain text (atoms +
 abbrev pub behind_name : List ℕ → Option (List ℕ) → Option (List ℕ)
 behind_name front n = option_map (λ m. front ++ m) n
 
--- atoms that go on with a name by these bytes, whatever stands behind them
+-- atoms that go on with a name by these bytes, whatever is after them
 abbrev pub GoesOn : (begun : Bool) → List ℕ → (now : Bool) → Type 0
 GoesOn begun bytes now =
     ((more : List Atom) → name_from begun (map Plain bytes ++ more) ≡ behind_name bytes (name_from now more)) ×
     ((more : List Atom) → assignment_from begun (map Plain bytes ++ more) ≡ behind_front bytes (assignment_from now more))
 
--- a range that is read as these plain bytes, whatever stands behind it
+-- a range that is read as these plain bytes, whatever is after it
 abbrev pub ReadsPlain : List ℕ → List ℕ → Type 0
 ReadsPlain range bytes = (rest : List ℕ) → piece_atoms_left (range ++ rest) ≡ map Plain bytes ++ piece_atoms_left rest
 
@@ -210,7 +210,7 @@ abbrev pub NameStops : (begun : Bool) → List ℕ → Type 0
 NameStops begun [] = Unit {0}
 NameStops begun (b ∷ bs) = (goes_on begun b ≡ false) × ((b == backslash) && begins newline bs ≡ false)
 
--- a step through a name; none where it doesn't go on
+-- a step through a name; no value if it doesn't go on
 abbrev pub NameStep : List ℕ → NamePlace → Option NamePlace → Type 0
 NameStep source p None = NameStops p.begun (drop p.at source)
 NameStep source p (Some q) =

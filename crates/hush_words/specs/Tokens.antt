@@ -1,4 +1,4 @@
--- The tokens of a script (docs/scripts.md, "Words"): a text is written as lexemes that stand next to each other.
+-- The tokens of a script (docs/scripts.md, "Words"): a text is written as lexemes that are next to each other.
 use Rattle.std.specs.Prelude.{◌≡◌, ℕ, ◌==◌, Bool, true, false, not, List, [], ◌∷◌}
 use Rattle.std.specs.List.{list_all, flat_map}
 use Rattle.hush_words.specs.Bytes.{nul, newline, hash, ampersand, semicolon, backslash, vertical_bar}

@@ -19,7 +19,7 @@ kind_token text kind.Semicolon = tokens.Token.Semicolon
 kind_token text kind.AndIf = tokens.Token.AndIf
 kind_token text kind.OrIf = tokens.Token.OrIf
 
--- the token behind a place where no word is open, where it begins and ends, and what stands behind it; or none up to the
+-- the token after a place where no word is open, where it begins and ends, and what is after it; or no token up to the
 -- end of the text, or up to this fault
 abbrev pub NextToken : Written → ℕ → Result (Option TokenRead) Fault → Type 0
 NextToken text at (Ok None) =

@@ -31,7 +31,7 @@ begins_name b = is_ascii_alphabetic b || b == underscore
 unfoldable pub is_in_name : ℕ → Bool
 is_in_name b = begins_name b || is_ascii_digit b
 
--- what may stand between `${` and `}`: all but blanks, newline and `} { $ : = ' " \`
+-- what may be between `${` and `}`: all but blanks, newline and `} { $ : = ' " \`
 unfoldable pub is_in_braces : ℕ → Bool
 is_in_braces b = not (is_blank b || is_one_of (newline ∷ codes "}{$:='\"\\") b)
 
@@ -60,7 +60,7 @@ unfoldable pub is_name : List ℕ → Bool
 is_name [] = false
 is_name (b ∷ bs) = begins_name b && list_all is_in_name bs
 
--- one or more bytes that may stand between braces
+-- one or more bytes that may be between braces
 unfoldable pub is_braced_name : List ℕ → Bool
 is_braced_name [] = false
 is_braced_name (b ∷ bs) = is_in_braces b && list_all is_in_braces bs
@@ -77,7 +77,7 @@ pub data Dollar : Type 0 where
   LastStatus : Dollar  -- `$?`
   Alone : Dollar  -- `$`, standing for itself
 
--- the text behind the `$`
+-- the text after the `$`
 abbrev pub dollar_text : Dollar → List ℕ
 dollar_text (Name n) = n
 dollar_text (Braces n) = opening_brace ∷ n ++ closing_brace ∷ []
@@ -130,7 +130,7 @@ FitsInner (EscapedInner b) after = is_escaped b ≡ true
 FitsInner JoinedInner after = Unit {0}
 FitsInner (DollarInner d) after = FitsDollar d after
 
--- parts that stand next to each other: each fits before the text of those behind it and what follows them
+-- parts that are next to each other: each fits before the text of those after it and what follows them
 abbrev pub FitAll : {P : Type 0} → (P → List ℕ) → (P → List ℕ → Type 0) → List P → List ℕ → Type 0
 FitAll text Fits [] after = Unit {0}
 FitAll text Fits (p ∷ ps) after = Fits p (flat_map text ps ++ after) × FitAll text Fits ps after

@@ -37,14 +37,14 @@ impl Class {
     }
 }
 
-/// The byte at a place, none at the end of the source.
+/// The byte at a place, `None` at the end of the source.
 pub(crate) fn byte_at(source: &[u8], at: usize) -> Option<u8>
     ensures { ByteAt source.now at result }
 {
     source.get(at).copied()
 }
 
-/// Whether this byte stands at the place.
+/// Whether this byte is at the place.
 pub(crate) fn stands_at(source: &[u8], at: usize, byte: u8) -> bool
     ensures { result ≡ begins byte (drop at source.now) }
 {
@@ -54,7 +54,7 @@ pub(crate) fn stands_at(source: &[u8], at: usize, byte: u8) -> bool
     }
 }
 
-/// Whether a `\` and a newline stand at the place.
+/// Whether a `\` and a newline are at the place.
 pub(crate) fn is_joined_line(source: &[u8], at: usize) -> bool
     requires { at < usize.MAX }
     ensures { result ≡ begins backslash (drop at source.now) && begins newline (drop (at + 1) source.now) }
@@ -74,7 +74,7 @@ pub(crate) fn run_end(class: Class, source: &[u8], start: usize) -> usize
     end
 }
 
-/// Where the byte stands next, from `start` on; the end of the source where it doesn't.
+/// Where the byte is next, from `start` on; the end of the source if it isn't.
 pub(crate) fn place_of(byte: u8, source: &[u8], start: usize) -> usize
     requires { start ≤ length source.now }
     ensures { IsRun (λ b. not (b == byte)) source.now start result }
@@ -117,7 +117,7 @@ pub(crate) fn is_in_name(b: u8) -> bool
     begins_name(b) || b.is_ascii_digit()
 }
 
-/// What may stand between `${` and `}`: mostly a byte of a name.
+/// What may be between `${` and `}`: mostly a byte of a name.
 #[tactic(auto, unfolding(crate::specs::Words::is_in_braces))]
 fn is_in_braces(b: u8) -> bool
     ensures { result ≡ is_in_braces b }

@@ -6,10 +6,10 @@ ghost use Rattle.hush_words.specs.Ranges.{IsShort, Fits};
 ghost use Rattle.hush_words.specs.Steps.{StandsAt, ReadsByte, ReadsBraces, ReadsDollar};
 
 use crate::classes::{Class, begins_name, byte_at, follows_dollar, run_end, stands_at};
-use crate::steps::PartRead;
+use crate::reads::PartRead;
 use crate::{Part, Span};
 
-/// Reads what the `$` at the place begins; none where it can't stand there.
+/// Reads what the `$` at the place begins; `None` if it can't be there.
 pub(crate) fn dollar(source: &[u8], place: usize, quoted: bool) -> Option<PartRead>
     requires few { IsShort source.now }
     requires here { StandsAt source.now place dollar }
@@ -51,7 +51,7 @@ fn dollar_before(source: &[u8], place: usize, next: u8, quoted: bool) -> Option<
     }
 }
 
-/// Reads a name and the brace that closes it, from behind the opening brace.
+/// Reads a name and the brace that closes it, from after the opening brace.
 fn braces(source: &[u8], start: usize, quoted: bool) -> Option<PartRead>
     requires few { IsShort source.now }
     requires within { start ≤ length source.now }

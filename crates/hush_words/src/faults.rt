@@ -20,6 +20,6 @@ pub enum FaultKind {
 pub struct Fault {
     /// What is wrong.
     pub kind: FaultKind,
-    /// How many bytes of the source stand before the byte at fault.
+    /// How many bytes of the source are before the byte at fault.
     pub place: usize,
 }

@@ -16,7 +16,7 @@ use crate::classes::{
     Class, begins_name, byte_at, ends_word, is_bare, is_in_name, is_joined_line, is_special,
     run_end, stands_at,
 };
-use crate::steps::NamePlace;
+use crate::reads::NamePlace;
 use crate::words::piece;
 use crate::{Part, Parts, Text, Word};
 
@@ -25,7 +25,7 @@ use crate::{Part, Parts, Text, Word};
 pub struct Assignment {
     /// The variable: a word that is a name.
     pub name: Word,
-    /// What stands behind the `=`. It may have no bytes.
+    /// What is after the `=`. It may have no bytes.
     pub value: Word,
 }
 
@@ -53,7 +53,7 @@ impl Word {
         is_name_at(front(text.source(), self.end), self.start as usize)
     }
 
-    /// The two sides of an assignment; none where the word hasn't that form.
+    /// The two sides of an assignment; `None` if the word doesn't have that form.
     pub fn assignment(self, text: &Text) -> Option<Assignment>
         ensures { option_map (assignment_view text.now) result ≡ split_of (word_atoms text.now self) }
     {
@@ -111,7 +111,7 @@ fn are_plain(parts: Parts<'_>, source: &[u8], text: &[u8]) -> bool
     rest.is_empty()
 }
 
-/// What the text has left behind a part in unquoted plain bytes; none where it doesn't begin with them.
+/// What the text has left after a part in unquoted plain bytes; `None` if it doesn't begin with them.
 fn plain_rest<'a>(part: Part, source: &[u8], text: &'a [u8]) -> Option<&'a [u8]>
     requires { Fits source.now part }
     ensures { PlainRest (part_atoms source.now part) text.now (option_map (λ behind. behind.now) result) }
@@ -142,7 +142,7 @@ fn is_name_at(source: &[u8], start: usize) -> bool
     }
 }
 
-/// Whether a piece of a word stands at the place.
+/// Whether a piece of a word is at the place.
 fn is_piece_at(source: &[u8], at: usize) -> bool
     requires { IsShort source.now }
     ensures { result ≡ is_some (piece_at (drop at source.now)) }
@@ -153,7 +153,7 @@ fn is_piece_at(source: &[u8], at: usize) -> bool
     }
 }
 
-/// The same where this byte stands at the place.
+/// The same if this byte is at the place.
 fn begins_piece(source: &[u8], at: usize, first: u8) -> bool
     requires few { IsShort source.now }
     requires here { StandsAt source.now at first }
@@ -168,7 +168,7 @@ fn begins_piece(source: &[u8], at: usize, first: u8) -> bool
     }
 }
 
-/// Where the `=` stands of an assignment that begins at the place.
+/// Where the `=` of an assignment that begins at the place is.
 fn equals_from(source: &[u8], start: usize) -> Option<usize>
     requires { IsShort source.now }
     ensures { SplitsAt source.now start result }
@@ -183,7 +183,7 @@ fn equals_from(source: &[u8], start: usize) -> Option<usize>
     }
 }
 
-/// Where the name ends that unquoted plain bytes at the place begin, and whether it has any.
+/// Where the name that unquoted plain bytes at the place begin ends, and whether it has any.
 fn name_from(source: &[u8], start: usize) -> NamePlace
     requires { IsShort source.now }
     ensures { NameFrom source.now start result }
@@ -198,7 +198,7 @@ fn name_from(source: &[u8], start: usize) -> NamePlace
     here
 }
 
-/// Where the name goes on behind what goes on with it at the place, a joined line among it; none where nothing does.
+/// Where the name goes on after what continues it at the place, be it a joined line; `None` if nothing does.
 fn name_step(source: &[u8], here: NamePlace) -> Option<NamePlace>
     requires { IsShort source.now }
     ensures { NameStep source.now here result }
@@ -209,7 +209,7 @@ fn name_step(source: &[u8], here: NamePlace) -> Option<NamePlace>
     }
 }
 
-/// The same where this byte stands at the place.
+/// The same if this byte is at the place.
 fn name_step_from(source: &[u8], here: NamePlace, first: u8) -> Option<NamePlace>
     requires few { IsShort source.now }
     requires here { StandsAt source.now here.at first }

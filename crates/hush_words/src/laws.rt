@@ -3,7 +3,7 @@
 
 ghost use Rattle.hush_words.specs.Laws.{TokensAreRead, OneTokenList, FrontIsRead, PlainIsTold, NameIsTold, AssignmentIsTold};
 
-/// The tokens that are read of a text are exactly those that it has.
+/// The tokens that are read from a text are exactly those that it has.
 pub fn tokens_are_read()
     ensures { TokensAreRead }
 {}
@@ -13,7 +13,8 @@ pub fn one_token_list()
     ensures { OneTokenList }
 {}
 
-/// The tokens that are read before a fault are those of the lexemes at the front of the text, up to where no lexeme can stand.
+/// The tokens that are read before a fault are those of the lexemes at the front of the text, up to where
+/// no lexeme can be.
 pub fn front_is_read()
     ensures { FrontIsRead }
 {}

@@ -1,7 +1,7 @@
-//! The words of a script: reads tokens of a script's bytes, and of a word its parts, each a range of those bytes. The
-//! bytes are all that is kept. The rules are those of docs/scripts.md, "Words".
+//! The words of a script: reads tokens from a script's bytes, and from a word its parts, each a range of those bytes.
+//! The bytes are all that is kept. The rules are those of docs/scripts.md, "Words".
 //!
-//! To read in this order: parts, tokens, text, faults; reading, words, dollars, quotes, steps; walk; classes; forms; laws.
+//! To read in this order: parts, tokens, text, faults; reading, words, dollars, quotes, reads; walk; classes; forms; laws.
 #![tactic(auto)]
 
 mod classes;
@@ -12,7 +12,7 @@ pub mod laws;
 mod parts;
 mod quotes;
 mod reading;
-mod steps;
+mod reads;
 mod text;
 mod tokens;
 mod walk;

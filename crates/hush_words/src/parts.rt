@@ -5,12 +5,12 @@ ghost use Rattle.hush_words.specs.Parts.{span_of, word_between, part_atoms, span
 ghost use Rattle.hush_words.specs.Ranges.{IsWithin, Fits};
 ghost use Rattle.hush_words.specs.Steps.{ArePlain};
 
-/// A range of the source: the bytes from `start` up to `end`, `end` not among them.
+/// A range of the source: the bytes from `start` up to but not including `end`.
 #[derive(Clone, Copy, Debug, PartialEq, Eq)]
 pub struct Span {
-    /// How many bytes stand before the range.
+    /// How many bytes are before the range.
     pub start: u32,
-    /// How many bytes stand before what follows the range.
+    /// How many bytes are before what follows the range.
     pub end: u32,
 }
 
@@ -19,23 +19,23 @@ pub struct Span {
 pub enum Part {
     /// Bytes that stand for themselves, outside of quotes.
     Plain(Span),
-    /// Bytes that stand for themselves, in quotes or behind a `\`.
+    /// Bytes that stand for themselves, in quotes or after a `\`.
     Quoted(Span),
     /// A pair of quotes: no bytes, but with it even an empty word is there.
     Mark,
-    /// The value of a variable: the range of its name, and whether it stands in double quotes.
+    /// The value of a variable: the range of its name, and whether it is in double quotes.
     Value(Span, bool),
-    /// The status in decimal, and whether it stands in double quotes.
+    /// The status in decimal, and whether it is in double quotes.
     Status(bool),
 }
 
-/// A word: the bytes of the source that it is written in, from `start` up to `end`, `end` not among them. Its parts are
-/// read of them again whenever somebody asks.
+/// A word: the bytes of the source that it is written in, from `start` up to but not including `end`. Its parts are
+/// read from them anew each time.
 #[derive(Clone, Copy, Debug, PartialEq, Eq)]
 pub struct Word {
-    /// How many bytes stand before the word.
+    /// How many bytes are before the word.
     pub start: u32,
-    /// How many bytes stand before what follows the word.
+    /// How many bytes are before what follows the word.
     pub end: u32,
 }
 

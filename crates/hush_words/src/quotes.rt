@@ -7,7 +7,7 @@ ghost use Rattle.hush_words.specs.Steps.{StandsAt, ReadsInner, ReadsPiece, FitsI
 
 use crate::classes::{Class, byte_at, is_escaped, place_of, run_end, stands_at};
 use crate::dollars::{byte_part, dollar};
-use crate::steps::InnerRead;
+use crate::reads::InnerRead;
 use crate::{Fault, FaultKind, Part, Span};
 
 /// Where a pair of single quotes ends that opens at the place.
@@ -51,7 +51,7 @@ pub(crate) fn double(source: &[u8], place: usize) -> Result<usize, Fault>
     }
 }
 
-/// Reads what stands at the place between double quotes; none where nothing can.
+/// Reads what is at the place between double quotes; `None` if nothing can be.
 pub(crate) fn inner(source: &[u8], at: usize) -> Option<InnerRead>
     requires few { IsShort source.now }
     ensures reads { ReadsInner source.now at result }
@@ -91,7 +91,7 @@ fn inner_from(source: &[u8], at: usize, first: u8) -> Option<InnerRead>
     }
 }
 
-/// Reads a `\` between double quotes, and the byte behind it where it vanishes before that.
+/// Reads a `\` between double quotes, and the byte after it if it vanishes before that.
 fn backslash(source: &[u8], at: usize) -> InnerRead
     requires few { IsShort source.now }
     requires here { StandsAt source.now at backslash }

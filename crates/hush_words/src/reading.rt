@@ -10,7 +10,7 @@ ghost use Rattle.hush_words.specs.Ranges.{IsShort};
 ghost use Rattle.hush_words.specs.Steps.{StandsAt, ReadsLexeme};
 
 use crate::classes::{byte_at, is_blank, is_joined_line, place_of, stands_at};
-use crate::steps::LexemeRead;
+use crate::reads::LexemeRead;
 use crate::words::word;
 use crate::{Fault, FaultKind, Text, Token, TokenKind, TokenRead};
 use memchr::memchr;
@@ -30,12 +30,12 @@ impl Text {
         }
     }
 
-    /// Reads the token that comes next behind a place where no word is open, as one is where a token ends; none up to the
-    /// end of the text.
+    /// Reads the token that comes next after a place where no word is open, as after a token; `None` if there is none
+    /// up to the end of the text.
     ///
     /// # Errors
     ///
-    /// The fault of a word or an operator where no token stands before it. A byte 0 isn't looked for.
+    /// The fault of a word or an operator if no token is before it. A byte 0 isn't looked for.
     pub fn next_token(&self, place: usize) -> Result<Option<TokenRead>, Fault>
         ensures { NextToken self.now place result }
     {
@@ -43,7 +43,7 @@ impl Text {
     }
 }
 
-/// Reads the token that comes next behind a place; none up to the end of the text.
+/// Reads the token that comes next after a place; `None` if there is none up to the end of the text.
 #[inline(always)]
 fn token_from(source: &[u8], place: usize) -> Result<Option<TokenRead>, Fault>
     requires few { IsShort source.now }

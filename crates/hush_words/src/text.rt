@@ -7,7 +7,7 @@ use crate::{Parts, Span, Word};
 use std::alloc::AllocError;
 use std::marker::Model;
 
-/// A text, of which tokens, words and parts are read. It keeps its bytes alone.
+/// A text, from which tokens, words and parts are read. It keeps only its bytes.
 #[derive(Debug, Drop)]
 pub struct Text {
     source: Vec<u8>,
@@ -29,7 +29,7 @@ impl Text {
     ///
     /// # Errors
     ///
-    /// There are more bytes than a number of 32 bits can count, as no text has that the program reads. That has the answer of a
+    /// There are more bytes than 32 bits can count, as in no text that the program reads. That is reported as a
     /// refused allocation, and isn't one.
     pub fn new(source: Vec<u8>) -> Result<Text, AllocError>
         ensures text { IfOk result (λ text. text ≡ written source.items) }

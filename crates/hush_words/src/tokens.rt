@@ -21,7 +21,7 @@ pub enum TokenKind {
 pub struct Token {
     /// What it is.
     pub kind: TokenKind,
-    /// How many bytes of the source stand before its first byte.
+    /// How many bytes of the source are before its first byte.
     pub place: u32,
 }
 
@@ -30,6 +30,6 @@ pub struct Token {
 pub struct TokenRead {
     /// The token.
     pub token: Token,
-    /// How many bytes of the source stand before what follows the token.
+    /// How many bytes of the source are before what follows the token.
     pub end: usize,
 }

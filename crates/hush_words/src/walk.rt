@@ -1,4 +1,4 @@
-//! The parts of a word, read of its bytes one by one.
+//! The parts of a word, read from its bytes one by one.
 
 ghost use Rattle.std.specs.Prelude.{◌≡◌, ℕ, ◌+◌, ◌<◌, ◌≤◌, List, Some, true, length, drop, map};
 ghost use Rattle.hush_words.specs.Bytes.{double_quote, dollar, single_quote, backslash};
@@ -12,11 +12,11 @@ ghost use Rattle.hush_words.specs.Steps.{StandsAt, Closes, Steps, StepsTo, place
 use crate::classes::{Class, byte_at, ends_word, is_bare, place_of, run_end};
 use crate::dollars::{byte_part, dollar};
 use crate::quotes::{double, inner, single};
-use crate::steps::{Inside, Place, PlaceRead};
+use crate::reads::{Inside, Place, PlaceRead};
 use crate::{Part, Span};
 use std::marker::Model;
 
-/// The parts of a word that aren't taken yet. They are read of the word's bytes as they are taken, and need no memory.
+/// The parts of a word that aren't taken yet. They are read from the word's bytes as they are taken, without memory.
 #[derive(Debug, Drop)]
 pub struct Parts<'t> {
     source: &'t [u8],
@@ -92,14 +92,14 @@ fn part_from(source: &[u8], place: Place) -> Option<(Part, Place)>
     None
 }
 
-/// A part, and the place behind it.
+/// A part, and the place after it.
 fn found(part: Part, next: Place) -> Option<(Part, Place)>
     ensures { result ≡ Some (part, next) }
 {
     Some((part, next))
 }
 
-/// Reads what stands at a place of a word; none where the word ends.
+/// Reads what is at a place of a word; `None` if the word ends.
 #[inline(always)]
 fn step(source: &[u8], place: Place) -> Option<PlaceRead>
     requires few { IsShort source.now }
@@ -116,7 +116,7 @@ fn step(source: &[u8], place: Place) -> Option<PlaceRead>
     }
 }
 
-/// Reads what begins with this byte outside of quotes; none where it ends the word.
+/// Reads what begins with this byte outside of quotes; `None` if it ends the word.
 #[inline(always)]
 fn step_from(source: &[u8], at: usize, first: u8) -> Option<PlaceRead>
     requires few { IsShort source.now }
@@ -146,7 +146,7 @@ fn outside(at: usize) -> Place
     }
 }
 
-/// Reads what begins with this byte outside of quotes, one of `$`, `\` and the quotes; none where it can't stand there.
+/// Reads what begins with this byte outside of quotes, one of `$`, `\` and the quotes; `None` if it can't be there.
 fn special(source: &[u8], at: usize, first: u8) -> Option<PlaceRead>
     requires few { IsShort source.now }
     requires here { StandsAt source.now at first }
@@ -179,7 +179,7 @@ fn dollar_step(source: &[u8], at: usize) -> Option<PlaceRead>
     }
 }
 
-/// Reads an unquoted `\` and the byte behind it.
+/// Reads an unquoted `\` and the byte after it.
 fn backslash(source: &[u8], at: usize) -> Option<PlaceRead>
     requires few { IsShort source.now }
     requires here { StandsAt source.now at backslash }
@@ -208,7 +208,7 @@ fn backslash_before(source: &[u8], at: usize, next: u8) -> PlaceRead
     }
 }
 
-/// The mark that a pair of quotes is, and the place behind the one that opens it.
+/// The mark that a pair of quotes is, and the place after the one that opens it.
 fn opened(at: usize, inside: Inside) -> PlaceRead
     requires { at < u32.MAX }
     ensures { result ≡ record { part = Some part.Mark; next = place_in inside (at + 1) } }
@@ -269,7 +269,7 @@ fn quoted_part(start: usize, end: usize) -> Option<Part>
     }
 }
 
-/// Reads what stands at a place between double quotes, the one that closes them too.
+/// Reads what is at a place between double quotes, the one that closes them too.
 fn double_step(source: &[u8], at: usize) -> PlaceRead
     requires few { IsShort source.now }
     requires closes { Closes Inside.Double (drop at source.now) }

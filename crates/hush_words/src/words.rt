@@ -1,4 +1,4 @@
-//! Words, a piece behind the other (docs/scripts.md, "Words").
+//! Words, one piece after the other (docs/scripts.md, "Words").
 
 ghost use Rattle.std.specs.Prelude.{◌≡◌, ◌+◌, ◌&&◌, not, true, false, drop};
 ghost use Rattle.hush_words.specs.Bytes.{newline, hash, dollar, backslash};
@@ -9,7 +9,7 @@ ghost use Rattle.hush_words.specs.Steps.{StandsAt, ReadsPiece, ReadsPieces, Ends
 use crate::classes::{Class, byte_at, ends_word, is_special, run_end};
 use crate::dollars::dollar;
 use crate::quotes::{double, single};
-use crate::steps::LexemeRead;
+use crate::reads::LexemeRead;
 use crate::{Fault, FaultKind, TokenKind, Word};
 
 /// Reads a word, which opens with this byte.
@@ -32,7 +32,7 @@ pub(crate) fn word(source: &[u8], start: usize, first: u8) -> Result<LexemeRead,
     })
 }
 
-/// Where the plain bytes end behind the piece at the place; none where the word ends at the place.
+/// Where the plain bytes after the piece at the place end; `None` if the word ends at the place.
 fn special_pieces(source: &[u8], at: usize) -> Result<Option<usize>, Fault>
     requires few { IsShort source.now }
     requires behind { next (λ b. not (is_bare b)) (drop at source.now) ≡ true }
@@ -45,7 +45,7 @@ fn special_pieces(source: &[u8], at: usize) -> Result<Option<usize>, Fault>
     }
 }
 
-/// The same where this byte stands at the place.
+/// The same if this byte is at the place.
 fn special_pieces_from(source: &[u8], at: usize, first: u8) -> Result<Option<usize>, Fault>
     requires few { IsShort source.now }
     requires here { StandsAt source.now at first }
@@ -60,7 +60,7 @@ fn special_pieces_from(source: &[u8], at: usize, first: u8) -> Result<Option<usi
     Ok(Some(run_end(Class::Plain, source, end)))
 }
 
-/// Where the piece ends that begins with this byte, one of `$`, `\` and the quotes.
+/// The end of the piece that begins with this byte, one of `$`, `\` and the quotes.
 pub(crate) fn piece(source: &[u8], at: usize, first: u8) -> Result<usize, Fault>
     requires few { IsShort source.now }
     requires here { StandsAt source.now at first }
@@ -78,7 +78,7 @@ pub(crate) fn piece(source: &[u8], at: usize, first: u8) -> Result<usize, Fault>
     }
 }
 
-/// Where that ends what an unquoted `$` begins.
+/// The end of what an unquoted `$` begins.
 fn dollar_piece(source: &[u8], at: usize) -> Result<usize, Fault>
     requires few { IsShort source.now }
     requires here { StandsAt source.now at dollar }
@@ -93,7 +93,7 @@ fn dollar_piece(source: &[u8], at: usize) -> Result<usize, Fault>
     }
 }
 
-/// Where an unquoted `\` ends with the byte behind it.
+/// The end of an unquoted `\` and the byte after it.
 fn backslash(source: &[u8], at: usize) -> Result<usize, Fault>
     requires few { IsShort source.now }
     requires here { StandsAt source.now at backslash }

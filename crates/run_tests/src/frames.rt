@@ -33,19 +33,10 @@ fn come_back(frames: &mut Frames, room: usize) -> bool {
 
 #[test]
 fn frames_hold_three_for_each_level(rt: HostRuntime) -> Result<(), Fail> {
-    let root = match Script::parse(rt.alloc(), Vec::from_slice(rt.alloc(), b"true")?) {
-        Ok(script) => script.root(),
-        Err(_) => None,
-    };
-    let Some(root) = root else {
-        assert!(rt; false, "a root");
-        return Ok(());
-    };
-    let (Ok(mut few), Ok(mut many)) = (Frames::new(rt.alloc(), 0), Frames::new(rt.alloc(), 16))
-    else {
-        assert!(rt; false, "room for frames");
-        return Ok(());
-    };
+    let script = Script::parse(rt.alloc(), Vec::from_slice(rt.alloc(), b"true")?)?;
+    let root = script.root().ok_or("no root")?;
+    let mut few = Frames::new(rt.alloc(), 0)?;
+    let mut many = Frames::new(rt.alloc(), 16)?;
     push_all(&mut few, root, 195);
     assert!(rt; come_back(&mut few, 195));
     push_all(&mut many, root, 3315);

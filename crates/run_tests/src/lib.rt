@@ -1,13 +1,11 @@
-//! Tests of runs and of lists of requests through the library (docs/runs.md, docs/undo.md). They stand apart from `hush_run`, so that it is proved once.
-//! Scripts with what they come to are data: scripts/runs.
+//! Tests of runs and of lists of requests through the library (docs/runs.md, docs/undo.md). They are apart from `hush_run`, so
+//! that it is proved once. Scripts with what they come to are data: scripts/runs.
 #![tactic(auto)]
 
 #[cfg(test)]
-mod booting;
-#[cfg(test)]
-mod fixtures;
-#[cfg(test)]
 mod frames;
+#[cfg(test)]
+mod outcomes;
 #[cfg(test)]
 mod plain;
 #[cfg(test)]
@@ -16,7 +14,3 @@ mod random_lists;
 mod random_requests;
 #[cfg(test)]
 mod request_lists;
-#[cfg(test)]
-mod running;
-#[cfg(test)]
-mod undoing;

@@ -1,6 +1,6 @@
 //! A list of requests of every kind: what each is answered, and what an undo brings back (docs/undo.md).
 
-use crate::fixtures::session;
+use crate::outcomes::started;
 use env_requests::{Reply, Request, obey_all};
 use env_session::Side;
 use envcfg_core::TextEntry;
@@ -91,7 +91,7 @@ fn told(alloc: Global, replies: &[Reply]) -> Result<Vec<u8>, Memory> {
 
 #[test]
 fn requests_are_obeyed_one_after_the_other(rt: HostRuntime) -> Result<(), Fail> {
-    let mut session = session(rt.alloc())?.ok_or("no session")?;
+    let mut session = started(rt.alloc(), 4096, b"")?;
     let before = Vec::from_slice(rt.alloc(), session.copy(Side::First).ok_or("no copy")?)?;
     let stubs = Stubs::parse(rt.alloc(), b"")?;
     let limits = Limits::new(9, 2, 9, 99).ok_or("no limits")?;

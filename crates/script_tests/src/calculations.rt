@@ -1,6 +1,6 @@
 //! `test` and `setexpr` by their rules (docs/test-and-setexpr.md). What boards' tests expect of them is in scripts/runs.
 
-use hush_calc::{Fields, SetexprFault, setexpr, test};
+use hush_calc::{Fields, setexpr, test};
 use std::alloc::{AllocError, Global};
 use std::test::Fail;
 
@@ -40,59 +40,64 @@ fn fields_are_lent_in_order(rt: HostRuntime) {
 }
 
 /// The words of a `test`, and whether it is true.
-const TESTS: [(&[u8], bool); 14] = [
-    (b"! -z a -o b = c", true),
-    (b"08 -eq 0", true),
-    (b"a < b", true),
-    (b"-0x10 -lt 0", true),
-    (b"9223372036854775808 -eq 9223372036854775807", true),
-    (b"-9223372036854775809 -eq -9223372036854775807", true),
-    (b"\xC3 > z", true),
-    (b"-n -n -a -n -z", true),
-    (b"", false),
-    (b"a", false),
-    (b"a =", false),
-    (b"! = !", false),
-    (b"1 -eq 2 -o 1 = 1 -a a = b", false),
-    (b"-n a -o -n b c", false),
-];
+const TESTS: &str = "\
+! -z a -o b = c => true
+08 -eq 0 => true
+a < b => true
+-0x10 -lt 0 => true
+9223372036854775808 -eq 9223372036854775807 => true
+-9223372036854775809 -eq -9223372036854775807 => true
+\u{c3} > z => true
+-n -n -a -n -z => true
+ => false
+a => false
+a = => false
+! = ! => false
+1 -eq 2 -o 1 = 1 -a a = b => false
+-n a -o -n b c => false
+";
 
 #[test]
 fn tests_are_true_or_not(rt: HostRuntime) -> Result<(), Fail> {
-    for (text, expected) in TESTS {
-        let words = Words::read(rt.alloc(), text)?;
-        assert_eq!(rt; test(words.fields()), expected, "of {text:?}");
+    for row in TESTS.lines() {
+        let (text, wanted) = row.split_once(" => ").ok_or("no row")?;
+        let words = Words::read(rt.alloc(), text.as_bytes())?;
+        assert_eq!(rt; test(words.fields()), wanted == "true", "of {text}");
     }
     assert!(rt; !test(Fields::new(b"", &[])));
     Ok(())
 }
 
 /// The words of a `setexpr`, and the value that it writes or the fault.
-const VALUES: [(&[u8], Result<&[u8], SetexprFault>); 12] = [
-    (b"v ff + 1", Ok(b"100")),
-    (b"v 5 - 6", Ok(b"ffffffffffffffff")),
-    (b"v 0x10 * 10", Ok(b"100")),
-    (b"v f0 | 0f", Ok(b"ff")),
-    (b"v ff % 10", Ok(b"f")),
-    (b"v 8000000000000000 * 2", Ok(b"0")),
-    (b"v 123456789abcdef01", Ok(b"23456789abcdef01")),
-    (b"v zz", Ok(b"0")),
-    (b"v 1 / zz", Err(SetexprFault::DivisionByZero)),
-    (b"v *1 / 0", Err(SetexprFault::WrongUse)),
-    (b"v 3 ^", Err(SetexprFault::WrongUse)),
-    (b"v", Err(SetexprFault::WrongUse)),
-];
+const VALUES: &str = "\
+v ff + 1 => 100
+v 5 - 6 => ffffffffffffffff
+v 0x10 * 10 => 100
+v f0 | 0f => ff
+v ff % 10 => f
+v 8000000000000000 * 2 => 0
+v 123456789abcdef01 => 23456789abcdef01
+v zz => 0
+v 1 / zz => DivisionByZero
+v *1 / 0 => WrongUse
+v 3 ^ => WrongUse
+v => WrongUse
+";
 
 #[test]
 fn values_are_calculated(rt: HostRuntime) -> Result<(), Fail> {
-    for (text, expected) in VALUES {
-        let words = Words::read(rt.alloc(), text)?;
+    for row in VALUES.lines() {
+        let (text, wanted) = row.split_once(" => ").ok_or("no row")?;
+        let words = Words::read(rt.alloc(), text.as_bytes())?;
         match setexpr(words.fields()) {
             Ok(calculated) => {
                 assert_eq!(rt; calculated.name, b"v".as_slice());
-                assert_eq!(rt; Ok(calculated.value.as_bytes()), expected, "of {text:?}");
+                assert_eq!(rt; calculated.value.as_bytes(), wanted.as_bytes(), "of {text}");
             }
-            Err(fault) => assert_eq!(rt; Err(fault), expected, "of {text:?}"),
+            Err(fault) => {
+                let told = format!(in rt.alloc(); "{fault:?}")?;
+                assert_eq!(rt; told.as_str(), wanted, "of {text}");
+            }
         }
     }
     Ok(())

@@ -1,4 +1,4 @@
-//! Tests of what reads scripts: words, trees, and the commands that compute. They stand apart from those crates, so that
+//! Tests of what reads scripts: words, trees, and the commands that compute. They are apart from those crates, so that
 //! each of them is proved once.
 #![tactic(auto)]
 

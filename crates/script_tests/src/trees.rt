@@ -5,7 +5,6 @@ ghost use Rattle.hush_words.specs.Ranges.{Fits};
 ghost use Rattle.hush_syntax.specs.Scripts.{subtree_at};
 
 mod faults;
-mod fronts;
 mod hostile;
 mod spelled;
 
@@ -21,7 +20,7 @@ fn shown(alloc: Global, script: &Script) -> Result<Vec<u8>, AllocError> {
     Ok(out)
 }
 
-/// A list, a chain and a command for each of 64 forms inside one another, and those that all of them stand in.
+/// A list, a chain and a command for each of 64 forms inside one another, and those around them all.
 const DEEPEST: u32 = 3 * 65;
 
 /// Nodes that are deeper than the room are left out.

@@ -1,77 +1,76 @@
 //! Words and tokens by their rules (docs/scripts.md, "Words"). The places and the ranges are counted by hand.
 
-use hush_words::{Fault, FaultKind, Part, Span, Text, TokenKind, TokenRead, Word};
+use bench_parts::unfolded;
+use hush_words::{Part, Span, Text, TokenKind, Word};
 use std::alloc::{AllocError, Global};
-use std::process::Abort;
 use std::test::Fail;
 
-/// A text, the places of its tokens before its end or its fault, and the fault.
-type Row = (&'static [u8], &'static [u32], Option<(FaultKind, usize)>);
+/// A text, in which `/` is a newline; the places of its tokens before its end or its fault, and the fault.
+const TOKENS: &str = "\
+# to the end =>
+ =>
+ \t \\/  =>
+ echo\tab  => 1 6
+a;b/c&&d||e => 0 1 2 3 4 5 7 8 10
+a # b ; \"/c => 0 9 10
+\\/#b =>
+a\\/#b => 0
+\\/ a\\/ b => 3 7
+$ a => 0 2
+<>()*[]{}`%,:=\x01\r\u{ff} => 0
+a; 'b => 0 1 Quote 3
+echo \"a => 0 Quote 5
+\"a\\\" => Quote 0
+echo \\ => 0 Backslash 5
+echo ${a:-b} => 0 Substitution 5
+${} => Substitution 0
+a \"b ${c => 0 Substitution 5
+\"$1 => Substitution 1
+$# => Substitution 0
+$@ => Substitution 0
+$* => Substitution 0
+$$ => Substitution 0
+$! => Substitution 0
+$- => Substitution 0
+$( => Substitution 0
+a & b => 0 Operator 2
+&\\/& => Operator 0
+a&&&b => 0 1 Operator 3
+\"$1\0 => Nul 3
+";
 
-const ROWS: [Row; 30] = [
-    (b"", &[], None),
-    (b" \t \\\n ", &[], None),
-    (b" echo\tab ", &[1, 6], None),
-    (b"a;b\nc&&d||e", &[0, 1, 2, 3, 4, 5, 7, 8, 10], None),
-    (b"a # b ; \"\nc", &[0, 9, 10], None),
-    (b"# to the end", &[], None),
-    (b"\\\n#b", &[], None),
-    (b"a\\\n#b", &[0], None),
-    (b"\\\n a\\\n b", &[3, 7], None),
-    (b"$ a", &[0, 2], None),
-    (b"<>()*[]{}`%,:=\xFF\x01\r", &[0], None),
-    (b"a; 'b", &[0, 1], Some((FaultKind::Quote, 3))),
-    (b"echo \"a", &[0], Some((FaultKind::Quote, 5))),
-    (b"\"a\\\"", &[], Some((FaultKind::Quote, 0))),
-    (b"echo \\", &[0], Some((FaultKind::Backslash, 5))),
-    (b"echo ${a:-b}", &[0], Some((FaultKind::Substitution, 5))),
-    (b"${}", &[], Some((FaultKind::Substitution, 0))),
-    (b"a \"b ${c", &[0], Some((FaultKind::Substitution, 5))),
-    (b"\"$1", &[], Some((FaultKind::Substitution, 1))),
-    (b"$#", &[], Some((FaultKind::Substitution, 0))),
-    (b"$@", &[], Some((FaultKind::Substitution, 0))),
-    (b"$*", &[], Some((FaultKind::Substitution, 0))),
-    (b"$$", &[], Some((FaultKind::Substitution, 0))),
-    (b"$!", &[], Some((FaultKind::Substitution, 0))),
-    (b"$-", &[], Some((FaultKind::Substitution, 0))),
-    (b"$(", &[], Some((FaultKind::Substitution, 0))),
-    (b"a & b", &[0], Some((FaultKind::Operator, 2))),
-    (b"&\\\n&", &[], Some((FaultKind::Operator, 0))),
-    (b"a&&&b", &[0, 1], Some((FaultKind::Operator, 3))),
-    (b"\"$1\0", &[], Some((FaultKind::Nul, 3))),
-];
-
-/// What is read of a text after tokens with these places.
-fn after_places(rt: &impl Abort, text: &Text, places: &[u32]) -> Result<Option<TokenRead>, Fault> {
+/// The places of a text's tokens, and its fault if it has one, with a blank before each.
+fn found(alloc: Global, text: &Text) -> Result<Vec<u8>, AllocError> {
+    let mut found = Vec::new(alloc);
     let mut next = match text.nul() {
         Some(nul) => Err(nul),
         None => text.next_token(0),
     };
-    for place in places {
+    for _ in 0..=text.source().len() {
         match next {
             Ok(Some(read)) => {
-                assert_eq!(rt; read.token.place, *place);
+                let place = read.token.place;
+                found.extend_from_slice(format!(in alloc; " {place}")?.as_bytes())?;
                 next = text.next_token(read.end);
             }
-            _ => assert!(rt; false, "a token at {place}"),
+            Ok(None) => return Ok(found),
+            Err(fault) => {
+                let words = format!(in alloc; " {:?} {}", fault.kind, fault.place)?;
+                found.extend_from_slice(words.as_bytes())?;
+                return Ok(found);
+            }
         }
     }
-    next
+    Ok(found)
 }
 
 #[test]
 fn tokens_and_faults_have_their_places(rt: HostRuntime) -> Result<(), Fail> {
-    for (source, places, wanted) in ROWS {
-        let text = Text::new(source.to_vec(rt.alloc())?)?;
-        let next = after_places(&rt, &text, places);
-        let fault = match wanted {
-            Some((kind, place)) => Some(Fault { kind, place }),
-            None => None,
-        };
-        assert!(rt;
-            !matches!(next, Ok(Some(_))) && next.err() == fault,
-            "after {source:?}"
-        );
+    for row in TOKENS.lines() {
+        let (source, wanted) = row.split_once(" =>").ok_or("no row")?;
+        let text = Text::new(unfolded(rt.alloc(), source)?)?;
+        let found = found(rt.alloc(), &text)?;
+        assert_eq!(rt; found.as_slice(), wanted.as_bytes(), "of {source}");
     }
     Ok(())
 }
@@ -122,37 +121,41 @@ fn words_have_parts(rt: HostRuntime) -> Result<(), Fail> {
     Ok(())
 }
 
-/// A word, and whether it is the plain word `if`, has its bytes as they are, is a name, and is an assignment.
-const FORMS: [(&[u8], [bool; 4]); 15] = [
-    (b"if", [true, true, true, false]),
-    (b"i\\\nf", [true, false, true, false]),
-    (b"ifx", [false, true, true, false]),
-    (b"'if'", [false, false, false, false]),
-    (b"\\if", [false, false, false, false]),
-    (b"if''", [false, false, false, false]),
-    (b"_a1", [false, true, true, false]),
-    (b"1a", [false, true, false, false]),
-    (b"a-b", [false, true, false, false]),
-    (b"a\\\n=1", [false, false, false, true]),
-    (b"_b==c", [false, true, false, true]),
-    (b"=c", [false, true, false, false]),
-    (b"a\\=c", [false, false, false, false]),
-    (b"'a'=c", [false, false, false, false]),
-    (b"$a=c", [false, false, false, false]),
-];
+/// Words, and a letter for each that holds: `p` if it is the plain word `if`, `b` if it has its bytes as they are, `n` if it is a
+/// name, and `a` if it is an assignment.
+const FORMS: &str = "\
+if => pbn
+i\\/f => pn
+ifx => bn
+'if' =>
+\\if =>
+if'' =>
+_a1 => bn
+1a => b
+a-b => b
+a\\/=1 => a
+_b==c => ba
+=c => b
+a\\=c =>
+'a'=c =>
+$a=c =>
+";
 
 #[test]
 fn words_have_forms(rt: HostRuntime) -> Result<(), Fail> {
-    for (source, forms) in FORMS {
-        let text = read(rt.alloc(), source)?;
+    for row in FORMS.lines() {
+        let (source, wanted) = row.split_once(" =>").ok_or("no row")?;
+        let text = Text::new(unfolded(rt.alloc(), source)?)?;
         let word = first_word(&text).ok_or("no word")?;
         let found = [
-            word.is_plain(&text, b"if"),
-            word.bare(&text).is_some(),
-            word.is_name(&text),
-            word.assignment(&text).is_some(),
+            ('p', word.is_plain(&text, b"if")),
+            ('b', word.bare(&text).is_some()),
+            ('n', word.is_name(&text)),
+            ('a', word.assignment(&text).is_some()),
         ];
-        assert_eq!(rt; found, forms, "of {source:?}");
+        for (letter, holds) in found {
+            assert_eq!(rt; holds, wanted.contains(letter), "{letter} of {source}");
+        }
     }
     let text = read(rt.alloc(), b"ab=c$d")?;
     let word = first_word(&text).ok_or("no word")?;

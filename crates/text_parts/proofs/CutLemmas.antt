@@ -8,13 +8,13 @@ use Rattle.std.proofs.lemmas.List.Sums.{position_or_len_is}
 use Rattle.std.proofs.lemmas.List.Folds.{list_any_at, list_any_none}
 use Rattle.memchr.specs.Find.{IsFirstByte}
 
--- the place found is where the first byte that passes stands
+-- the place found is where the first byte that passes is
 pub position_or_len-found : (p : ℕ → Bool) (xs : List ℕ) (k : ℕ) → IsFirstByte p xs (Some k) → position_or_len p xs ≡ k
 position_or_len-found p xs k found =
     let below = found.0 in
     position_or_len_is p xs k 0 (omega (arith, below.high)) (λ j h. false_from_ne_true _ (below.before j (omega arith) h)) (λ _. found.1)
 
--- where none is found, that is the length
+-- if none is found, that is the length
 pub position_or_len-none : (p : ℕ → Bool) (xs : List ℕ) → IsFirstByte p xs None → position_or_len p xs ≡ length xs
 position_or_len-none p xs none =
     position_or_len_is p xs (length xs) 0 (omega arith) (λ j h. false_from_ne_true _ (none j (omega arith) h)) (λ h. absurd (omega arith))
@@ -31,7 +31,7 @@ pub list_any-answer : (p : ℕ → Bool) (xs : List ℕ) (r : Option ℕ) → Is
 list_any-answer p xs None none = sym (list_any_none p xs (none_pass p xs none))
 list_any-answer p xs (Some k) found = sym (list_any_at p xs k 0 found.0.high found.1)
 
--- what stands behind the place found
+-- what is after the place found
 pub after_first-found : (p : ℕ → Bool) (xs : List ℕ) (k : ℕ) → IsFirstByte p xs (Some k) → take (length xs - (k + 1)) (drop (k + 1) xs) ≡ after_first p xs
 after_first-found p xs k found =
     take_rest xs (k + 1) ∙ ap (λ n. drop (n + 1) xs) (sym (position_or_len-found p xs k found))

@@ -7,7 +7,7 @@ use Rattle.text_parts.specs.declared.digits.Base.{Base}
 use Rattle.text_parts.specs.Digits.{is_digit, number}
 use Rattle.text_parts.specs.Numerals.{numeral}
 
--- where each byte passes, all of them stand in front
+-- if each byte passes, all of them are in the prefix
 pub front-whole : (p : ℕ → Bool) (xs : List ℕ) → list_all p xs ≡ true → take_while p xs ≡ xs
 front-whole p [] h = refl
 front-whole p (x ∷ xs) h =
@@ -18,7 +18,7 @@ length-front : (p : ℕ → Bool) (x : ℕ) (xs : List ℕ) (b : Bool) → lengt
 length-front p x xs true = omega arith
 length-front p x xs false = refl
 
--- and where they are as many, each passes
+-- and if they are as many, each passes
 pub whole-front : (p : ℕ → Bool) (xs : List ℕ) → length xs ≤ length (take_while p xs) → list_all p xs ≡ true
 whole-front p [] h = refl
 whole-front p (x ∷ xs) h =
@@ -28,7 +28,7 @@ whole-front p (x ∷ xs) h =
     (λ no. let none = len ∙ cond-false (p x) _ _ no in absurd (omega (arith, none)))
     (cases_Bool (p x))
 
--- where they are fewer, one doesn't
+-- if they are fewer, one doesn't
 pub part-front : (p : ℕ → Bool) (xs : List ℕ) → length (take_while p xs) < length xs → list_all p xs ≡ false
 part-front p xs h =
     ⊎_elim

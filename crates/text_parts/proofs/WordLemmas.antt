@@ -1,4 +1,4 @@
--- The words of a text, one by one: its first word, where it begins with one, and what follows.
+-- The words of a text, one by one: its first word, if it begins with one, and what follows.
 use Rattle.std.proofs.Common.{◌≡◌, ℕ, ◌+◌, ◌-◌, ◌<◌, Bool, true, false, eqb, not, List, [], ◌∷◌, length, take, drop, filter, None, Some, sym, ap, ◌∙◌, arith}
 use Rattle.std.specs.List.{position_or_len, before_first, after_first}
 use Rattle.std.proofs.lemmas.Bool.{cond-true, ne_eqb, eqb-false}

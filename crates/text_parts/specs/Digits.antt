@@ -41,7 +41,7 @@ digit_value b =
 abbrev pub is_digit : Base → ℕ → Bool
 is_digit base b = option_map_or (λ value. nat_lt value (radix base)) (digit_value b) false
 
--- a number with one digit more behind it; a byte that is no digit adds nothing
+-- a number with one digit more after it; a byte that is no digit adds nothing
 abbrev pub with_digit : Base → ℕ → ℕ → ℕ
 with_digit base n b = option_map_or (λ value. n * radix base + value) (digit_value b) n
 

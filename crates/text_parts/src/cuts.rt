@@ -11,7 +11,7 @@ ghost use Rattle.text_parts.specs.Words.{spaced, texts};
 use memchr::memchr;
 use std::alloc::{AllocError, Global};
 
-/// Whether the byte stands in the text.
+/// Whether the byte is in the text.
 pub fn contains_byte(byte: u8, text: &[u8]) -> bool
     ensures { result ≡ list_any (is_byte byte) text.now }
 {

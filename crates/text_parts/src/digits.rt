@@ -13,7 +13,7 @@ pub enum Base {
     Hexadecimal,
 }
 
-/// What a digit `0` to `9`, `A` to `F` or `a` to `f` counts: 0 to 15; none where the byte is no digit.
+/// What a digit `0` to `9`, `A` to `F` or `a` to `f` counts: 0 to 15; `None` if the byte is no digit.
 pub fn digit_value(byte: u8) -> Option<u64>
     ensures { result ≡ digit_value byte }
 {
@@ -52,7 +52,7 @@ pub fn number(base: Base, digits: &[u8], most: u64) -> u64
 }
 
 impl Base {
-    /// How much more a digit counts than one in the place behind it.
+    /// How much more a digit counts than one in the place after it.
     fn radix(self) -> u64
         ensures value { result ≡ radix self }
         ensures some { 0 < result }

@@ -5,7 +5,7 @@ ghost use Rattle.text_parts.specs.Numerals.{base_of, behind_0x, numeral};
 use crate::cuts::begins_with_byte;
 use crate::digits::{Base, digits_in_front, number};
 
-/// The number that one or more digits and nothing else spell, and no more than `most`; none for any other text.
+/// The number that one or more digits and nothing else spell, and no more than `most`; `None` for any other text.
 pub fn numeral(base: Base, text: &[u8], most: u64) -> Option<u64>
     ensures { result ≡ option_map (λ n. min n most) (numeral base text.now) }
 {
@@ -19,7 +19,7 @@ pub fn numeral(base: Base, text: &[u8], most: u64) -> Option<u64>
     Some(number(base, text, most))
 }
 
-/// What follows `0x` or `0X` at the front, if that stands there.
+/// What follows `0x` or `0X` at the front, if that is there.
 pub fn behind_0x(text: &[u8]) -> Option<&[u8]>
     ensures { option_map (λ rest. rest.now) result ≡ behind_0x text.now }
 {
@@ -29,7 +29,7 @@ pub fn behind_0x(text: &[u8]) -> Option<&[u8]>
     }
 }
 
-/// The base of a number without `0x`: octal where it begins with 0, else decimal.
+/// The base of a number without `0x`: octal if it begins with 0, else decimal.
 pub fn base_of(text: &[u8]) -> Base
     ensures { result ≡ base_of text.now }
 {

@@ -1,8 +1,31 @@
-//! Tests of the tools, and of the program over words and files. They stand apart from those crates, so that each of them is
-//! proved once.
+//! Tests of the tools over streams in memory and over streams that fail, and of the program over files in memory of which each
+//! call fails in turn. They are apart from those crates, so that each of them is proved once. What the program prints is
+//! in scripts/differential.
 #![tactic(auto)]
 
 #[cfg(test)]
-mod program;
+mod clients;
 #[cfg(test)]
-mod tools;
+mod disk;
+#[cfg(test)]
+mod file_calls;
+#[cfg(test)]
+mod locks;
+#[cfg(test)]
+mod printed_variables;
+#[cfg(test)]
+mod program_streams;
+#[cfg(test)]
+mod reasons;
+#[cfg(test)]
+mod shown_images;
+#[cfg(test)]
+mod tool_calls;
+
+/// An image of the one variable `a=b`.
+#[cfg(test)]
+const ONE_VARIABLE: [u8; 9] = [0xD2, 0x96, 0x62, 0x2B, b'a', b'=', b'b', 0, 0];
+
+/// The same of a big-endian board.
+#[cfg(test)]
+const ONE_VARIABLE_BIG_ENDIAN: [u8; 9] = [0x2B, 0x62, 0x96, 0xD2, b'a', b'=', b'b', 0, 0];

@@ -18,11 +18,11 @@ use crate::refusals::{Memory, Refusal};
 use envvars_store::{OwnedVariable, Variables};
 
 impl Vars {
-    /// Writes a new value, or deletes the variable where there is none or an empty one, and keeps the old value
-    /// where the value changes and the name isn't kept yet.
+    /// Writes a new value, or deletes the variable if there is no value or an empty one, and keeps the old value
+    /// if the value changes and the name isn't kept yet.
     ///
-    /// A write that is refused has changed nothing, neither here nor in what is kept. It is refused for memory only
-    /// where no check refuses it and the value changes. Either way `restore` would bring back the same as before it.
+    /// A write that is refused has changed nothing, neither here nor in what is kept. It is refused as out of memory
+    /// only if no check refuses it and the value changes. Either way `restore` would bring back the same as before it.
     pub fn write_kept(
         &mut self,
         name: &[u8],
@@ -69,7 +69,7 @@ impl Vars {
 
     /// Brings back every kept value, and keeps nothing any more. What that leaves fits the room.
     ///
-    /// It is refused only for memory, and then nothing has changed. It takes no memory where every name that is kept
+    /// It is refused only when out of memory, and then nothing has changed. It takes no memory if every name kept
     /// with a value is there and `.flags` isn't kept.
     pub fn restore(&mut self, olds: &mut Olds) -> Result<(), Memory>
         requires fits { RestoredFits self.old olds.old }

@@ -57,7 +57,7 @@ impl<'s> Parser<'s> {
         word.assignment(self.text)
     }
 
-    /// What stands behind an assignment: no word.
+    /// What is after an assignment: no word.
     fn assignment(
         self,
         tokens: &mut Tokens,
@@ -78,7 +78,7 @@ impl<'s> Parser<'s> {
     }
 }
 
-/// No word may stand behind an assignment.
+/// No word may be after an assignment.
 fn no_word(tokens: &Tokens) -> Result<(), SyntaxFault>
     ensures passed { OnOk result ((text : Written) → begins is_word (left_in text tokens.now) ≡ false) }
     ensures word { IfErr result (λ _. (text : Written) → begins is_word (left_in text tokens.now) ≡ true) }

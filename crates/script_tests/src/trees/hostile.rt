@@ -1,106 +1,54 @@
 //! Texts made to cost much.
 
-use hush_syntax::{FaultKind, Script, SyntaxFault};
-use std::process::Abort;
+use hush_syntax::Script;
 use std::test::Fail;
 
-/// Bytes so many times, the bytes after them, others so many times, and the fault of the text.
-type Hostile = (
-    &'static [u8],
-    usize,
-    &'static [u8],
-    &'static [u8],
-    Option<(FaultKind, usize)>,
-);
+/// How many times the first text comes, what is in the middle, and how many times the last text comes; the fault, if there is one.
+/// Quotes and openings, forms that are 64 times inside one another and once more, separators, and long chains and branches.
+const TEXTS: &str = "\
+65535 | \" |  |  => Quote 65534
+100000 | if true; then  |  |  => Nest 896
+64 | if true; then  | true | ; fi =>
+65 | if true; then  | true | ; fi => Nest 896
+64 | for i in a; do  | true | ; done =>
+65 | for i in a; do  | true | ; done => Nest 960
+64 | while true; do  | true | ; done =>
+65 | while true; do  | true | ; done => Nest 960
+64 | until  | true | ; do true; done =>
+65 | until  | true | ; do true; done => Nest 384
+1000000 | ; |  |  =>
+200000 | a &&  | a |  =>
+100000 |  | if a; then b;  | elif a; then b;  => Missing 1600014
+";
 
-/// Quotes and openings, and forms that are 64 times inside one another and once more.
-const NESTS: [Hostile; 10] = [
-    (b"\"", 65_535, b"", b"", Some((FaultKind::Quote, 65_534))),
-    (
-        b"if true; then ",
-        100_000,
-        b"",
-        b"",
-        Some((FaultKind::Nest, 64 * 14)),
-    ),
-    (b"if true; then ", 64, b"true", b"; fi", None),
-    (
-        b"if true; then ",
-        65,
-        b"true",
-        b"; fi",
-        Some((FaultKind::Nest, 64 * 14)),
-    ),
-    (b"for i in a; do ", 64, b"true", b"; done", None),
-    (
-        b"for i in a; do ",
-        65,
-        b"true",
-        b"; done",
-        Some((FaultKind::Nest, 64 * 15)),
-    ),
-    (b"while true; do ", 64, b"true", b"; done", None),
-    (
-        b"while true; do ",
-        65,
-        b"true",
-        b"; done",
-        Some((FaultKind::Nest, 64 * 15)),
-    ),
-    (b"until ", 64, b"true", b"; do true; done", None),
-    (
-        b"until ",
-        65,
-        b"true",
-        b"; do true; done",
-        Some((FaultKind::Nest, 64 * 6)),
-    ),
-];
-
-/// Separators, and long chains and branches.
-const LONG: [Hostile; 3] = [
-    (b";", 1_000_000, b"", b"", None),
-    (b"a && ", 200_000, b"a", b"", None),
-    (
-        b"",
-        100_000,
-        b"if a; then b; ",
-        b"elif a; then b; ",
-        Some((FaultKind::Missing, 1_600_014)),
-    ),
-];
-
-fn are_read(rt: &(impl Abort + AllocGlobal), rows: &[Hostile]) -> Result<(), Fail> {
-    for (opening, count, middle, closing, fault) in rows {
-        let mut text = opening.repeat(rt.alloc(), *count)?;
-        text.extend_from_slice(middle)?;
-        text.extend_from_slice(&closing.repeat(rt.alloc(), *count)?)?;
-        let found = Script::parse(rt.alloc(), text).err();
-        let wanted = match *fault {
-            Some((kind, place)) => Some(SyntaxFault { place, kind }),
-            None => None,
+#[test]
+fn texts_are_scripts_or_have_their_fault(rt: HostRuntime) -> Result<(), Fail> {
+    for row in TEXTS.lines() {
+        let (given, wanted) = row.split_once(" =>").ok_or("no row")?;
+        let mut parts = given.split(" | ");
+        let count = parts
+            .next()
+            .ok_or("no count")?
+            .parse::<usize>()
+            .ok()
+            .ok_or("no number")?;
+        let mut text = parts
+            .next()
+            .unwrap_or("")
+            .as_bytes()
+            .repeat(rt.alloc(), count)?;
+        text.extend_from_slice(parts.next().unwrap_or("").as_bytes())?;
+        let closing = parts
+            .next()
+            .unwrap_or("")
+            .as_bytes()
+            .repeat(rt.alloc(), count)?;
+        text.extend_from_slice(&closing)?;
+        let found = match Script::parse(rt.alloc(), text) {
+            Ok(_) => format!(in rt.alloc(); "")?,
+            Err(fault) => format!(in rt.alloc(); "{:?} {}", fault.kind, fault.place)?,
         };
-        assert_eq!(rt; found, wanted, "of {count} times {opening:?}");
+        assert_eq!(rt; found.as_str(), wanted.trim_start(), "of {row}");
     }
     Ok(())
-}
-
-#[test]
-fn nests_are_scripts_or_have_their_fault(rt: HostRuntime) -> Result<(), Fail> {
-    are_read(&rt, &NESTS)
-}
-
-#[test]
-fn separators_are_a_script(rt: HostRuntime) -> Result<(), Fail> {
-    are_read(&rt, &LONG[..1])
-}
-
-#[test]
-fn a_long_chain_is_a_script(rt: HostRuntime) -> Result<(), Fail> {
-    are_read(&rt, &LONG[1..2])
-}
-
-#[test]
-fn a_hundred_thousand_branches_miss_their_end(rt: HostRuntime) -> Result<(), Fail> {
-    are_read(&rt, &LONG[2..])
 }

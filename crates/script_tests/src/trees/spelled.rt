@@ -1,134 +1,90 @@
 //! Texts and the trees that they spell, written by hand; `shown` prints a tree so. Each line of the table in
-//! docs/scripts.md, "Grammar", has its texts.
+//! docs/scripts.md, "Grammar", has its texts. `/` is a newline.
 
 use super::shown;
+use bench_parts::unfolded;
 use hush_syntax::Script;
 use std::test::Fail;
 
 /// Lists, words of every kind of part, assignments and chains.
-const COMMANDS: [(&[u8], &[u8]); 39] = [
-    (b"", b""),
-    (b" ;; \n ; # c", b""),
-    (b";a", b"{(a)}"),
-    (b"a\nb;;c\n", b"{(a); (b); (c)}"),
-    (b"a;\\\nb", b"{(a); (b)}"),
-    (b"a\tb", b"{(a b)}"),
-    (b"echo if then fi", b"{(echo if then fi)}"),
-    (b"in a", b"{(in a)}"),
-    (b"a#b", b"{(a#b)}"),
-    (b"echo a # b", b"{(echo a)}"),
-    (b"test a < b", b"{(test a < b)}"),
-    (b"'if' x", b"{(\"'if' x)}"),
-    (b"\\if x", b"{('i'f x)}"),
-    (b"i'f' x", b"{(i\"'f' x)}"),
-    (b"If", b"{(If)}"),
-    (b"a$x", b"{(a$x)}"),
-    (b"${serial#}", b"{($serial#)}"),
-    (b"a$?b", b"{(a$?b)}"),
-    (b"\"a$?$x\"", b"{(\"'a''$?''$x')}"),
-    (b"a\"\"b", b"{(a\"b)}"),
-    (b"a\\\nb", b"{(ab)}"),
-    (b"a\\ b", b"{(a' 'b)}"),
-    (b"'a;b' c", b"{(\"'a;b' c)}"),
-    (b"a$", b"{(a$)}"),
-    (b"$x=1", b"{($x=1)}"),
-    (b"a=", b"{a:=()}"),
-    (b"_a9=\"x y\";b=2", b"{_a9:=(\"'x y'); b:=(2)}"),
-    (b"a=$b$c", b"{a:=($b$c)}"),
-    (b"a=b=c", b"{a:=(b=c)}"),
-    (b"a\\\n=1", b"{a:=(1)}"),
-    (b"a'b'=1", b"{(a\"'b'=1)}"),
-    (b"9a=1", b"{(9a=1)}"),
-    (b"=1", b"{(=1)}"),
-    (b"echo a=1", b"{(echo a=1)}"),
-    (b"if=1", b"{if:=(1)}"),
-    (b"a=1 && b", b"{a:=(1) && (b)}"),
-    (b"a&&b||c", b"{(a) && (b) || (c)}"),
-    (b"a &&\nb", b"{(a) && (b)}"),
-    (b"a ||\n\n\nb; c", b"{(a) || (b); (c)}"),
-];
+const COMMANDS: &str = "\
+;a => {(a)}
+ =>
+ ;; / ; # c =>
+a/b;;c/ => {(a); (b); (c)}
+a;\\/b => {(a); (b)}
+a\tb => {(a b)}
+echo if then fi => {(echo if then fi)}
+in a => {(in a)}
+a#b => {(a#b)}
+echo a # b => {(echo a)}
+test a < b => {(test a < b)}
+'if' x => {(\"'if' x)}
+\\if x => {('i'f x)}
+i'f' x => {(i\"'f' x)}
+If => {(If)}
+a$x => {(a$x)}
+${serial#} => {($serial#)}
+a$?b => {(a$?b)}
+\"a$?$x\" => {(\"'a''$?''$x')}
+a\"\"b => {(a\"b)}
+a\\/b => {(ab)}
+a\\ b => {(a' 'b)}
+'a;b' c => {(\"'a;b' c)}
+a$ => {(a$)}
+$x=1 => {($x=1)}
+a= => {a:=()}
+_a9=\"x y\";b=2 => {_a9:=(\"'x y'); b:=(2)}
+a=$b$c => {a:=($b$c)}
+a=b=c => {a:=(b=c)}
+a\\/=1 => {a:=(1)}
+a'b'=1 => {(a\"'b'=1)}
+9a=1 => {(9a=1)}
+=1 => {(=1)}
+echo a=1 => {(echo a=1)}
+if=1 => {if:=(1)}
+a=1 && b => {a:=(1) && (b)}
+a&&b||c => {(a) && (b) || (c)}
+a &&/b => {(a) && (b)}
+a ||///b; c => {(a) || (b); (c)}
+";
 
 /// `if`, `for`, `while` and `until`.
-const COMPOUNDS: [(&[u8], &[u8]); 23] = [
-    (b"if a; then b; fi", b"{if {(a)} then {(b)} fi}"),
-    (b"if a\nthen\nb\nfi", b"{if {(a)} then {(b)} fi}"),
-    (
-        b"if; true; then; true; fi",
-        b"{if {(true)} then {(true)} fi}",
-    ),
-    (
-        b"if a;b; then c;d; fi",
-        b"{if {(a); (b)} then {(c); (d)} fi}",
-    ),
-    (
-        b"if a; then b; else; c; fi",
-        b"{if {(a)} then {(b)} else {(c)} fi}",
-    ),
-    (
-        b"if a; then b; elif c; then d; elif e; then f; else g; fi",
-        b"{if {(a)} then {(b)} elif {(c)} then {(d)} elif {(e)} then {(f)} else {(g)} fi}",
-    ),
-    (
-        b"if a; then if b; then c; fi; fi",
-        b"{if {(a)} then {if {(b)} then {(c)} fi} fi}",
-    ),
-    (b"if a; then b; fi && c", b"{if {(a)} then {(b)} fi && (c)}"),
-    (b"c || if a; then b; fi", b"{(c) || if {(a)} then {(b)} fi}"),
-    (
-        b"if if a; then b; fi; then c; fi",
-        b"{if {if {(a)} then {(b)} fi} then {(c)} fi}",
-    ),
-    (b"i\\\nf a=1; then b; fi", b"{if {a:=(1)} then {(b)} fi}"),
-    (
-        b"for i in a b; do c; done",
-        b"{for i in (a b) do {(c)} done}",
-    ),
-    (b"for i in\ndo c\ndone", b"{for i in () do {(c)} done}"),
-    (b"for i in do; do c; done", b"{for i in (do) do {(c)} done}"),
-    (
-        b"for in in in; do; in; done",
-        b"{for in in (in) do {(in)} done}",
-    ),
-    (
-        b"for _x in $a \"$b\"\n\n do b; done",
-        b"{for _x in ($a \"'$b') do {(b)} done}",
-    ),
-    (
-        b"for i i\\\nn a=1 'x'; do b; done && c",
-        b"{for i in (a=1 \"'x') do {(b)} done && (c)}",
-    ),
-    (b"while a; do b; done", b"{while {(a)} do {(b)} done}"),
-    (
-        b"while; a; b; do; c; done",
-        b"{while {(a); (b)} do {(c)} done}",
-    ),
-    (
-        b"until false; do echo a; done",
-        b"{until {(false)} do {(echo a)} done}",
-    ),
-    (
-        b"until a || b; do c && d; done",
-        b"{until {(a) || (b)} do {(c) && (d)} done}",
-    ),
-    (
-        b"while a; do until b; do c; done; done",
-        b"{while {(a)} do {until {(b)} do {(c)} done} done}",
-    ),
-    (
-        b"while true; do x=1; done || y",
-        b"{while {(true)} do {x:=(1)} done || (y)}",
-    ),
-];
+const COMPOUNDS: &str = "\
+if a; then b; fi => {if {(a)} then {(b)} fi}
+if a/then/b/fi => {if {(a)} then {(b)} fi}
+if; true; then; true; fi => {if {(true)} then {(true)} fi}
+if a;b; then c;d; fi => {if {(a); (b)} then {(c); (d)} fi}
+if a; then b; else; c; fi => {if {(a)} then {(b)} else {(c)} fi}
+if a; then b; elif c; then d; elif e; then f; else g; fi => {if {(a)} then {(b)} elif {(c)} then {(d)} elif {(e)} then {(f)} else {(g)} fi}
+if a; then if b; then c; fi; fi => {if {(a)} then {if {(b)} then {(c)} fi} fi}
+if a; then b; fi && c => {if {(a)} then {(b)} fi && (c)}
+c || if a; then b; fi => {(c) || if {(a)} then {(b)} fi}
+if if a; then b; fi; then c; fi => {if {if {(a)} then {(b)} fi} then {(c)} fi}
+i\\/f a=1; then b; fi => {if {a:=(1)} then {(b)} fi}
+for i in a b; do c; done => {for i in (a b) do {(c)} done}
+for i in/do c/done => {for i in () do {(c)} done}
+for i in do; do c; done => {for i in (do) do {(c)} done}
+for in in in; do; in; done => {for in in (in) do {(in)} done}
+for _x in $a \"$b\"// do b; done => {for _x in ($a \"'$b') do {(b)} done}
+for i i\\/n a=1 'x'; do b; done && c => {for i in (a=1 \"'x') do {(b)} done && (c)}
+while a; do b; done => {while {(a)} do {(b)} done}
+while; a; b; do; c; done => {while {(a); (b)} do {(c)} done}
+until false; do echo a; done => {until {(false)} do {(echo a)} done}
+until a || b; do c && d; done => {until {(a) || (b)} do {(c) && (d)} done}
+while a; do until b; do c; done; done => {while {(a)} do {until {(b)} do {(c)} done} done}
+while true; do x=1; done || y => {while {(true)} do {x:=(1)} done || (y)}
+";
 
 #[test]
 fn texts_spell_their_trees(rt: HostRuntime) -> Result<(), Fail> {
-    let tables: [&[(&[u8], &[u8])]; 2] = [&COMMANDS, &COMPOUNDS];
-    for table in tables {
-        for (text, tree) in table {
-            let script = Script::parse(rt.alloc(), text.to_vec(rt.alloc())?)?;
-            let shown = shown(rt.alloc(), &script)?;
-            assert_eq!(rt; (shown.as_slice(), script.source()), (*tree, *text));
-        }
+    for row in COMMANDS.lines().chain(COMPOUNDS.lines()) {
+        let (text, tree) = row.split_once(" =>").ok_or("no row")?;
+        let text = unfolded(rt.alloc(), text)?;
+        let script = Script::parse(rt.alloc(), text.clone()?)?;
+        let shown = shown(rt.alloc(), &script)?;
+        assert_eq!(rt; shown.as_slice(), tree.trim_start().as_bytes(), "of {row}");
+        assert_eq!(rt; script.source(), text.as_slice());
     }
     Ok(())
 }

@@ -7,7 +7,7 @@ use Rattle.envvars_store.specs.Runs.{listed, AreInOrder}
 use Rattle.envvars_store.proofs.RisingLemmas.{RisesTo}
 use Rattle.envvars_store.proofs.load.rising.Given as goal
 
--- the run that is being filled stands behind the others; a name after the last one comes after all; the entries that are left make of these variables those of the area
+-- the run that is being filled is after the others; a name after the last one comes after all; the entries that are left make of these variables those of the area
 abbrev pub invariant-walk : goal.invariant-walk
 invariant-walk l =
     record {

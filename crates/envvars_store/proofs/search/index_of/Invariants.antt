@@ -3,7 +3,7 @@ use Rattle.envvars_store.specs.Order.{AllBefore, StartsAfter}
 use Rattle.envvars_store.specs.Runs.{pairs}
 use Rattle.envvars_store.proofs.search.index_of.Given as goal
 
--- what stands below `low` comes before the name, and what stands at `high` after it
+-- what is below `low` comes before the name, and what is at `high` after it
 abbrev pub invariant-halving : goal.invariant-halving
 invariant-halving l =
     record {

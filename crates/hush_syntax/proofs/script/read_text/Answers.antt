@@ -1,5 +1,5 @@
 use Rattle.std.proofs.Common.{sym, ◌∙◌, ap}
-use Rattle.hush_syntax.specs.declared.faults.SyntaxFault.{SyntaxFault}
+use Rattle.hush_syntax.specs.declared.syntax_fault.SyntaxFault.{SyntaxFault}
 use Rattle.hush_words.proofs.TextLemmas.{nul-read}
 use Rattle.hush_syntax.proofs.Calls.{refuses_always}
 use Rattle.hush_syntax.proofs.Told.{read_stopped}

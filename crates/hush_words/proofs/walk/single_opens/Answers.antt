@@ -1,7 +1,7 @@
 use Rattle.std.specs.Prelude.{Some}
 use Rattle.std.proofs.Common.{arith, drop, subst, sym}
-use Rattle.hush_words.specs.declared.steps.Inside.TheVariants as inside
-use Rattle.hush_words.specs.declared.steps.PlaceRead.{PlaceRead}
+use Rattle.hush_words.specs.declared.reads.Inside.TheVariants as inside
+use Rattle.hush_words.specs.declared.reads.PlaceRead.{PlaceRead}
 use Rattle.hush_words.specs.Steps.{Steps, place_in}
 use Rattle.hush_words.proofs.PieceLemmas.{piece-none}
 use Rattle.hush_words.proofs.QuoteLemmas.{single-opens}

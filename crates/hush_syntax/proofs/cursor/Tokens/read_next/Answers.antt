@@ -2,7 +2,7 @@ use Rattle.std.proofs.Common.{sym, ◌∙◌, ap, subst, refl, length, ◌==◌}
 use Rattle.hush_words.specs.Faults.{left_fault}
 use Rattle.hush_syntax.specs.Answers.{ends_whole, placed_in, EndsRight, HasFaultOf}
 use Rattle.hush_syntax.specs.Faults.{is_missing}
-use Rattle.hush_syntax.specs.declared.faults.SyntaxFault.{SyntaxFault}
+use Rattle.hush_syntax.specs.declared.syntax_fault.SyntaxFault.{SyntaxFault}
 use Rattle.hush_syntax.proofs.EndLemmas.{not-missing, some-left}
 use Rattle.hush_syntax.proofs.Places.{word-stops}
 use Rattle.hush_syntax.proofs.cursor.Tokens.read_next.Goals as goal

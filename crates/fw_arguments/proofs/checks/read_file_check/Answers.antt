@@ -1,8 +1,0 @@
-use Rattle.std.proofs.Common.{sym, ◌∙◌}
-use Rattle.clap.specs.Words.{found_of, rows_of}
-use Rattle.fw_arguments.proofs.CallLemmas.{refused_file}
-use Rattle.fw_arguments.proofs.checks.read_file_check.Goals as goal
-
-pub returns-then-names_environment : goal.returns-then-names_environment
-returns-then-names_environment c =
-    refused_file (rows_of (found_of c.args.found.now)) c.args.path.now _ c.of.ensures (sym c.names_environment.ensures ∙ c.if-names_environment.true)

@@ -1,0 +1,70 @@
+//! The names that the script of a text runs, gives to something and foresees.
+ghost use Rattle.std.specs.Prelude.{◌≡◌, ◌≢◌, OnOk};
+ghost use Rattle.hush_syntax.specs.Scripts.{tree_of};
+ghost use Rattle.hush_syntax.specs.declared.syntax_fault.FaultKind.TheVariants as kind;
+ghost use Rattle.std.specs.List.{flat_map};
+ghost use Rattle.fw_check.specs.Checking.{with_names};
+ghost use Rattle.fw_check.specs.NameSets.{set_of, with_all};
+ghost use Rattle.fw_check.specs.Naming.{foreseen_in, foreseen_names, given_in, given_names, run_in, run_names};
+ghost use Rattle.fw_check.specs.Statements.{of_script};
+
+use crate::followed::Names;
+use crate::gives::gather_items;
+use crate::items::items_of;
+use crate::name_set::ScriptNames;
+use crate::run_names::follow_items;
+use envvars_core::Vars;
+use hush_syntax::{FaultKind, Script, SyntaxFault};
+use std::alloc::{AllocError, Global};
+
+/// Adds the names that the script of a text runs to those that are followed, and those that it gives and foresees to
+/// those of the other scripts.
+pub(crate) fn follow_text(
+    alloc: Global,
+    vars: &Vars,
+    text: &[u8],
+    names: &mut Names,
+    gathered: &mut ScriptNames,
+) -> Result<(), AllocError>
+    ensures names { OnOk result (names.new ≡ with_names vars.now.env names.old (run_in text.now)) }
+    ensures given { OnOk result
+        (set_of gathered.new.given ≡ with_all (set_of gathered.old.given) (given_in text.now)) }
+    ensures foreseen { OnOk result
+        (set_of gathered.new.foreseen ≡ with_all (set_of gathered.old.foreseen) (foreseen_in text.now)) }
+{
+    let source = Vec::from_slice(alloc, text)?;
+    match Script::parse(alloc, source) {
+        Ok(script) => follow_script(alloc, vars, &script, names, gathered),
+        Err(fault) => no_script(fault),
+    }
+}
+
+/// The same for a script.
+fn follow_script(
+    alloc: Global,
+    vars: &Vars,
+    script: &Script,
+    names: &mut Names,
+    gathered: &mut ScriptNames,
+) -> Result<(), AllocError>
+    ensures names { OnOk result (names.new ≡ with_names vars.now.env names.old
+        (flat_map run_names (of_script (tree_of script.now)))) }
+    ensures given { OnOk result (set_of gathered.new.given ≡ with_all (set_of gathered.old.given)
+        (flat_map given_names (of_script (tree_of script.now)))) }
+    ensures foreseen { OnOk result (set_of gathered.new.foreseen ≡ with_all (set_of gathered.old.foreseen)
+        (flat_map foreseen_names (of_script (tree_of script.now)))) }
+{
+    let items = items_of(alloc, script)?;
+    follow_items(alloc, vars, script.text(), &items, names)?;
+    gather_items(alloc, script.text(), &items, gathered)
+}
+
+/// Nothing is added if a text isn't a script, unless memory ran out.
+fn no_script(fault: SyntaxFault) -> Result<(), AllocError>
+    ensures { OnOk result (fault.kind ≢ kind.Memory) }
+{
+    match fault.kind {
+        FaultKind::Memory => Err(AllocError),
+        _ => Ok(()),
+    }
+}

@@ -1,0 +1,185 @@
+//! The forms that a reserved word opens: `if`, `for`, `while` and `until`.
+
+ghost use Rattle.std.specs.Prelude.{◌≡◌, OnOk};
+ghost use Rattle.hush_syntax.specs.Builders.{if_stored};
+
+use crate::SyntaxFault;
+use crate::cursor::Tokens;
+use crate::keywords::Keyword;
+use crate::nodes::{Branch, NodeId};
+use crate::parser::Parser;
+use crate::stored::{Block, Stored};
+use crate::table::Builder;
+
+impl<'s> Parser<'s> {
+    ghost use Rattle.hush_syntax.specs.Answers.{branch, otherwise, SameEnd, IsAt, HasFaultOf, Keeps};
+    ghost use Rattle.hush_syntax.specs.Grammar.{Chains, Command};
+    ghost use Rattle.hush_syntax.specs.Reading.{command, compound, loop_parts};
+    ghost use Rattle.hush_syntax.specs.Builders.{Parses, CommandAt, BranchAt, OtherwiseAt, LoopAt};
+
+    /// What is after a form's first word. It isn't inlined into what reads every command, which so has less to set up.
+    #[inline(never)]
+    #[cycle(parsing)]
+    pub(super) fn compound(
+        self,
+        tokens: &mut Tokens,
+        builder: &mut Builder,
+        keyword: Keyword,
+        fault: SyntaxFault,
+        room: u32,
+    ) -> Result<NodeId, SyntaxFault>
+        requires at { IsAt self.text.now tokens.old }
+        requires fault { HasFaultOf self.text.now fault }
+        ensures built { Parses CommandAt self.entry.text.now (compound (command room) keyword) builder.old builder.new tokens.old tokens.new result }
+        ensures whole { OnOk result (SameEnd self.entry.text.now tokens.old tokens.new) }
+        ensures at { Keeps self.entry.text.now tokens.new result }
+    {
+        match keyword {
+            Keyword::If => self.branches(tokens, builder, room),
+            Keyword::For => self.binding_loop(tokens, builder, room),
+            Keyword::While => {
+                let (condition, body) = self.loop_parts(tokens, builder, room)?;
+                let node = builder.put(Stored::While { condition, body })?;
+                Ok(node)
+            }
+            Keyword::Until => {
+                let (condition, body) = self.loop_parts(tokens, builder, room)?;
+                let node = builder.put(Stored::Until { condition, body })?;
+                Ok(node)
+            }
+            Keyword::Then
+            | Keyword::Elif
+            | Keyword::Else
+            | Keyword::Fi
+            | Keyword::Do
+            | Keyword::Done => Err(fault),
+        }
+    }
+
+    /// The lists of a `while` or an `until`.
+    #[cycle(parsing)]
+    fn loop_parts(
+        self,
+        tokens: &mut Tokens,
+        builder: &mut Builder,
+        room: u32,
+    ) -> Result<(NodeId, NodeId), SyntaxFault>
+        requires at { IsAt self.text.now tokens.old }
+        ensures built { (form : Chains → Chains → Command) → Parses (LoopAt form) self.entry.text.now
+            (loop_parts (command room) form) builder.old builder.new tokens.old tokens.new result }
+        ensures whole { OnOk result (SameEnd self.entry.text.now tokens.old tokens.new) }
+        ensures at { Keeps self.entry.text.now tokens.new result }
+    {
+        let condition = self.list(tokens, builder, room)?;
+        tokens.expect(self.text, Keyword::Do.text())?;
+        let body = self.list(tokens, builder, room)?;
+        tokens.expect(self.text, Keyword::Done.text())?;
+        Ok((condition, body))
+    }
+
+    /// What is after `for`.
+    #[cycle(parsing)]
+    fn binding_loop(
+        self,
+        tokens: &mut Tokens,
+        builder: &mut Builder,
+        room: u32,
+    ) -> Result<NodeId, SyntaxFault>
+        requires at { IsAt self.text.now tokens.old }
+        ensures built { Parses CommandAt self.entry.text.now (compound (command room) Keyword.For) builder.old builder.new tokens.old tokens.new result }
+        ensures whole { OnOk result (SameEnd self.entry.text.now tokens.old tokens.new) }
+        ensures at { Keeps self.entry.text.now tokens.new result }
+    {
+        let name = tokens.name(self.text)?;
+        tokens.expect(self.text, b"in")?;
+        let words = builder.take_named(name, self.text, tokens)?;
+        tokens.separators(self.text)?;
+        tokens.expect(self.text, Keyword::Do.text())?;
+        let body = self.list(tokens, builder, room)?;
+        tokens.expect(self.text, Keyword::Done.text())?;
+        let node = builder.put(Stored::For { words, body })?;
+        Ok(node)
+    }
+
+    /// What is after `if`.
+    #[cycle(parsing)]
+    fn branches(
+        self,
+        tokens: &mut Tokens,
+        builder: &mut Builder,
+        room: u32,
+    ) -> Result<NodeId, SyntaxFault>
+        requires at { IsAt self.text.now tokens.old }
+        ensures built { Parses CommandAt self.entry.text.now (compound (command room) Keyword.If) builder.old builder.new tokens.old tokens.new result }
+        ensures whole { OnOk result (SameEnd self.entry.text.now tokens.old tokens.new) }
+        ensures at { Keeps self.entry.text.now tokens.new result }
+    {
+        let mark = builder.waiting_branches();
+        let first = self.branch(tokens, builder, room)?;
+        builder.push_branch(first)?;
+        while tokens.at(self.text, Keyword::Elif.text()) {
+            tokens.advance(self.text);
+            let branch = self.branch(tokens, builder, room)?;
+            builder.push_branch(branch)?;
+        }
+        let otherwise = self.otherwise(tokens, builder, room)?;
+        let branches = builder.settle_branches(mark)?;
+        let node = builder.put(stored_if(branches, otherwise))?;
+        Ok(node)
+    }
+
+    /// A condition, `then` and a body.
+    #[cycle(parsing)]
+    fn branch(
+        self,
+        tokens: &mut Tokens,
+        builder: &mut Builder,
+        room: u32,
+    ) -> Result<Branch, SyntaxFault>
+        requires at { IsAt self.text.now tokens.old }
+        ensures built { Parses BranchAt self.entry.text.now (branch (command room)) builder.old builder.new tokens.old tokens.new result }
+        ensures whole { OnOk result (SameEnd self.entry.text.now tokens.old tokens.new) }
+        ensures at { Keeps self.entry.text.now tokens.new result }
+    {
+        let condition = self.list(tokens, builder, room)?;
+        tokens.expect(self.text, Keyword::Then.text())?;
+        let body = self.list(tokens, builder, room)?;
+        Ok(Branch { condition, body })
+    }
+
+    /// `else` with its body, if it is there, and `fi`.
+    #[cycle(parsing)]
+    fn otherwise(
+        self,
+        tokens: &mut Tokens,
+        builder: &mut Builder,
+        room: u32,
+    ) -> Result<Option<NodeId>, SyntaxFault>
+        requires at { IsAt self.text.now tokens.old }
+        ensures built { Parses OtherwiseAt self.entry.text.now (otherwise (command room)) builder.old builder.new tokens.old tokens.new result }
+        ensures whole { OnOk result (SameEnd self.entry.text.now tokens.old tokens.new) }
+        ensures at { Keeps self.entry.text.now tokens.new result }
+    {
+        if !tokens.at(self.text, Keyword::Else.text()) {
+            tokens.expect(self.text, Keyword::Fi.text())?;
+            return Ok(None);
+        }
+        tokens.advance(self.text);
+        let body = self.list(tokens, builder, room)?;
+        tokens.expect(self.text, Keyword::Fi.text())?;
+        Ok(Some(body))
+    }
+}
+
+/// An `if` of these branches, and maybe the list after `else`.
+fn stored_if(branches: Block, otherwise: Option<NodeId>) -> Stored
+    ensures { result ≡ if_stored branches otherwise }
+{
+    match otherwise {
+        Some(otherwise) => Stored::IfElse {
+            branches,
+            otherwise,
+        },
+        None => Stored::If { branches },
+    }
+}

@@ -1,0 +1,2 @@
+-- What the public calls promise.
+pub mod Limits
