@@ -1,5 +1,5 @@
-"""Lists of requests of a session at random: writes that are forced or not, types and accesses, saves, marks and
-undos, over copies that are good or not, in both layouts and both byte orders. After each request the variables are
+"""Lists of requests of a session at random: writes that are forced or not, types and accesses, runs that a limit on steps may stop,
+saves, marks and undos, over copies that are good or not, in both layouts and both byte orders. After each request the variables are
 printed, and the copies are seen at the end of the list."""
 
 import functools
@@ -13,7 +13,10 @@ from model.session import MARKS
 SIZE, MOST = 60, 99
 LETTERS = b"0123456789abcdefghijklmn"
 STARTS = [(copies, order, is_good) for copies in (1, 2) for order in ("little", "big") for is_good in (False, True)]
-OFTEN = {name: 0.001 for name in ("type check", "Can't create", "Can't delete", "Can't overwrite", "no room", "Gone", "Undone", "Full")}
+OFTEN = {
+    **{name: 0.001 for name in ("type check", "Can't create", "Can't delete", "Can't overwrite", "no room", "Gone", "Undone", "Full")},
+    **{ending: 0.1 for ending in ("Finished", "Exited", "Steps")},
+}
 
 
 class Requests:
@@ -37,6 +40,12 @@ class Requests:
         item = b"%s:%c%c" % (self.name(), self.numbers.choice(b"ssdd"), self.numbers.choice(b"aroc"))
         return self.write(b".flags", item, True)
 
+    def run(self):
+        """A block of several steps, perhaps with an ending of its own."""
+        name, value = self.name(), self.value()
+        block = self.numbers.choice([b"setenv %s %s; saveenv", b"for i in 1 2 3; do setenv %s $i%s; done", b"setenv %s %s && setenv a0 && saveenv"])
+        return block % (name, value) + self.numbers.choice([b"", b"; exit 3", b"; exit", b"; false", b"; echo $? $a0"]) + b"\n"
+
     def mark(self):
         self.marks = min(self.marks + 1, MARKS)
         return b".mark m%d\n" % self.marks
@@ -49,7 +58,9 @@ class Requests:
         return b".undo m%d\n" % number if number else b".undo\n"
 
     def next(self):
-        kind = self.numbers.randrange(32)
+        kind = self.numbers.randrange(36)
+        if kind > 31:
+            return self.run()
         if kind < 15:
             return self.write(self.name(), self.value(), self.numbers.randrange(4) == 0)
         if kind < 17:
@@ -64,7 +75,7 @@ class Requests:
 
 
 def listed(seed, number):
-    """A list, which sometimes has more marks than there may be; half of the lists end with an undo of all."""
+    """A list, which sometimes has more marks than there may be; half of the lists have a limit on steps, and half end with an undo of all."""
     numbers = numbers_of("requests", seed, number)
     copies, order, is_good = STARTS[number % len(STARTS)]
     form = Geometry(copies, SIZE, order)
@@ -76,7 +87,8 @@ def listed(seed, number):
     if numbers.randrange(20) == 0:
         given += b"".join(requests.mark() for _ in range(MARKS + 1))
     given += b".undo\n.print\n" * numbers.randrange(2)
-    words = arguments(b"session", b"--default", b"default", b"--write", order=order)
+    limit = [b"--steps", b"%d" % numbers.randint(1, 8)] * numbers.randrange(2)
+    words = arguments(b"session", b"--default", b"default", b"--write", *limit, order=order)
     return Case("requests", words, board(form, stored) | {b"default": b"a0=1\n"}, given)
 
 

@@ -1,12 +1,13 @@
 //! A command by its words (docs/runs.md, "Commands"): its status, what follows it, and its text.
 
-use crate::fixtures::{OUTPUT, command, session};
-use bench_parts::folded;
+use crate::fixtures::{OUTPUT, command};
 use env_session::{Session, Side};
+use envimg_core::Layout;
 use hush_commands::{FieldQueue, Follow, Message, Output, PrintFault, Stubs, carry_out, delete};
 use run_limits::Limits;
 use std::alloc::{AllocError, Global};
 use std::test::Fail;
+use test_support::{erased_session, folded};
 
 /// Commands over one session: the status, what follows with its names, and the text, in which `/` ends a line. `mmc` is a
 /// stand-in with status 3, `booti` and `bootm` are some that boot, and the status before is 7.
@@ -111,7 +112,7 @@ fn shown(
 
 #[test]
 fn commands_are_carried_out(rt: HostRuntime) -> Result<(), Fail> {
-    let mut session = session(rt.alloc())?;
+    let mut session = erased_session(rt.alloc(), Layout::Single, 64, b"")?;
     let stand_ins = stand_ins(rt.alloc())?;
     for row in COMMANDS.lines() {
         let (text, wanted) = row.split_once(" => ").ok_or("no row")?;
@@ -126,7 +127,7 @@ fn commands_are_carried_out(rt: HostRuntime) -> Result<(), Fail> {
 
 #[test]
 fn a_text_without_room_changes_nothing(rt: HostRuntime) -> Result<(), Fail> {
-    let mut session = session(rt.alloc())?;
+    let mut session = erased_session(rt.alloc(), Layout::Single, 64, b"")?;
     let stand_ins = stand_ins(rt.alloc())?;
     let mut output = Output::new(rt.alloc(), 6);
     let table = [
@@ -149,7 +150,7 @@ fn a_text_without_room_changes_nothing(rt: HostRuntime) -> Result<(), Fail> {
 
 #[test]
 fn a_name_is_deleted_once(rt: HostRuntime) -> Result<(), Fail> {
-    let mut session = session(rt.alloc())?;
+    let mut session = erased_session(rt.alloc(), Layout::Single, 64, b"")?;
     session.write(b"a", Some(b"1"), false)?;
     let mut output = Output::new(rt.alloc(), 30);
     let first = delete(&mut session, b"a", false, false, &mut output);

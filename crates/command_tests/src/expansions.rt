@@ -1,12 +1,12 @@
 //! Expansion by its rules (docs/runs.md, "Expansion"). The fields are worked out by hand.
 
 use crate::fixtures::expanded;
-use bench_parts::{folded, words_of};
 use envvars_core::Vars;
 use hush_commands::{ExpansionFault, FieldBuffer, Locals, Scope};
 use hush_words::Text;
 use std::alloc::{AllocError, Global};
 use std::test::Fail;
+use test_support::{folded, words_of};
 
 /// Words, and their fields with `|` after each, in which `/` is a newline.
 const FIELDS: &str = "\

@@ -1,32 +1,16 @@
-//! Sessions and fields for the tests.
+//! Fields for the tests.
 
-use bench_parts::words_of;
-use env_session::{Session, Stored};
-use envimg_core::{Geometry, Layout};
 use envvars_core::Vars;
 use hush_commands::{ExpansionFault, FieldBuffer, Locals, Scope};
 use hush_words::Text;
 use std::alloc::{AllocError, Global};
+use test_support::words_of;
 
 /// The largest word.
 pub(crate) const WORD: u32 = 65_536;
 
 /// The largest text, without any of its bytes yet.
 pub(crate) const OUTPUT: u32 = 16_777_216;
-
-/// A session without variables over a single image of 64 bytes, all of them FF.
-pub(crate) fn session(alloc: Global) -> Result<Session, AllocError> {
-    let Some(geometry) = Geometry::new(Layout::Single, 64) else {
-        return Err(AllocError);
-    };
-    let stored = Stored {
-        geometry,
-        first: b"\xFF".repeat(alloc, 64)?,
-        second: None,
-    };
-    let defaults = Vars::empty(alloc, geometry.room());
-    Session::start(alloc, stored, defaults).map_err(|_| AllocError)
-}
 
 /// What the words of a text are expanded to where only these local variables have values, or the fault.
 pub(crate) fn expanded(

@@ -1,9 +1,11 @@
 //! The calls that take memory, each with as much as it may be given, and ample memory for it.
 
-use crate::fixtures::{OUTPUT, WORD, command, expanded, session};
+use crate::fixtures::{OUTPUT, WORD, command, expanded};
+use envimg_core::Layout;
 use hush_commands::{Locals, Output, PrintFault, Stubs, carry_out};
 use std::alloc::{AllocError, Global};
 use std::test::Fail;
+use test_support::erased_session;
 
 /// Bytes so many times over. Its contract says nothing of them, since a proof need not hold so many.
 fn repeated(alloc: Global, bytes: &[u8], count: u32) -> Result<Vec<u8>, AllocError> {
@@ -68,7 +70,7 @@ fn a_stand_in_of_the_longest_name_is_read(rt: HostRuntime) -> Result<(), Fail> {
 /// 256 lines of 65,536 bytes.
 #[test]
 fn the_longest_text_is_printed(rt: HostRuntime) -> Result<(), Fail> {
-    let mut session = session(rt.alloc())?;
+    let mut session = erased_session(rt.alloc(), Layout::Single, 64, b"")?;
     let stand_ins = Stubs::parse(rt.alloc(), b"")?;
     let mut output = Output::new(rt.alloc(), OUTPUT);
     let mut text = Vec::from_slice(rt.alloc(), b"echo ")?;

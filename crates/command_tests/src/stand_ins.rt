@@ -1,8 +1,8 @@
 //! Stand-in files. In a row's text `/` ends a line.
 
-use bench_parts::unfolded;
 use hush_commands::{StubFault, Stubs, is_builtin};
 use std::test::Fail;
+use test_support::unfolded;
 
 /// Texts, and a name in them with its status, or `-` if it has none.
 const READ: &str = "\

@@ -1,14 +1,12 @@
 //! What is found in scripts that aren't run.
 
-use crate::starts::variables;
-use bench_parts::{folded, unfolded};
-use failing_streams::Narrow;
 use fw_check::{check, check_text};
 use fw_engines::{StreamFault, ToolEnd};
 use hush_run::Stubs;
 use std::alloc::Global;
 use std::process::Abort;
 use std::test::Fail;
+use test_support::{Narrow, folded, unfolded, variables};
 
 /// Environments as texts for import, and what is found in them: the status and the lines.
 const ENVIRONMENTS: &str = "\

@@ -1,10 +1,10 @@
 //! What `status` reports of stored copies, and of a whole file.
 
 use envimg_core::{Geometry, ImageWriter, Layout, Order};
-use failing_streams::Narrow;
 use fw_engines::{FoundCopy, StreamFault, Survey, ToolEnd, file_status, status};
 use std::alloc::Global;
 use std::test::Fail;
+use test_support::Narrow;
 
 /// A big-endian copy of 40 bytes with the variables `a=b` and `c=12`.
 fn copy(alloc: Global, layout: Layout, flag: u8) -> Result<Vec<u8>, Fail> {

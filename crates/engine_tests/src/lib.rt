@@ -1,6 +1,6 @@
-//! Tests of the engines `status`, `restore`, `run` and `check` by their rules (docs/tools.md), over streams in memory: that each
-//! succeeds, and what comes of a stream that fails. They are apart from `fw_engines`, `fw_session` and `fw_check`, so that
-//! these are proved once. What the tools print is in scripts/differential.
+//! Tests of the engines by their rules (docs/tools.md), over streams in memory: that each succeeds, and what comes of a stream
+//! that fails. They are apart from `fw_engines`, `fw_session` and `fw_check`, so that these are proved once. What the tools print,
+//! and what a stream that is cut leaves, is in scripts/differential.
 #![tactic(auto)]
 
 #[cfg(test)]
@@ -12,4 +12,4 @@ mod restorations;
 #[cfg(test)]
 mod script_runs;
 #[cfg(test)]
-mod starts;
+mod tool_calls;

@@ -1,12 +1,12 @@
 //! What a restore leaves of a session.
 
-use crate::starts::started;
 use env_session::{Session, Side};
 use envcfg_core::parse_import;
-use failing_streams::Narrow;
+use envimg_core::Layout;
 use fw_engines::{StreamFault, ToolEnd, restore};
 use std::alloc::{AllocError, Global};
 use std::test::Fail;
+use test_support::{Narrow, erased_session};
 
 /// The variables, with a `;` after each.
 fn variables(alloc: Global, session: &Session) -> Result<Vec<u8>, AllocError> {
@@ -20,7 +20,8 @@ fn variables(alloc: Global, session: &Session) -> Result<Vec<u8>, AllocError> {
 
 #[test]
 fn the_variables_are_those_of_the_text(rt: HostRuntime) -> Result<(), Fail> {
-    let mut session = started(rt.alloc(), b".flags=s:so\ns=1\nq=5\n")?;
+    let text = b".flags=s:so\ns=1\nq=5\n";
+    let mut session = erased_session(rt.alloc(), Layout::Redundant, 45, text)?;
     let entries = parse_import(rt.alloc(), b".flags=s:so,r:sr\nr=7\ns=2\n")?;
     let mut errors = Vec::new(rt.alloc());
     let end = restore(rt.alloc(), &mut session, &entries, &mut errors);
@@ -46,7 +47,7 @@ fn a_refused_entry_is_told_with_its_line(rt: HostRuntime) -> Result<(), Fail> {
     let entries = parse_import(rt.alloc(), text)?;
     let message = b"## Error: no room for \"long\" in line 3\n";
     for room in 0..=message.len() {
-        let mut session = started(rt.alloc(), b"a=1\n")?;
+        let mut session = erased_session(rt.alloc(), Layout::Redundant, 45, b"a=1\n")?;
         let mut errors = Narrow::of_room(rt.alloc(), 7, room, true);
         let end = restore(rt.alloc(), &mut session, &entries, &mut errors);
         assert_eq!(rt; Some(errors.taken.as_slice()), message.get(..room));

@@ -1,7 +1,6 @@
 //! What the run of a script prints, and its status.
 
-use crate::starts::started;
-use failing_streams::Narrow;
+use envimg_core::Layout;
 use fw_engines::{
     Place, StreamFault, ToolEnd, fault_name, fault_sentence, place_of, say_syntax_fault,
 };
@@ -11,6 +10,7 @@ use hush_syntax::Script;
 use std::alloc::Global;
 use std::io::Write;
 use std::test::Fail;
+use test_support::{Narrow, erased_session};
 
 /// Scripts, their limits on steps, depth, word and output, and what is said of the run: nothing if the status is 0.
 const RUNS: &str = "\
@@ -40,7 +40,7 @@ fn ran<W: Write, E: Write>(
     output: &mut W,
     errors: &mut E,
 ) -> Result<ToolEnd, Fail> {
-    let mut session = started(alloc, b"")?;
+    let mut session = erased_session(alloc, Layout::Redundant, 45, b"")?;
     let script = Script::parse(alloc, Vec::from_slice(alloc, text.as_bytes())?)?;
     let stubs = Stubs::parse(alloc, b"")?;
     Ok(run(alloc, &mut session, &script, &stubs, limits, output, errors))

@@ -1,11 +1,11 @@
 //! Texts: worked examples, with values taken from docs/texts.md and U-Boot's own documents.
-use bench_parts::{folded, unfolded};
 use envcfg_core::{
     Config, ConfigFault, ExportFault, Place, TextEntry, TextFault, export_entry, parse_config,
     parse_import, parse_set_script,
 };
 use std::alloc::{AllocError, Global};
 use std::test::Fail;
+use test_support::{folded, unfolded};
 
 /// The entries one after the other, each as `line:name=value` or `line:name` and `;`, or the fault's line.
 fn shown(alloc: Global, outcome: Result<Vec<TextEntry>, TextFault>) -> Result<Vec<u8>, AllocError> {

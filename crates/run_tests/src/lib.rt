@@ -7,10 +7,4 @@ mod frames;
 #[cfg(test)]
 mod outcomes;
 #[cfg(test)]
-mod plain;
-#[cfg(test)]
-mod random_lists;
-#[cfg(test)]
-mod random_requests;
-#[cfg(test)]
 mod request_lists;

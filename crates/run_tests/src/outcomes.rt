@@ -1,30 +1,12 @@
 //! What runs come to through the library: one after another over a session, and how an undo brings back what was there.
 
-use bench_parts::folded;
-use env_session::{Session, Side, Stored};
-use envcfg_core::parse_import;
-use envimg_core::{Choice, Geometry, Layout};
-use envvars_core::Vars;
+use env_session::{Session, Side};
+use envimg_core::{Choice, Layout};
 use hush_run::{Limits, Outcome, Stubs, run};
 use hush_syntax::Script;
 use std::alloc::Global;
 use std::test::Fail;
-
-/// A session over a single image of so many bytes FF, with the defaults of a text for import.
-pub(crate) fn started(alloc: Global, size: u32, defaults: &[u8]) -> Result<Session, Fail> {
-    let geometry = Geometry::new(Layout::Single, size).ok_or("no geometry")?;
-    let none = Vars::empty(alloc, 1);
-    let mut vars = Vars::empty(alloc, geometry.room());
-    for entry in &parse_import(alloc, defaults)? {
-        vars.write(&entry.name, entry.value_bytes(), true, &none)?;
-    }
-    let stored = Stored {
-        geometry,
-        first: b"\xFF".repeat(alloc, size as usize)?,
-        second: None,
-    };
-    Ok(Session::start(alloc, stored, vars).map_err(|_| "no start")?)
-}
+use test_support::{erased_session, folded};
 
 /// What a script comes to in so many steps, where `mmc` is a stand-in with status 3, and `booti` and `bootm` are some that boot.
 fn ran(
@@ -61,7 +43,7 @@ env delete n; echo $?$n => Finished 0 3 0/
 
 #[test]
 fn a_session_goes_on_after_each_ending(rt: HostRuntime) -> Result<(), Fail> {
-    let mut session = started(rt.alloc(), 4096, b"")?;
+    let mut session = erased_session(rt.alloc(), Layout::Single, 4096, b"")?;
     assert_eq!(rt; session.mark(), Ok(1));
     for row in RUNS.lines() {
         let (script, wanted) = row.split_once(" => ").ok_or("no row")?;
@@ -115,7 +97,7 @@ const UNDONE: [(u32, &str, &str, &str, &str); 3] = [
 #[test]
 fn a_run_is_undone(rt: HostRuntime) -> Result<(), Fail> {
     for (size, defaults, script, wanted, left) in UNDONE {
-        let mut session = started(rt.alloc(), size, defaults.as_bytes())?;
+        let mut session = erased_session(rt.alloc(), Layout::Single, size, defaults.as_bytes())?;
         let outcome = ran(rt.alloc(), &mut session, script, 10, 4)?;
         let Outcome {
             ending,

@@ -1,14 +1,15 @@
 //! A list of requests of every kind: what each is answered, and what an undo brings back (docs/undo.md).
 
-use crate::outcomes::started;
 use env_requests::{Reply, Request, obey_all};
 use env_session::Side;
 use envcfg_core::TextEntry;
+use envimg_core::Layout;
 use envvars_core::Memory;
 use hush_run::{Limits, Stubs};
 use hush_syntax::Script;
 use std::alloc::Global;
 use std::test::Fail;
+use test_support::erased_session;
 
 /// What the requests of the test are answered, each with a newline after it.
 const ANSWERS: &[u8] =
@@ -91,7 +92,7 @@ fn told(alloc: Global, replies: &[Reply]) -> Result<Vec<u8>, Memory> {
 
 #[test]
 fn requests_are_obeyed_one_after_the_other(rt: HostRuntime) -> Result<(), Fail> {
-    let mut session = started(rt.alloc(), 4096, b"")?;
+    let mut session = erased_session(rt.alloc(), Layout::Single, 4096, b"")?;
     let before = Vec::from_slice(rt.alloc(), session.copy(Side::First).ok_or("no copy")?)?;
     let stubs = Stubs::parse(rt.alloc(), b"")?;
     let limits = Limits::new(9, 2, 9, 99).ok_or("no limits")?;

@@ -1,9 +1,9 @@
 //! Words and tokens by their rules (docs/scripts.md, "Words"). The places and the ranges are counted by hand.
 
-use bench_parts::unfolded;
 use hush_words::{Part, Span, Text, TokenKind, Word};
 use std::alloc::{AllocError, Global};
 use std::test::Fail;
+use test_support::unfolded;
 
 /// A text, in which `/` is a newline; the places of its tokens before its end or its fault, and the fault.
 const TOKENS: &str = "\

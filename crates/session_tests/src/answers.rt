@@ -1,10 +1,9 @@
 //! Whole sessions, however their bytes come and go.
 
 use crate::talks::{ERASED, Wanted, start, talk, talk_of};
-use bench_parts::unfolded;
-use failing_streams::{Narrow, Slow};
 use fw_session::SessionEnding;
 use std::test::Fail;
+use test_support::{Narrow, Slow, unfolded};
 
 /// Inputs and what is printed, in which `/` ends a line, and the variables that are left, with a `;` after each.
 const ANSWERS: &str = "\

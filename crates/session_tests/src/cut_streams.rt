@@ -2,9 +2,9 @@
 
 use crate::items::{SESSIONS, Whole};
 use crate::talks::{Wanted, talk_of};
-use failing_streams::{Narrow, Slow};
 use fw_session::SessionEnding;
 use std::test::Fail;
+use test_support::{Narrow, Slow};
 
 /// How many bytes a call moves.
 const EACH: [usize; 3] = [1, 5, usize::MAX];

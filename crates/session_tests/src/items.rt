@@ -1,10 +1,10 @@
 //! Sessions item by item: a block or a dot line, what it prints, and what is there after it.
 
 use crate::talks::{ERASED, Wanted};
-use bench_parts::unfolded;
 use fw_session::SessionEnding;
 use std::alloc::Global;
 use std::test::Fail;
+use test_support::unfolded;
 
 /// A session of 60 bytes, whose texts have 73, and one with every dot line and blocks of each kind, whose last line has no
 /// newline. An item is a block or a dot line, its text, the variables and the number of marks after it, and the value of `a` in

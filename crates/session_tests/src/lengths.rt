@@ -1,12 +1,12 @@
 //! Inputs that are long, or never end.
 
 use crate::talks::{ERASED, Wanted, talk_of};
-use failing_streams::Narrow;
 use fw_session::SessionEnding;
 use std::alloc::Global;
 use std::io::{self, Read};
 use std::process::Abort;
 use std::test::Fail;
+use test_support::Narrow;
 
 /// The most bytes that a session handles.
 const MOST: u64 = 16_777_216;

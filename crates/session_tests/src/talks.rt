@@ -1,27 +1,21 @@
 //! A session over streams, and what it comes to.
 
-use env_session::{Session, Side, Stored};
-use envimg_core::{Geometry, Layout};
-use envvars_core::Vars;
-use failing_streams::Narrow;
+use env_session::{Session, Side};
+use envimg_core::Layout;
 use fw_session::{SessionEnding, session};
 use hush_run::{Limits, Stubs};
 use std::alloc::Global;
 use std::io::{Read, Write};
 use std::process::Abort;
 use std::test::Fail;
+use test_support::{Narrow, erased_session};
 
 /// An image of 16 bytes that was never written.
 pub(crate) const ERASED: &[u8] = &[0xFF; 16];
 
 /// A session over one such image, with an empty default environment.
 pub(crate) fn start(alloc: Global) -> Result<Session, Fail> {
-    let stored = Stored {
-        geometry: Geometry::new(Layout::Single, 16).ok_or("no geometry")?,
-        first: Vec::from_slice(alloc, ERASED)?,
-        second: None,
-    };
-    Ok(Session::start(alloc, stored, Vars::empty(alloc, 12)).map_err(|_| "no start")?)
+    erased_session(alloc, Layout::Single, 16, b"")
 }
 
 /// How a session ends, the counts of its bytes, and what it leaves.

@@ -4,7 +4,6 @@ use crate::harness::{self, Call, Outcome, outcome_of};
 use crate::pages::Page;
 use crate::sessions::{SIZE, bad_copy, begun};
 use crate::states::{put_vars, sum_of_session};
-use bench_parts::words_of;
 use env_session::Session;
 use envimg_core::crc32;
 use hush_commands::{
@@ -13,6 +12,7 @@ use hush_commands::{
 use hush_words::{Text, Word};
 use std::alloc::{AllocError, Global};
 use std::io::{self, Write};
+use test_support::words_of;
 
 /// What is done.
 #[derive(Clone, Copy)]

@@ -7,12 +7,12 @@ use crate::readers::{COUNT, lines};
 use crate::sessions::{bad_copy, begun};
 use crate::states::{put_vars, sum_of_session};
 use crate::tools::{Tool, sweep_tool};
-use bench_parts::name;
 use env_session::Session;
 use envcfg_core::parse_import;
 use envvars_core::Refusal;
 use std::alloc::Global;
 use std::io::{self, Write};
+use test_support::name;
 
 /// The bytes of the image: more than the variables take.
 const SIZE: u32 = 8_192;

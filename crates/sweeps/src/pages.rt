@@ -1,8 +1,8 @@
 //! A text that is written without taking memory.
 ghost use Rattle.std.specs.Prelude.{◌≤◌};
 
-use bench_parts::name;
 use std::io::{self, Write};
+use test_support::name;
 
 /// A text of which the first 1,024 bytes are kept, and all are counted and summed.
 #[derive(Drop)]

@@ -3,7 +3,6 @@
 use crate::harness::{Call, Outcome, outcome_of, sweep};
 use crate::pages::Page;
 use crate::states::put_vars;
-use bench_parts::{name, words_of};
 use envcfg_core::{
     Config, ConfigFault, TextEntry, TextFault, export_entry, parse_config, parse_import,
     parse_set_script,
@@ -17,6 +16,7 @@ use hush_syntax::{FaultKind, Script};
 use hush_words::Text;
 use std::alloc::{AllocError, Global};
 use std::io::{self, Write};
+use test_support::{name, words_of};
 
 /// How many lines a long text has; as a script it has two nodes for each, and one more.
 pub const COUNT: u32 = 500;

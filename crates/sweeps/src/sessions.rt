@@ -4,13 +4,13 @@ use crate::courses::{Act, Course};
 use crate::harness::{self, Call, Outcome};
 use crate::pages::Page;
 use crate::states::put_vars;
-use bench_parts::name;
 use env_session::{Session, Side, StartFault, Stored};
 use envcfg_core::parse_import;
 use envimg_core::{Geometry, ImageWriter, Layout, crc32};
 use envvars_core::Vars;
 use std::alloc::Global;
 use std::io::{self, Write};
+use test_support::name;
 
 /// The bytes of a small copy.
 pub const SIZE: u32 = 64;

@@ -7,11 +7,11 @@ use crate::pages::Page;
 use crate::readers::{Reader, read};
 use crate::sessions::{begun, full_copy};
 use crate::tools::{Tool, ToolCall};
-use bench_parts::name;
 use env_session::{Session, Side};
 use envvars_core::{Refusal, Vars};
 use std::alloc::{AllocError, Global};
 use std::io::{self, Write};
+use test_support::name;
 
 /// The image's size in bytes.
 const SIZE: u32 = 524_288;

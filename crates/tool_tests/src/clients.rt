@@ -1,8 +1,8 @@
 //! The program under the names `fw_printenv` and `fw_setenv`, over files in memory.
 
 use crate::disk::{ERASED, ONE, TWO, copy_of, disk_with, has_copies, run};
-use bench_parts::folded;
 use std::test::Fail;
+use test_support::folded;
 
 const LOCK: &str = "/var/lock/fw_printenv.lock";
 

@@ -1,6 +1,5 @@
-//! Tests of the tools over streams in memory and over streams that fail, and of the program over files in memory of which each
-//! call fails in turn. They are apart from those crates, so that each of them is proved once. What the program prints is
-//! in scripts/differential.
+//! Tests of the program over streams that fail, and over files in memory of which each call fails in turn. They are apart from
+//! `fw_tools`, so that it is proved once. What the program prints is in scripts/differential.
 #![tactic(auto)]
 
 #[cfg(test)]
@@ -12,15 +11,9 @@ mod file_calls;
 #[cfg(test)]
 mod locks;
 #[cfg(test)]
-mod printed_variables;
-#[cfg(test)]
 mod program_streams;
 #[cfg(test)]
 mod reasons;
-#[cfg(test)]
-mod shown_images;
-#[cfg(test)]
-mod tool_calls;
 
 /// An image of the one variable `a=b`.
 #[cfg(test)]

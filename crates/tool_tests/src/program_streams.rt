@@ -1,10 +1,10 @@
 //! The program over an image on standard input, and over streams that fail.
 
 use crate::{ONE_VARIABLE, ONE_VARIABLE_BIG_ENDIAN};
-use failing_streams::{Narrow, Slow};
 use fw_tools::{program, words_failed};
 use std::io;
 use std::test::Fail;
+use test_support::{Narrow, Slow};
 
 #[test]
 fn an_image_is_shown_in_both_orders(rt: HostRuntime) {

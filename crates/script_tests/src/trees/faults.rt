@@ -1,8 +1,8 @@
 //! Texts that spell no tree, each with its kind of fault and its place. `/` is a newline.
 
-use bench_parts::unfolded;
 use hush_syntax::Script;
 use std::test::Fail;
+use test_support::unfolded;
 
 const FAULTS: &str = "\
 echo \"a => Quote 5

@@ -2,9 +2,9 @@
 //! docs/scripts.md, "Grammar", has its texts. `/` is a newline.
 
 use super::shown;
-use bench_parts::unfolded;
 use hush_syntax::Script;
 use std::test::Fail;
+use test_support::unfolded;
 
 /// Lists, words of every kind of part, assignments and chains.
 const COMMANDS: &str = "\

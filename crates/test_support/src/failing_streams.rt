@@ -1,6 +1,4 @@
 //! Readers and writers that give and take little at a time, and fail: what the tests of the tools and of sessions run over.
-#![tactic(auto)]
-
 use std::alloc::Global;
 use std::io::{self, Read, Write};
 

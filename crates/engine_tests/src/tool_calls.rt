@@ -1,13 +1,15 @@
-//! The tools over a session: what they print, and what they leave.
+//! The tools over an image and over a session: what they print, and what they leave.
 
-use bench_parts::{folded, unfolded};
 use env_session::{Session, Side, Stored};
 use envcfg_core::{parse_import, parse_set_script};
-use envimg_core::{Choice, Geometry, Layout};
+use envimg_core::{Choice, Geometry, Layout, Order};
 use envvars_core::Vars;
-use fw_engines::{ToolEnd, defaults, export, import, print_values, set_script, setenv};
+use fw_engines::{
+    ToolEnd, defaults, export, import, print_values, printenv, set_script, setenv, show,
+};
 use std::alloc::Global;
 use std::test::Fail;
+use test_support::{erased_session, folded, unfolded};
 
 /// A session of this room over two copies, of which the first is current and has `a=b`; both have the flag 7.
 fn started(alloc: Global) -> Result<Session, Fail> {
@@ -79,13 +81,7 @@ fn changes_are_saved_or_refused(rt: HostRuntime) -> Result<(), Fail> {
 
 #[test]
 fn an_export_names_what_it_leaves_out(rt: HostRuntime) -> Result<(), Fail> {
-    let stored = Stored {
-        geometry: Geometry::new(Layout::Single, 68).ok_or("no geometry")?,
-        first: b"\xFF".repeat(rt.alloc(), 68)?,
-        second: None,
-    };
-    let started = Session::start(rt.alloc(), stored, Vars::empty(rt.alloc(), 64));
-    let mut session = started.map_err(|_| "no start")?;
+    let mut session = erased_session(rt.alloc(), Layout::Single, 68, b"")?;
     session.write(b"#k", Some(b"1"), false)?;
     let mut errors = Vec::new(rt.alloc());
     let set = setenv(rt.alloc(), &mut session, b"a", &[b"2", b"3"], &mut errors);
@@ -147,5 +143,25 @@ fn values_are_printed_alone(rt: HostRuntime) -> Result<(), Fail> {
         errors.as_slice(),
         b"## Error: \"q\" not defined\n".as_slice()
     );
+    Ok(())
+}
+
+#[test]
+fn an_image_and_a_session_are_printed(rt: HostRuntime) -> Result<(), Fail> {
+    let (mut output, mut errors) = (Vec::new(rt.alloc()), Vec::new(rt.alloc()));
+    let mut input: &[u8] = b"\xD2\x96\x62\x2Ba=b\0\0";
+    let shown = show(
+        rt.alloc(),
+        Order::Little,
+        &mut input,
+        &mut output,
+        &mut errors,
+    );
+    assert_eq!(rt; (shown.status, shown.fault), (0, None));
+    let session = started(rt.alloc())?;
+    let printed = printenv(&session, &[b"a"], true, &mut output, &mut errors);
+    assert_eq!(rt; (printed.status, printed.fault), (0, None));
+    assert_eq!(rt; output.as_slice(), b"a=b\nb\n".as_slice());
+    assert!(rt; errors.is_empty());
     Ok(())
 }
