@@ -4,7 +4,7 @@
 program=$top/crates/fwenv/out/fwenv
 static_program=$top/crates/fwenv/out/fwenv-static
 
-# crates_of_program: the crates of this repository that the program stands on, each behind those below it, in $crates.
+# crates_of_program: the crates of this repository that the program uses, each after those below it, in $crates.
 crates_of_program() {
     local name libraries
     declare -gA libraries_of=()
@@ -15,7 +15,7 @@ crates_of_program() {
     add_crate fwenv
 }
 
-# add_crate NAME: puts a crate behind those that it stands on.
+# add_crate NAME: puts a crate after those that it uses.
 add_crate() {
     local library
     case " ${crates[*]} " in *" $1 "*) return ;; esac
@@ -44,8 +44,7 @@ say() {
     printf '%s\n' "$1" >&2
 }
 
-# copy_crates FOLDER: copies what the toolchain reads of the program's crates, without what it made of them and without tests inside
-# crates, since a crate with tests is proved twice.
+# copy_crates FOLDER: copies what the toolchain reads of the program's crates, without what it made of them.
 copy_crates() {
     local crate part
     cp "$top/HANDLES" "$1" || return 1
@@ -56,8 +55,7 @@ copy_crates() {
         done
         echo "$crate:${libraries_of[$crate]:+ ${libraries_of[$crate]}}" >>"$1/crates.txt" || return 1
     done
-    chmod -R u+w "$1" && rm -f "$1"/crates/*/src/tests.rt &&
-        sed -i '/^$/{N;/\n#\[cfg(test)\]$/{N;/\nmod tests;$/d}}' "$1"/crates/*/src/lib.rt
+    chmod -R u+w "$1"
 }
 
 # show_progress: says which crates are proved since it was called last; on a terminal also how many there are, and which can be

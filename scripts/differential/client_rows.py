@@ -6,7 +6,7 @@ import subprocess
 from differential.boards import BLANK, CONFIG, EMPTIED, FIRST, PAIR, SECOND, board
 from differential.running import Case
 from differential.tool_rows import NO_ROOM_A
-from model.arguments import VERSION
+from model.arguments import NAME_AND_SCRIPT, NO_NAME, VERSION
 from model.image import Geometry
 from model.program import LOOK_AT, NO_GOOD_COPY, WARNING
 from model.report import FAULTS
@@ -41,8 +41,8 @@ OVER_GOOD_COPIES = [
     (b"fw_setenv", [b"--script=text"], 0, b"", b"", SECOND, b"# nothing\n"),
     (b"fw_setenv", [b"-s", b"-"], 0, b"", b"", EMPTIED, b"a=\n"),
     (b"fw_setenv", [b"a", b"-x"], 1, b"", None),
-    (b"fw_setenv", [], 1, b"", None),
-    (b"fw_setenv", [b"-s", b"text", b"a"], 1, b"", None, SECOND, b"a c\n"),
+    (b"fw_setenv", [], 1, b"", NO_NAME % (b"--script", b"fw_setenv")),
+    (b"fw_setenv", [b"-s", b"text", b"a"], 1, b"", NAME_AND_SCRIPT % (b"--script", b"fw_setenv"), SECOND, b"a c\n"),
     (b"fw_printenv", [b"-a", b"key"], 1, b"", None),
 ]
 # The same if no copy is good; the first copy afterwards

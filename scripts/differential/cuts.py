@@ -10,7 +10,7 @@ from differential.boards import CONFIG, DEVICE, arguments, board
 from differential.damage import prefixes
 from differential.running import Case, Cut
 from differential.streams import WRONG_OPTION
-from model.image import ERASED, Geometry
+from model.image import ERASED, LARGEST, Geometry
 from model.program import CANNOT_READ, CANNOT_READ_INPUT, CANNOT_WRITE, CANNOT_WRITE_OUTPUT, TOO_SHORT, WARNING, Answer
 
 FORM = Geometry(2, 40)
@@ -160,8 +160,9 @@ def is_cut_of(answer, stream, after, found):
 
 
 def helps():
-    """The text of the help is in no document to the byte: what is wanted is the one that is printed whole."""
+    """The text of the help is in no document to the byte: what is wanted is the one that is printed whole, which has an example."""
     text = subprocess.run([running.PROGRAM, "--help"], capture_output=True, check=True).stdout
+    assert text.startswith(b"Prints the variables of ") and b"\nUsage: " in text and b"\nExample:\n" in text, text
     case = Case("the help", [b"--help"])
     case.is_modelled = False
     yield from output_cut(case, Answer(0, text, b"", {}))
@@ -204,7 +205,8 @@ def read_ending(name, case):
 
 
 def image_read():
-    """The image on standard input; after a pause it would go on."""
+    """The image on standard input; after a pause it would go on. Of too many bytes one more is read than an image may have."""
+    yield Case("too many bytes", [], given=bytes(LARGEST + 3), cut=Cut(0, "read", step=1), moved=(LARGEST + 1, LARGEST + 1), seconds=5)
     case = PRINTING[0]
     for place in places(len(ONE) + 1, "fail", "none", "pause"):
         answer = replace(case, given=ONE[: place[0]]).answer()

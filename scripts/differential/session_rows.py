@@ -66,6 +66,11 @@ NAMES = [
         b"[Marked]\n[Finished 0 1]\n[Marked]\n[Finished 0 1]\n[Undone]\nv=1\n[Undone]\n[Gone]\n",
     ),
     (
+        "an earlier mark of a name given twice",
+        b".mark p\nsetenv v 1\n.mark q\nsetenv v 2\n.mark p\n.undo q\n.print\n.undo p\n.print\n.undo q\n",
+        b"[Marked]\n[Finished 0 1]\n[Marked]\n[Finished 0 1]\n[Marked]\n[Undone]\nv=1\n[Undone]\n[Gone]\n",
+    ),
+    (
         "later marks are gone",
         b".mark a\n.mark b\n.undo a\n.undo b\n.undo a\n",
         b"[Marked]\n[Marked]\n[Undone]\n[Gone]\n[Undone]\n",

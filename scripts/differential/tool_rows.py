@@ -2,7 +2,7 @@
 
 from differential.boards import BLANK, CONFIG, EMPTIED, FIRST, PAIR, SAVED, SECOND, arguments, board
 from differential.running import Case
-from model.arguments import NO_SUBCOMMAND, VERSION
+from model.arguments import NAME_AND_SCRIPT, NO_NAME, NO_SUBCOMMAND, VERSION
 from model.image import ERASED, Geometry, entries
 from model.program import WARNING, Answer
 
@@ -78,8 +78,8 @@ RESTORED = [
 WRONG_WORDS = [
     ([b"frob"], NO_SUBCOMMAND % b"frob"),
     ([b""], NO_SUBCOMMAND % b""),
-    ([b"setenv", b"-c", CONFIG], None),
-    ([b"setenv", b"-c", CONFIG, b"-s", b"text", b"a"], None),
+    ([b"setenv", b"-c", CONFIG], NO_NAME % (b"-s", b"fwenv setenv")),
+    ([b"setenv", b"-c", CONFIG, b"-s", b"text", b"a"], NAME_AND_SCRIPT % (b"-s", b"fwenv setenv")),
     ([b"restore", b"-c", CONFIG], None),
     ([b"restore", b"-c", CONFIG, b"text", b"text"], None),
 ]

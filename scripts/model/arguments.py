@@ -68,6 +68,20 @@ SIZE_ALONE = b"""error: the argument '--size <N>' is only for '--env <FILE>'
 
 For more information, try '--help'.
 """
+# Of setenv: the option that names a script, and the program's name with what is called
+NAME_AND_SCRIPT = b"""error: the argument '%s <FILE>' cannot be used with '[NAME]'
+
+Usage: %s [OPTIONS] [NAME] [WORDS]...
+
+For more information, try '--help'.
+"""
+NO_NAME = b"""error: the following required arguments were not provided:
+  <NAME|%s <FILE>>
+
+Usage: %s [OPTIONS] [NAME] [WORDS]...
+
+For more information, try '--help'.
+"""
 NO_SCRIPT = b"""error: the following required arguments were not provided:
   <NAMES|-e <SCRIPT>|-f <FILE>>
 

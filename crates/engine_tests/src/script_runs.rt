@@ -10,26 +10,27 @@ use hush_syntax::Script;
 use std::alloc::Global;
 use std::io::Write;
 use std::test::Fail;
-use test_support::{Narrow, erased_session};
+use test_support::{Narrow, erased_session, folded};
 
-/// Scripts, their limits on steps, depth, word and output, and what is said of the run: nothing if the status is 0.
+/// Scripts, their limits on steps, depth, word and output, the text, in which `/` ends a line, and what is said of the run: nothing
+/// if the status is 0.
 const RUNS: &str = "\
-echo a | 9 2 20 99 |
-echo a; exit 0; echo b | 9 2 20 99 |
-echo a; false | 9 2 20 99 | Finished with status 1 after 2
-setenv a exit 7; run a | 9 2 20 99 | Exited with status 7 after 4
-while true; do echo a; done | 4 2 20 99 | Steps after 4
-setenv a 'run b'; setenv b 'echo 1'; run a | 3 2 20 99 | Steps after 3
-setenv a 'run b'; setenv b 'echo 1'; run a | 5 2 20 99 | Steps in \"a\" after 5
-setenv a 'run b'; setenv b 'echo 1'; run a | 6 2 20 99 | Steps in \"b\" after 6
-setenv a 'run b; echo 1'; setenv b 'echo 2'; run a | 7 2 20 99 | Steps in \"a\" after 7
-setenv a 'echo 2'; run a; echo 3 | 4 2 20 99 | Steps after 4
-setenv a 'echo 1'; setenv b 'echo 2'; run a b | 5 2 20 99 | Steps after 5
-setenv r run r; run r | 99 1 20 99 | Depth in \"r\" after 4
-setenv r run r; run r | 99 0 20 99 | Depth after 2
-setenv a 'echo $x$x'; x=1234567; run a | 99 2 10 99 | Word in \"a\" after 4
-setenv a 'echo 12345'; run a | 99 2 20 3 | Output in \"a\" after 3
-setenv 'a \"b' 'echo 1; echo 2'; run 'a \"b' | 4 2 20 99 | Steps in \"a \"b\" after 4
+echo a | 9 2 20 99 | a/ |
+echo a; exit 0; echo b | 9 2 20 99 | a/ |
+echo a; false | 9 2 20 99 | a/ | Finished with status 1 after 2
+setenv a exit 7; run a | 9 2 20 99 |  | Exited with status 7 after 4
+while true; do echo a; done | 4 2 20 99 | a/a/ | Steps after 4
+setenv a 'run b'; setenv b 'echo 1'; run a | 3 2 20 99 |  | Steps after 3
+setenv a 'run b'; setenv b 'echo 1'; run a | 5 2 20 99 |  | Steps in \"a\" after 5
+setenv a 'run b'; setenv b 'echo 1'; run a | 6 2 20 99 |  | Steps in \"b\" after 6
+setenv a 'run b; echo 1'; setenv b 'echo 2'; run a | 7 2 20 99 | 2/ | Steps in \"a\" after 7
+setenv a 'echo 2'; run a; echo 3 | 4 2 20 99 | 2/ | Steps after 4
+setenv a 'echo 1'; setenv b 'echo 2'; run a b | 5 2 20 99 | 1/ | Steps after 5
+setenv r run r; run r | 99 1 20 99 |  | Depth in \"r\" after 4
+setenv r run r; run r | 99 0 20 99 |  | Depth after 2
+setenv a 'echo $x$x'; x=1234567; run a | 99 2 10 99 |  | Word in \"a\" after 4
+setenv a 'echo 12345'; run a | 99 2 20 3 |  | Output in \"a\" after 3
+setenv 'a \"b' 'echo 1; echo 2'; run 'a \"b' | 4 2 20 99 | 1/ | Steps in \"a \"b\" after 4
 ";
 
 /// How the run of a script ends over a session of its own.
@@ -60,7 +61,8 @@ fn limits_of(text: &str) -> Option<Limits> {
 fn a_run_that_does_not_end_with_status_0_says_so(rt: HostRuntime) -> Result<(), Fail> {
     for row in RUNS.lines() {
         let (text, rest) = row.split_once(" | ").ok_or("no script")?;
-        let (limits, said) = rest.split_once(" |").ok_or("no limits")?;
+        let (limits, rest) = rest.split_once(" | ").ok_or("no limits")?;
+        let (printed, said) = rest.split_once(" |").ok_or("no text")?;
         let limits = limits_of(limits).ok_or("no limits")?;
         let (mut output, mut errors) = (Vec::new(rt.alloc()), Vec::new(rt.alloc()));
         let end = ran(rt.alloc(), text, &limits, &mut output, &mut errors)?;
@@ -69,6 +71,11 @@ fn a_run_that_does_not_end_with_status_0_says_so(rt: HostRuntime) -> Result<(), 
         } else {
             format!(in rt.alloc(); "fwenv: run ended as{said} steps\n")?
         };
+        assert_eq!(rt;
+            folded(rt.alloc(), &output)?.as_slice(),
+            printed.as_bytes(),
+            "of {text}"
+        );
         assert_eq!(rt; errors.as_slice(), line.as_bytes());
         let status = u8::from(!said.is_empty());
         assert_eq!(rt; (end.status, end.fault), (status, None));

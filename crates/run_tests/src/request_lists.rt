@@ -1,10 +1,10 @@
 //! A list of requests of every kind: what each is answered, and what an undo brings back (docs/undo.md).
 
 use env_requests::{Reply, Request, obey_all};
-use env_session::Side;
+use env_session::{ImportReport, Side};
 use envcfg_core::TextEntry;
 use envimg_core::Layout;
-use envvars_core::Memory;
+use envvars_core::{Memory, Refusal};
 use hush_run::{Limits, Stubs};
 use hush_syntax::Script;
 use std::alloc::Global;
@@ -13,7 +13,8 @@ use test_support::erased_session;
 
 /// What the requests of the test are answered, each with a newline after it.
 const ANSWERS: &[u8] =
-    b"written\nmarked\nSaved copy 1\n12\nran\na=1\nb=2\nprinted\nimported\nsaved\nundone\na=1\nprinted\nundone\nprinted\nundone\nrefused\n";
+    b"written\nmarked 1\nSaved copy 1\n12\nran\na=1\nb=2\nprinted\nwritten\nbad type\n\
+      imported 2, refused 1\nsaved first\nundone\na=1\nprinted\nundone\nprinted\nundone\nrefused\n";
 
 /// A write of a value without force.
 fn write(alloc: Global, name: &[u8], value: &[u8]) -> Result<Request, Memory> {
@@ -24,14 +25,16 @@ fn write(alloc: Global, name: &[u8], value: &[u8]) -> Result<Request, Memory> {
     })
 }
 
-/// An import of one entry.
-fn import(alloc: Global, name: &[u8], value: &[u8]) -> Result<Request, Memory> {
+/// An import of entries.
+fn import(alloc: Global, lines: &[(&[u8], &[u8])]) -> Result<Request, Memory> {
     let mut entries = Vec::new(alloc);
-    entries.push(TextEntry {
-        name: Vec::from_slice(alloc, name)?,
-        value: Some(Vec::from_slice(alloc, value)?),
-        line: 1,
-    })?;
+    for (name, value) in lines {
+        entries.push(TextEntry {
+            name: Vec::from_slice(alloc, name)?,
+            value: Some(Vec::from_slice(alloc, value)?),
+            line: 1,
+        })?;
+    }
     Ok(Request::Import(entries))
 }
 
@@ -41,14 +44,17 @@ fn run(alloc: Global, script: &[u8]) -> Result<Request, Fail> {
     Ok(Request::Run(script))
 }
 
-/// Requests of each kind: a mark after the first write, and undos to it, to the opening, and to a mark that is gone.
+/// Requests of each kind: a mark after the first write, what a type refuses, and undos to the mark, to the opening, and to a mark
+/// that is gone.
 fn requests(alloc: Global) -> Result<Vec<Request>, Fail> {
     let mut requests = Vec::new(alloc);
     requests.push(write(alloc, b"a", b"1")?)?;
     requests.push(Request::Mark)?;
     requests.push(run(alloc, b"setenv b 2; saveenv; echo $a$b")?)?;
     requests.push(Request::Print)?;
-    requests.push(import(alloc, b"c", b"3")?)?;
+    requests.push(write(alloc, b".flags", b"n:d")?)?;
+    requests.push(write(alloc, b"n", b"x")?)?;
+    requests.push(import(alloc, &[(b"c", b"3"), (b"n", b"y")])?)?;
     requests.push(Request::Save)?;
     requests.push(Request::UndoTo(1))?;
     requests.push(Request::Print)?;
@@ -60,20 +66,25 @@ fn requests(alloc: Global) -> Result<Vec<Request>, Fail> {
 }
 
 /// Adds what a reply says.
-fn push_reply(text: &mut Vec<u8>, reply: &Reply) -> Result<(), Memory> {
+fn push_reply(alloc: Global, text: &mut Vec<u8>, reply: &Reply) -> Result<(), Memory> {
     let words: &[u8] = match reply {
         Reply::Ran(outcome) => {
             text.extend_from_slice(&outcome.text)?;
             b"ran\n"
         }
         Reply::Wrote(Ok(())) => b"written\n",
-        Reply::Imported(_) => b"imported\n",
-        Reply::Saved(Ok(_)) => b"saved\n",
+        Reply::Wrote(Err(Refusal::BadType)) => b"bad type\n",
+        Reply::Imported(ImportReport { done, refused, .. }) => {
+            let counts = format!(in alloc; "imported {done}, refused {refused}")?;
+            text.extend_from_slice(counts.as_bytes())?;
+            b"\n"
+        }
+        Reply::Saved(Ok(Side::First)) => b"saved first\n",
         Reply::Printed(Ok(lines)) => {
             text.extend_from_slice(lines)?;
             b"printed\n"
         }
-        Reply::Marked(Ok(_)) => b"marked\n",
+        Reply::Marked(Ok(1)) => b"marked 1\n",
         Reply::Undone(Ok(())) => b"undone\n",
         _ => b"refused\n",
     };
@@ -85,7 +96,7 @@ fn push_reply(text: &mut Vec<u8>, reply: &Reply) -> Result<(), Memory> {
 fn told(alloc: Global, replies: &[Reply]) -> Result<Vec<u8>, Memory> {
     let mut text = Vec::new(alloc);
     for reply in replies {
-        push_reply(&mut text, reply)?;
+        push_reply(alloc, &mut text, reply)?;
     }
     Ok(text)
 }
