@@ -126,7 +126,7 @@ def images():
 
 
 def helps():
-    """The help of each subcommand shows how it is called, with an example, and `help` prints the same."""
+    """The help of each subcommand shows how it is called, with an example, and `-h` and `help` print the same."""
     texts = {}
     for word in (b"printenv", b"setenv", b"import", b"export", b"restore", b"status", b"run", b"check", b"session"):
 
@@ -138,7 +138,7 @@ def helps():
         def is_same(found, word=word):
             return (found.status, found.output, found.errors) == (0, texts[word], b"")
 
-        for words, accepts in (([word, b"--help"], is_help), ([b"help", word], is_same)):
+        for words, accepts in (([word, b"--help"], is_help), ([word, b"-h"], is_same), ([b"help", word], is_same)):
             yield Case(f"the help of {word.decode()}", words, wanted=Answer(0, b"", b"", {}), accepts=accepts, is_modelled=False)
 
 
