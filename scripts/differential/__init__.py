@@ -30,7 +30,6 @@ FOLDER has the libraries cut.so, refuse.so and raw.so that are preloaded, which 
     costs         inputs made to be expensive, and those that are as long as they may be, in bounded time and memory
     memory        each allocation of the program refused
     other_tools   tools of other makers over the same files
-    mistakes      mistakes in answers of the program, each of which some case has to detect
 
 The last line is 'N passed, M failed'.
 """

@@ -13,7 +13,7 @@ from differential import running
 from differential.running import Runner
 
 PARTS = (
-    "images", "texts", "scripts", "runs", "requests", "inputs", "calls", "largest", "documents", "mistakes", "session_rows", "tool_rows",
+    "images", "texts", "scripts", "runs", "requests", "inputs", "calls", "largest", "documents", "session_rows", "tool_rows",
     "report_rows", "client_rows", "script_rows", "check_rows", "check_boards", "cuts", "streams", "files", "hostile_files", "costs", "memory", "other_tools",
 )
 SHOWN = 5
@@ -47,11 +47,6 @@ class Worker:
             self.runner = Runner(program, preloads, tempfile.mkdtemp(dir=folder))
         return self.runner
 
-    def mistakes(self, missed):
-        """The same for the mistakes of a part."""
-        texts, count = missed(self.runner_here())
-        return count - len(texts), len(texts), texts, Counter()
-
     def compare(self, cases):
         """How many cases passed and failed, texts for the first failures, and how often each name came."""
         passed, failed, texts, names = 0, 0, [], Counter()
@@ -68,7 +63,7 @@ class Worker:
 
 
 def compare_chunk(at):
-    return worker.mistakes(chunks[at]) if is_of_mistakes else worker.compare(chunks[at]())
+    return worker.compare(chunks[at]())
 
 
 def rare(part, names, total):
@@ -83,7 +78,7 @@ def folder_for(name, folder):
 
 
 def main():
-    global worker, chunks, is_of_mistakes
+    global worker, chunks
     program, preloads, name, *numbers = sys.argv[1:]
     if name not in PARTS:
         sys.exit(f"no part is called {name}")
@@ -91,7 +86,7 @@ def main():
     running.PROGRAM = os.path.abspath(program)
     part = importlib.import_module(f"differential.{name}")
     # A chunk makes some of the cases; each process takes one after the other
-    chunks, is_of_mistakes = part.chunks(*map(int, numbers)), name == "mistakes"
+    chunks = part.chunks(*map(int, numbers))
     passed, failed, texts, names = 0, 0, [], Counter()
     with tempfile.TemporaryDirectory(dir=folder_for(name, preloads)) as folder:
         worker = Worker(os.path.abspath(program), os.path.abspath(preloads), folder)

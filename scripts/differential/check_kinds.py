@@ -5,7 +5,7 @@ from differential.check_lines import (
     lacked, lacked_test, lines, no_functions, no_operator, not_assigned, not_called, not_defined, not_run, of_file, over, place, returned, row,
     with_stand_ins, without,
 )  # fmt: skip
-from differential.script_rows import NEAR_SCRIPTS, NO_SCRIPTS, NO_STAND_INS, NULS
+from differential.script_faults import NEAR_SCRIPTS, NO_SCRIPTS, NO_STAND_INS, NULS
 
 # Scripts over these variables, and what is found. The variable that holds the script is `s`
 VARIABLES = {b"a": b"1", b"ok": b"echo fine", b"two words": b"true", b"it's": b"true", b"run": b"true", b"\xc3\xa9": b"true", b"x": b"none"}

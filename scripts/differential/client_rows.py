@@ -4,6 +4,7 @@ import os
 import subprocess
 
 from differential.boards import BLANK, CONFIG, EMPTIED, FIRST, PAIR, SECOND, board
+from differential.files import CAN_MOUNT
 from differential.running import Case
 from differential.tool_rows import NO_ROOM_A
 from model.arguments import NAME_AND_SCRIPT, NO_NAME, VERSION
@@ -53,6 +54,7 @@ OVER_BLANK_COPIES = [
     (b"fw_setenv", [b"-f", b"text", b"a", b"b"], 0, b"", WARNING, PAIR.image(1, b"a=b\0"), b"# nothing\n"),
     (b"fw_setenv", [b"-f", b"text", b"a", b"b"], 0, b"", WARNING, PAIR.image(1, b"a=b\0"), b"a=b\n"),
 ]
+UNTRIED = [] if CAN_MOUNT else ["the usual default environment: no tmpfs can be mounted here"]
 # A single image: its bytes, and the line that reports what is wrong with it
 SINGLE = Geometry(1, 9)
 BAD_SINGLES = [
@@ -62,21 +64,27 @@ BAD_SINGLES = [
 ]
 
 
-def left_by(runner, name, words, given):
-    """Status, output and errors of a call through a link of this name, with the files that it leaves."""
-    link = b"../" + name
-    if not os.path.lexists(link):
-        os.symlink(runner.program, link)
-    found = subprocess.run([link, *words], input=given, capture_output=True)
+def left_by(runner, words, given=b"", program=None):
+    """Status, output and errors of a call, with the files that it leaves."""
+    found = subprocess.run(words, executable=program, input=given, capture_output=True)
     return found.returncode, found.stdout, found.stderr, runner.left()
 
 
-def row(name, words, files, wanted, given=b""):
-    """A call, and what is wrong with what it leaves, if anything is; None is some error of the library that reads arguments."""
+def link_of(runner, name):
+    """A link of this name to the program."""
+    link = b"../" + name
+    if not os.path.lexists(link):
+        os.symlink(runner.program, link)
+    return link
+
+
+def row(name, words, files, wanted, given=b"", is_link=True):
+    """A call through a link of this name, or of the program that is told this name, and what is wrong with what it leaves, if anything is;
+    None is some error of the library that reads arguments."""
 
     def check(runner):
         runner.put(files)
-        found = left_by(runner, name, words, given)
+        found = left_by(runner, [link_of(runner, name) if is_link else name, *words], given, None if is_link else runner.program)
         is_said = found[2].startswith(b"error: ") if wanted[2] is None else found[2] == wanted[2]
         is_right = is_said and (found[:2], found[3]) == (wanted[:2], wanted[3])
         return None if is_right else f"{name} {words}: {found} in place of {wanted}"
@@ -107,6 +115,11 @@ def over_singles():
         yield row(b"fw_printenv", [b"--config", CONFIG, b"--lock", b""], files, wanted)
 
 
+def faults():
+    for name, words in ((b"fw_printenv", [b"a"]), (b"fw_setenv", [b"a", b"c"])):
+        yield row(name, [b"-c", b"absent", b"-l", b"", *words], {}, (1, b"", b"fwenv: cannot read absent: no such file\n", {}))
+
+
 def locks():
     """The lock file is made if need be, one that is there is used, and one that can't be opened ends the run."""
     files = board(PAIR, [FIRST, SECOND])
@@ -124,7 +137,27 @@ def names():
         for word in (b"-V", b"-v", b"--version"):
             yield row(name, [word], {}, (0, VERSION.replace(b"fwenv", name), b"", {}))
     yield row(b"my_fw_printenv", [b"-c", CONFIG], {}, (1, b"", None, {}))
+    files, words = board(PAIR, [FIRST, SECOND]), [b"-c", CONFIG, b"-l", b"", b"-n", b"a"]
+    for name in (b"fw_printenv", b"./fw_printenv", b"/usr/bin/fw_printenv", b"x//fw_printenv"):
+        yield row(name, words, files, (0, b"b\n", b"", files), is_link=False)
+    for name in (b"", b"fw_printenv/", b"fw_printenv2", b"fw_printenv/x", b"FW_PRINTENV"):
+        yield row(name, words, files, (1, b"", None, files), is_link=False)
+
+
+def usual_environment():
+    if CAN_MOUNT:
+        yield Case("the usual default environment", [], check=with_usual_environment, is_modelled=False)
+
+
+def with_usual_environment(runner):
+    """Without `-f` it is that of /etc, over which a folder is mounted that only this call sees."""
+    runner.put(board(PAIR, [BLANK, BLANK]))
+    script = 'mount -t tmpfs tmpfs /etc && printf %s "$0" > /etc/u-boot-initial-env && exec "$@"'
+    words = [link_of(runner, b"fw_printenv"), b"-c", CONFIG, b"-l", b""]
+    found = left_by(runner, ["unshare", "-m", "sh", "-c", script, "p=\\\n", *words])
+    wanted = (0, b"p=\\\n", WARNING, board(PAIR, [BLANK, BLANK]))
+    return None if found == wanted else f"the usual default environment: {found} in place of {wanted}"
 
 
 def chunks():
-    return [over_pairs, over_singles, locks, names]
+    return [over_pairs, over_singles, faults, locks, names, usual_environment]

@@ -21,6 +21,7 @@ BLOCKS = [
     ("a million blanks after a dot line", b".mark a" + b" " * 1_000_000 + b"\n", b"[Marked]\n"),
 ]
 LINE, DOTS = b"#".ljust(2**24, b"x"), b".".ljust(2**24, b"x")
+ENDED = b"echo -n\n.".ljust(2**24 - 1, b"x") + b"\n"
 # Inputs as large as they may be: the name, the most KiB, the input, what is printed, and the message
 INPUTS = [
     ("100,000 blocks", 16_384, b"echo a\n.x\n" * 100_000, b"a\n[Finished 0 1]\n[Unknown]\n" * 100_000, b""),
@@ -28,6 +29,7 @@ INPUTS = [
     ("a line of 16 MiB and a byte", 131_072, LINE + b"x", b"", TOO_LONG),
     ("a dot line of 16 MiB", 131_072, DOTS, b"[Unknown]\n", b""),
     ("a dot line of 16 MiB and a newline", 131_072, DOTS + b"\n", b"", TOO_LONG),
+    ("a dot line up to 16 MiB, and a byte", 131_072, ENDED + b".", b"[Finished 0 1]\n[Unknown]\n", TOO_LONG),
     ("16 MiB of blocks", 16_384, b"echo 1234567\n.x\n" * 2**20, b"1234567\n[Finished 0 1]\n[Unknown]\n" * 2**20, b""),
 ]
 LONG = {b"a" * 1_000_000: b"1"}
@@ -126,6 +128,13 @@ def checks():
     lines = b"true\n" * 200_000
     found = [b"s:200001:1: error: not expected here (Unexpected)\n"]
     yield check("a fault in line 200,001", [b"-f", b"s"], {b"s": lines + b"fi"}, found)
+    for name, faulty, column, said in (
+        ("65,535 quotes", b'"' * 65_535, 65_535, b"a quote is not closed (Quote)"),
+        ("100,000 openings", b"if true; then " * 100_000, 897, b"more than 64 commands inside one another (Nest)"),
+        ("100,000 branches", b"if a; then b; " + b"elif a; then b; " * 100_000, 1_600_015, b"the text ends where more has to follow (Missing)"),
+    ):
+        yield check(name, [b"-f", b"s"], {b"s": faulty}, [b"s:1:%d: error: %s\n" % (column, said)])
+    yield check("a chain of 200,001 commands", [b"-f", b"s"], {b"s": b"a && " * 200_000 + b"a"}, [])
     whole = [b"--env", b"env", b"--size=100000"]
     text = b"a=1\nbootcmd=" + b"a=;\\\n" * 150_000 + b"\n"
     found = [b"bootcmd:%d:1: warning: `a` is an environment variable, so it can not be assigned\n" % line for line in range(1, 150_001)]

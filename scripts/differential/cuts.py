@@ -53,6 +53,7 @@ PRINTING = [
     call([b"export"], over=board(FORM, [FORM.image(7, b"a=b\0"), ERASED * FORM.size])),
     call([b"status"]),
     call([b"status"], over=NEVER_WRITTEN),
+    Case("a whole file", [b"status", b"image"], {b"image": ONE}),
     call([b"run", b"--write", b"-e", b"echo a; setenv a 3; saveenv"]),
     whole_environment([b"a", b"m"]),
     call([b"check", b"q", b"a"]),
@@ -263,6 +264,7 @@ def saves_of_a_run():
 
 
 def saves_of_both():
+    """The first copy is written and flushed before the second."""
     case = call([b"session", b"--write"], given=b".save\n.save\n")
     second, first = [FORM.image(flag, b"#q=1\0a=one 2\0m=x\ny\0") for flag in (8, 9)]
     for after in range(FORM.size):
@@ -271,6 +273,9 @@ def saves_of_both():
         for opening, copies in ((1, cut_first), (2, cut_second)):
             wanted = Answer(1, case.answer().output, CANNOT_WRITE % DEVICE, board(FORM, copies))
             yield cut_case(case, DEVICE, "write", (after, 0, "fail"), wanted, opening)
+    for opening, copies in ((1, [first, STORED[1]]), (2, [first, second])):
+        wanted = Answer(1, case.answer().output, CANNOT_WRITE % DEVICE, board(FORM, copies))
+        yield replace(case, cut=Cut(DEVICE, "sync", opening=opening), moved=(1, 0), wanted=wanted)
 
 
 def chunks():

@@ -11,7 +11,7 @@ import threading
 from differential.boards import EMPTIED, FIRST
 from differential.running import Case
 from differential.streams import MILLION, at, device, over_copies, read_by, row
-from model.program import CANNOT_READ, CANNOT_WRITE, CANNOT_WRITE_OUTPUT, CHANGED, DENIED, NO_SPACE, Answer, explained
+from model.program import CANNOT_READ, CANNOT_WRITE, CANNOT_WRITE_OUTPUT, CHANGED, DENIED, NO_SPACE, NO_SUCH_FILE, Answer, explained
 
 # Configurations: a name, their text, and the message, or None for the variables. The device has 33 bytes
 ABSENT, SHORT = CANNOT_READ % b"absent", b"fwenv: device is too short\n"
@@ -32,6 +32,7 @@ CONFIGURED = [
 ]
 CALLS = [
     ("a configuration that is not there", [b"printenv", b"-c", b"absent"], ABSENT),
+    ("a configuration of a restore that is not there", [b"restore", b"-c", b"absent", b"absent-too"], explained(ABSENT, NO_SUCH_FILE)),
     ("a folder as the configuration", [b"printenv", b"-c", b"/"], CANNOT_READ % b"/"),
     ("the configuration first of all", [b"setenv", b"-c", b"absent", b"-s", b"absent-too", b"--default", b"absent-three"], ABSENT),
     ("the default text before the own file", [b"setenv", b"-c", b"fw.config", b"-s", b"absent-too", b"--default", b"absent"], ABSENT),

@@ -5,7 +5,7 @@ import contextlib
 import os
 
 from differential.boards import BLANK, EMPTIED, SAVED
-from differential.files import IMPORT, PRINTENV, SETENV, as_it_is, cut_to, through_pipe
+from differential.files import IMPORT, PRINTENV, SETENV, as_it_is, cut_to, through_pipe, write_at
 from differential.streams import SESSION, device, over_copies, row
 from model.program import CANNOT_READ, CANNOT_WRITE, CHANGED, DIRECTORY, LONGER, NO_SUCH_FILE, WARNING, explained
 
@@ -174,6 +174,7 @@ CHANGES = [
     ("lacks a byte of a copy", cut_to(29), CHANGED, device()[:29]),
     ("ends with a copy", cut_to(30), None, ENDING[:30]),
     ("was written by another", overwritten, CHANGED, device(b"0123456789")),
+    ("was written by another in its second copy", write_at(21, b"x"), CHANGED, device()[:21] + b"x" + device()[22:]),
     ("is a folder now", replaced(os.mkdir), DIRECTORY, None),
     ("is a pipe now", replaced(os.mkfifo), b"", None),
     ("is /dev/full now", replaced(os.symlink, "/dev/full"), CHANGED, None),
@@ -183,13 +184,20 @@ CHANGES = [
 
 
 def changed(name, step, reason, after, config=None, gone=None):
-    """An import, which doesn't report why, and a restore."""
+    """Each call that takes `a` away. Some report why they can't."""
     cannot = CANNOT_WRITE % b"device"
+    because = explained(cannot, reason or b"")
     files = over_copies() | (config or {})
     left = {path: text for path, text in (files | {b"device": after}).items() if path != gone}
-    for words, errors in ((IMPORT, cannot), ([b"restore", *IMPORT[1:]], explained(cannot, reason or b""))):
+    for words, told, errors in (
+        (IMPORT, b"fwenv", cannot),
+        ([*SETENV, b"--default", b"../pipe"], b"fwenv", cannot),
+        ([b"restore", *IMPORT[1:]], b"fwenv", because),
+        ([*SETENV[1:], b"-l", b"", b"-f", b"../pipe"], b"fw_setenv", because),
+    ):
         status, errors = (0, b"") if reason is None else (1, errors)
         case = row(name, words, b"", status, b"", errors, through_pipe(step, b"a=\n"), files)
+        case.prefix = ("bash", "-c", 'exec -a "$0" "$@"', told)
         case.wanted.files = left
         yield case
 

@@ -1,11 +1,12 @@
 """What is as large as it may be: texts of 16 MiB, images, names, values and `.flags` of 1 MiB, all their variables
-changed and brought back, and names in orders that are hard on a sorted store. Each is answered in a few seconds."""
+changed and brought back, names in orders that are hard on a sorted store, and words and stand-in files. Each is answered in a few seconds."""
 
 import functools
 
 from differential.boards import arguments, board
 from differential.running import Case
 from model.image import ERASED, LARGEST, Geometry
+from model.program import WARNING, Answer
 
 TEXT = 2**24
 SINGLE, REDUNDANT = Geometry(1, LARGEST), Geometry(2, LARGEST)
@@ -112,10 +113,52 @@ def orders():
     yield over(SINGLE, lines(numbers, b"=", b"1", b"\0"), [b"session", b"--write"], given=undone(place))
 
 
+def dry_run(script, output, stand_ins=b"mmc\n", errors=b""):
+    """A session of one script over a board that was never written. What it prints is given by hand, since the model would take long."""
+    form = Geometry(1, 64)
+    files = board(form, [ERASED * form.size]) | {b"stand-ins": stand_ins}
+    words = arguments(b"session", b"--stubs", b"stand-ins", b"--word=65536", b"--output=16777216")
+    wanted = Answer(int(errors != b""), output, WARNING + errors, files)
+    return Case("the largest: a script", words, files, script + b"\n", wanted=wanted, is_modelled=False, seconds=SECONDS)
+
+
+def expanded(value, words, *fields):
+    """The fields of words in which `x` has a value, a line for each."""
+    script = b'x="%s"; for i in %s; do echo "$i"; done' % (value, words)
+    return dry_run(script, b"".join(field + b"\n" for field in fields) + b"[Finished 0 %d]\n" % (2 * len(fields) + 2))
+
+
+def scripts():
+    """Words, texts, names and stand-in files of a dry run."""
+    long, letters, name = b"v" * 65_536, b"a " * 32_768, b"n" * 65_536
+    yield expanded(long, b"$x", long)
+    yield expanded(long, b'$x "$x" $x', long, long, long)
+    yield expanded(letters, b"$x", *[b"a"] * 32_768)
+    yield expanded(letters, b'"$x"', letters)
+    yield expanded(b"", long, long)
+    yield expanded(b"", b"''" * 65_536, b"")
+    yield dry_run(b"x=%s; echo ${x}x" % long, b"[Word 0 1]\n")
+    yield dry_run(b"echo %sv" % long, b"[Word 0 0]\n")
+    yield dry_run(b"%s=1; echo $%s; mmc %s" % (name, name, name), b"1\n+ mmc " + name + b"\n[Finished 0 3]\n")
+    line = long[:-1] + b"\n"
+    for count, ending in ((255, b"\n[Finished 0 513]\n"), (256, b"[Output 0 514]\n")):
+        script = b'x=%s; for i in %s; do echo "$x"; done; echo' % (long[:-1], b"1 " * count)
+        yield dry_run(script, line * count + ending)
+    for count, status in ((65_536, b"0"), (65_537, b"1")):
+        yield dry_run(b"test " + b"! " * count + b"-n a; echo $?", status + b"\n[Finished 0 2]\n")
+    yield dry_run(b"test " + b"9" * 60_000 + b" -eq 9223372036854775807; echo $?", b"0\n[Finished 0 2]\n")
+    yield dry_run(b"setexpr v " + b"f" * 60_000 + b"0; printenv", b"v=fffffffffffffff0\n[Finished 0 2]\n")
+    yield dry_run(b"true", b"[Finished 0 1]\n", stand_ins=b"n" * TEXT)
+    many = b"".join(b"n%d %d\n" % (number, number % 256) for number in range(100_000))
+    output = b"+ n65537\n1\nUnknown command 'n100000' - try 'help'\n[Finished 1 3]\n"
+    yield dry_run(b"n65537; echo $?; n100000", output, stand_ins=many)
+    yield dry_run(b"true", b"", stand_ins=many + b"n54321", errors=b"fwenv: stand-ins: Twice in line 100001\n")
+
+
 def one(rows, at):
     return [list(rows())[at]]
 
 
 def chunks():
     """Each row is a chunk, since it takes long."""
-    return [functools.partial(one, rows, at) for rows in (texts, images, changes, tools, orders) for at in range(len(list(rows())))]
+    return [functools.partial(one, rows, at) for rows in (texts, images, changes, tools, orders, scripts) for at in range(len(list(rows())))]

@@ -59,6 +59,17 @@ PAIRS = [
         b"variables    1, 5 of 27 bytes used\nnext save    second copy, flag 0\n",
     ),
 ]
+# The flags of two good copies, the one that is current, and what is said of the next save
+CHOSEN = [
+    ((3, 9), 1, b"first copy, flag 10"),
+    ((9, 3), 0, b"second copy, flag 10"),
+    ((7, 7), 0, b"second copy, flag 8"),
+    ((255, 0), 1, b"first copy, flag 1"),
+    ((0, 255), 0, b"second copy, flag 1"),
+    ((254, 255), 1, b"first copy, flag 0"),
+    ((255, 1), 0, b"second copy, flag 0"),
+    ((254, 0), 0, b"second copy, flag 255"),
+]
 # A single image, its state, and the lines that follow; the status is 0 if it is good
 SINGLES = [
     (SINGLE.image(0, TWO), b"good", b"variables    2, 9 of 28 bytes used\n"),
@@ -132,6 +143,17 @@ def pairs():
         yield row("a second copy", words, board(PAIR, [FIRST, second]), 0, text)
     for first, second, text in PAIRS:
         yield row("two copies", words, board(PAIR, [first, second]), 0, text)
+    for flags, current, said in CHOSEN:
+        text = b"".join(
+            head + b"good, flag %d" % flag + b", current" * (at == current) + b"\n"
+            for at, (head, flag) in enumerate(zip((FIRST_LINE, SECOND_LINE), flags))
+        )
+        text += b"variables    1, 5 of 27 bytes used\nnext save    " + said + b"\n"
+        yield row("a choice", words, board(PAIR, [PAIR.image(flag, ONE) for flag in flags]), 0, text)
+    # (the checksum of four bytes FF is four bytes FF)
+    least, said = Geometry(2, 9), b" bytes: list of entries isn't ended, erased (all bytes FF)\n"
+    text = b"first copy   device at 0x3, 9" + said + b"second copy  device at 0xe, 9" + said + NONE
+    yield row("erased copies of the least size", words, board(least, [ERASED * 9] * 2), 1, text)
     text = FIRST_LINE + b"checksum is wrong\n" + SECOND_LINE + b"checksum is wrong\n" + NONE
     yield row("no good copy", words, board(PAIR, [turned(FIRST), turned(SECOND)]), 1, text)
     text = FIRST_LINE + b"checksum is wrong, good without --big-endian\n" + SECOND_LINE + b"checksum is wrong\n" + NONE

@@ -5,6 +5,7 @@ import re
 
 from differential.boards import BLANK, CONFIG, EMPTIED, FIRST, PAIR, SAVED, SECOND, arguments, board
 from differential.running import Case
+from differential.script_faults import NEAR_SCRIPTS, NO_SCRIPTS, NO_STAND_INS, NULS, QUOTE
 from model.arguments import ENV_AND, NO_NUMBER, NO_SCRIPT, NO_SIZE, SEVERAL_SCRIPTS, SIZE_ALONE
 from model.dry_run import LONGEST
 from model.image import LARGEST, Geometry
@@ -81,6 +82,7 @@ NAMES = [
     ([b"x\"\\y", b"--output", b"3"], b"", stopped(b"Output", 2, b"x\"\\y")),
 ]
 # A script among the arguments, the text, and what is reported, if the status isn't 0
+NESTED = b"setenv d 'run e; echo 1'; setenv e 'echo 2'; run d"
 SCRIPTS = [
     (b"", b"", b""),
     (b"# a comment", b"", b""),
@@ -116,53 +118,14 @@ SCRIPTS = [
     (b"echo ab; echo c", b"ab\n", stopped(b"Output", 1), b"--output=4"),
     (b"echo ab; echo c", b"ab\nc\n", b"", b"--output=5"),
     (b"run ok", b"", stopped(b"Depth", 1), b"--depth=0"),
+    # where it stopped: the script itself, a variable, one inside that, and back
+    (NESTED, b"", stopped(b"Steps", 3), b"--steps=3"),
+    (NESTED, b"", stopped(b"Steps", 5, b"d"), b"--steps=5"),
+    (NESTED, b"", stopped(b"Steps", 6, b"e"), b"--steps=6"),
+    (NESTED, b"2\n", stopped(b"Steps", 7, b"d"), b"--steps=7"),
+    (b"run ok; echo b", b"fine\n", stopped(b"Steps", 3), b"--steps=3"),
+    (b"setenv d 'echo $x$x'; x=1234567; run d", b"", stopped(b"Word", 4, b"d"), b"--word=10"),
 ]
-# What isn't a script, with the line, the column and what is reported of it
-NO_SCRIPTS = [
-    (b"echo 'a", 1, 6, b"Quote: a quote is not closed"),
-    (b'a=1; echo b"c', 1, 12, b"Quote: a quote is not closed"),
-    (b'echo "$a', 1, 6, b"Quote: a quote is not closed"),
-    (b"'", 1, 1, b"Quote: a quote is not closed"),
-    (b"echo 'a\nb\n", 1, 6, b"Quote: a quote is not closed"),
-    (b"echo a\n\n  echo 'b", 3, 8, b"Quote: a quote is not closed"),
-    (b"\n'", 2, 1, b"Quote: a quote is not closed"),
-    (b"\xc3\xa9 \t'", 1, 5, b"Quote: a quote is not closed"),
-    (b"echo a\r\n'", 2, 1, b"Quote: a quote is not closed"),
-    (b"echo a\\\n  'b", 2, 3, b"Quote: a quote is not closed"),
-    (b"echo 'a\nb' 'c", 2, 4, b"Quote: a quote is not closed"),
-    (b"echo a\\", 1, 7, b"Backslash: the text ends with a backslash"),
-    (b"\\", 1, 1, b"Backslash: the text ends with a backslash"),
-    (b"echo ${x:-y}", 1, 6, b"Substitution: not a substitution of this shell: ${NAME}, $NAME or $?"),
-    (b"echo a$1", 1, 7, b"Substitution: not a substitution of this shell: ${NAME}, $NAME or $?"),
-    (b'echo "\n$(b)"', 2, 1, b"Substitution: not a substitution of this shell: ${NAME}, $NAME or $?"),
-    (b"true & false", 1, 6, b"Operator: a single & or |, which this shell does not have"),
-    (b"true|false", 1, 5, b"Operator: a single & or |, which this shell does not have"),
-    (b"true &&& false", 1, 8, b"Operator: a single & or |, which this shell does not have"),
-    (b"fi", 1, 1, b"Unexpected: not expected here"),
-    (b"if true; then fi", 1, 15, b"Unexpected: not expected here"),
-    (b"true\n&& true", 2, 1, b"Unexpected: not expected here"),
-    (b"for 1 in a; do true; done", 1, 5, b"Unexpected: not expected here"),
-    (b"if true; then echo", 1, 19, b"Missing: the text ends where more has to follow"),
-    (b"while true\ndo echo\n", 3, 1, b"Missing: the text ends where more has to follow"),
-    (b"true &&", 1, 8, b"Missing: the text ends where more has to follow"),
-    (b"if " * 65, 1, 193, b"Nest: more than 64 commands inside one another"),
-    (b"if " * 64, 1, 193, b"Missing: the text ends where more has to follow"),
-    (b"x=1 echo", 1, 5, b"Assignment: a word after an assignment"),
-    (b"true\n\tx=1 \\\n  y=2", 3, 3, b"Assignment: a word after an assignment"),
-]
-# What is a script, although it is close to one of those
-NEAR_SCRIPTS = [
-    (b"echo 'a'", b"a\n"),
-    (b"echo a\\\\", b"a\\\n"),
-    (b"echo ${a} $? $", b"1 0 $\n"),
-    (b"false || true && echo b", b"b\n"),
-    (b"if true; then echo fi; fi", b"fi\n"),
-    (b"true &&\ntrue", b""),
-    (b"if true;then " * 64 + b"echo b" + b";fi" * 64, b"b\n"),
-    (b"x=1; y=2; echo $x$y", b"12\n"),
-]
-# A byte 0 is possible only in a file
-NULS = [(b"\0", 1, 1), (b"echo a\necho b\0'", 2, 7), (b"echo '\0", 1, 7)]
 # Options, a script, and the text, if the stand-ins are these; what is reported, if the status isn't 0
 STAND_INS = b"booti\nmmc\nusb 1\n"
 BOOTS = [
@@ -275,6 +238,8 @@ ENVIRONMENTS = [
     (b".flags=r:sr\nr=1\n", None, b"setenv r 2", b'## Error: Can\'t overwrite "r"\n', finished(1, 1)),
     (b".flags=r:sr\n", None, b"setenv r 2", b'## Error: Can\'t create "r"\n', finished(1, 1)),
     (b".flags=c:sc\nc=1\n", None, b"setenv c 2; printenv c; setenv c 3", b'c=2\n## Error: Can\'t overwrite "c"\n', finished(1, 3)),
+    (b".flags=k:so\nk=1\n# its access is not checked\nk=2\n", None, b"printenv k", b"k=2\n", b""),
+    (b"a=1\\\n2\nb=3\nc=\\\n", None, b"printenv", b"a=1\n2\nb=3\nc=\n\n", b""),
     (b"a=1\n", b"9", b"printenv a", b"a=1\n", b""),
     (b"a=1\n", b"9", b"setenv a 12", b'## Error: no room for "a"\n', finished(1, 1)),
     (b"a=1\n", b"0xa", b"setenv a 12; printenv", b"a=12\n", b""),
@@ -288,6 +253,8 @@ NO_ENVIRONMENTS = [
     (b"a=" + b"x" * 16_377, None, b"fwenv: env: Full in line 1\n"),
     (b"a=" + b"x" * 0xFF9, b"0x1000", b"fwenv: env: Full in line 1\n"),
     (b".flags=n:d\nn=x\n", None, b"fwenv: env: BadType in line 2\n"),
+    (b".flags=n:d\nn=3\\\n4\n", None, b"fwenv: env: BadType in line 2\n"),
+    (b"a=1\\\n2\nb=3\n", b"0xe", b"fwenv: env: Full in line 3\n"),
     (b"a=1\n=2\n", None, b"fwenv: env: EmptyName in line 2\n"),
     (b"a=1\0\n", None, b"fwenv: env: Nul\n"),
     (None, None, b"fwenv: cannot read env: no such file\n"),
@@ -340,12 +307,6 @@ ORDER = [
     ([b"--env", b"stand-ins", b"-f", b"no"], b"no"),
     ([b"--env", b"-", b"-f", b"no"], b"-"),
 ]
-# The file of stand-ins, and what is reported of it
-NO_STAND_INS = [
-    (b"x 256\n", b"fwenv: stand-ins: Line in line 1\n"),
-    (b"mmc\n\necho 0\n", b"fwenv: stand-ins: Builtin in line 3\n"),
-    (b"x\nx\n", b"fwenv: stand-ins: Twice in line 2\n"),
-]
 
 
 def row(name, words, files, output, errors, left=(), given=b"", seconds=0.25, status=None):
@@ -387,7 +348,7 @@ def no_scripts():
     for script, *place in NULS:
         errors = refused(b"script", *place, b"Nul: a byte 0")
         yield over_text("a byte 0", [b"-f", b"script"], b"", errors, {b"script": script})
-    case = over_text("a path as it is given", [b"-f", b"./script"], b"", refused(b"./script", 1, 2, NO_SCRIPTS[0][3]), {b"script": b" '"})
+    case = over_text("a path as it is given", [b"-f", b"./script"], b"", refused(b"./script", 1, 2, QUOTE), {b"script": b" '"})
     case.is_modelled = False
     yield case
 
@@ -397,7 +358,7 @@ def script_files():
     yield over_text("a script on standard input", [b"-f", b"-"], b"a\n1\n", finished(1, 3), given=b"echo a\necho $a\nfalse\n")
     yield over_text("dot lines are none", [b"-f", b"-"], UNKNOWN % b".print", finished(1, 1), given=b".print\n")
     yield over_text("no standard input", [b"-f-"], b"", b"")
-    yield over_text("a file of the name run", [b"-f", b"run"], b"", refused(b"run", 1, 1, NO_SCRIPTS[0][3]), {b"run": b"'"})
+    yield over_text("a file of the name run", [b"-f", b"run"], b"", refused(b"run", 1, 1, QUOTE), {b"run": b"'"})
     yield over_text("a file that is not there", [b"-f", b"absent"], b"", b"fwenv: cannot read absent: no such file\n")
     longest, longer = b"#" * LONGEST, b"#" * (LONGEST + 1)
     yield over_text("the longest script", [b"-f", b"script"], b"", b"", {b"script": longest}, seconds=2)
@@ -444,7 +405,7 @@ def without_copies():
     yield row("a default text", [*words, b"printenv"], files, b"p=1\n", WARNING, status=0)
     yield row("a default text", [*words, b"saveenv; false"], files, b"Saved copy 1\n", WARNING + finished(1, 2))
     yield row("no default text", arguments(b"run", b"p"), files, NOT_DEFINED % b"p", WARNING + finished(1, 2))
-    yield row("a quote", arguments(b"run", b"-e", b"'"), files, b"", WARNING + refused(b"-e", 1, 1, NO_SCRIPTS[0][3]))
+    yield row("a quote", arguments(b"run", b"-e", b"'"), files, b"", WARNING + refused(b"-e", 1, 1, QUOTE))
 
 
 def words():

@@ -115,6 +115,8 @@ STAND_INS = [
         b"+ mmc dev 0\n+ usb start\nUnknown command 'foo' - try 'help'\n[Finished 1 3]\n",
         b"",
     ),
+    (b"\n \t\n\r\nmmc 1\r", b"mmc || echo $?\n", b"+ mmc\n1\n[Finished 0 2]\n", b""),
+    (b"mmc\r\r\n", b"mmc\r\nmmc\n", b"+ mmc\r\nUnknown command 'mmc' - try 'help'\n[Finished 1 2]\n", b""),
     (b"x 256\n", b"echo a\n", b"", b"fwenv: stand-ins: Line in line 1\n"),
     (b"mmc\n\necho 0\n", b"echo a\n", b"", b"fwenv: stand-ins: Builtin in line 3\n"),
     (b"x\nx\n", b"echo a\n", b"", b"fwenv: stand-ins: Twice in line 2\n"),
@@ -130,6 +132,40 @@ WRITES = [
     (b"setenv a c\n", b"[Finished 0 1]\n", SECOND, FIRST, b"--write"),
     (b".save\n.undo\n", b"Saved copy 2\n[Undone]\n", SECOND, FIRST, b"--write"),
 ]
+# The byte order of two copies without variables, their flags, or None for one that was never written, the input, what is printed, and
+# the flags afterwards
+FLAGS = [
+    ("little", (255, 0), b".save\n", b"Saved copy 1\n", (1, 0)),
+    ("little", (254, 255), b".save\n.save\n", b"Saved copy 1\nSaved copy 2\n", (0, 1)),
+    ("little", (255, 0), b".save\n.undo\n", b"Saved copy 1\n[Undone]\n", (255, 0)),
+    ("little", (None, None), b".save\n.save\n", b"Saved copy 1\nSaved copy 2\n", (1, 2)),
+    ("big", (255, 0), b".save\n", b"Saved copy 1\n", (1, 0)),
+    ("big", (None, None), b".save\n", b"Saved copy 1\n", (1, None)),
+]
+# The size of a single image that was never written, a default text, the input, in which an undo brings back what was there, and what is
+# printed; in the one of 17 bytes the variables would take 17 on the way back, of 13, with `a` as it was and `b` not yet
+LETTERS = b"a=1\nb=2\nc=3\n"
+UNDONE = [
+    (
+        64, LETTERS, b"setenv a x; setenv a xyz; setenv b; setenv d 4; setenv c; setenv c 5; setenv e 6; setenv e\n.undo\n.print\n",
+        b"[Finished 0 8]\n[Undone]\n" + LETTERS,
+    ),
+    (64, LETTERS, b"setenv a; setenv b; setenv c; setenv a 1\n.undo\n.print\n", b"[Finished 0 4]\n[Undone]\n" + LETTERS),
+    (17, b"a=xxxxx\nb=1\n", b"setenv a 1; setenv b xxxxx\n.undo\n.print\n", b"[Finished 0 2]\n[Undone]\na=xxxxx\nb=1\n"),
+    (
+        64, b".flags=k:d\nk=1\n", b"setenv -f .flags k:so; setenv k 2; setenv -f k 3; setenv m 1\n.undo\nsetenv k x; setenv k 2\n.print\n",
+        b'## Error: Can\'t overwrite "k"\n[Finished 0 4]\n[Undone]\n## Error: type check failure for "k"\n[Finished 0 2]\n.flags=k:d\nk=2\n',
+    ),
+    (64, b"k=1\n", b"setenv .flags k:sr\n.undo\nsetenv k 2\n.print\n", b"[Finished 0 1]\n[Undone]\n[Finished 0 1]\nk=2\n"),
+    (64, b"k=x\n.flags=k:dr\n", b"setenv -f k 2; setenv -f .flags\n.undo\n.print\n", b"[Finished 0 2]\n[Undone]\n.flags=k:dr\nk=x\n"),
+    (
+        64, b".flags=k:sr\n", b"setenv -f .flags\n.undo\nsetenv k 1\n.print\n",
+        b'[Finished 0 1]\n[Undone]\n## Error: Can\'t create "k"\n[Finished 1 1]\n.flags=k:sr\n',
+    ),
+    (8, b"", b"setenv a b; echo $?\n.undo\n.print\n", b'## Error: no room for "a"\n1\n[Finished 0 2]\n[Undone]\n'),
+    (64, b"", b"setenv n 0; while true; do setexpr n $n + 1; done\n.undo\n.print\n", b"[Steps 0 10]\n[Undone]\n"),
+    (64, b"", b"setenv a 'exit 3; echo x'; run a; echo y\n.undo\n.print\n", b"[Exited 3 4]\n[Undone]\n"),
+]  # fmt: skip
 
 
 def over_small_board(name, given, output, *words, files=(), errors=b""):
@@ -174,5 +210,28 @@ def written():
         yield Case("what is written", arguments(b"session", *words), files, given, wanted=wanted)
 
 
+    for order, flags, given, output, left in FLAGS:
+        form = Geometry(2, 9, order)
+        before, after = ([ERASED * 9 if flag is None else form.image(flag, b"\0") for flag in each] for each in (flags, left))
+        errors = WARNING if flags[0] is None else b""
+        wanted = Answer(0, output, errors, board(form, after))
+        yield Case("flags", arguments(b"session", b"--write", order=order), board(form, before), given, wanted=wanted)
+
+
+def undone():
+    for size, text, given, output in UNDONE:
+        form = Geometry(1, size)
+        files = board(form, [ERASED * size]) | {b"default": text}
+        words = arguments(b"session", b"--default", b"default", b"--steps", b"10")
+        yield Case("an undo", words, files, given, wanted=Answer(0, output, WARNING, files))
+
+
+def pieces():
+    """Lines that end about where 4,096 bytes do, as many as are read at once."""
+    for length in range(4060, 4110):
+        given = b"setenv a 1\n# " + b"x" * length + b"\n.print\nsetenv b 2\n.print\n"
+        yield over_small_board("a long line", given, b"[Finished 0 1]\na=1\n[Finished 0 1]\na=1\nb=2\n")
+
+
 def chunks():
-    return [answered, stood_in, wrong_numbers, written]
+    return [answered, stood_in, wrong_numbers, written, undone, pieces]

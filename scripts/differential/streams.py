@@ -10,9 +10,10 @@ import socket
 import struct
 import subprocess
 import threading
+from dataclasses import replace
 
 from differential.boards import FIRST, SAVED, SECOND
-from differential.running import Case
+from differential.running import Case, Cut
 from model.image import Geometry
 from model.program import CANNOT_READ_INPUT, CANNOT_WRITE_OUTPUT, TOO_LONG, Answer
 
@@ -157,6 +158,8 @@ def sessions():
         around = functools.partial(piped, f"echo .save; exec yes '{text}'")
         yield session(f"an input of {name} that never ends", b"", 1, output, TOO_LONG, around)
     yield session("a session on a full disk", b".save\n", 1, b"", CANNOT_WRITE_OUTPUT, full)
+    case = session("nothing more is read after a fault", b".save\n.x\n", 1, b"", CANNOT_WRITE_OUTPUT, full)
+    yield replace(case, cut=Cut(0, "read", step=1), moved=(6, 6))
     yield session("a session with standard output closed", b".save\n", 1, b"", CANNOT_WRITE_OUTPUT, at(1, None))
     closed = functools.partial(said_without_end, ".x", len(b"[Unknown]\n"))
     yield session("a session into a pipe that is closed", b"", 1, b"[Unknown]\n", CANNOT_WRITE_OUTPUT, closed)

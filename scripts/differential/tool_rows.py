@@ -1,5 +1,6 @@
 """The tools by hand: each row is a call over a board, what it prints, and the copies that it leaves."""
 
+from differential import text_rows
 from differential.boards import BLANK, CONFIG, EMPTIED, FIRST, PAIR, SAVED, SECOND, arguments, board
 from differential.running import Case
 from model.arguments import NAME_AND_SCRIPT, NO_NAME, NO_SUBCOMMAND, VERSION
@@ -107,6 +108,10 @@ def over_types():
         after = SINGLE.image(0, entries(TYPED | changes))
         wanted = Answer(status, output, errors, board(SINGLE, [after]))
         yield Case("types", arguments(tool, *rest), board(SINGLE, [SINGLE.image(0, entries(TYPED))]), wanted=wanted)
+    text, before, after = b".flags=a:d\na=x\nb=1\n", {b"a": b"1"}, {b".flags": b"a:d", b"a": b"1", b"b": b"1"}
+    files, left = ({b"text": text} | board(SINGLE, [SINGLE.image(0, entries(each))]) for each in (before, after))
+    wanted = Answer(1, b"", b"## Error: 1 entries refused\n", left)
+    yield Case("a type that an import gives", arguments(b"import", b"text"), files, wanted=wanted)
     image = SINGLE.image(0, entries({b"#q": b"1", b"m": b"x\ny"}))
     wanted = Answer(1, b"m=x\\\ny\n", b'## Error: can\'t export "#q"\n', board(SINGLE, [image]))
     yield Case("a name that can't be exported", arguments(b"export"), board(SINGLE, [image]), wanted=wanted)
@@ -140,4 +145,4 @@ def words():
 
 
 def chunks():
-    return [over_pairs, over_types, restores, in_big_endian, words]
+    return [over_pairs, over_types, restores, in_big_endian, words, *text_rows.chunks()]

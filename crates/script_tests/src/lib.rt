@@ -1,10 +1,8 @@
-//! Tests of what reads scripts: words, trees, and the commands that compute. They are apart from those crates, so that
-//! each of them is proved once.
+//! What only a call of the libraries of dry runs shows: a list of requests, which no tool asks for at once, and when a session reads
+//! and writes. They are apart from those crates, so that each of them is proved once.
 #![tactic(auto)]
 
 #[cfg(test)]
-mod calculations;
+mod request_lists;
 #[cfg(test)]
-mod trees;
-#[cfg(test)]
-mod words;
+mod turns;

@@ -1,70 +1,87 @@
-//! Sessions: over one bad copy and the default environment, and over two of which the first is current.
+//! Calls over a session, one after the other: requests with marks, tools, and undos, which bring back the opening.
 
-use crate::courses::{Act, Course};
-use crate::harness::{self, Call, Outcome};
-use crate::pages::Page;
-use crate::states::put_vars;
-use env_session::{Session, Side, StartFault, Stored};
-use envcfg_core::parse_import;
-use envimg_core::{Geometry, ImageWriter, Layout, crc32};
-use envvars_core::Vars;
+use crate::harness::{self, Call, Outcome, outcome_of, outcome_of_tool};
+use crate::lists;
+use crate::pages::{Page, sum_of_copies};
+use crate::variables::{FLAGS, VALUE};
+use env_session::{ImportEnding, Session, StartFault, Stored};
+use envcfg_core::{TextEntry, parse_import};
+use envimg_core::{Geometry, Layout, crc32};
+use envvars_core::{Refusal, Vars};
+use fw_engines::{export, import, restore, set_script, setenv};
 use std::alloc::Global;
 use std::io::{self, Write};
-use test_support::name;
 
-/// The bytes of a small copy.
-pub const SIZE: u32 = 64;
+/// The bytes of a copy.
+const SIZE: u32 = 64;
 
-/// What is asked of the session over one copy.
-const SPANS: [(&str, Act<'static>); 8] = [
-    ("first deletion", Act::Write(b"p", None)),
-    ("first mark", Act::Mark(1)),
-    ("second deletion", Act::Write(b"q", None)),
-    ("save", Act::Save(Side::First, true)),
-    ("save again", Act::Save(Side::First, false)),
-    ("second mark", Act::Mark(2)),
-    ("third deletion", Act::Write(b"r", None)),
-    ("undo of three spans", Act::Undo(0)),
+/// The entries of an import. The second is refused, since by the first `n` is decimal; a restore takes the first one last.
+const TEXT: &[u8] = b".flags=n:d\nn=x\nb=1\n";
+
+/// A call that may have done a part when memory is refused.
+#[derive(Clone, Copy)]
+enum Tool {
+    SessionImport,
+    Setenv,
+    SetScript,
+    Import,
+    Restore,
+    Export,
+}
+
+/// What is asked of a session.
+#[derive(Clone, Copy)]
+enum Act {
+    Write(&'static [u8], Option<&'static [u8]>),
+    Save,
+    /// A mark, which takes no memory.
+    Mark,
+    /// An undo of everything.
+    Undo,
+    /// A tool, and the variables that it may leave if memory is refused, `|` between them.
+    Tool(Tool, &'static [u8]),
+}
+
+const SET: &[u8] = b"a=1\nn=5\n|a=x and more\nn=5\n";
+
+const IMPORTED: &[u8] = b"a=1\nn=5\n|.flags=n:d\na=1\nn=5\n|.flags=n:d\na=1\nb=1\nn=5\n";
+
+const RESTORED: &[u8] = b"a=1\nn=5\n|n=5\n||n=x\n|b=1\nn=x\n|.flags=n:d\nb=1\nn=x\n";
+
+const ROWS: [(&str, Act); 21] = [
+    ("Session::write", Act::Write(b"b", VALUE)),
+    ("Session::write of no value", Act::Write(b"a", None)),
+    ("Session::save", Act::Save),
+    ("first mark", Act::Mark),
+    ("Session::write of .flags", Act::Write(b".flags", FLAGS)),
+    ("second save", Act::Save),
+    ("second mark", Act::Mark),
+    ("second write of no value", Act::Write(b"b", None)),
+    ("third save", Act::Save),
+    ("Session::undo_to over marks", Act::Undo),
+    ("Session::import", Act::Tool(Tool::SessionImport, IMPORTED)),
+    ("Session::undo_to", Act::Undo),
+    ("setenv", Act::Tool(Tool::Setenv, SET)),
+    ("Session::undo_to", Act::Undo),
+    ("set_script", Act::Tool(Tool::SetScript, IMPORTED)),
+    ("Session::undo_to", Act::Undo),
+    ("import", Act::Tool(Tool::Import, IMPORTED)),
+    ("Session::undo_to", Act::Undo),
+    ("restore", Act::Tool(Tool::Restore, RESTORED)),
+    ("Session::undo_to", Act::Undo),
+    ("export", Act::Tool(Tool::Export, b"a=1\nn=5\n")),
 ];
 
-/// What is asked of the session over a pair.
-const PAIR_SPANS: [(&str, Act<'static>); 9] = [
-    ("deletion over a pair", Act::Write(b"a", None)),
-    ("save into the second", Act::Save(Side::Second, true)),
-    ("first mark over a pair", Act::Mark(1)),
-    (".flags over a pair", Act::Write(b".flags", Some(b"n:xo"))),
-    ("save into the first", Act::Save(Side::First, true)),
-    ("second mark over a pair", Act::Mark(2)),
-    (
-        "write over a pair",
-        Act::Write(b"b", Some(b"a longer value")),
-    ),
-    ("save into the second again", Act::Save(Side::Second, true)),
-    ("undo over a pair", Act::Undo(0)),
-];
-
-/// The entries of an import, of which the second is refused: the first makes it one for decimal digits.
-pub const TEXT: &[u8] = b".flags=a:d\na=x\nb=1\n";
-
-/// The variables of which an import of them may leave some: none of it, the first entry, and all.
-pub const IMPORTED: [&[u8]; 3] = [
-    b"p=1\nq=2\nr=3\n",
-    b".flags=a:d\np=1\nq=2\nr=3\n",
-    b".flags=a:d\nb=1\np=1\nq=2\nr=3\n",
-];
-
-/// A start over stored copies, with or without default variables.
+/// A start over stored copies. A refused one hands them back.
 #[derive(Drop)]
 struct Start {
     stored: Option<Stored>,
-    has_defaults: bool,
     session: Option<Session>,
 }
 
 impl Call for Start {
-    /// A refused start hands the copies back.
     fn make(&mut self, alloc: Global) -> Outcome {
-        let Some(defaults) = defaults(alloc, self.has_defaults) else {
+        let Ok(defaults) = Vars::load(alloc, b"a=1\0n=5\0\0") else {
             return Outcome::Refused;
         };
         let Some(stored) = self.stored.take() else {
@@ -75,128 +92,172 @@ impl Call for Start {
                 self.session = Some(session);
                 Outcome::Done
             }
-            Err((stored, StartFault::Memory)) => {
+            Err((stored, fault)) => {
                 self.stored = Some(stored);
-                Outcome::Refused
+                outcome_of(false, fault == StartFault::Memory)
             }
-            Err(_) => Outcome::Wrong,
         }
     }
 
-    fn state(&self) -> u32 {
-        match &self.stored {
-            Some(stored) => crc32(&stored.first),
-            None => 0,
-        }
-    }
-
-    fn tell(&self, page: &mut Page) {
-        if let Some(session) = &self.session {
-            put_vars(session.vars(), page);
+    fn shown(&self) -> Page {
+        match (&self.stored, &self.session) {
+            (Some(stored), _) => of_stored(stored),
+            (None, Some(session)) => Page::of_session(session),
+            (None, None) => Page::new(),
         }
     }
 }
 
-/// The default environment.
-fn defaults(alloc: Global, has_some: bool) -> Option<Vars> {
-    let none = Vars::empty(alloc, 1);
-    let mut vars = Vars::empty(alloc, SIZE);
-    if has_some {
-        for (name, value) in [(b"p", b"1"), (b"q", b"2"), (b"r", b"3")] {
-            vars.write(name, Some(value), true, &none).ok()?;
-        }
-    }
-    Some(vars)
+/// A session, what is asked of it next, and what it showed at first and at the end of each span.
+#[derive(Drop)]
+struct Course {
+    session: Session,
+    entries: Vec<TextEntry>,
+    act: Act,
+    printed: Page,
+    opening: u32,
+    ends: [u32; 3],
 }
 
-/// A copy that was never written.
-pub fn bad_copy(alloc: Global, size: u32) -> Option<Stored> {
+impl Call for Course {
+    fn make(&mut self, alloc: Global) -> Outcome {
+        self.printed = Page::new();
+        let outcome = match self.act {
+            Act::Write(name, value) => match self.session.write(name, value, false) {
+                Ok(()) => Outcome::Done,
+                Err(refusal) => outcome_of(false, refusal == Refusal::Memory),
+            },
+            Act::Save => outcome_of(self.session.save().is_ok(), true),
+            Act::Mark => outcome_of(self.session.mark().is_ok(), false),
+            Act::Undo => self.undo(),
+            Act::Tool(tool, texts) => self.in_part(alloc, tool, texts),
+        };
+        if let (Outcome::Done, Some(end)) = (
+            outcome,
+            self.ends.get_mut(self.session.marks() as usize),
+        ) {
+            *end = Page::of_session(&self.session).sum();
+        }
+        outcome
+    }
+
+    fn shown(&self) -> Page {
+        let mut page = Page::of_session(&self.session);
+        page.put(self.printed.text());
+        page
+    }
+}
+
+impl Course {
+    /// An undo of everything. Refused in a span, the spans above it are undone, and all is as it was at that span's end.
+    fn undo(&mut self) -> Outcome {
+        let is_undone = self.session.undo_to(0).is_ok();
+        let sum = Page::of_session(&self.session).sum();
+        if is_undone {
+            return outcome_of(sum == self.opening, false);
+        }
+        match self.ends.get(self.session.marks() as usize) {
+            Some(end) if *end == sum => Outcome::Begun,
+            _ => Outcome::Wrong,
+        }
+    }
+
+    /// A tool. Refused, it has printed nothing and changed no copy, and the variables are some of these.
+    fn in_part(&mut self, alloc: Global, tool: Tool, texts: &[u8]) -> Outcome {
+        let copies = sum_of_copies(&self.session);
+        let outcome = self.run(alloc, tool);
+        if outcome != Outcome::Refused {
+            return outcome;
+        }
+        let vars = Page::of_vars(self.session.vars());
+        let is_part = texts
+            .split(|byte| *byte == b'|')
+            .any(|text| text == vars.text());
+        if is_part && sum_of_copies(&self.session) == copies {
+            Outcome::Begun
+        } else {
+            Outcome::Wrong
+        }
+    }
+
+    fn run(&mut self, alloc: Global, tool: Tool) -> Outcome {
+        let (session, entries) = (&mut self.session, &self.entries);
+        let (printed, mut errors) = (&mut self.printed, Page::new());
+        let end = match tool {
+            Tool::SessionImport => {
+                return outcome_of(session.import(entries).ending == ImportEnding::Done, true);
+            }
+            Tool::Setenv => setenv(alloc, session, b"a", &[b"x", b"and", b"more"], printed),
+            Tool::SetScript => set_script(session, entries, printed),
+            Tool::Import => import(session, entries, printed),
+            Tool::Restore => restore(alloc, session, entries, printed),
+            Tool::Export => export(alloc, session, printed, &mut errors),
+        };
+        outcome_of_tool(&end, &self.printed, &errors)
+    }
+}
+
+/// The copies, noted.
+fn of_stored(stored: &Stored) -> Page {
+    let mut page = Page::new();
+    page.note(crc32(&stored.first));
+    page.note(crc32(stored.second.as_deref().unwrap_or(b"")));
+    page
+}
+
+/// Copies that were never written.
+fn erased(alloc: Global, layout: Layout) -> Option<Stored> {
     Some(Stored {
-        geometry: Geometry::new(Layout::Single, size)?,
-        first: vec![in alloc; 255u8; size as usize].ok()?,
-        second: None,
+        geometry: Geometry::new(layout, SIZE)?,
+        first: b"\xFF".repeat(alloc, SIZE as usize).ok()?,
+        second: match layout {
+            Layout::Single => None,
+            Layout::Redundant => Some(b"\xFF".repeat(alloc, SIZE as usize).ok()?),
+        },
     })
 }
 
-/// Two copies, of which the first has the variables `a` and `n`, and the flag 255.
-pub fn pair(alloc: Global) -> Option<Stored> {
-    let geometry = Geometry::new(Layout::Redundant, SIZE)?;
-    let mut first = vec![in alloc; 0u8; SIZE as usize].ok()?;
-    if first.len() != geometry.size() as usize {
-        return None;
-    }
-    let mut writer = ImageWriter::new(&geometry, &mut first);
-    writer.put(b"a", b"1");
-    writer.put(b"n", b"5");
-    writer.finish(255);
-    Some(Stored {
-        geometry,
-        first,
-        second: Some(vec![in alloc; 255u8; SIZE as usize].ok()?),
-    })
-}
-
-/// A copy with so many variables.
-pub fn full_copy(alloc: Global, size: u32, count: u32) -> Option<Stored> {
-    let geometry = Geometry::new(Layout::Single, size)?;
-    let mut first = vec![in alloc; 0u8; size as usize].ok()?;
-    if first.len() != geometry.size() as usize {
-        return None;
-    }
-    let mut writer = ImageWriter::new(&geometry, &mut first);
-    for i in 0..count {
-        writer.put(&name(i), b"1");
-    }
-    writer.finish(0);
-    Some(Stored {
-        geometry,
-        first,
-        second: None,
-    })
+/// The copies of a session, of which it has saved one.
+fn saved(session: Option<Session>) -> Option<Stored> {
+    let mut session = session?;
+    session.save().ok()?;
+    Some(session.close())
 }
 
 /// A session over stored copies, and the row of its start.
-pub fn begun<W: Write>(
+fn started<W: Write>(
     alloc: Global,
     out: &mut W,
-    said: &str,
+    name: &str,
     stored: Option<Stored>,
-    has_defaults: bool,
 ) -> io::Result<Option<Session>> {
     let mut start = Start {
         stored,
-        has_defaults,
         session: None,
     };
-    harness::sweep(alloc, out, said, &mut start)?;
+    harness::sweep(alloc, out, name, &mut start)?;
     Ok(start.session)
 }
 
-/// The session over one copy, and what is asked of it.
-fn sweep_one<W: Write>(alloc: Global, out: &mut W) -> io::Result<()> {
-    let Ok(entries) = parse_import(alloc, TEXT) else {
-        return out.write_all(b"no memory\n");
+/// Sessions over copies that are erased and that are saved, what is asked of the second, and a list of requests.
+pub fn sweep<W: Write>(alloc: Global, out: &mut W, layout: Layout) -> io::Result<()> {
+    let first = started(alloc, out, "Session::start", erased(alloc, layout))?;
+    let second = started(alloc, out, "Session::start over a save", saved(first))?;
+    let (Some(session), Ok(entries)) = (second, parse_import(alloc, TEXT)) else {
+        return out.write_all(b"no session\n");
     };
-    let Some(session) = begun(alloc, out, "start", bad_copy(alloc, SIZE), true)? else {
-        return Ok(());
+    let opening = Page::of_session(&session).sum();
+    let mut course = Course {
+        session,
+        entries,
+        act: Act::Undo,
+        printed: Page::new(),
+        opening,
+        ends: [opening; 3],
     };
-    let mut course = Course::new(session);
-    course.follow(alloc, out, &SPANS)?;
-    course.follow(
-        alloc,
-        out,
-        &[
-            ("import into a session", Act::Import(&entries, &IMPORTED)),
-            ("undo of an import", Act::Undo(0)),
-        ],
-    )
-}
-
-/// Each session, and what is asked of it.
-pub fn sweep<W: Write>(alloc: Global, out: &mut W) -> io::Result<()> {
-    sweep_one(alloc, out)?;
-    match begun(alloc, out, "start over a pair", pair(alloc), false)? {
-        Some(session) => Course::new(session).follow(alloc, out, &PAIR_SPANS),
-        None => Ok(()),
+    for (name, act) in ROWS {
+        course.act = act;
+        harness::sweep(alloc, out, name, &mut course)?;
     }
+    lists::sweep(alloc, out, course.session)
 }

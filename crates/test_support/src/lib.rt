@@ -1,15 +1,6 @@
-//! What tests share: sessions that are just started, streams that fail, names of a number, the words of a text, and the rows of a
-//! table that is one text.
+//! What tests share: a session that is just started.
 #![tactic(auto)]
 
-mod failing_streams;
-mod names;
-mod rows;
 mod sessions;
-mod words;
 
-pub use failing_streams::{Narrow, Slow};
-pub use names::name;
-pub use rows::{folded, unfolded};
-pub use sessions::{erased_session, variables};
-pub use words::words_of;
+pub use sessions::erased_session;

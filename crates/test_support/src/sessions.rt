@@ -1,46 +1,29 @@
 //! Sessions that are just started.
 
 use env_session::{Session, Stored};
-use envcfg_core::parse_import;
 use envimg_core::{Geometry, Layout};
 use envvars_core::Vars;
 use std::alloc::Global;
 use std::test::Fail;
 
-/// The variables of a text for import, written forced, in so much room.
+/// A session over a single image of so many bytes FF. Its default environment is that of lines `name=value`, with a `;` between two.
 ///
 /// # Errors
 ///
-/// The text can't be read or doesn't fit, or memory ran out.
-pub fn variables(alloc: Global, text: &[u8], room: u32) -> Result<Vars, Fail> {
-    let defaults = Vars::empty(alloc, 1);
-    let mut vars = Vars::empty(alloc, room.max(1));
-    for entry in &parse_import(alloc, text)? {
-        vars.write(&entry.name, entry.value_bytes(), true, &defaults)?;
+/// No image has this size, the default environment is refused or doesn't fit, or memory ran out.
+pub fn erased_session(alloc: Global, size: u32, lines: &str) -> Result<Session, Fail> {
+    let geometry = Geometry::new(Layout::Single, size).ok_or("no geometry")?;
+    let none = Vars::empty(alloc, 1);
+    let mut defaults = Vars::empty(alloc, geometry.room());
+    for line in lines.split(';') {
+        if let Some((name, value)) = line.split_once('=') {
+            defaults.write(name.as_bytes(), Some(value.as_bytes()), true, &none)?;
+        }
     }
-    Ok(vars)
-}
-
-/// A session over copies of so many bytes FF, whose variables are those of a text for import.
-///
-/// # Errors
-///
-/// No image has this size, the text can't be read or doesn't fit, or memory ran out.
-pub fn erased_session(
-    alloc: Global,
-    layout: Layout,
-    size: u32,
-    defaults: &[u8],
-) -> Result<Session, Fail> {
-    let geometry = Geometry::new(layout, size).ok_or("no geometry")?;
     let stored = Stored {
         geometry,
         first: b"\xFF".repeat(alloc, size as usize)?,
-        second: match layout {
-            Layout::Single => None,
-            Layout::Redundant => Some(b"\xFF".repeat(alloc, size as usize)?),
-        },
+        second: None,
     };
-    let defaults = variables(alloc, defaults, geometry.room())?;
     Ok(Session::start(alloc, stored, defaults).map_err(|_| "no start")?)
 }

@@ -1,9 +1,8 @@
-//! Why a file can't be had, as the newer subcommands say it and the older ones don't, over files in memory.
+//! Why a file can't be had, over files in memory, and why the words of the command line can't.
 
-use crate::disk::{Contents, Named, disk_with, fails_with};
-use std::alloc::{AllocError, Global};
-use std::cell::RefCell;
-use std::io::ErrorKind;
+use crate::disk::{disk_with, fails_with};
+use fw_tools::words_failed;
+use std::io::{self, ErrorKind};
 use std::test::Fail;
 
 /// Kinds of errors, and what is said of each.
@@ -21,102 +20,50 @@ const KINDS: [(ErrorKind, &str); 8] = [
     (ErrorKind::Other, ""),
 ];
 
-/// The disk of the other tests with files besides, of which the call `fails` fails so.
-fn failing_disk(
-    alloc: Global,
-    more: &[Named<'_>],
-    fails: usize,
-    kind: ErrorKind,
-) -> Result<RefCell<Contents>, AllocError> {
-    let contents = disk_with(alloc, more, fails)?;
-    if let Ok(mut now) = contents.try_borrow_mut() {
-        now.kind = kind;
-    }
-    Ok(contents)
-}
-
-/// What a restore says where this call fails, up to the reason: as in the tests of files, but the text is opened and read to its
-/// end by two reads before the copies are read again.
-fn said_where(call: usize) -> &'static str {
-    match call {
-        0..=2 => "read config",
-        4..=7 => "read first",
-        8..=11 => "read second",
-        12..=14 => "read text",
-        15..=18 => "write first",
-        _ => "write second",
-    }
-}
+/// The calls of a restore, as in the tests of files, but the text is opened and read to its end by two reads before the copies are read
+/// again; and what can't be done where one of them fails.
+const CALLS: [(usize, usize, &str); 6] = [
+    (0, 3, "read config"),
+    (4, 8, "read first"),
+    (8, 12, "read second"),
+    (12, 15, "read text"),
+    (15, 19, "write first"),
+    (19, 28, "write second"),
+];
 
 #[test]
 fn each_call_says_why_it_failed(rt: HostRuntime) -> Result<(), Fail> {
     for (kind, reason) in KINDS {
-        for call in (0..28).filter(|call| *call != 3) {
-            let contents = failing_disk(rt.alloc(), &[("text", b"a=2\n")], call, kind)?;
-            let said = format!(in rt.alloc(); "fwenv: cannot {}{reason}\n", said_where(call))?;
-            let words = "fwenv restore -c config text";
-            fails_with(&rt, &contents, words, said.as_bytes())?;
+        for (from, to, what) in CALLS {
+            for call in from..to {
+                let contents = disk_with(rt.alloc(), &[("text", b"a=2\n")], call)?;
+                contents.try_borrow_mut().ok().ok_or("lent")?.kind = kind;
+                let said = format!(in rt.alloc(); "fwenv: cannot {what}{reason}\n")?;
+                fails_with(
+                    &rt,
+                    &contents,
+                    "fwenv restore -c config text",
+                    said.as_bytes(),
+                )?;
+            }
         }
     }
     Ok(())
 }
 
-/// Calls of which the first one opens `x`, the configuration or the script that is looked at.
-const EXPLAINED: &str = "\
-fwenv status -c x
-fwenv restore -c x y
-fwenv run -c x y
-fwenv check -c x
-fwenv check -f x
-fw_printenv -l  -c x
-fw_setenv -l  -c x y
-";
-
-const NOT_EXPLAINED: &str = "\
-fwenv printenv -c x
-fwenv setenv -c x y
-fwenv import -c x y
-fwenv export -c x
-fwenv session -c x
-";
-
 #[test]
-fn only_newer_subcommands_say_why(rt: HostRuntime) -> Result<(), Fail> {
-    for (kind, reason) in KINDS {
-        for words in EXPLAINED.lines() {
-            let contents = failing_disk(rt.alloc(), &[], 0, kind)?;
-            let said = format!(in rt.alloc(); "fwenv: cannot read x{reason}\n")?;
-            fails_with(&rt, &contents, words, said.as_bytes())?;
-        }
-        for words in NOT_EXPLAINED.lines() {
-            let contents = failing_disk(rt.alloc(), &[], 0, kind)?;
-            fails_with(&rt, &contents, words, b"fwenv: cannot read x\n")?;
-        }
+fn words_that_can_not_be_had(rt: HostRuntime) {
+    let kinds: [(ErrorKind, &str); 3] = [
+        (ErrorKind::OutOfMemory, "## Error: out of memory\n"),
+        (
+            ErrorKind::InvalidData,
+            "fwenv: a word of the command line is not UTF-8\n",
+        ),
+        (ErrorKind::Other, "fwenv: cannot read the command line\n"),
+    ];
+    for (kind, text) in kinds {
+        let mut errors = Vec::new(rt.alloc());
+        assert_eq!(rt; words_failed(&io::Error::from(kind), &mut errors), 1);
+        assert!(rt; errors.as_slice() == text.as_bytes());
     }
-    Ok(())
-}
-
-/// Each file of a call besides its configuration and its copies.
-const FILES: &str = "\
-fwenv status none => none: no such file
-fwenv run -c config --stubs none x => none: no such file
-fwenv run -c config -f none => none: no such file
-fwenv run --env none -e true => none: no such file
-fwenv check -c config --stubs none => none: no such file
-fwenv check -f config --stubs none => none: no such file
-fw_printenv -c config -l  --defenv none => none: no such file
-fw_setenv -c config -l  -s none => none: no such file
-fwenv printenv -c config --default none => none
-fwenv session -c config --stubs none => none
-";
-
-#[test]
-fn each_file_of_a_call_is_explained(rt: HostRuntime) -> Result<(), Fail> {
-    for row in FILES.lines() {
-        let (words, said) = row.split_once(" => ").ok_or("no row")?;
-        let contents = disk_with(rt.alloc(), &[], usize::MAX)?;
-        let said = format!(in rt.alloc(); "fwenv: cannot read {said}\n")?;
-        fails_with(&rt, &contents, words, said.as_bytes())?;
-    }
-    Ok(())
 }

@@ -3,7 +3,6 @@
 use env_requests::{Reply, Request, obey_all};
 use env_session::{ImportReport, Side};
 use envcfg_core::TextEntry;
-use envimg_core::Layout;
 use envvars_core::{Memory, Refusal};
 use hush_run::{Limits, Stubs};
 use hush_syntax::Script;
@@ -103,7 +102,7 @@ fn told(alloc: Global, replies: &[Reply]) -> Result<Vec<u8>, Memory> {
 
 #[test]
 fn requests_are_obeyed_one_after_the_other(rt: HostRuntime) -> Result<(), Fail> {
-    let mut session = erased_session(rt.alloc(), Layout::Single, 4096, b"")?;
+    let mut session = erased_session(rt.alloc(), 4096, "")?;
     let before = Vec::from_slice(rt.alloc(), session.copy(Side::First).ok_or("no copy")?)?;
     let stubs = Stubs::parse(rt.alloc(), b"")?;
     let limits = Limits::new(9, 2, 9, 99).ok_or("no limits")?;
