@@ -33,9 +33,8 @@ impl Model for OwnedVariable {
 }
 
 impl OwnedVariable {
-    /// The variable `name` with the value `value`.
-    /// The name is a name and the value a value (docs/images.md); it is refused only when out of memory, as always
-    /// for a name of 4 GiB.
+    /// The variable `name` with the value `value`; docs/images.md says which bytes each may have.
+    /// The only error is that memory ran out, which a name of 4 GiB always meets.
     pub fn new(alloc: Global, name: &[u8], value: &[u8]) -> Result<OwnedVariable, AllocError>
         requires name_form { IsTrue (is_name name.now) }
         requires value_form { IsTrue (is_value value.now) }

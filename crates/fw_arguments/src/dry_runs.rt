@@ -30,7 +30,7 @@ pub struct DryRun<'w> {
 pub struct ScriptRun<'m, 'w> {
     /// The options of a dry run.
     pub dry: DryRun<'w>,
-    /// The names of commands that don't come back.
+    /// The names of stand-ins that boot: with status 0 the run ends there.
     pub boots: Option<&'m [&'w str]>,
     /// The script.
     pub script: GivenScript<'m, 'w>,

@@ -1,4 +1,4 @@
-//! The words about one copy: good, or what is wrong with it and what may help.
+//! The text about one copy: that it is good, or what is wrong with it and what may help.
 ghost use Rattle.std.specs.Prelude.{◌≡◌, ◌++◌, IfOk, map, option_copied};
 ghost use Rattle.std.specs.List.{concat};
 ghost use Rattle.fw_engines.specs.CopyStatus.{bad_words, copy_words, fault_words, good_words, hint_words, layout_words, meant_by, order_words, size_words, way_words};

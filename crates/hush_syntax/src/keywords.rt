@@ -6,7 +6,7 @@ ghost use Rattle.hush_words.specs.Words.Atom.{Plain};
 
 use hush_words::{Text, Word};
 
-/// The reserved words: each stands for itself where a command may begin, in unquoted bytes alone.
+/// The reserved words. A word is one of them only where a command may begin, and only if all its bytes are unquoted.
 #[derive(Clone, Copy, Debug, PartialEq, Eq)]
 pub(crate) enum Keyword {
     If,
