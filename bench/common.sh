@@ -60,6 +60,18 @@ program_of() {
     echo "$top/crates/$1/out/$1"
 }
 
+# fastest COUNT INPUT COMMAND..: the best time of so many runs, in nanoseconds, goes to taken, the most memory in KiB to memory.
+fastest() {
+    local time peak turn least='' most=0
+    for ((turn = 0; turn < $1; turn++)); do
+        "$measure" "$work/measured" "${@:3}" <"$2" >/dev/null 2>"$work/errors"
+        read -r time peak _ <"$work/measured"
+        if [ -z "$least" ] || [ "$time" -lt "$least" ]; then least=$time; fi
+        if [ "$peak" -gt "$most" ]; then most=$peak; fi
+    done
+    taken=$least memory=$most
+}
+
 # ends WORDS INPUT COMMAND..: one run of a program that measures. It prints the words that are wanted, any if WORDS is
 # empty, and then the nanoseconds that its part took; these go to taken, the peak memory in KiB to memory.
 ends() {

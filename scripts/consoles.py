@@ -14,6 +14,8 @@ import shutil
 import subprocess
 import sys
 
+from counted import check, end
+
 TOP = pathlib.Path(__file__).resolve().parent.parent
 BLOCK = re.compile(r"^```console\n(.*?)^```$", re.M | re.S)
 # What is there before the first block of a document: the files of an example, and commands
@@ -43,14 +45,14 @@ def stage(document, folder):
         subprocess.run(["bash", "-c", command], cwd=folder, env=ENVIRONMENT, check=True, capture_output=True)
 
 
-def failures(document, folder):
-    """For each command of a document, None or how it failed."""
+def compare(document, folder):
+    """Runs the commands of a document, each as a check."""
     for block in BLOCK.findall((TOP / document).read_text()):
         for command, shown in commands(block):
             words = ["bash", "-c", command]
             found = subprocess.run(words, cwd=folder, env=ENVIRONMENT, stdin=subprocess.DEVNULL, stdout=subprocess.PIPE, stderr=subprocess.STDOUT)
             printed = found.stdout.decode(errors="replace")
-            yield None if printed == shown else f"{document}: {command}: printed {printed!r}"
+            check(f"{document}: {command}", printed == shown, f"printed {printed!r}")
 
 
 def main(room, program):
@@ -59,18 +61,13 @@ def main(room, program):
     tools.mkdir()
     os.symlink(program, tools / "fwenv")
     ENVIRONMENT = {**os.environ, "PATH": f"{tools}:{os.environ['PATH']}", "LC_ALL": "C"}
-    found = []
     for document in ["README.md", *sorted(str(path.relative_to(TOP)) for path in TOP.glob("docs/*.md"))]:
         folder = pathlib.Path(room, document.replace("/", "-"))
         folder.mkdir()
         stage(document, folder)
-        found += failures(document, folder)
-    for failure in filter(None, found):
-        print(f"FAILED: {failure}")
-    failed = sum(map(bool, found))
-    print(f"{len(found) - failed} passed, {failed} failed")
-    return 1 if failed else 0
+        compare(document, folder)
+    end()
 
 
 if __name__ == "__main__":
-    sys.exit(main(*sys.argv[1:]))
+    main(*sys.argv[1:])

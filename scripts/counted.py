@@ -12,7 +12,7 @@ def check(name, is_right, said=""):
         passed += 1
     else:
         failed += 1
-        print(f"FAILED: {name}: {said}")
+        print(f"FAILED: {name}: {said}", flush=True)
 
 
 def end():

@@ -13,6 +13,8 @@ import subprocess
 import sys
 import tempfile
 
+from counted import check, end
+
 ROWS = (pathlib.Path(__file__).resolve().parent.parent / "crates/sweeps/stdout").read_bytes().splitlines(keepends=True)
 
 
@@ -37,18 +39,15 @@ def main():
     program, refuse = sys.argv[1:]
     with tempfile.NamedTemporaryFile() as count_file:
         ample = ran(program, refuse, REFUSE_COUNT=count_file.name)
-        count, failed = int(count_file.read() or 0), 0
-    if ample.returncode != 0 or ample.stdout != b"".join(ROWS) or count == 0:
-        failed += 1
-        print(f"FAILED: the sweeps with ample memory: status {ample.returncode}, {count} allocations")
+        count = int(count_file.read() or 0)
+    is_right = ample.returncode == 0 and ample.stdout == b"".join(ROWS) and count > 0
+    check("the sweeps with ample memory", is_right, f"status {ample.returncode}, {count} allocations")
     with concurrent.futures.ThreadPoolExecutor(len(os.sched_getaffinity(0))) as pool:
-        runs = [pool.submit(fault_of, program, refuse, number) for number in range(1, count + 1)]
-        for number, run in enumerate(runs, 1):
-            if fault := run.result():
-                failed += 1
-                print(f"FAILED: the sweeps, allocation {number} of {count} refused: {fault}")
+        faults = pool.map(lambda number: fault_of(program, refuse, number), range(1, count + 1))
+        for number, fault in enumerate(faults, 1):
+            check(f"the sweeps, allocation {number} of {count} refused", fault is None, fault)
     print(f"sweeps: {len(ROWS)} rows, {count} allocations")
-    print(f"{count + 1 - failed} passed, {failed} failed")
+    end()
 
 
 if __name__ == "__main__":

@@ -1,5 +1,6 @@
 """The parts of the comparison, each over as many processes as there are processors."""
 
+import functools
 import importlib
 import itertools
 import multiprocessing
@@ -12,10 +13,6 @@ from collections import Counter
 from differential import running
 from differential.running import Runner
 
-PARTS = (
-    "images", "texts", "scripts", "runs", "requests", "inputs", "calls", "largest", "documents", "session_rows", "tool_rows",
-    "report_rows", "client_rows", "script_rows", "check_rows", "check_boards", "cuts", "streams", "files", "hostile_files", "costs", "memory", "other_tools",
-)
 SHOWN = 5
 # What an answer reports: the ending of a block, a dot line's answer, a message, or nothing
 TOLD = re.compile(
@@ -39,13 +36,11 @@ class Worker:
 
     def __init__(self, program, preloads, folder):
         self.words = program, preloads, folder
-        self.runner = None
 
-    def runner_here(self):
-        if self.runner is None:
-            program, preloads, folder = self.words
-            self.runner = Runner(program, preloads, tempfile.mkdtemp(dir=folder))
-        return self.runner
+    @functools.cached_property
+    def runner(self):
+        program, preloads, folder = self.words
+        return Runner(program, preloads, tempfile.mkdtemp(dir=folder))
 
     def compare(self, cases):
         """How many cases passed and failed, texts for the first failures, and how often each name came."""
@@ -53,7 +48,7 @@ class Worker:
         for case in cases:
             wanted = case.answer() if case.is_modelled else case.wanted
             names.update(names_of(wanted) if wanted else ())
-            failure = self.runner_here().failure(case, wanted)
+            failure = self.runner.failure(case, wanted)
             if failure is None:
                 passed += case.weight
             else:
@@ -80,8 +75,6 @@ def folder_for(name, folder):
 def main():
     global worker, chunks
     program, preloads, name, *numbers = sys.argv[1:]
-    if name not in PARTS:
-        sys.exit(f"no part is called {name}")
     sys.setrecursionlimit(100_000)
     running.PROGRAM = os.path.abspath(program)
     part = importlib.import_module(f"differential.{name}")

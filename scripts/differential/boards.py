@@ -1,6 +1,10 @@
 """Boards: a device with one copy or two, bytes around them, and the configuration that names them."""
 
+import shlex
+
+from differential.running import Case
 from model.image import ERASED, Geometry
+from model.program import WARNING, Answer
 
 CONFIG = b"fw.config"
 DEVICE = b"device"
@@ -20,9 +24,21 @@ def board(geometry, copies):
     return {DEVICE: BEFORE + BETWEEN.join(copies) + AFTER, CONFIG: b"".join(lines)}
 
 
+def calls(text):
+    """The arguments of each call in a text, in which ` / ` is between them."""
+    return [[word.encode() for word in shlex.split(call)] for call in text.split(" / ")]
+
+
 def arguments(tool, *words, order="little"):
     big_endian = [b"--big-endian"] if order == "big" else []
     return [tool, b"-c", CONFIG, *big_endian, *words]
+
+
+def unwritten(name, form, given, output, *words, files=(), errors=b"", **rest):
+    """A session over copies that were never written, which are left so."""
+    files = board(form, [ERASED * form.size] * form.copies) | dict(files)
+    wanted = Answer(int(errors != b""), output, WARNING + errors, files)
+    return Case(name, arguments(b"session", *words), files, given, wanted=wanted, **rest)
 
 
 def lines_of(variables):
@@ -32,6 +48,4 @@ def lines_of(variables):
 
 def text_of(variables):
     """Variables as a text for import."""
-    return b"".join(
-        name + b"=" + value.replace(b"\\", b"\\\\").replace(b"\n", b"\\\n") + b"\n" for name, value in variables.items()
-    )
+    return b"".join(name + b"=" + value.replace(b"\\", b"\\\\").replace(b"\n", b"\\\n") + b"\n" for name, value in variables.items())

@@ -1,16 +1,17 @@
 """Boot scripts of boards (scripts/runs/boards) and of the examples through `fwenv check`: what is found in them as they are, and in
 each script that is followed once a mistake is planted in it, at its place. Over each the variable `script` has what is started."""
 
-import pathlib
 import re
 
 from differential.boards import text_of
-from differential.check_lines import lacked_test, lines, not_assigned, not_called, not_defined, not_run, place, returned, row, with_stand_ins
-from differential.rows import rows
+from differential.check_lines import (
+    lacked_test, lines, no_script, not_assigned, not_called, not_defined, not_run, place, returned, row, with_stand_ins,
+)  # fmt: skip
+from differential.rows import TOP, examples
+from differential.rows import boards as rows_of_boards
 from differential.running import Case
-from model.texts import import_entries, stand_ins
+from model.texts import stand_ins
 
-TOP = pathlib.Path(__file__).parent.parent.parent
 # What is found in boards as they are: a run of the first ends with this; those of swupdate try it at their end; two words
 # of a kernel's arguments, and the address that two boards of RAUC load to, are given by nothing
 FOUND = {
@@ -19,8 +20,6 @@ FOUND = {
     "kernel-arguments": [not_defined("1:70", "optargs"), not_defined("1:81", "more")],
     **{f"rauc-with-{name}-spent": [not_defined("31:18", "loadaddr"), not_defined("31:48", "loadaddr")] for name in ("one-slot", "both-slots")},
 }
-NOT_CLOSED = "%s: error: a quote is not closed (Quote)"
-MISSING = "%s: error: the text ends where more has to follow (Missing)"
 # What is before the name of a command, and the last word that closes a form
 BEFORE = re.compile(rb"(?:\A|; |&& |\|\| |if |then |else |do |\n *)\Z")
 # A word, the name that an assignment begins with, a substitution, and what is before an argument of `test`, which may be absent
@@ -33,13 +32,11 @@ CLOSING = re.compile(rb"(?<=[;\n] )(?:done|fi)(?=[;\n]|\Z)|^(?:done|fi)$", re.M)
 
 def boards():
     """The name of each board, its variables with the script that is started, and its stand-ins."""
-    for path in sorted((TOP / "scripts/runs/boards").iterdir()):
-        [made] = [each.setup for each in rows(path)]
-        yield path.name, made.defaults | made.variables | {b"script": made.script}, made.stand_ins
-    for path in sorted((TOP / "examples").glob("*/environment.txt")):
-        variables = {name: value for _, name, value in import_entries(path.read_bytes())}
-        started = [line for line in (path.parent / "input.txt").read_bytes().split(b"\n") if line[:1] != b"."]
-        yield path.parent.name, variables | {b"script": b"\n".join(started)}, (path.parent / "stand-ins.txt").read_bytes()
+    for row in rows_of_boards():
+        yield row.name, row.setup.defaults | row.setup.variables | {b"script": row.setup.script}, row.setup.stand_ins
+    for name, variables, stubs, given in examples():
+        started = [line for line in given.split(b"\n") if line[:1] != b"."]
+        yield name, variables | {b"script": b"\n".join(started)}, stubs
 
 
 def scripts_of(variables):
@@ -89,14 +86,14 @@ def brackets(text, _variables, _stubs):
 def lost_quotes(text, _variables, _stubs):
     if text.count(b'"') and b"'" not in text:
         last = text.rfind(b'"')
-        yield text[:last] + text[last + 1 :], NOT_CLOSED % place(text, text.rfind(b'"', 0, last))
+        yield text[:last] + text[last + 1 :], no_script(place(text, text.rfind(b'"', 0, last)), "Quote")
 
 
 def lost_endings(text, _variables, _stubs):
     *_, last = [None, *CLOSING.finditer(text)]
     if last:
         other = text[: last.start()] + text[last.end() :]
-        yield other, MISSING % place(other, len(other))
+        yield other, no_script(place(other, len(other)), "Missing")
 
 
 def carriage_returns(text, _variables, _stubs):

@@ -2,8 +2,8 @@
 over an environment and alone, with stand-ins and without."""
 
 from differential.check_lines import (
-    lacked, lacked_test, lines, no_functions, no_operator, not_assigned, not_called, not_defined, not_run, of_file, over, place, returned, row,
-    with_stand_ins, without,
+    lacked, lacked_test, lines, no_functions, no_operator, no_script, not_assigned, not_called, not_defined, not_run, of_file, over, place,
+    returned, row, several, with_stand_ins, without,
 )  # fmt: skip
 from differential.script_faults import NEAR_SCRIPTS, NO_SCRIPTS, NO_STAND_INS, NULS
 
@@ -20,10 +20,7 @@ STARTS = [
     (b"\trun\tnone", [not_run("1:6", "none")]),
     (b"echo \xc3\xa9; run none", [not_run("1:14", "none")]),
     (b"true && run n1 || run n2", [not_run("1:13", "n1"), not_run("1:23", "n2")]),
-    (
-        b"if run n1; then run n2; elif run n3\nthen run n4; else run n5; fi",
-        [not_run("1:8", "n1"), not_run("1:21", "n2"), not_run("1:34", "n3"), not_run("2:10", "n4"), not_run("2:23", "n5")],
-    ),
+    (b"if run n1; then run n2; elif run n3\nthen run n4; else run n5; fi", several(not_run, "1:8 n1 1:21 n2 1:34 n3 2:10 n4 2:23 n5")),
     (b"while run n1; do run n2; done", [not_run("1:11", "n1"), not_run("1:22", "n2")]),
     (b"until run n1; do run n2; done", [not_run("1:11", "n1"), not_run("1:22", "n2")]),
     (b"for i in run none; do run n1; done; run n2", [not_run("1:27", "n1"), not_run("1:41", "n2")]),
@@ -54,24 +51,7 @@ STARTS = [
     (b"Run none; echo run none; setenv b run none; b='run none'", []),
     (b"# run none\nrun ok # none", []),
     (b"env exists none; env delete none; printenv none", []),
-    # a name that a command sets or `test` substitutes, in any place
-    (b"setenv none 1; run none", []),
-    (b"run none none; setenv none 1", []),
-    (b"setenv none; run none", []),
-    (b"setenv -f none 1; run none", []),
-    (b"setenv '-f' n\\one 1; run none", []),
-    (b"s'e'tenv \"none\" 1; run none", []),
-    (b"env set none 1; run none", []),
-    (b"env 'set' -\\f none 1; run none", []),
-    (b"env exists none && run none", []),
-    (b"env 'exists' \"none\" n; run none", []),
-    (b"setexpr none 1 + 2; run none", []),
-    (b"setexpr.b n1 1; setexpr.w n2 1; setexpr.l n3 1; setexpr.q n4 1; run n1 n2 n3 n4", []),
-    (b"test -n $none; run none", []),
-    (b"test -n \"${none}\" && run none", []),
-    (b"if 'test' a = b${none}$n2; then true; else run none n2; fi", []),
-    (b"while false; do for b in 1; do setenv none; done; done; run none", []),
-    # near to that
+    # near to a name that a command sets or `test` substitutes, as in those below
     (b"setenv b 1; run none", [not_run("1:17", "none")]),
     (b"setenv none 1; run none n none_", [not_run("1:25", "n"), not_run("1:27", "none_")]),
     (b"echo none; run none", [not_run("1:16", "none")]),
@@ -92,6 +72,15 @@ STARTS = [
     (b"setenv b 'setenv none 1'; # setenv none\nrun none", [not_run("2:5", "none")]),
     (b"echo $filesize; run filesize", [not_run("1:21", "filesize")]),
 ]
+# Of these nothing is found: a name that a command sets or `test` substitutes, in any place
+FORESEEN = [
+    b"setenv none 1; run none", b"run none none; setenv none 1", b"setenv none; run none", b"setenv -f none 1; run none",
+    b"setenv '-f' n\\one 1; run none", b"s'e'tenv \"none\" 1; run none", b"env set none 1; run none", b"env 'set' -\\f none 1; run none",
+    b"env exists none && run none", b"env 'exists' \"none\" n; run none", b"setexpr none 1 + 2; run none",
+    b"setexpr.b n1 1; setexpr.w n2 1; setexpr.l n3 1; setexpr.q n4 1; run n1 n2 n3 n4", b"test -n $none; run none",
+    b"test -n \"${none}\" && run none", b"if 'test' a = b${none}$n2; then true; else run none n2; fi",
+    b"while false; do for b in 1; do setenv none; done; done; run none",
+]  # fmt: skip
 # Assignments over the same variables
 ASSIGNED = [
     (b"a=2", [not_assigned("1:1", "a")]),
@@ -104,12 +93,12 @@ ASSIGNED = [
     (b"\\\n a=2", [not_assigned("2:2", "a")]),
     (b"a\\\n=2", [not_assigned("1:1", "a")]),
     (b"true && a=2 || a=3", [not_assigned("1:9", "a"), not_assigned("1:16", "a")]),
-    (b"if a=1; then a=2; else a=3; fi", [not_assigned("1:4", "a"), not_assigned("1:14", "a"), not_assigned("1:24", "a")]),
+    (b"if a=1; then a=2; else a=3; fi", several(not_assigned, "1:4 a 1:14 a 1:24 a")),
     (b"for a in 1 2; do true; done", [not_assigned("1:5", "a")]),
     (b"for \\\n a in 1 2; do true; done", [not_assigned("2:2", "a")]),
     (b"for b in a 2; do true; done", []),
     (b"for a in 1; do a=$a; run n; done", [not_assigned("1:5", "a"), not_assigned("1:16", "a"), not_run("1:26", "n")]),
-    (b"while a=1; do for x in 1; do ok=2; done; done", [not_assigned("1:7", "a"), not_assigned("1:19", "x"), not_assigned("1:30", "ok")]),
+    (b"while a=1; do for x in 1; do ok=2; done; done", several(not_assigned, "1:7 a 1:19 x 1:30 ok")),
     (b"A=2; aa=2; setenv a 2; setexpr a 2", []),
     (b"echo a=2; a\\=2; 'a'=2; $a=2; a==2", [not_assigned("1:30", "a")]),
     (b"# a=2", []),
@@ -122,26 +111,23 @@ CALLED = [
     (b"load\n\t laod mmc", [not_called("2:3", "laod")]),
     (b"laod; laod", [not_called("1:1", "laod"), not_called("1:7", "laod")]),
     (b"mmc && laod || laod2 && usb", [not_called("1:8", "laod"), not_called("1:16", "laod2")]),
-    (
-        b"if c1; then c2; elif c3; then c4; else c5; fi",
-        [not_called("1:4", "c1"), not_called("1:13", "c2"), not_called("1:22", "c3"), not_called("1:31", "c4"), not_called("1:40", "c5")],
-    ),
+    (b"if c1; then c2; elif c3; then c4; else c5; fi", several(not_called, "1:4 c1 1:13 c2 1:22 c3 1:31 c4 1:40 c5")),
     (b"for c0 in c1; do c2; done", [not_called("1:18", "c2")]),
-    (b"while c1; do c2; done\nuntil c3; do c4; done", [not_called("1:7", "c1"), not_called("1:14", "c2"), not_called("2:7", "c3"), not_called("2:14", "c4")]),
+    (b"while c1; do c2; done\nuntil c3; do c4; done", several(not_called, "1:7 c1 1:14 c2 2:7 c3 2:14 c4")),
     (b"'laod' x", [not_called("1:1", "laod")]),
-    (b"la\\od; l\"ao\"d; l\\\naod", [not_called("1:1", "laod"), not_called("1:8", "laod"), not_called("1:16", "laod")]),
+    (b"la\\od; l\"ao\"d; l\\\naod", several(not_called, "1:1 laod 1:8 laod 1:16 laod")),
     (b"'' x; \"\"mmc", [not_called("1:1", "")]),
     (b"'mmc' dev; l\\oad", []),
     (b"\xff\xc3\xa9", [not_called("1:1", "\udcff\xe9")]),
     (b"true; false; echo; setenv b c; printenv; saveenv; env print; test; exit", []),
     (b"setexpr b 1; setexpr.b b 1; setexpr.w b 1; setexpr.l b 1; setexpr.q b 1", []),
-    (b"setexpr.x b 1; setexpr. b 1; True; echo1", [not_called("1:1", "setexpr.x"), not_called("1:16", "setexpr."), not_called("1:30", "True"), not_called("1:36", "echo1")]),
+    (b"setexpr.x b 1; setexpr. b 1; True; echo1", several(not_called, "1:1 setexpr.x 1:16 setexpr. 1:30 True 1:36 echo1")),
     (b"env grep laod; env", []),
-    (b"mmc2; mm; MMC", [not_called("1:1", "mmc2"), not_called("1:7", "mm"), not_called("1:11", "MMC")]),
-    (b"$laod x; \"$mmc\"; l${x}; laod$?; $l", [not_defined("1:1", "laod"), not_defined("1:10", "mmc"), not_defined("1:33", "l")]),
+    (b"mmc2; mm; MMC", several(not_called, "1:1 mmc2 1:7 mm 1:11 MMC")),
+    (b"$laod x; \"$mmc\"; l${x}; laod$?; $l", several(not_defined, "1:1 laod 1:10 mmc 1:33 l")),
     (b"echo laod; b=laod; setenv b 'laod'; # laod", []),
-    (b"if then", ["1:4: error: not expected here (Unexpected)"]),
-    (b"laod; 'x", ["1:7: error: a quote is not closed (Quote)"]),
+    (b"if then", [no_script("1:4", "Unexpected")]),
+    (b"laod; 'x", [no_script("1:7", "Quote")]),
 ]
 # Words of `test` that aren't operators, with and without stand-ins and variables
 OPERATORS = [
@@ -151,9 +137,9 @@ OPERATORS = [
     (b"test ! -d x", [no_operator("1:8", "-d")]),
     (b"test ! ! -d x", [no_operator("1:10", "-d")]),
     (b'test "$x" == b', [no_operator("1:11", "==")]),
-    (b"test a =! b; test a => b; test a ~ b", [no_operator("1:8", "=!"), no_operator("1:21", "=>"), no_operator("1:34", "~")]),
-    (b"test a <> b; test a -nt b; test a -Eq b", [no_operator("1:8", "<>"), no_operator("1:21", "-nt"), no_operator("1:35", "-Eq")]),
-    (b"test a -eqx b; test a -x- b; test a -e= b", [no_operator("1:8", "-eqx"), no_operator("1:23", "-x-"), no_operator("1:37", "-e=")]),
+    (b"test a =! b; test a => b; test a ~ b", several(no_operator, "1:8 =! 1:21 => 1:34 ~")),
+    (b"test a <> b; test a -nt b; test a -Eq b", several(no_operator, "1:8 <> 1:21 -nt 1:35 -Eq")),
+    (b"test a -eqx b; test a -x- b; test a -e= b", several(no_operator, "1:8 -eqx 1:23 -x- 1:37 -e=")),
     (b"if test -z a -o -e x; then true; fi", [no_operator("1:17", "-e")]),
     (b"while test a = b -a c == d; do true; done", [no_operator("1:23", "==")]),
     (b"test a = b -x c", [no_operator("1:12", "-x")]),
@@ -162,9 +148,9 @@ OPERATORS = [
     (b"test -f x y", [no_operator("1:6", "-f")]),
     (b'test -f "$x" y', [no_operator("1:6", "-f")]),
     (b"test $x -e y", [no_operator("1:9", "-e")]),
-    (b"test \"-e\" x; test '-'e x; test \\-e x; \"test\" -e x", [no_operator("1:6", "-e"), no_operator("1:19", "-e"), no_operator("1:32", "-e"), no_operator("1:46", "-e")]),
+    (b"test \"-e\" x; test '-'e x; test \\-e x; \"test\" -e x", several(no_operator, "1:6 -e 1:19 -e 1:32 -e 1:46 -e")),
     (b"test \\\n -e x", [no_operator("2:2", "-e")]),
-    (b"test = y; test a = b = c; test a -a b; test -n a -n b", [no_operator("1:6", "="), no_operator("1:22", "="), no_operator("1:34", "-a"), no_operator("1:50", "-n")]),
+    (b"test = y; test a = b = c; test a -a b; test -n a -n b", several(no_operator, "1:6 = 1:22 = 1:34 -a 1:50 -n")),
     (b"test -n a; test -z ''; test a = b; test a != b; test a < b; test a > b", []),
     (b"test 1 -eq 2; test 1 -ne 2; test 1 -lt 2; test 1 -le 2; test 1 -gt 2; test 1 -ge 2", []),
     (b"test a = b -a c != d -o ! -n e -a ! ! f < g", []),
@@ -185,10 +171,10 @@ RETURNS = [
     (b"echo \\\r\n", [returned("1:7")]),
     (b"echo a\n", []),
     (b"echo '\\r' \\r", []),
-    (b"echo a\r\n'", [returned("1:7"), "2:1: error: a quote is not closed (Quote)"]),
-    (b"'\r", [returned("1:2"), "1:1: error: a quote is not closed (Quote)"]),
-    (b"if true; then\r\n  echo a\r\nfi\r\n", [returned("1:14"), "4:1: error: the text ends where more has to follow (Missing)"]),
-    (b"if true; then echo a; fi\r\n", [returned("1:25"), "2:1: error: the text ends where more has to follow (Missing)"]),
+    (b"echo a\r\n'", [returned("1:7"), no_script("2:1", "Quote")]),
+    (b"'\r", [returned("1:2"), no_script("1:1", "Quote")]),
+    (b"if true; then\r\n  echo a\r\nfi\r\n", [returned("1:14"), no_script("4:1", "Missing")]),
+    (b"if true; then echo a; fi\r\n", [returned("1:25"), no_script("2:1", "Missing")]),
 ]
 # Commands that this shell lacks, with stand-ins of other names
 LACKED = [
@@ -207,35 +193,26 @@ LACKED = [
     (b"f() { mmc; }", [no_functions("1:1"), not_called("1:12", "}")]),
     (b"f()\n{\nmmc\n}", [no_functions("1:1"), not_called("2:1", "{"), not_called("4:1", "}")]),
     (b"(); break(); [()", [no_functions("1:1"), no_functions("1:5"), no_functions("1:14")]),
-    (b"'break'; br\\eak; \"break\"; br\\\neak", [lacked("1:1", "break"), lacked("1:10", "break"), lacked("1:18", "break"), lacked("1:27", "break")]),
+    (b"'break'; br\\eak; \"break\"; br\\\neak", several(lacked, "1:1 break 1:10 break 1:18 break 1:27 break")),
     (b"'['; f'()'; \"f(\"\\)", [lacked_test("1:1", "["), no_functions("1:6"), no_functions("1:13")]),
     (b"break; break", [lacked("1:1", "break"), lacked("1:8", "break")]),
     (b"break; laod; return", [lacked("1:1", "break"), not_called("1:8", "laod"), lacked("1:14", "return")]),
     (b"return $none; continue", [lacked("1:1", "return"), not_defined("1:8", "none"), lacked("1:15", "continue")]),
-    (b"break; '", ["1:8: error: a quote is not closed (Quote)"]),
+    (b"break; '", [no_script("1:8", "Quote")]),
     (b"break\r\n[\r", [returned("1:6"), not_called("1:1", "break\r"), not_called("2:1", "[\r")]),
     (b"echo break continue [ [[ return case function f()", []),
     (b"setenv break '['; b=return; for b in case; do true; done; for continue in 1; do true; done", []),
     (b"break=1; case=; function='['; # break", []),
     (b"run break", [not_run("1:5", "break")]),
-    (
-        b"Break; break2; breaks; b; ]; [a; [[[",
-        [
-            not_called("1:1", "Break"), not_called("1:8", "break2"), not_called("1:16", "breaks"), not_called("1:24", "b"),
-            not_called("1:27", "]"), not_called("1:30", "[a"), not_called("1:34", "[[["),
-        ],
-    ),
+    (b"Break; break2; breaks; b; ]; [a; [[[", several(not_called, "1:1 Break 1:8 break2 1:16 breaks 1:24 b 1:27 ] 1:30 [a 1:34 [[[")),
     (b"f () { mmc; }", [no_functions("1:1"), not_called("1:13", "}")]),
     (b"f ()\n{ mmc\n}", [no_functions("1:1"), not_called("2:1", "{"), not_called("3:1", "}")]),
     (b"true; 'f' \"(\"\\) x; f \\\n ()", [no_functions("1:7"), no_functions("1:20")]),
     (b"echo () x; run s ()", [not_run("1:18", "()")]),
-    (b"g ()x; g x (); g ( ); g '' ()", [not_called("1:1", "g"), not_called("1:8", "g"), not_called("1:16", "g"), not_called("1:23", "g")]),
+    (b"g ()x; g x (); g ( ); g '' ()", several(not_called, "1:1 g 1:8 g 1:16 g 1:23 g")),
     (b"g $x(); g $? (); $x ()", [not_called("1:1", "g"), not_called("1:9", "g")]),
-    (
-        b"f()x; f(){ mmc; }; f(; a)",
-        [not_called("1:1", "f()x"), not_called("1:7", "f(){"), not_called("1:17", "}"), not_called("1:20", "f("), not_called("1:24", "a)")],
-    ),
-    (b"esac; in; eval; {; !", [not_called("1:1", "esac"), not_called("1:7", "in"), not_called("1:11", "eval"), not_called("1:17", "{"), not_called("1:20", "!")]),
+    (b"f()x; f(){ mmc; }; f(; a)", several(not_called, "1:1 f()x 1:7 f(){ 1:17 } 1:20 f( 1:24 a)")),
+    (b"esac; in; eval; {; !", several(not_called, "1:1 esac 1:7 in 1:11 eval 1:17 { 1:20 !")),
     (b"$b; br${x}; \"[$x\"; f$x(); $x()", [not_defined("1:1", "b")]),
 ]  # fmt: skip
 # Stand-ins of other names, and of those that are lacked
@@ -246,17 +223,17 @@ SUBSTITUTED = [
     (b"echo ${none}", [not_defined("1:6", "none")]),
     (b'echo "$none" a"b ${none}"', [not_defined("1:6", "none"), not_defined("1:14", "none")]),
     (b"echo $none ${none}\n echo none2", [not_defined("1:6", "none"), not_defined("1:12", "none")]),
-    (b"echo $n1$n2${n1}", [not_defined("1:6", "n1"), not_defined("1:6", "n2"), not_defined("1:6", "n1")]),
+    (b"echo $n1$n2${n1}", several(not_defined, "1:6 n1 1:6 n2 1:6 n1")),
     (b"echo $none${none}\"$none\" $none", [not_defined("1:6", "none"), not_defined("1:26", "none")]),
     (b"echo $none$a-$none$x${none} $none$?", [not_defined("1:6", "none"), not_defined("1:29", "none")]),
-    (b"echo $n1$n1$n2$n2$n1", [not_defined("1:6", "n1"), not_defined("1:6", "n2"), not_defined("1:6", "n1")]),
+    (b"echo $n1$n1$n2$n2$n1", several(not_defined, "1:6 n1 1:6 n2 1:6 n1")),
     (b"b=$none$none; for b in $none$none$?; do true; done", [not_defined("1:3", "none"), not_defined("1:24", "none")]),
-    (b"$none; \"$none\" a; l$none", [not_defined("1:1", "none"), not_defined("1:8", "none"), not_defined("1:19", "none")]),
+    (b"$none; \"$none\" a; l$none", several(not_defined, "1:1 none 1:8 none 1:19 none")),
     (b"echo a; echo b$none", [not_defined("1:14", "none")]),
     (b"echo a\n\n\techo $none", [not_defined("3:7", "none")]),
     (b"echo \xc3\xa9 $none", [not_defined("1:9", "none")]),
     (b"echo \\\n $none a\\\n$none", [not_defined("2:2", "none"), not_defined("2:8", "none")]),
-    (b"echo ${a-b} ${#} ${?}", [not_defined("1:6", "a-b"), not_defined("1:13", "#"), not_defined("1:18", "?")]),
+    (b"echo ${a-b} ${#} ${?}", several(not_defined, "1:6 a-b 1:13 # 1:18 ?")),
     (b"b=$none; c=; d='$none'; e=a\"$none\"", [not_defined("1:3", "none"), not_defined("1:27", "none")]),
     (b"b\\\n=$none", [not_defined("2:2", "none")]),
     (b"b=\\\n$none", [not_defined("1:3", "none")]),
@@ -264,11 +241,11 @@ SUBSTITUTED = [
     (b"for b in a $none 'x'$none; do true; done", [not_defined("1:12", "none"), not_defined("1:18", "none")]),
     (
         b"if echo $n1; then echo $n2; elif echo $n3\nthen b=$n4; else echo $n5; fi",
-        [not_defined("1:9", "n1"), not_defined("1:24", "n2"), not_defined("1:39", "n3"), not_defined("2:8", "n4"), not_defined("2:23", "n5")],
+        several(not_defined, "1:9 n1 1:24 n2 1:39 n3 2:8 n4 2:23 n5"),
     ),
     (
         b"while echo $n1; do echo $n2; done; until echo $n3; do for b in $n4; do echo $n5; done; done",
-        [not_defined("1:12", "n1"), not_defined("1:25", "n2"), not_defined("1:47", "n3"), not_defined("1:64", "n4"), not_defined("1:77", "n5")],
+        several(not_defined, "1:12 n1 1:25 n2 1:47 n3 1:64 n4 1:77 n5"),
     ),
     (b"true && echo $n1 || echo $n2", [not_defined("1:14", "n1"), not_defined("1:26", "n2")]),
     (b"laod $none", [not_called("1:1", "laod"), not_defined("1:6", "none")]),
@@ -276,7 +253,7 @@ SUBSTITUTED = [
     (b"a=$none", [not_assigned("1:1", "a"), not_defined("1:3", "none")]),
     (b"for a in $none; do echo $lost; done", [not_assigned("1:5", "a"), not_defined("1:10", "none"), not_defined("1:25", "lost")]),
     (b"echo $none; laod", [not_defined("1:6", "none"), not_called("1:13", "laod")]),
-    (b"echo $none '", ["1:12: error: a quote is not closed (Quote)"]),
+    (b"echo $none '", [no_script("1:12", "Quote")]),
     (b"echo $none\r\n", [returned("1:11"), not_defined("1:6", "none")]),
     # a name near to what is defined, or defined elsewhere
     (b"none; echo $none", [not_called("1:1", "none"), not_defined("1:12", "none")]),
@@ -294,13 +271,10 @@ SUBSTITUTED = [
     (b"# none=1\necho $none", [not_defined("2:6", "none")]),
     (b"setenv none\r\necho $none", [returned("1:12"), not_defined("2:6", "none")]),
     (b"setenv none\r\nrun none", [returned("1:12"), not_run("2:5", "none")]),
-    (b"echo $A $ok2 ${two} $Run", [not_defined("1:6", "A"), not_defined("1:9", "ok2"), not_defined("1:14", "two"), not_defined("1:21", "Run")]),
+    (b"echo $A $ok2 ${two} $Run", several(not_defined, "1:6 A 1:9 ok2 1:14 two 1:21 Run")),
     (
         b"echo $ethBddr $loadaddr $Filesize $filesize_ $ip ${file.size}",
-        [
-            not_defined("1:6", "ethBddr"), not_defined("1:15", "loadaddr"), not_defined("1:25", "Filesize"), not_defined("1:35", "filesize_"),
-            not_defined("1:46", "ip"), not_defined("1:50", "file.size"),
-        ],
+        several(not_defined, "1:6 ethBddr 1:15 loadaddr 1:25 Filesize 1:35 filesize_ 1:46 ip 1:50 file.size"),
     ),
     (b"part uuid mmc 0:1 none; echo $none", [not_called("1:1", "part")]),
     (b"run none; echo $none", [not_run("1:5", "none")]),
@@ -308,32 +282,17 @@ SUBSTITUTED = [
 ]  # fmt: skip
 # Of these each is defined
 DEFINED = [
-    b"echo $a ${x} $s$run ${\xc3\xa9}",
-    b"echo '$none' \\$none \"\\$none\" $ $, $? \"$?\"",
-    b"none=1; echo $none",
-    b"echo $none; none=",
-    b"none=a$none",
-    b"for none in 1; do echo $none; done; echo $none",
-    b"for none in $none; do true; done",
-    b"setenv none 1; echo $none",
-    b"echo $none; setenv none",
-    b"setenv -f none 1; b=$none",
-    b"setexpr none 1 + 2; echo $none",
-    b"env exists none && echo $none",
-    b"echo $none none",
-    b"echo ${none}; printenv none",
-    b"setenv 'none' 1; echo $none",
-    b"setenv no\"n\"\\e 1; echo $none",
-    b"setenv $a none; echo $none",
-    b"$x none; $none",
-    b"test -n \"$none\"; echo $none",
-    b"echo $none; if test a = b${none}; then true; fi",
+    b"echo $a ${x} $s$run ${\xc3\xa9}", b"echo '$none' \\$none \"\\$none\" $ $, $? \"$?\"", b"none=1; echo $none", b"echo $none; none=",
+    b"none=a$none", b"for none in 1; do echo $none; done; echo $none", b"for none in $none; do true; done", b"setenv none 1; echo $none",
+    b"echo $none; setenv none", b"setenv -f none 1; b=$none", b"setexpr none 1 + 2; echo $none", b"env exists none && echo $none",
+    b"echo $none none", b"echo ${none}; printenv none", b"setenv 'none' 1; echo $none", b"setenv no\"n\"\\e 1; echo $none",
+    b"setenv $a none; echo $none", b"$x none; $none", b"test -n \"$none\"; echo $none", b"echo $none; if test a = b${none}; then true; fi",
     b"'test' $none; te\\st $other; echo $none$other",
     b"if false; then while false; do for b in 1; do setenv none; done; done; fi; echo $none",
     b"echo $bootfile $dnsip $domain $fdtcontroladdr $fileaddr $filesize",
     b"echo $bootcount $ethact $ethaddr $fdtaddr $mtdids $mtdparts $partition $ver",
     b"$gatewayip $hostname $ipaddr; b=$netmask; for b in $rootpath; do echo \"${serverip}\"; done",
-]
+]  # fmt: skip
 # More than one kind in a script: the carriage return first, then the commands in the order of the text
 MIXED = b"laod; run n; a=2\r\nrun s; for ok in a; do usb $none; laod n; done"
 MIXED_FOUND = [
@@ -360,15 +319,14 @@ def every_way(script, found, stand_ins=STAND_INS):
 
 
 def no_scripts():
-    for script, line, column, said in NO_SCRIPTS:
-        kind, _, sentence = said.decode().partition(": ")
+    for script, line, column, kind in NO_SCRIPTS:
         at = script.find(b"\r")
         found = [] if at < 0 else [returned(place(script, at))]
-        yield from each_way(script, [*found, f"{line}:{column}: error: {sentence} ({kind})"])
+        yield from each_way(script, [*found, no_script(f"{line}:{column}", kind)])
     for script, _ in NEAR_SCRIPTS:
         yield from each_way(script, [])
     for script, line, column in NULS:
-        yield of_file(script, [], lines([f"{line}:{column}: error: a byte 0 (Nul)"], "a:1 b"))
+        yield of_file(script, [], lines([no_script(f"{line}:{column}", "Nul")], "a:1 b"))
     for script, found in RETURNS + [each for each in OPERATORS if each[1] is not None]:
         yield from each_way(script, found)
     for script in (script for script, found in OPERATORS if found is None):
@@ -376,7 +334,7 @@ def no_scripts():
 
 
 def starts():
-    for script, found in STARTS + ASSIGNED:
+    for script, found in [*STARTS, *((script, []) for script in FORESEEN), *ASSIGNED]:
         yield over(VARIABLES | {b"s": script}, [b"s"], lines(found, "s"))
         yield of_file(script, [], b"")
         if not found:

@@ -3,46 +3,35 @@
 from differential.boards import text_of
 from differential.running import Case
 from model.program import WARNING, Answer
+from model.script_run import SENTENCES
 
 
-def not_run(place, name):
-    return f"{place}: error: `run {name}` names a variable that is not defined"
+def finding(said):
+    """What makes a line of a place, and of a word that is named there."""
+    return lambda place, word="": f"{place}: {said.format(word)}"
 
 
-def not_called(place, name):
-    return f"{place}: error: no builtin and no stand-in is called `{name}`"
+not_run = finding("error: `run {}` names a variable that is not defined")
+not_called = finding("error: no builtin and no stand-in is called `{}`")
+no_operator = finding("error: `test` has no operator `{}` here, and is false")
+not_assigned = finding("warning: `{}` is an environment variable, so it can not be assigned")
+not_typed = finding("error: the value does not have the type that .flags gives it")
+returned = finding("warning: a carriage return stands in the script")
+not_defined = finding("warning: `${{{}}}` names a variable that nothing defines")
+lacked = finding("error: this shell has no `{}`")
+lacked_test = finding("error: this shell has no `{}`: write `test`")
+no_functions = finding("error: this shell has no functions")
+no_variable = finding("error: no variable of this name is defined")
 
 
-def no_operator(place, word):
-    return f"{place}: error: `test` has no operator `{word}` here, and is false"
+def no_script(place, kind):
+    return f"{place}: error: {SENTENCES[kind].decode()} ({kind})"
 
 
-def not_assigned(place, name):
-    return f"{place}: warning: `{name}` is an environment variable, so it can not be assigned"
-
-
-def not_typed(name):
-    return f"{name}: error: the value does not have the type that .flags gives it"
-
-
-def returned(place):
-    return f"{place}: warning: a carriage return stands in the script"
-
-
-def not_defined(place, name):
-    return f"{place}: warning: `${{{name}}}` names a variable that nothing defines"
-
-
-def lacked(place, name):
-    return f"{place}: error: this shell has no `{name}`"
-
-
-def lacked_test(place, name):
-    return f"{place}: error: this shell has no `{name}`: write `test`"
-
-
-def no_functions(place):
-    return f"{place}: error: this shell has no functions"
+def several(finding, text):
+    """Findings of one kind: places and words, one after the other."""
+    words = text.split()
+    return [finding(place, word) for place, word in zip(words[::2], words[1::2])]
 
 
 def cut_off(found):
@@ -57,7 +46,7 @@ def cut_off(found):
 
 def lines(found, name=None):
     """The lines for what is found, each in the script of this name if one is given."""
-    before = f"{name}:" if name is not None else ""
+    before = "" if name is None else f"{name}:"
     return b"".join(f"{before}{each}\n".encode(errors="surrogateescape") for each in found)
 
 

@@ -1,15 +1,16 @@
 """fw_printenv and fw_setenv by hand: the program called through links, what each call prints, and what it leaves."""
 
+import functools
 import os
 import subprocess
 
 from differential.boards import BLANK, CONFIG, EMPTIED, FIRST, PAIR, SECOND, board
 from differential.files import CAN_MOUNT
-from differential.running import Case
+from differential.running import Case, named
 from differential.tool_rows import NO_ROOM_A
 from model.arguments import NAME_AND_SCRIPT, NO_NAME, VERSION
 from model.image import Geometry
-from model.program import LOOK_AT, NO_GOOD_COPY, WARNING
+from model.program import LOOK_AT, NO_GOOD_COPY, WARNING, Answer
 from model.report import FAULTS
 
 WRONG = FAULTS["BadCrc"]
@@ -55,50 +56,22 @@ OVER_BLANK_COPIES = [
     (b"fw_setenv", [b"-f", b"text", b"a", b"b"], 0, b"", WARNING, PAIR.image(1, b"a=b\0"), b"a=b\n"),
 ]
 UNTRIED = [] if CAN_MOUNT else ["the usual default environment: no tmpfs can be mounted here"]
-# A single image: its bytes, and the line that reports what is wrong with it
+# Single images whose checksum is wrong
 SINGLE = Geometry(1, 9)
-BAD_SINGLES = [
-    (b"\xff" * 9, WRONG),
-    (b"\x26\x39\xf4\xcb" + b"12345", WRONG),
-    (SINGLE.image(0, b"a=b\0\0")[:4] + b"a=c\0\0", WRONG),
-]
+BAD_SINGLES = [b"\xff" * 9, b"\x26\x39\xf4\xcb" + b"12345", SINGLE.image(0, b"a=b\0\0")[:4] + b"a=c\0\0"]
 
 
-def left_by(runner, words, given=b"", program=None):
-    """Status, output and errors of a call, with the files that it leaves."""
-    found = subprocess.run(words, executable=program, input=given, capture_output=True)
-    return found.returncode, found.stdout, found.stderr, runner.left()
-
-
-def link_of(runner, name):
-    """A link of this name to the program."""
-    link = b"../" + name
-    if not os.path.lexists(link):
-        os.symlink(runner.program, link)
-    return link
-
-
-def row(name, words, files, wanted, given=b"", is_link=True):
-    """A call through a link of this name, or of the program that is told this name, and what is wrong with what it leaves, if anything is;
-    None is some error of the library that reads arguments."""
-
-    def check(runner):
-        runner.put(files)
-        found = left_by(runner, [link_of(runner, name) if is_link else name, *words], given, None if is_link else runner.program)
-        is_said = found[2].startswith(b"error: ") if wanted[2] is None else found[2] == wanted[2]
-        is_right = is_said and (found[:2], found[3]) == (wanted[:2], wanted[3])
-        return None if is_right else f"{name} {words}: {found} in place of {wanted}"
-
-    return Case("a name of another tool", [], check=check, is_modelled=False)
+def row(name, words, files, status, output, errors, left=(), given=b""):
+    """A call of the program under this name; some error of the library that reads arguments is None."""
+    wanted = Answer(status, output, errors, files | dict(left))
+    return Case("a name of another tool", words, files, given, wanted=wanted, prefix=named(name), is_modelled=False)
 
 
 def over_pair(copies, side, name, words, status, output, errors, left=None, text=None):
     files = board(PAIR, copies) | ({} if text is None else {b"text": text})
     after = list(copies)
     after[side] = left or copies[side]
-    wanted = status, output, errors, files | board(PAIR, after)
-    given = text if b"-" in words else b""
-    return row(name, [b"-c", CONFIG, b"-l", b"", *words], files, wanted, given)
+    return row(name, [b"-c", CONFIG, b"-l", b"", *words], files, status, output, errors, board(PAIR, after), text if b"-" in words else b"")
 
 
 def over_pairs():
@@ -109,39 +82,58 @@ def over_pairs():
 
 
 def over_singles():
-    for image, fault in BAD_SINGLES:
-        files = board(SINGLE, [image])
-        wanted = 1, b"", NO_GOOD_COPY + fault + LOOK_AT, files
-        yield row(b"fw_printenv", [b"--config", CONFIG, b"--lock", b""], files, wanted)
+    for image in BAD_SINGLES:
+        yield row(b"fw_printenv", [b"--config", CONFIG, b"--lock", b""], board(SINGLE, [image]), 1, b"", NO_GOOD_COPY + WRONG + LOOK_AT)
 
 
 def faults():
     for name, words in ((b"fw_printenv", [b"a"]), (b"fw_setenv", [b"a", b"c"])):
-        yield row(name, [b"-c", b"absent", b"-l", b"", *words], {}, (1, b"", b"fwenv: cannot read absent: no such file\n", {}))
+        yield row(name, [b"-c", b"absent", b"-l", b"", *words], {}, 1, b"", b"fwenv: cannot read absent: no such file\n")
 
 
 def locks():
     """The lock file is made if need be, one that is there is used, and one that can't be opened ends the run."""
     files = board(PAIR, [FIRST, SECOND])
-    words = [b"-c", CONFIG, b"-l", b".", b"a"]
-    for there in (files, files | {b"fw_printenv.lock": b"x"}):
-        wanted = 0, b"a=b\n", b"", {b"fw_printenv.lock": b""} | there
-        yield row(b"fw_printenv", words, there, wanted)
-    wanted = 1, b"", b"fwenv: cannot lock absent/fw_printenv.lock: no such file\n", files
-    yield row(b"fw_setenv", [b"-c", CONFIG, b"--lock", b"absent", b"a", b"c"], files, wanted)
+    for there in (b"", b"x"):
+        lock = {b"fw_printenv.lock": there}
+        yield row(b"fw_printenv", [b"-c", CONFIG, b"-l", b".", b"a"], files | (lock if there else {}), 0, b"a=b\n", b"", lock)
+    errors = b"fwenv: cannot lock absent/fw_printenv.lock: no such file\n"
+    yield row(b"fw_setenv", [b"-c", CONFIG, b"--lock", b"absent", b"a", b"c"], files, 1, b"", errors)
 
 
 def names():
     """Help and version are those of the name; a name that isn't the whole last part is fwenv's."""
     for name in (b"fw_printenv", b"fw_setenv"):
         for word in (b"-V", b"-v", b"--version"):
-            yield row(name, [word], {}, (0, VERSION.replace(b"fwenv", name), b"", {}))
-    yield row(b"my_fw_printenv", [b"-c", CONFIG], {}, (1, b"", None, {}))
+            yield row(name, [word], {}, 0, VERSION.replace(b"fwenv", name), b"")
     files, words = board(PAIR, [FIRST, SECOND]), [b"-c", CONFIG, b"-l", b"", b"-n", b"a"]
     for name in (b"fw_printenv", b"./fw_printenv", b"/usr/bin/fw_printenv", b"x//fw_printenv"):
-        yield row(name, words, files, (0, b"b\n", b"", files), is_link=False)
-    for name in (b"", b"fw_printenv/", b"fw_printenv2", b"fw_printenv/x", b"FW_PRINTENV"):
-        yield row(name, words, files, (1, b"", None, files), is_link=False)
+        yield row(name, words, files, 0, b"b\n", b"")
+    for name in (b"", b"my_fw_printenv", b"fw_printenv/", b"fw_printenv2", b"fw_printenv/x", b"FW_PRINTENV"):
+        yield row(name, words, files, 1, b"", None)
+
+
+def through_links():
+    """The name of a link to the program is its own."""
+    for name, words in ((b"fw_printenv", []), (b"fw_setenv", [b"a", b"b"]), (b"my_fw_printenv", [])):
+        yield Case("a link", [], check=functools.partial(through_link, name, words), is_modelled=False)
+
+
+def through_link(name, words, runner):
+    files = board(PAIR, [FIRST, SECOND])
+    runner.put(files)
+    found = subprocess.run([link_of(runner, name), b"-c", CONFIG, b"-l", b"", *words], capture_output=True)
+    wanted = {b"fw_printenv": (0, b"a=b\n"), b"fw_setenv": (0, b"")}.get(name, (1, b""))
+    is_right = (found.returncode, found.stdout) == wanted and runner.left() == files
+    return None if is_right else f"{name}: {found} in place of {wanted}"
+
+
+def link_of(runner, name):
+    """A link of this name to the program."""
+    link = b"../" + name
+    if not os.path.lexists(link):
+        os.symlink(runner.program, link)
+    return link
 
 
 def usual_environment():
@@ -151,13 +143,14 @@ def usual_environment():
 
 def with_usual_environment(runner):
     """Without `-f` it is that of /etc, over which a folder is mounted that only this call sees."""
-    runner.put(board(PAIR, [BLANK, BLANK]))
+    files = board(PAIR, [BLANK, BLANK])
+    runner.put(files)
     script = 'mount -t tmpfs tmpfs /etc && printf %s "$0" > /etc/u-boot-initial-env && exec "$@"'
-    words = [link_of(runner, b"fw_printenv"), b"-c", CONFIG, b"-l", b""]
-    found = left_by(runner, ["unshare", "-m", "sh", "-c", script, "p=\\\n", *words])
-    wanted = (0, b"p=\\\n", WARNING, board(PAIR, [BLANK, BLANK]))
-    return None if found == wanted else f"the usual default environment: {found} in place of {wanted}"
+    words = ["unshare", "-m", "sh", "-c", script, "p=\\\n", link_of(runner, b"fw_printenv"), b"-c", CONFIG, b"-l", b""]
+    found = subprocess.run(words, capture_output=True)
+    is_right = (found.returncode, found.stdout, found.stderr, runner.left()) == (0, b"p=\\\n", WARNING, files)
+    return None if is_right else f"the usual default environment: {found}"
 
 
 def chunks():
-    return [over_pairs, over_singles, faults, locks, names, usual_environment]
+    return [over_pairs, over_singles, faults, locks, names, through_links, usual_environment]

@@ -6,7 +6,7 @@ import subprocess
 from dataclasses import replace
 
 from differential import running
-from differential.boards import CONFIG, DEVICE, arguments, board
+from differential.boards import CONFIG, DEVICE, arguments, board, calls
 from differential.damage import prefixes
 from differential.running import Case, Cut
 from differential.streams import WRONG_OPTION
@@ -47,21 +47,16 @@ def script_check(script):
 PRINTING = [
     Case("an image", [], given=ONE),
     Case("the version", [b"--version"]),
-    call([b"printenv"]),
-    call([b"printenv", b"m", b"a"]),
-    call([b"printenv", b"-n", b"a"]),
+    *map(call, calls("printenv / printenv m a / printenv -n a / status / check q a / run --write -e 'echo a; setenv a 3; saveenv'")),
     call([b"export"], over=board(FORM, [FORM.image(7, b"a=b\0"), ERASED * FORM.size])),
-    call([b"status"]),
     call([b"status"], over=NEVER_WRITTEN),
     Case("a whole file", [b"status", b"image"], {b"image": ONE}),
-    call([b"run", b"--write", b"-e", b"echo a; setenv a 3; saveenv"]),
     whole_environment([b"a", b"m"]),
-    call([b"check", b"q", b"a"]),
     whole_check([b"a", b"q"]),
     script_check(b"mmc; a\r\nb"),
 ]
 # What prints on both streams
-ON_BOTH = [call([b"printenv", b"q", b"a"]), call([b"export"]), call([b"run", b"--write", b"-e", b"saveenv; false"])]
+ON_BOTH = [*map(call, calls("printenv q a / export / run --write -e 'saveenv; false'"))]
 # What prints one text on standard error
 SAYING = [
     Case("no image", []),
@@ -69,15 +64,13 @@ SAYING = [
     Case("a wrong option", [b"--frobnicate"], wanted=Answer(1, b"", WRONG_OPTION, {})),
     Case("a word that is not UTF-8", [b"\xff"]),
     Case("a file that is not there", [b"export", b"-c", b"absent"], FILES),
-    call([b"printenv", b"-n"]),
-    call([b"setenv", b"a=b", b"c"]),
+    *map(call, calls("printenv -n / setenv a=b c / run --write -e 'setenv a 3; false'")),
     call([b"setenv", b"a", TOO_MUCH]),
     call([b"setenv", b"-s", b"text"], {b"text": b"a 1\nb " + TOO_MUCH + b"\na 2\n"}),
     call([b"import", b"text"], {b"text": b"a=1\nb=" + TOO_MUCH + b"\n"}),
     call([b"import", b"text"], {b"text": b"=1\n"}),
     call([b"restore", b"text"], {b"text": b"a=1\nb=" + TOO_MUCH + b"\n"}),
     call([b"session", b"--write", b"--stubs", b"absent"], given=b".save\n"),
-    call([b"run", b"--write", b"-e", b"setenv a 3; false"]),
     call([b"run", b"--write", b"-e", b"saveenv\n  'x"]),
     whole_environment([b"--steps", b"0", b"a"]),
     call([b"printenv", b"--need-copy"], over=NEVER_WRITTEN),

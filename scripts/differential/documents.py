@@ -4,9 +4,9 @@ doesn't print."""
 import pathlib
 import re
 
-from differential.boards import arguments, board
+from differential.boards import unwritten
 from differential.running import Case
-from model.image import ERASED, Geometry
+from model.image import Geometry
 from model.program import WARNING, Answer
 
 DOCS = pathlib.Path(__file__).parent.parent.parent / "docs"
@@ -38,15 +38,9 @@ def with_newlines(text):
     return text.replace("/", "\n").encode()
 
 
-def session(name, form, given, output, *words, files=()):
-    """A session over copies that were never written, which are left so."""
-    files = board(form, [ERASED * form.size] * form.copies) | dict(files)
-    return Case(name, arguments(b"session", *words), files, given, wanted=Answer(0, output, WARNING, files))
-
-
 def dry_runs():
     for given, output in rows_under("dry-runs.md", "Input (", "Output"):
-        yield session("docs/dry-runs.md", SMALL, *(with_newlines(texts_in(cell)[0]) for cell in (given, output)))
+        yield unwritten("docs/dry-runs.md", SMALL, *(with_newlines(texts_in(cell)[0]) for cell in (given, output)))
 
 
 def runs():
@@ -56,7 +50,7 @@ def runs():
             limits[0] = b"--steps=" + most[1].encode()
         text = with_newlines((texts_in(printed) or [""])[0])
         wanted = text + b"[%s]\n" % re.match(r"\w+ \d+ \d+", ending)[0].encode()
-        yield session("docs/runs.md", USUAL, texts_in(script)[0].encode(), wanted, *limits)
+        yield unwritten("docs/runs.md", USUAL, texts_in(script)[0].encode(), wanted, *limits)
 
 
 def calculations():
@@ -66,7 +60,7 @@ def calculations():
             given = b"setexpr " + each.encode() + b"\n.print\n"
             said = next((text for start, text in answers.items() if answer.startswith(start)), None)
             wanted = said + b"[Finished 1 1]\n" if said else b"[Finished 0 1]\n" + texts_in(answer)[0].encode() + b"\n"
-            yield session("docs/test-and-setexpr.md", USUAL, given, wanted)
+            yield unwritten("docs/test-and-setexpr.md", USUAL, given, wanted)
 
 
 def stand_in_files():
@@ -76,7 +70,7 @@ def stand_in_files():
             pairs = re.findall(r"`(\S+)` answers (\d+)", answer)
             given = "".join(f"{name}; echo $?\n.x\n" for name, _ in pairs).encode()
             output = "".join(f"+ {name}\n{status}\n[Finished 0 2]\n[Unknown]\n" for name, status in pairs).encode()
-            case = session("docs/runs.md", USUAL, given, output, b"--stubs", b"stand-ins", files={b"stand-ins": file})
+            case = unwritten("docs/runs.md", USUAL, given, output, b"--stubs", b"stand-ins", files={b"stand-ins": file})
             if not pairs:
                 case.wanted = Answer(1, b"", WARNING + b"fwenv: stand-ins: " + answer.encode() + b"\n", case.files)
             yield case

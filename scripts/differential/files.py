@@ -50,9 +50,8 @@ if not CAN_MOUNT:
     UNTRIED.append("a device on a full file system: no tmpfs can be mounted here")
 
 
-def faulty(name, arguments, errors, **changes):
-    files = over_copies() | changes.pop("files", {})
-    return row(name, arguments, b"", 1 if errors else 0, b"" if errors else b"a=b\n", errors, files=files, **changes)
+def faulty(name, arguments, errors, files=(), around=None):
+    return row(name, arguments, b"", int(errors != b""), b"" if errors else b"a=b\n", errors, around, over_copies() | dict(files))
 
 
 def faults():
@@ -61,9 +60,8 @@ def faults():
         yield faulty(name, arguments, errors)
     for name, text, errors in CONFIGURED:
         # (the model would take long for 16 MiB of lines)
-        around = as_it_is if len(text) > 2**20 else None
-        yield faulty(name, PRINTENV, errors, files={b"fw.config": text}, around=around)
-    yield faulty("a pipe as the device", PRINTENV, CANNOT_READ % b"../pipe", files={b"fw.config": b"../pipe 0 a\n"}, around=with_pipe)
+        yield faulty(name, PRINTENV, errors, {b"fw.config": text}, as_it_is if len(text) > 2**20 else None)
+    yield faulty("a pipe as the device", PRINTENV, CANNOT_READ % b"../pipe", {b"fw.config": b"../pipe 0 a\n"}, with_pipe)
 
 
 # What is done around a run
@@ -160,19 +158,17 @@ def with_link(_runner):
 
 
 def links():
-    case = row("a device through a symbolic link", SETENV, b"", 0, b"", b"", with_link, {b"device": device(), b"fw.config": b"link 7 a\nlink 20 a\n"})
-    case.wanted.files = case.files | {b"device": device(second=EMPTIED), b"link": None}
-    yield case
+    files, left = {b"device": device(), b"fw.config": b"link 7 a\nlink 20 a\n"}, {b"device": device(second=EMPTIED), b"link": None}
+    yield row("a device through a symbolic link", SETENV, b"", 0, b"", b"", with_link, files, left)
 
 
 def cut_devices():
     """A device that is cut short after its copies were read: the pipe is opened then."""
-    case = row("a device that is cut before it is written", IMPORT, b"", 1, b"", CANNOT_WRITE % b"device", through_pipe(cut_to(25), b"a=c\n"), over_copies())
-    case.wanted.files = case.files | {b"device": device()[:25]}
-    yield case
-    case = row("a run whose device is cut", [*RUN[:4], b"-f", b"../pipe"], b"", 1, b"Saved copy 2\n", explained(CANNOT_WRITE, CHANGED) % b"device", through_pipe(cut_to(25), b"saveenv"), over_copies())
-    case.wanted.files = case.files | {b"device": device()[:25]}
-    yield case
+    left, cannot = {b"device": device()[:25]}, CANNOT_WRITE % b"device"
+    around = through_pipe(cut_to(25), b"a=c\n")
+    yield row("a device that is cut before it is written", IMPORT, b"", 1, b"", cannot, around, over_copies(), left)
+    words, around = [*RUN[:4], b"-f", b"../pipe"], through_pipe(cut_to(25), b"saveenv")
+    yield row("a run whose device is cut", words, b"", 1, b"Saved copy 2\n", explained(cannot, CHANGED), around, over_copies(), left)
     yield Case("a session whose device is cut", [], check=cut_session, is_modelled=False)
 
 
@@ -202,9 +198,8 @@ def write_at(place, text):
 
 def other_writers():
     """What another program writes is kept: one that takes no lock, after the copies were read, and four that wait for each other."""
-    case = row("a device that another program has written", IMPORT, b"", 1, b"", CANNOT_WRITE % b"device", through_pipe(write_at(7, b"x"), b"a=c\n"), over_copies())
-    case.wanted.files = case.files | {b"device": device()[:7] + b"x" + device()[8:]}
-    yield case
+    around, left = through_pipe(write_at(7, b"x"), b"a=c\n"), {b"device": device()[:7] + b"x" + device()[8:]}
+    yield row("a device that another program has written", IMPORT, b"", 1, b"", CANNOT_WRITE % b"device", around, over_copies(), left)
     for turn in range(20):
         yield Case("four writers at once", [], check=functools.partial(written_at_once, turn), is_modelled=False)
 

@@ -4,32 +4,22 @@ afterwards."""
 import contextlib
 import os
 
-from differential.boards import BLANK, EMPTIED, SAVED
+from differential.boards import BLANK, EMPTIED, SAVED, calls
 from differential.files import IMPORT, PRINTENV, SETENV, as_it_is, cut_to, through_pipe, write_at
+from differential.running import named
 from differential.streams import SESSION, device, over_copies, row
 from model.program import CANNOT_READ, CANNOT_WRITE, CHANGED, DIRECTORY, LONGER, NO_SUCH_FILE, WARNING, explained
 
 # Each option and argument that names a text
-TEXTS = [
-    [b"printenv", b"-c"],
-    [b"import", b"-c", b"fw.config"],
-    [b"setenv", b"-c", b"fw.config", b"-s"],
-    [b"session", b"-c", b"fw.config", b"--write", b"--stubs"],
-    [b"export", b"-c", b"fw.config", b"--default"],
-    [b"session", b"-c", b"fw.config", b"--write", b"--default"],
-]
+TEXTS = calls(
+    "printenv -c / import -c fw.config / setenv -c fw.config -s / session -c fw.config --write --stubs / "
+    "export -c fw.config --default / session -c fw.config --write --default"
+)
 # The same for subcommands that report why, and what they report of what isn't a file
-EXPLAINED = [
-    [b"status"],
-    [b"status", b"-c"],
-    [b"restore", b"-c", b"fw.config"],
-    [b"restore", b"-c", b"fw.config", b"text", b"--default"],
-    [b"run", b"-e", b"true", b"--env"],
-    [b"run", b"-c", b"fw.config", b"-e", b"true", b"--stubs"],
-    [b"run", b"-c", b"fw.config", b"-f"],
-    [b"check", b"-c", b"fw.config", b"--stubs"],
-    [b"check", b"-f"],
-]
+EXPLAINED = calls(
+    "status / status -c / restore -c fw.config / restore -c fw.config text --default / run -e true --env / "
+    "run -c fw.config -e true --stubs / run -c fw.config -f / check -c fw.config --stubs / check -f"
+)
 REASONS = [
     (b"/dev/zero", LONGER),
     (b"/dev/full", LONGER),
@@ -76,12 +66,6 @@ def none():
         yield refused("16,777,217 newlines", [*words, b"large"], errors, large | {b"text": b""})
 
 
-def left(case, **copies):
-    """The device has other copies afterwards."""
-    case.wanted.files = case.files | {b"device": device(**copies)}
-    return case
-
-
 def empty():
     """An empty file in the place of each."""
     for path, files in ((b"/dev/null", {}), (b"empty", {b"empty": b""})):
@@ -93,7 +77,7 @@ def empty():
         output = b"Unknown command 'mmc' - try 'help'\n[Finished 1 1]\n"
         yield row("empty stand-ins", [*TEXTS[3], path], b"mmc\n", 0, output, b"", as_it_is, files)
         for words in TEXTS[1:3]:
-            yield left(row("an empty text", [*words, path], b"", 0, b"", b"", as_it_is, files), second=SAVED)
+            yield row("an empty text", [*words, path], b"", 0, b"", b"", as_it_is, files, {b"device": device(second=SAVED)})
 
 
 def forever(text):
@@ -118,12 +102,12 @@ PIPED = [
 
 
 def pipes():
-    for name, steps, words, given, (status, output, errors) in PIPED:
-        yield row(f"a pipe: {name}", [*words, b"../pipe"], given, status, output, errors, through_pipe(*steps), over_copies())
-    slow = through_pipe(b"a", b"=", b"b", b"\n", b"q", b"\n")
-    yield left(row("a pipe that gives little at a time", IMPORT, b"", 0, b"", b"", slow, over_copies()), second=SAVED)
-    script = row("a pipe as a set script", [*TEXTS[2], b"../pipe"], b"", 0, b"", b"", through_pipe(b"a\n"), over_copies())
-    yield left(script, second=EMPTIED)
+    for name, steps, words, given, answer in PIPED:
+        yield row(f"a pipe: {name}", [*words, b"../pipe"], given, *answer, through_pipe(*steps), over_copies())
+    slow, left = through_pipe(b"a", b"=", b"b", b"\n", b"q", b"\n"), {b"device": device(second=SAVED)}
+    yield row("a pipe that gives little at a time", IMPORT, b"", 0, b"", b"", slow, over_copies(), left)
+    words, left = [*TEXTS[2], b"../pipe"], {b"device": device(second=EMPTIED)}
+    yield row("a pipe as a set script", words, b"", 0, b"", b"", through_pipe(b"a\n"), over_copies(), left)
     words = [*PRINTENV, b"--default", b"../pipe"]
     yield row("a pipe as the default text", words, b"", 0, b"p=1\n", WARNING, through_pipe(b"p=1\n"), over_copies(BLANK, BLANK))
 
@@ -160,12 +144,6 @@ def appended(more):
     return step
 
 
-def overwritten(_runner):
-    with open("device", "r+b") as it:
-        it.seek(7)
-        it.write(b"0123456789")
-
-
 # What is done to the device between what is read and what is written: why it can't be written then, if it can't, and its bytes
 # afterwards
 ENDING = device(second=EMPTIED)
@@ -173,7 +151,7 @@ CHANGES = [
     ("is emptied", cut_to(0), CHANGED, b""),
     ("lacks a byte of a copy", cut_to(29), CHANGED, device()[:29]),
     ("ends with a copy", cut_to(30), None, ENDING[:30]),
-    ("was written by another", overwritten, CHANGED, device(b"0123456789")),
+    ("was written by another", write_at(7, b"0123456789"), CHANGED, device(b"0123456789")),
     ("was written by another in its second copy", write_at(21, b"x"), CHANGED, device()[:21] + b"x" + device()[22:]),
     ("is a folder now", replaced(os.mkdir), DIRECTORY, None),
     ("is a pipe now", replaced(os.mkfifo), b"", None),
@@ -197,7 +175,7 @@ def changed(name, step, reason, after, config=None, gone=None):
     ):
         status, errors = (0, b"") if reason is None else (1, errors)
         case = row(name, words, b"", status, b"", errors, through_pipe(step, b"a=\n"), files)
-        case.prefix = ("bash", "-c", 'exec -a "$0" "$@"', told)
+        case.prefix = named(told)
         case.wanted.files = left
         yield case
 
@@ -211,10 +189,9 @@ def changes():
     for more in (b"more-bytes", device()[7:]):
         yield from changed("a device that has grown", appended(more), CHANGED, device() + more, grown)
     yield from changed("a configuration that is gone", lambda _runner: os.unlink("fw.config"), None, ENDING, gone=b"fw.config")
-    cut = through_pipe(cut_to(25), b"device 7 a\ndevice 20 a\n")
-    case = row("a device that is cut before it is read", [*TEXTS[0], b"../pipe"], b"", 1, b"", b"fwenv: device is too short\n", cut, over_copies())
-    case.wanted.files = case.files | {b"device": device()[:25]}
-    yield case
+    cut, errors = through_pipe(cut_to(25), b"device 7 a\ndevice 20 a\n"), b"fwenv: device is too short\n"
+    left = {b"device": device()[:25]}
+    yield row("a device that is cut before it is read", [*TEXTS[0], b"../pipe"], b"", 1, b"", errors, cut, over_copies(), left)
 
 
 def chunks():

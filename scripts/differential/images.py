@@ -2,7 +2,7 @@
 
 import functools
 
-from differential.boards import arguments, board
+from differential.boards import arguments, board, calls
 from differential.damage import at_random, mutant, numbers_of, turned
 from differential.running import Case
 from model.image import ERASED, Geometry
@@ -20,13 +20,7 @@ AREAS = [
     b"z=1\0y=2\0x=3\0w=4\0v=5\0u=6\0t=7\0\0",
 ]
 TOKENS = [b"\0", b"\0\0", b"=", b"==", b"a=\0", b"a=1\0", b"a\0", b"=x\0", b".flags=a:d\0", b"\xff\xff\xff\xff"]
-TOOLS = [
-    [b"printenv"],
-    [b"export"],
-    [b"setenv", b"a", b"7"],
-    [b"setenv", b"b"],
-    [b"session", b"--write"],
-]
+TOOLS = calls("printenv / export / setenv a 7 / setenv b / session --write")
 OFTEN = {"BadCrc": 0.03, "Unterminated": 0.0002, "too short": 0.0005, "status 0": 0.3}
 
 

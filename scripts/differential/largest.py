@@ -3,10 +3,9 @@ changed and brought back, names in orders that are hard on a sorted store, and w
 
 import functools
 
-from differential.boards import arguments, board
+from differential.boards import arguments, board, unwritten
 from differential.running import Case
 from model.image import ERASED, LARGEST, Geometry
-from model.program import WARNING, Answer
 
 TEXT = 2**24
 SINGLE, REDUNDANT = Geometry(1, LARGEST), Geometry(2, LARGEST)
@@ -115,11 +114,9 @@ def orders():
 
 def dry_run(script, output, stand_ins=b"mmc\n", errors=b""):
     """A session of one script over a board that was never written. What it prints is given by hand, since the model would take long."""
-    form = Geometry(1, 64)
-    files = board(form, [ERASED * form.size]) | {b"stand-ins": stand_ins}
-    words = arguments(b"session", b"--stubs", b"stand-ins", b"--word=65536", b"--output=16777216")
-    wanted = Answer(int(errors != b""), output, WARNING + errors, files)
-    return Case("the largest: a script", words, files, script + b"\n", wanted=wanted, is_modelled=False, seconds=SECONDS)
+    words, files = [b"--stubs", b"stand-ins", b"--word=65536", b"--output=16777216"], {b"stand-ins": stand_ins}
+    name, form = "the largest: a script", Geometry(1, 64)
+    return unwritten(name, form, script + b"\n", output, *words, files=files, errors=errors, is_modelled=False, seconds=SECONDS)
 
 
 def expanded(value, words, *fields):

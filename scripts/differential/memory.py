@@ -6,7 +6,7 @@ import functools
 import re
 from dataclasses import replace
 
-from differential.boards import BLANK, arguments
+from differential.boards import BLANK, arguments, calls
 from differential.running import Case
 from differential.streams import ONE_VARIABLE, SESSION, WRONG_OPTION, over_copies
 from model.arguments import read_arguments
@@ -23,35 +23,18 @@ MANY = b"".join(b"variable%05d=xxxxxxxxxx\0" % i for i in range(2_500))
 OVER_MANY = {b"device": Geometry(1, 65_536).image(0, MANY), b"fw.config": b"device 0 10000\n"}
 # The program without files: its arguments, and standard input
 WITHOUT_FILES = [
-    ([], ONE_VARIABLE),
-    ([], OVER_MANY[b"device"]),
-    ([], b""),
-    ([b"--help"], b""),
-    ([b"session", b"--help"], b""),
-    ([b"--version"], b""),
-    ([b"session", b"--depth", b"17"], b""),
-    ([b"run", b"--help"], b""),
-    ([b"run", b"--env", b"text", b"--size", b"7", b"a"], b""),
-    ([b"run", b"--env", b"text", b"-e", b"true", b"a"], b""),
-    ([b"check", b"--help"], b""),
-    ([b"check", b"-f", b"text", b"a"], b""),
-]
+    ([], ONE_VARIABLE), ([], OVER_MANY[b"device"]), ([], b""),
+    *((words, b"") for words in calls(
+        "--help / session --help / --version / session --depth 17 / run --help / run --env text --size 7 a / run --env text -e true a / "
+        "check --help / check -f text a"
+    )),
+]  # fmt: skip
 # Tools over two copies: their arguments, and perhaps the file `text`
 TOOLS = [
-    ([b"printenv"], b""),
-    ([b"printenv", b"a"], b""),
-    ([b"printenv", b"q", b"a"], b""),
-    ([b"setenv", b"a", b"b"], b""),
-    ([b"setenv", b"a", b"bc"], b""),
-    ([b"setenv", b"a=b", b"c"], b""),
-    ([b"setenv", b"-s", b"text"], b"a c\na b\n"),
-    ([b"setenv", b"-s", b"text"], b"a c\nb c\na d\n"),
-    ([b"import", b"text"], b"a=c\na=b\n"),
-    ([b"import", b"text"], b"a=bc\nq=1\na=\n"),
-    ([b"export"], b""),
-    ([b"restore", b"text"], b"a=c\n"),
-    ([b"restore", b"text"], b"a=bcd\n"),
-    ([b"status"], b""),
+    *((words, b"") for words in calls("printenv / printenv a / printenv q a / setenv a b / setenv a bc / setenv a=b c / export / status")),
+    *(([b"setenv", b"-s", b"text"], text) for text in (b"a c\na b\n", b"a c\nb c\na d\n")),
+    *(([b"import", b"text"], text) for text in (b"a=c\na=b\n", b"a=bc\nq=1\na=\n")),
+    *(([b"restore", b"text"], text) for text in (b"a=c\n", b"a=bcd\n")),
     ([b"check", b"a", b"q", b"--stubs", b"text"], b"mmc\n"),
 ]
 EVERY_FORM = b"""x='a b'; for i in $x "$x" ''; do echo "[$i]"; done

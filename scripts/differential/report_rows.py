@@ -15,6 +15,9 @@ SECOND_LINE = b"second copy  device at 0x25, 32 bytes: "
 CURRENT = b"good, flag 3, current\n"
 AFTER_FIRST = b"variables    1, 5 of 27 bytes used\nnext save    second copy, flag 4\n"
 NONE = b"variables    none, no copy is good\n"
+BOTH = FIRST_LINE + b"good, flag 3\n" + SECOND_LINE + b"good, flag 4, current\n" + (
+    b"variables    2, 9 of 27 bytes used\nnext save    first copy, flag 5\n"
+)
 
 
 def turned(image):
@@ -40,25 +43,16 @@ SECONDS = [
 ]
 # Both copies, and what is printed, status 0
 PAIRS = [
+    (FIRST, SECOND, BOTH),
     (
-        FIRST,
-        SECOND,
-        FIRST_LINE + b"good, flag 3\n" + SECOND_LINE + b"good, flag 4, current\n"
-        b"variables    2, 9 of 27 bytes used\nnext save    first copy, flag 5\n",
-    ),
-    (
-        PAIR.image(255, ONE),
-        PAIR.image(0, b"\0"),
-        FIRST_LINE + b"good, flag 255\n" + SECOND_LINE + b"good, flag 0, current\n"
+        PAIR.image(255, ONE), PAIR.image(0, b"\0"), FIRST_LINE + b"good, flag 255\n" + SECOND_LINE + b"good, flag 0, current\n"
         b"variables    0, 1 of 27 bytes used\nnext save    first copy, flag 1\n",
     ),
     (
-        PAIR.image(255, ONE),
-        PAIR.image(9, TWO),
-        FIRST_LINE + b"good, flag 255, current\n" + SECOND_LINE + b"good, flag 9\n"
+        PAIR.image(255, ONE), PAIR.image(9, TWO), FIRST_LINE + b"good, flag 255, current\n" + SECOND_LINE + b"good, flag 9\n"
         b"variables    1, 5 of 27 bytes used\nnext save    second copy, flag 0\n",
     ),
-]
+]  # fmt: skip
 # The flags of two good copies, the one that is current, and what is said of the next save
 CHOSEN = [
     ((3, 9), 1, b"first copy, flag 10"),
@@ -158,10 +152,8 @@ def pairs():
     yield row("no good copy", words, board(PAIR, [turned(FIRST), turned(SECOND)]), 1, text)
     text = FIRST_LINE + b"checksum is wrong, good without --big-endian\n" + SECOND_LINE + b"checksum is wrong\n" + NONE
     yield row("the other order", arguments(b"status", order="big"), board(PAIR, [FIRST, turned(SECOND)]), 1, text)
-    text = FIRST_LINE + b"good, flag 3\n" + SECOND_LINE + b"good, flag 4, current\n"
-    text += b"variables    2, 9 of 27 bytes used\nnext save    first copy, flag 5\n"
     files = board(BIG_PAIR, [BIG_PAIR.image(3, ONE), BIG_PAIR.image(4, TWO)])
-    yield row("big-endian copies", [b"--big-endian", *words], files, 0, text)
+    yield row("big-endian copies", [b"--big-endian", *words], files, 0, BOTH)
 
 
 def singles():
@@ -175,9 +167,7 @@ def singles():
 
 def skipped():
     for config, numbers in SKIPPED:
-        text = FIRST_LINE + b"good, flag 3\n" + SECOND_LINE + b"good, flag 4, current\n"
-        text += b"variables    2, 9 of 27 bytes used\nnext save    first copy, flag 5\n"
-        text += b"".join(b"skipped      line %d of fw.config\n" % number for number in numbers)
+        text = BOTH + b"".join(b"skipped      line %d of fw.config\n" % number for number in numbers)
         yield row("lines that are skipped", arguments(b"status"), board(PAIR, [FIRST, SECOND]) | {CONFIG: config}, 0, text)
 
 

@@ -1,56 +1,58 @@
-"""Scripts with their outcomes, written by hand in files that a reader can follow.
+"""Scripts with their outcomes, written by hand in files that a reader can follow. A line begins with its word:
 
-Lines before the first section say what the file is about. A section begins with a line `== NAME`:
-
+    #           what the file is about
     copies      how many there are, and the bytes of each (1 4096)
-    defaults    the default environment, a line name=value for each
+    defaults    the default environment: NAME=VALUE
     variables   likewise, written before the first script
-    stand-ins   the stand-in file
-    limits      on steps, depth, word and output (100000 8 4096 65536)
-    script      a script; it has no newline after its last line
-    comes to    its ending, status and steps, or the fault; steps that nobody counted by hand are the model's
-    prints      its text; where the last line ends in \\ that \\ and the newline aren't part of it
-    leaves      what it changes: name=value, or the name alone if it is removed
-    saves       the section is there if the copy holds the variables as they are left
+    stand-ins   the stand-in file (for rows mmc / usb 1)
+    limits      on steps, depth, word and output (for boards 100000 8 4096 65536, for rows 1000 4 256 4096)
+    $           a script, and + a further line of it
+    >           what it prints, and [ENDING STATUS STEPS]; steps that nobody counted by hand are the model's. Behind it `saves` if
+                the copy holds the variables as they are left, and `leaves` with what it changes: NAME=VALUE, or NAME alone
+                if it is removed
 
-`comes to` is after each script, and `prints`, `leaves` and `saves` after that, if they hold something. The next
-script begins with the variables that this one leaves, and copies that nobody saved.
+` / ` is a newline, but in a script; lines of one word, one below the other, are one text. What isn't given again stays, and what is in
+brackets holds until then. The next script begins with the variables that this one leaves, and unsaved copies.
 """
 
+import pathlib
+import re
 from dataclasses import dataclass, replace
 
 from differential.setups import Setup
+from model.texts import import_entries
 
-ENDINGS = ("Finished", "Exited", "Steps", "Depth", "Word", "Output")
+TOP = pathlib.Path(__file__).parent.parent.parent
+BOARDS, ROWS = TOP / "scripts/runs/boards", TOP / "scripts/runs/rows"
+# What a file of each folder begins with
+BEGINNINGS = {BOARDS: Setup(b"", (100_000, 8, 4096, 65_536)), ROWS: Setup(b"", (1000, 4, 256, 4096), stand_ins=b"mmc\nusb 1\n")}
 
 
 @dataclass
 class Row:
-    """A script, the line that its block ends with (or the fault), the variables that it leaves, its text, and whether
-    it saves."""
+    """A script, what a session prints for it, how many steps it takes, the variables that it leaves, and whether it saves."""
 
     name: str
     setup: Setup
-    wanted: bytes
+    text: bytes
+    steps: int
     variables: dict
-    steps: int = 0
-    text: bytes = b""
-    saves: bool = False
-
-    def is_script(self):
-        return self.wanted[:1] == b"["
+    saves: bool
 
 
-def sections(name):
-    """The sections of a file: their names and lines."""
+def sections(path):
+    """The words of a file, each with its lines."""
     found = []
-    with open(name, "rb") as file:
-        text = file.read()
-    for line in text.removesuffix(b"\n").split(b"\n"):
-        if line.startswith(b"== "):
-            found.append((line[3:].decode(), []))
-        elif found:
-            found[-1][1].append(line)
+    for line in path.read_bytes().removesuffix(b"\n").split(b"\n"):
+        word, _, text = line.partition(b" ")
+        if word == b"+":
+            found[-1][1].append(text)
+        elif word == b"$":
+            found.append(("$", [text]))
+        elif word != b"#":
+            if not found or found[-1][0] != word.decode():
+                found.append((word.decode(), []))
+            found[-1][1].extend(text.split(b" / ") if word != line else [])
     return found
 
 
@@ -58,68 +60,54 @@ def pairs(lines):
     return {name: value for name, _, value in (line.partition(b"=") for line in lines)}
 
 
-def text_of(lines):
-    text = b"".join(line + b"\n" for line in lines)
-    return text.removesuffix(b"\\\n")
-
-
 def changed(variables, lines):
     """The variables with these changes."""
-    after = dict(variables)
-    for line in lines:
-        name, equals, value = line.partition(b"=")
-        if equals:
-            after[name] = value
-        else:
-            after.pop(name, None)
-    return after
+    removed = [line for line in lines if b"=" not in line]
+    return {name: value for name, value in (variables | pairs(lines)).items() if name not in removed}
 
 
-def row(name, setup, after):
-    """What the sections after a script have for it."""
-    words = after["comes to"][0].decode().split(" ")
-    found = Row(name, setup, after["comes to"][0], changed(setup.variables, after.get("leaves", [])))
-    if words[0] in ENDINGS:
-        found.steps = int(words[2]) if len(words) > 2 else setup.outcome().steps
-        found.wanted = b"[%s %s %d]\n" % (words[0].encode(), words[1].encode(), found.steps)
-        found.text = text_of(after.get("prints", []))
-        found.saves = "saves" in after
-    return found
+def row(name, setup, answer):
+    """A script with this answer."""
+    found = re.fullmatch(rb"(.*?)\[([A-Z]\w+ \d+) ?(\d*)\]( saves)?(?:[ \n]leaves (.*))?", answer, re.S)
+    text, ending, counted, saves, leaves = found.groups()
+    steps = int(counted or setup.outcome().steps)
+    left = changed(setup.variables, leaves.split(b"\n") if leaves else [])
+    return Row(name, setup, text + b"[%s %d]\n" % (ending, steps), steps, left, saves is not None)
 
 
-BEFORE = ("copies", "defaults", "variables", "stand-ins", "limits")
-AFTER = ("comes to", "prints", "leaves", "saves")
-
-
-def with_section(setup, name, lines):
-    """A setup with what a section before a script has."""
-    if name == "copies":
+def with_setting(setup, word, lines):
+    """A setup with what these lines set."""
+    if word == "copies":
         copies, size = map(int, lines[0].split())
         return replace(setup, copies=copies, size=size)
-    if name == "limits":
+    if word == "limits":
         return replace(setup, limits=tuple(map(int, lines[0].split())))
-    if name == "stand-ins":
-        return replace(setup, stand_ins=text_of(lines))
-    return replace(setup, **{name: pairs(lines)})
+    if word == "stand-ins":
+        return replace(setup, stand_ins=b"".join(line + b"\n" for line in lines))
+    return replace(setup, **{word: pairs(lines)})
 
 
-def rows(name):
+def rows(path):
     """The scripts of a file."""
-    found = []
-    setup = Setup(b"", (100_000, 8, 4096, 65_536))
-    rest = sections(name)
-    while rest:
-        section, lines = rest.pop(0)
-        if section in BEFORE:
-            setup = with_section(setup, section, lines)
-        elif section == "script":
+    found, setup = [], BEGINNINGS[path.parent]
+    for word, lines in sections(path):
+        if word == "$":
             setup = replace(setup, script=b"\n".join(lines))
-            after = {}
-            while rest and rest[0][0] in AFTER:
-                section, lines = rest.pop(0)
-                after[section] = lines
-            found.append(row(f"{name}, script {len(found) + 1}", setup, after))
+        elif word == ">":
+            found.append(row(path.name, setup, b"\n".join(lines)))
             setup = replace(setup, variables=found[-1].variables)
         else:
-            raise ValueError(f"{name}: no section is called {section}")
+            setup = with_setting(setup, word, lines)
     return found
+
+
+def boards():
+    """The script of each board."""
+    return [row for path in sorted(BOARDS.iterdir()) for row in rows(path)]
+
+
+def examples():
+    """The boards of examples/: the name of each, its variables, its stand-ins, and the input of a session."""
+    for folder in sorted(path.parent for path in TOP.glob("examples/*/input.txt")):
+        text, stand_ins, given = ((folder / f"{name}.txt").read_bytes() for name in ("environment", "stand-ins", "input"))
+        yield folder.name, {name: value for _, name, value in import_entries(text)}, stand_ins, given

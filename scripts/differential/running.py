@@ -185,6 +185,11 @@ class Runner:
         return f"{case.name}: {found.seconds} seconds of a processor\n  {shown(case.arguments)}"
 
 
+def named(name):
+    """The start of a command that runs the program under another name."""
+    return ("bash", "-c", 'exec -a "$0" "$@"', name)
+
+
 def move(stream, at):
     """What gives a process this stream, or closes it."""
     return (os.POSIX_SPAWN_CLOSE, at) if stream is None else (os.POSIX_SPAWN_DUP2, stream, at)

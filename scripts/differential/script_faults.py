@@ -1,94 +1,43 @@
 """Faults of texts by hand: what isn't a script, what is although it is close to that, and stand-in files that are refused."""
 
-QUOTE = b"Quote: a quote is not closed"
-BACKSLASH = b"Backslash: the text ends with a backslash"
-SUBSTITUTION = b"Substitution: not a substitution of this shell: ${NAME}, $NAME or $?"
-OPERATOR = b"Operator: a single & or |, which this shell does not have"
-UNEXPECTED = b"Unexpected: not expected here"
-MISSING = b"Missing: the text ends where more has to follow"
-NEST = b"Nest: more than 64 commands inside one another"
-ASSIGNMENT = b"Assignment: a word after an assignment"
-# What isn't a script, with the line, the column and what is reported of it
-NO_SCRIPTS = [
-    (b"echo 'a", 1, 6, QUOTE),
-    (b'a=1; echo b"c', 1, 12, QUOTE),
-    (b'echo "$a', 1, 6, QUOTE),
-    (b"'", 1, 1, QUOTE),
-    (b"echo 'a\nb\n", 1, 6, QUOTE),
-    (b"echo a\n\n  echo 'b", 3, 8, QUOTE),
-    (b"\n'", 2, 1, QUOTE),
-    (b"\xc3\xa9 \t'", 1, 5, QUOTE),
-    (b"echo a\r\n'", 2, 1, QUOTE),
-    (b"echo a\\\n  'b", 2, 3, QUOTE),
-    (b"echo 'a\nb' 'c", 2, 4, QUOTE),
-    (b'"a\\"', 1, 1, QUOTE),
-    (b'if a; then "', 1, 12, QUOTE),
-    (b"echo a\\", 1, 7, BACKSLASH),
-    (b"\\", 1, 1, BACKSLASH),
-    (b"if \\", 1, 4, BACKSLASH),
-    (b"echo ${x:-y}", 1, 6, SUBSTITUTION),
-    (b"echo a$1", 1, 7, SUBSTITUTION),
-    (b'echo "\n$(b)"', 2, 1, SUBSTITUTION),
-    (b"a ${}", 1, 3, SUBSTITUTION),
-    (b"a; ${x", 1, 4, SUBSTITUTION),
-    (b'a "b ${c', 1, 6, SUBSTITUTION),
-    *[(b"$" + byte, 1, 1, SUBSTITUTION) for byte in (b"#", b"@", b"*", b"$", b"!", b"-", b"(a)")],
-    (b"true & false", 1, 6, OPERATOR),
-    (b"true|false", 1, 5, OPERATOR),
-    (b"true &&& false", 1, 8, OPERATOR),
-    (b"a &", 1, 3, OPERATOR),
-    (b"fi", 1, 1, UNEXPECTED),
-    (b"if true; then fi", 1, 15, UNEXPECTED),
-    (b"true\n&& true", 2, 1, UNEXPECTED),
-    (b"for 1 in a; do true; done", 1, 5, UNEXPECTED),
-    (b'fi "', 1, 1, UNEXPECTED),
-    (b"then", 1, 1, UNEXPECTED),
-    (b"do a; done", 1, 1, UNEXPECTED),
-    (b"a; done", 1, 4, UNEXPECTED),
-    (b"if a; then b; fi; fi", 1, 19, UNEXPECTED),
-    (b"if a; then b; fi c", 1, 18, UNEXPECTED),
-    (b"if; then a; fi", 1, 5, UNEXPECTED),
-    (b"if a; b; fi", 1, 10, UNEXPECTED),
-    (b"if a && then b; fi", 1, 9, UNEXPECTED),
-    (b"if a; 'then' b; fi", 1, 17, UNEXPECTED),
-    (b"if a; then b; else c; else d; fi", 1, 23, UNEXPECTED),
-    (b"if a; then b; else c; elif d; then e; fi", 1, 23, UNEXPECTED),
-    (b"while a; then b; done", 1, 10, UNEXPECTED),
-    (b"while a; do done", 1, 13, UNEXPECTED),
-    (b"until a; do b; fi", 1, 16, UNEXPECTED),
-    (b"for\ni in a; do b; done", 1, 4, UNEXPECTED),
-    (b"for i a; do b; done", 1, 7, UNEXPECTED),
-    (b"for i 'in' a; do b; done", 1, 7, UNEXPECTED),
-    (b"for 'i' in a; do b; done", 1, 5, UNEXPECTED),
-    (b"for i in a; b; done", 1, 13, UNEXPECTED),
-    (b"for i in a do b; done", 1, 18, UNEXPECTED),
-    (b"for i in a && b; do c; done", 1, 12, UNEXPECTED),
-    (b"&& a", 1, 1, UNEXPECTED),
-    (b"|| a", 1, 1, UNEXPECTED),
-    (b"a && && b", 1, 6, UNEXPECTED),
-    (b"a; && b", 1, 4, UNEXPECTED),
-    (b"if true; then echo", 1, 19, MISSING),
-    (b"while true\ndo echo\n", 3, 1, MISSING),
-    (b"true &&", 1, 8, MISSING),
-    (b"a &&\n", 2, 1, MISSING),
-    (b"if a; then b; fi ||", 1, 20, MISSING),
-    (b"while a; do b; done && # c", 1, 27, MISSING),
-    (b"if", 1, 3, MISSING),
-    (b"if a; then b; else", 1, 19, MISSING),
-    (b"until a; do b", 1, 14, MISSING),
-    (b"for i", 1, 6, MISSING),
-    (b"for i in a", 1, 11, MISSING),
-    (b"for i in a;", 1, 12, MISSING),
-    (b"if " * 65, 1, 193, NEST),
-    (b"for i in a; do " * 65, 1, 961, NEST),
-    (b"while true; do " * 65 + b"true" + b"; done" * 65, 1, 961, NEST),
-    (b"until " * 65, 1, 385, NEST),
-    (b"if " * 64, 1, 193, MISSING),
-    (b"x=1 echo", 1, 5, ASSIGNMENT),
-    (b"x; a= then", 1, 7, ASSIGNMENT),
-    (b"if a=1 b; then c; fi", 1, 8, ASSIGNMENT),
-    (b"true\n\tx=1 \\\n  y=2", 3, 3, ASSIGNMENT),
-]
+from model.script_run import SENTENCES
+
+# What isn't a script: by the kind of its fault each text, with the line and the column that are reported
+FAULTS = {
+    "Quote": [
+        (b"echo 'a", 1, 6), (b'a=1; echo b"c', 1, 12), (b'echo "$a', 1, 6), (b"'", 1, 1), (b"echo 'a\nb\n", 1, 6),
+        (b"echo a\n\n  echo 'b", 3, 8), (b"\n'", 2, 1), (b"\xc3\xa9 \t'", 1, 5), (b"echo a\r\n'", 2, 1), (b"echo a\\\n  'b", 2, 3),
+        (b"echo 'a\nb' 'c", 2, 4), (b'"a\\"', 1, 1), (b'if a; then "', 1, 12), (b'a=1 "b', 1, 5),
+    ],
+    "Backslash": [(b"echo a\\", 1, 7), (b"\\", 1, 1), (b"if \\", 1, 4)],
+    "Substitution": [
+        (b"echo ${x:-y}", 1, 6), (b"echo a$1", 1, 7), (b'echo "\n$(b)"', 2, 1), (b"a ${}", 1, 3), (b"a; ${x", 1, 4), (b'a "b ${c', 1, 6),
+        *[(b"$" + byte, 1, 1) for byte in (b"#", b"@", b"*", b"$", b"!", b"-", b"(a)")],
+    ],
+    "Operator": [(b"true & false", 1, 6), (b"true|false", 1, 5), (b"true &&& false", 1, 8), (b"a &", 1, 3), (b"&\\\n&", 1, 1)],
+    "Unexpected": [
+        (b"fi", 1, 1), (b"if true; then fi", 1, 15), (b"true\n&& true", 2, 1), (b"for 1 in a; do true; done", 1, 5), (b'fi "', 1, 1),
+        (b"then", 1, 1), (b"do a; done", 1, 1), (b"a; done", 1, 4), (b"if a; then b; fi; fi", 1, 19), (b"if a; then b; fi c", 1, 18),
+        (b"if; then a; fi", 1, 5), (b"if a; b; fi", 1, 10), (b"if a && then b; fi", 1, 9), (b"if a; 'then' b; fi", 1, 17),
+        (b"if a; then b; else c; else d; fi", 1, 23), (b"if a; then b; else c; elif d; then e; fi", 1, 23),
+        (b"while a; then b; done", 1, 10), (b"while a; do done", 1, 13), (b"until a; do b; fi", 1, 16), (b"for\ni in a; do b; done", 1, 4),
+        (b"for i a; do b; done", 1, 7), (b"for i 'in' a; do b; done", 1, 7), (b"for 'i' in a; do b; done", 1, 5),
+        (b"for i in a; b; done", 1, 13), (b"for i in a do b; done", 1, 18), (b"for i in a && b; do c; done", 1, 12), (b"&& a", 1, 1),
+        (b"|| a", 1, 1), (b"a && && b", 1, 6), (b"a; && b", 1, 4), (b"if true then a; fi", 1, 17), (b"a && ;", 1, 6), (b"for ; in", 1, 5),
+        (b"if a; then # nothing\nfi", 2, 1),
+    ],
+    "Missing": [
+        (b"if true; then echo", 1, 19), (b"while true\ndo echo\n", 3, 1), (b"true &&", 1, 8), (b"a &&\n", 2, 1),
+        (b"if a; then b; fi ||", 1, 20), (b"while a; do b; done && # c", 1, 27), (b"if", 1, 3), (b"if a; then b; else", 1, 19),
+        (b"until a; do b", 1, 14), (b"for i", 1, 6), (b"for i in a", 1, 11), (b"for i in a;", 1, 12), (b"if " * 64, 1, 193), (b"for", 1, 4),
+    ],
+    "Nest": [
+        (b"if " * 65, 1, 193), (b"for i in a; do " * 65, 1, 961), (b"while true; do " * 65 + b"true" + b"; done" * 65, 1, 961),
+        (b"until " * 65, 1, 385),
+    ],
+    "Assignment": [(b"x=1 echo", 1, 5), (b"x; a= then", 1, 7), (b"if a=1 b; then c; fi", 1, 8), (b"true\n\tx=1 \\\n  y=2", 3, 3)],
+}  # fmt: skip
+NO_SCRIPTS = [(*each, kind) for kind, texts in FAULTS.items() for each in texts]
 # What is a script, although it is close to one of those
 NEAR_SCRIPTS = [
     (b"echo 'a'", b"a\n"),
@@ -105,15 +54,22 @@ NEAR_SCRIPTS = [
 ]
 # A byte 0 is possible only in a file
 NULS = [(b"\0", 1, 1), (b"echo a\necho b\0'", 2, 7), (b"echo '\0", 1, 7), (b"# c\0", 1, 4), (b"fi 'x\0", 1, 6), (b'"$1\0', 1, 4)]
-# A file of stand-ins, and what is reported of it; rows/faults-of-stand-ins in scripts/runs has those of plain letters
+# A file of stand-ins, and what is reported of it
 BUILTINS = b"true false echo setenv printenv saveenv run env test setexpr setexpr.b setexpr.w setexpr.l setexpr.q exit".split()
-NO_STAND_INS = [
-    (b"x 256\n", b"fwenv: stand-ins: Line in line 1\n"),
-    (b"mmc\n\necho 0\n", b"fwenv: stand-ins: Builtin in line 3\n"),
-    (b"x\nx\n", b"fwenv: stand-ins: Twice in line 2\n"),
-    (b"a\r\nenv\r\n", b"fwenv: stand-ins: Builtin in line 2\n"),
-    (b"x 1\r\r\n", b"fwenv: stand-ins: Line in line 1\n"),
-    (b"x\0\n", b"fwenv: stand-ins: Line in line 1\n"),
-    (b"mmc\n#\0", b"fwenv: stand-ins: Line in line 2\n"),
-    *[(name + b" 1\n", b"fwenv: stand-ins: Builtin in line 1\n") for name in BUILTINS],
-]
+REFUSED = {
+    b"Line in line 1": [b"x 256\n", b"x 1\r\r\n", b"x\0\n", b"x 1 2\n", b"x -1\n", b"echo 256\n", b"x 99999999999999999999999999\n"],
+    b"Line in line 2": [b"mmc\n#\0", b"x\ny 300\nx\n"],
+    b"Line in line 3": [b"# c\n\nx 256\n"],
+    b"Builtin in line 1": [name + b" 1\n" for name in BUILTINS],
+    b"Builtin in line 2": [b"a\r\nenv\r\n", b"a\nenv\na\n"],
+    b"Builtin in line 3": [b"mmc\n\necho 0\n"],
+    b"Twice in line 2": [b"x\nx\n", b"x\nx\ny 300\n"],
+    b"Twice in line 3": [b"b\na\na\nb\n"],
+    b"Twice in line 6": [b"\n\n# c\nx\n\ty\nx 9\n"],
+}
+NO_STAND_INS = [(text, b"fwenv: stand-ins: %s\n" % fault) for fault, texts in REFUSED.items() for text in texts]
+
+
+def refused(name, line, column, kind):
+    """What is reported of a text of this name that isn't a script."""
+    return b"fwenv: %s:%d:%d: %s: %s\n" % (name, line, column, kind.encode(), SENTENCES[kind])

@@ -3,9 +3,9 @@ to be good. Each row is a call, what it prints, and what it leaves."""
 
 import re
 
-from differential.boards import BLANK, CONFIG, EMPTIED, FIRST, PAIR, SAVED, SECOND, arguments, board
+from differential.boards import BLANK, CONFIG, EMPTIED, FIRST, PAIR, SAVED, SECOND, arguments, board, calls
 from differential.running import Case
-from differential.script_faults import NEAR_SCRIPTS, NO_SCRIPTS, NO_STAND_INS, NULS, QUOTE
+from differential.script_faults import NEAR_SCRIPTS, NO_SCRIPTS, NO_STAND_INS, NULS, refused
 from model.arguments import ENV_AND, NO_NUMBER, NO_SCRIPT, NO_SIZE, SEVERAL_SCRIPTS, SIZE_ALONE
 from model.dry_run import LONGEST
 from model.image import LARGEST, Geometry
@@ -13,6 +13,14 @@ from model.program import LOOK_AT, NO_GOOD_COPY, WARNING, Answer
 from model.report import FAULTS
 from model.script import UNKNOWN
 from model.variables import NOT_DEFINED
+
+
+def absent(path):
+    return b"fwenv: cannot read %s: no such file\n" % path
+
+
+def longer(path):
+    return b"fwenv: cannot read %s: it is longer than 16777216 bytes\n" % path
 
 
 def finished(status, steps):
@@ -166,60 +174,40 @@ SAVES = [
     ([b"--write", b"--depth=0", b"-e", b"saveenv; run a"], b"Saved copy 2\n", stopped(b"Depth", 2), FIRST, SECOND),
     ([b"--write", b"--word=7", b"-e", b"saveenv; echo a $a$a$a$a$a$a$a$a"], b"Saved copy 2\n", stopped(b"Word", 1), FIRST, SECOND),
     ([b"--write", b"--output=13", b"-e", b"saveenv; echo"], b"Saved copy 2\n", stopped(b"Output", 1), FIRST, SECOND),
-    ([b"--write", b"-e", b"saveenv '"], b"", b"fwenv: -e:1:9: Quote: a quote is not closed\n", FIRST, SECOND),
+    ([b"--write", b"-e", b"saveenv '"], b"", refused(b"-e", 1, 9, "Quote"), FIRST, SECOND),
     ([b"--write", b"a"], UNKNOWN % b"b", finished(1, 3), FIRST, SECOND),
     ([b"--write", b"--boots", b"mmc", b"--stubs", b"stand-ins", b"-e", b"saveenv; mmc; false"], b"Saved copy 2\n+ mmc\n", b"", FIRST, SAVED),
     ([b"--write", b"--stubs", b"stand-ins", b"-e", b"saveenv; mmc; false"], b"Saved copy 2\n+ mmc\n", finished(1, 3), FIRST, SECOND),
 ]
-# Arguments of `run`, or of another subcommand, that are wrong, and what is printed; nothing is read
-FIRST_IS_WRONG = [
-    ([b"run"], NO_SCRIPT),
-    ([b"run", b"--boots", b"booti"], NO_SCRIPT),
-    ([b"run", b"-e", b"true", b"ok"], SEVERAL_SCRIPTS),
-    ([b"run", b"ok", b"-f", b"script"], SEVERAL_SCRIPTS),
-    ([b"run", b"-e", b"true", b"-f", b"script"], SEVERAL_SCRIPTS),
-    ([b"run", b"-f", b"-", b"-e", b"true", b"ok", b"bad"], SEVERAL_SCRIPTS),
-    ([b"run", b"-e", b"", b""], SEVERAL_SCRIPTS),
-    ([b"run", b"-e", b"true", b"-e", b"true"], None),
-    ([b"run", b"-f", b"script", b"-f", b"script"], None),
-    ([b"run", b"-e"], None),
-    ([b"run", b"-e", b"-x"], None),
-    ([b"run", b"-f"], None),
-    ([b"run", b"--boots"], None),
-    ([b"run", b"-x"], None),
-    ([b"run", b"-n", b"ok"], None),
-    ([b"run", b"--env", b"env", b"--env", b"env", b"ok"], None),
-    ([b"run", b"--write", b"--env", b"absent", b"ok"], ENV_AND % b"--write"),
-    ([b"run", b"-c", b"absent", b"--env", b"absent", b"ok"], ENV_AND % b"-c <FILE>"),
-    ([b"run", b"--env", b"absent", b"--default", b"absent", b"ok"], ENV_AND % b"--default <FILE>"),
-    ([b"run", b"--env", b"absent", b"--need-copy", b"ok"], ENV_AND % b"--need-copy"),
-    ([b"run", b"--write", b"--need-copy", b"--default=d", b"-c=c", b"--env", b"absent", b"ok"], ENV_AND % b"-c <FILE>"),
-    ([b"run", b"--write", b"--need-copy", b"--default=d", b"--env", b"absent", b"ok"], ENV_AND % b"--default <FILE>"),
-    ([b"run", b"--write", b"--need-copy", b"--env", b"absent", b"ok"], ENV_AND % b"--need-copy"),
-    ([b"run", b"--write", b"--size=x", b"--env", b"absent", b"ok"], ENV_AND % b"--write"),
-    ([b"run", b"--size", b"0x4000", b"ok"], SIZE_ALONE),
-    ([b"run", b"--size", b"x", b"-c", b"absent", b"ok"], SIZE_ALONE),
-    ([b"session", b"--write", b"--env", b"absent"], ENV_AND % b"--write"),
-    ([b"session", b"--env", b"absent", b"-c", b"absent"], ENV_AND % b"-c <FILE>"),
-    ([b"session", b"--env", b"absent", b"--default", b"absent"], ENV_AND % b"--default <FILE>"),
-    ([b"session", b"--env", b"absent", b"--need-copy"], ENV_AND % b"--need-copy"),
-    ([b"session", b"--size", b"0x4000"], SIZE_ALONE),
-    ([b"session", b"--boots", b"booti"], None),
-    ([b"session", b"-e", b"true"], None),
-    ([b"run", b"--steps=x", b"--write", b"--env", b"absent"], ENV_AND % b"--write"),
-    ([b"run", b"--steps=x", b"--size", b"8"], SIZE_ALONE),
-    ([b"run", b"--steps=x", b"--env", b"absent"], NO_NUMBER % (b"x", b"--steps", 1_000_000)),
-    ([b"run", b"--depth=17", b"--output=x", b"ok"], NO_NUMBER % (b"17", b"--depth", 16)),
-    ([b"run", b"--word=65537", b"ok"], NO_NUMBER % (b"65537", b"--word", 65_536)),
-    ([b"run", b"--output=-1", b"ok"], NO_NUMBER % (b"-1", b"--output", 16_777_216)),
-    ([b"run", b"--write", b"--env", b"absent"], ENV_AND % b"--write"),
-    ([b"run", b"--env", b"absent"], NO_SCRIPT),
-    ([b"printenv", b"--env", b"env"], None),
-    ([b"setenv", b"--size", b"10", b"a", b"b"], None),
-    ([b"printenv", b"--need-copy", b"--need-copy"], None),
-    ([b"--need-copy", b"printenv"], None),
-    ([b"status", b"--need-copy"], None),
-]
+# What is printed of arguments that are wrong, and such arguments; nothing is read
+WRONG_WORDS = {
+    NO_SCRIPT: "run / run --boots booti / run --env absent",
+    SEVERAL_SCRIPTS: "run -e true ok / run ok -f script / run -e true -f script / run -f - -e true ok bad / run -e '' ''",
+    None: (
+        "run -e true -e true / run -f script -f script / run -e / run -e -x / run -f / run --boots / run -x / run -n ok / "
+        "run --env env --env env ok / session --boots booti / session -e true / printenv --env env / setenv --size 10 a b / "
+        "printenv --need-copy --need-copy / --need-copy printenv / status --need-copy"
+    ),
+    ENV_AND % b"--write": (
+        "run --write --env absent ok / run --write --size=x --env absent ok / session --write --env absent / "
+        "run --steps=x --write --env absent / run --write --env absent"
+    ),
+    ENV_AND % b"-c <FILE>": (
+        "run -c absent --env absent ok / run --write --need-copy --default=d -c=c --env absent ok / session --env absent -c absent"
+    ),
+    ENV_AND % b"--default <FILE>": (
+        "run --env absent --default absent ok / run --write --need-copy --default=d --env absent ok / "
+        "session --env absent --default absent"
+    ),
+    ENV_AND % b"--need-copy": (
+        "run --env absent --need-copy ok / run --write --need-copy --env absent ok / session --env absent --need-copy"
+    ),
+    SIZE_ALONE: "run --size 0x4000 ok / run --size x -c absent ok / session --size 0x4000 / run --steps=x --size 8",
+    NO_NUMBER % (b"x", b"--steps", 1_000_000): "run --steps=x --env absent",
+    NO_NUMBER % (b"17", b"--depth", 16): "run --depth=17 --output=x ok",
+    NO_NUMBER % (b"65537", b"--word", 65_536): "run --word=65537 ok",
+    NO_NUMBER % (b"-1", b"--output", 16_777_216): "run --output=-1 ok",
+}  # fmt: skip
 NO_SIZES = [
     b"", b"x", b"0", b"7", b"0x7", b"100001", b"0x100001", b"-8", b"+10", b" 10", b"10 ", b"0x", b"0x 10", b"1_0", b"4k", b"0x0x10", b"1" * 23,
 ]  # fmt: skip
@@ -257,24 +245,14 @@ NO_ENVIRONMENTS = [
     (b"a=1\\\n2\nb=3\n", b"0xe", b"fwenv: env: Full in line 3\n"),
     (b"a=1\n=2\n", None, b"fwenv: env: EmptyName in line 2\n"),
     (b"a=1\0\n", None, b"fwenv: env: Nul\n"),
-    (None, None, b"fwenv: cannot read env: no such file\n"),
-    (b"\n" * (LONGEST + 1), None, b"fwenv: cannot read env: it is longer than 16777216 bytes\n"),
+    (None, None, absent(b"env")),
+    (b"\n" * (LONGEST + 1), None, longer(b"env")),
 ]
 # Subcommands over copies of which none is good, the file `text` being a text for import
-NEED_COPY = [
-    [b"printenv"],
-    [b"printenv", b"-n", b"a"],
-    [b"setenv", b"a", b"b"],
-    [b"setenv", b"-s", b"absent"],
-    [b"import", b"text"],
-    [b"import", b"absent"],
-    [b"export"],
-    [b"restore", b"text"],
-    [b"session"],
-    [b"session", b"--write", b"--stubs", b"absent"],
-    [b"run", b"-e", b"echo a"],
-    [b"run", b"--write", b"--stubs", b"absent", b"-f", b"absent"],
-]
+NEED_COPY = calls(
+    "printenv / printenv -n a / setenv a b / setenv -s absent / import text / import absent / export / restore text / session / "
+    "session --write --stubs absent / run -e 'echo a' / run --write --stubs absent -f absent"
+)
 WRONG, NOT_ENDED = FAULTS["BadCrc"], FAULTS["Unterminated"]
 SINGLE, LONG_LIST = Geometry(1, 10), PAIR.image(7, b"a=bcd")
 BAD_COPIES = [
@@ -334,10 +312,6 @@ def scripts():
     yield over_text("standard input that isn't asked for", [b"-e", b"echo a"], b"a\n", b"", given=b"echo b\n")
 
 
-def refused(name, line, column, said):
-    return b"fwenv: %s:%d:%d: %s\n" % (name, line, column, said)
-
-
 def no_scripts():
     for script, *place in NO_SCRIPTS:
         yield over_text("no script among the words", [b"-e", script], b"", refused(b"-e", *place))
@@ -346,9 +320,9 @@ def no_scripts():
     for script, output in NEAR_SCRIPTS:
         yield over_text("nearly no script", [b"-e", script], output, b"")
     for script, *place in NULS:
-        errors = refused(b"script", *place, b"Nul: a byte 0")
+        errors = refused(b"script", *place, "Nul")
         yield over_text("a byte 0", [b"-f", b"script"], b"", errors, {b"script": script})
-    case = over_text("a path as it is given", [b"-f", b"./script"], b"", refused(b"./script", 1, 2, QUOTE), {b"script": b" '"})
+    case = over_text("a path as it is given", [b"-f", b"./script"], b"", refused(b"./script", 1, 2, "Quote"), {b"script": b" '"})
     case.is_modelled = False
     yield case
 
@@ -358,12 +332,12 @@ def script_files():
     yield over_text("a script on standard input", [b"-f", b"-"], b"a\n1\n", finished(1, 3), given=b"echo a\necho $a\nfalse\n")
     yield over_text("dot lines are none", [b"-f", b"-"], UNKNOWN % b".print", finished(1, 1), given=b".print\n")
     yield over_text("no standard input", [b"-f-"], b"", b"")
-    yield over_text("a file of the name run", [b"-f", b"run"], b"", refused(b"run", 1, 1, QUOTE), {b"run": b"'"})
-    yield over_text("a file that is not there", [b"-f", b"absent"], b"", b"fwenv: cannot read absent: no such file\n")
-    longest, longer = b"#" * LONGEST, b"#" * (LONGEST + 1)
+    yield over_text("a file of the name run", [b"-f", b"run"], b"", refused(b"run", 1, 1, "Quote"), {b"run": b"'"})
+    yield over_text("a file that is not there", [b"-f", b"absent"], b"", absent(b"absent"))
+    longest, too_long = b"#" * LONGEST, b"#" * (LONGEST + 1)
     yield over_text("the longest script", [b"-f", b"script"], b"", b"", {b"script": longest}, seconds=2)
-    yield over_text("a longer script", [b"-f", b"script"], b"", b"fwenv: cannot read script: it is longer than 16777216 bytes\n", {b"script": longer}, seconds=2)
-    yield over_text("longer standard input", [b"-f", b"-"], b"", b"fwenv: cannot read -: it is longer than 16777216 bytes\n", given=longer, seconds=2)
+    yield over_text("a longer script", [b"-f", b"script"], b"", longer(b"script"), {b"script": too_long}, seconds=2)
+    yield over_text("longer standard input", [b"-f", b"-"], b"", longer(b"-"), given=too_long, seconds=2)
 
 
 def booted():
@@ -405,13 +379,14 @@ def without_copies():
     yield row("a default text", [*words, b"printenv"], files, b"p=1\n", WARNING, status=0)
     yield row("a default text", [*words, b"saveenv; false"], files, b"Saved copy 1\n", WARNING + finished(1, 2))
     yield row("no default text", arguments(b"run", b"p"), files, NOT_DEFINED % b"p", WARNING + finished(1, 2))
-    yield row("a quote", arguments(b"run", b"-e", b"'"), files, b"", WARNING + refused(b"-e", 1, 1, QUOTE))
+    yield row("a quote", arguments(b"run", b"-e", b"'"), files, b"", WARNING + refused(b"-e", 1, 1, "Quote"))
 
 
 def words():
     files = {b"env": TEXT, b"script": b"echo a\n"}
-    for given, errors in FIRST_IS_WRONG:
-        yield row("wrong words of a run", given, files, b"", errors)
+    for errors, texts in WRONG_WORDS.items():
+        for given in calls(texts):
+            yield row("wrong words of a run", given, files, b"", errors)
     for text in NO_SIZES:
         for tool in ([b"run", b"ok"], [b"session"]):
             yield row("a wrong size", [*tool, b"--env", b"absent", b"--size=" + text], files, b"", NO_SIZE % text)
@@ -473,13 +448,11 @@ def good_copies():
 def order():
     files = board(PAIR, [FIRST, SECOND]) | {b"stand-ins": b""}
     for words, path in ORDER:
-        yield row("the first file", [b"run", *words], files, b"", b"fwenv: cannot read %s: no such file\n" % path)
+        yield row("the first file", [b"run", *words], files, b"", absent(path))
     config = board(PAIR, [FIRST, SECOND]) | {CONFIG: b"none 0 a\n"}
     words = arguments(b"run", b"--default", b"absent", b"--stubs", b"nothing", b"-f", b"no")
-    yield row("a copy first", words, config, b"", b"fwenv: cannot read none: no such file\n")
+    yield row("a copy first", words, config, b"", absent(b"none"))
 
 
 def chunks():
-    return [
-        names, scripts, no_scripts, script_files, booted, saves, without_copies, words, environments, no_good_copy, good_copies, order,
-    ]
+    return [names, scripts, no_scripts, script_files, booted, saves, without_copies, words, environments, no_good_copy, good_copies, order]

@@ -1,7 +1,7 @@
 """Sessions by hand, besides those of docs/dry-runs.md: blocks and dot lines, names of marks, limits, stand-ins, wrong numbers, and what is
 written back. A row is a name, the input, what is printed, and the options."""
 
-from differential.boards import EMPTIED, FIRST, PAIR, SAVED, SECOND, arguments, board
+from differential.boards import EMPTIED, FIRST, PAIR, SAVED, SECOND, arguments, board, unwritten
 from differential.running import Case
 from model.arguments import LIMITS, NO_NUMBER
 from model.image import ERASED, Geometry
@@ -24,17 +24,9 @@ BLOCKS = [
     ),
     ("blanks before a dot", b" .save\n", b"Unknown command '.save' - try 'help'\n[Finished 1 1]\n"),
     ("a 0 byte", b"echo a\0\n.x\0\n.save\n", b"[Syntax]\n[Unknown]\nSaved copy 1\n"),
-    (
-        "local variables and status of a block",
-        b'x=1; false\n.x\necho "$x$?"\n',
-        b"[Finished 1 2]\n[Unknown]\n0\n[Finished 0 1]\n",
-    ),
+    ("local variables and status of a block", b'x=1; false\n.x\necho "$x$?"\n', b"[Finished 1 2]\n[Unknown]\n0\n[Finished 0 1]\n"),
     ("several lines", b"echo a\necho b; false\n.print\n", b"a\nb\n[Finished 1 3]\n"),
-    (
-        "a run that is too large for the board",
-        b"setenv abc 1234567\n.print\n",
-        b'## Error: no room for "abc"\n[Finished 1 1]\n',
-    ),
+    ("a run that is too large for the board", b"setenv abc 1234567\n.print\n", b'## Error: no room for "abc"\n[Finished 1 1]\n'),
 ]
 NAMES = [
     ("a name of 32 bytes", b".mark %s\n.undo %s\n" % (NAME, NAME), b"[Marked]\n[Undone]\n"),
@@ -70,11 +62,7 @@ NAMES = [
         b".mark p\nsetenv v 1\n.mark q\nsetenv v 2\n.mark p\n.undo q\n.print\n.undo p\n.print\n.undo q\n",
         b"[Marked]\n[Finished 0 1]\n[Marked]\n[Finished 0 1]\n[Marked]\n[Undone]\nv=1\n[Undone]\n[Gone]\n",
     ),
-    (
-        "later marks are gone",
-        b".mark a\n.mark b\n.undo a\n.undo b\n.undo a\n",
-        b"[Marked]\n[Marked]\n[Undone]\n[Gone]\n[Undone]\n",
-    ),
+    ("later marks are gone", b".mark a\n.mark b\n.undo a\n.undo b\n.undo a\n", b"[Marked]\n[Marked]\n[Undone]\n[Gone]\n[Undone]\n"),
     (
         "65 marks",
         b"".join(b".mark m%d\n" % number for number in range(1, 65)) + b".mark more\n.undo more\n.undo m64\n.undo m63\n.mark more\n",
@@ -168,11 +156,9 @@ UNDONE = [
 ]  # fmt: skip
 
 
-def over_small_board(name, given, output, *words, files=(), errors=b""):
-    """A session over a single image of 16 bytes that was never written, which is left so."""
-    files = board(SMALL, [ERASED * SMALL.size]) | dict(files)
-    wanted = Answer(int(errors != b""), output, WARNING + errors, files)
-    return Case(name, arguments(b"session", *words), files, given, wanted=wanted, seconds=1)
+def over_small_board(name, given, output, *words, **rest):
+    """A session over a single image of 16 bytes that was never written."""
+    return unwritten(name, SMALL, given, output, *words, seconds=1, **rest)
 
 
 def answered():
@@ -208,8 +194,6 @@ def written():
         files = board(PAIR, [FIRST, SECOND])
         wanted = Answer(0, output, b"", board(PAIR, [first, second]))
         yield Case("what is written", arguments(b"session", *words), files, given, wanted=wanted)
-
-
     for order, flags, given, output, left in FLAGS:
         form = Geometry(2, 9, order)
         before, after = ([ERASED * 9 if flag is None else form.image(flag, b"\0") for flag in each] for each in (flags, left))
@@ -220,10 +204,8 @@ def written():
 
 def undone():
     for size, text, given, output in UNDONE:
-        form = Geometry(1, size)
-        files = board(form, [ERASED * size]) | {b"default": text}
-        words = arguments(b"session", b"--default", b"default", b"--steps", b"10")
-        yield Case("an undo", words, files, given, wanted=Answer(0, output, WARNING, files))
+        words = [b"--default", b"default", b"--steps", b"10"]
+        yield unwritten("an undo", Geometry(1, size), given, output, *words, files={b"default": text})
 
 
 def pieces():

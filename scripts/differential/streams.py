@@ -103,10 +103,11 @@ def at(number, path):
     return functools.partial(stream, number, path)
 
 
-def row(name, arguments, given, status, output, errors, around=None, files=()):
-    """A call whose answer is given by hand."""
+def row(name, arguments, given, status, output, errors, around=None, files=(), left=()):
+    """A call whose answer is given by hand; `left` are the files that are others afterwards."""
     files = dict(files)
-    return Case(name, arguments, files, given, wanted=Answer(status, output, errors, files), around=around, is_modelled=around is None, seconds=5)
+    wanted = Answer(status, output, errors, files | dict(left))
+    return Case(name, arguments, files, given, wanted=wanted, around=around, is_modelled=around is None, seconds=5)
 
 
 def images():

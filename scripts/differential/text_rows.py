@@ -67,10 +67,7 @@ CONFIGURATIONS = [
     ),
     (b"#mtd5\t\t0x4200\t\t0x4200\nmmcblk0\t\t0xc0000\t\t0x20000\r\n", 0xE0000, 0x20000, [(b"mmcblk0", 0xC0000)], []),
     (b"uboot.env\t0x0000          0x4000", 0x4000, 0x4000, [(b"uboot.env", 0)], []),
-    (
-        b"mmcblk0 -0x20000 0x20000\r\nmmcblk0 -0x40000 0x20000 1 # comment\n",
-        0x40000, 0x20000, [(b"mmcblk0", 0x20000), (b"mmcblk0", 0)], [],
-    ),
+    (b"mmcblk0 -0x20000 0x20000\r\nmmcblk0 -0x40000 0x20000 1 # comment\n", 0x40000, 0x20000, [(b"mmcblk0", 0x20000), (b"mmcblk0", 0)], []),
 ]  # fmt: skip
 # A configuration that names no copies, and the fault; or copies that aren't inside a device of so many bytes
 NO_CONFIGURATIONS = [

@@ -176,10 +176,7 @@ class Run:
         name, rest = fields[0], fields[1:]
         if name == b"env":
             second = rest[0] if rest else None
-            names = {
-                b"set": "setenv", b"print": "printenv", b"save": "saveenv",
-                b"run": "run", b"delete": "delete", b"exists": "exists",
-            }  # fmt: skip
+            names = {b"set": "setenv", b"print": "printenv", b"save": "saveenv", b"run": "run", b"delete": "delete", b"exists": "exists"}
             if second not in names:
                 self.wrong_use(name)
             else:

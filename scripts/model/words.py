@@ -11,10 +11,6 @@ BRACED = re.compile(rb"\{([^ \t\n}{$:='\"\\]+)\}")
 class Fault(Exception):
     """A text that isn't a script: the kind of the fault, and its place."""
 
-    def __init__(self, kind, place):
-        super().__init__(kind, place)
-        self.text = b"%s at byte %d" % (kind.encode(), place)
-
 
 class Word(list):
     """The parts of a word: ("plain", byte), ("quoted", byte), ("mark",), ("name", name, is_quoted) or ("status", is_quoted);

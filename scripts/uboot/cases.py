@@ -6,11 +6,12 @@ before it have saved, and an undo goes back to what was saved then. What `saveen
 """
 
 import re
-from dataclasses import dataclass, field
+from dataclasses import dataclass
 
 from board import Board
-from dry_run import ANSWER, TOP, Copy, answer_of
-from differential.rows import pairs, sections
+from dry_run import ANSWER, Copy, answer_of
+from differential.rows import boards, examples
+from model.texts import stand_ins
 
 SAVED = re.compile(rb"Saving Environment to Flash\.\.\. .*?\nOK\n", re.DOTALL)
 COMMAND_BEGINS = rb"((?:^|[;&|\n]|\b(?:if|elif|then|else|while|until|do)\s)\s*)"
@@ -22,28 +23,16 @@ class Case:
     variables: dict
     stubs: bytes
     steps: list  # blocks, and the dot lines .mark and .undo between them
-    statuses: dict = field(init=False)
-
-    def __post_init__(self):
-        lines = [line.split() for line in self.stubs.split(b"\n") if line.strip() and not line.startswith(b"#")]
-        self.statuses = {line[0]: int(line[1]) if len(line) > 1 else 0 for line in lines}
 
     def for_board(self, script):
         """The script with an `echo` in place of each call of a stand-in."""
-        for name, status in self.statuses.items():
+        for name, status in stand_ins(self.stubs).items():
             if status == 0:
                 script = re.sub(COMMAND_BEGINS + name + rb"\b", rb"\1echo + " + name, script)
             else:
                 call = COMMAND_BEGINS + rb"(" + name + rb"\b[^;&|\n]*[^;&|\n ])"
                 script = re.sub(call, rb"\1if echo + \2; then false; fi", script)
         return script
-
-
-def imported(text):
-    """The variables of a text for import, whose values may hold newlines after a backslash."""
-    text = re.sub(rb"(?m)^(#.*)?\n", b"", text)
-    entries = re.findall(rb"([^=\n]+)=((?:\\.|[^\\\n])*)\n", text, re.DOTALL)
-    return {name: re.sub(rb"\\(.)", rb"\1", value, flags=re.DOTALL) for name, value in entries}
 
 
 def steps_of(text):
@@ -53,14 +42,10 @@ def steps_of(text):
 
 
 def cases():
-    for path in sorted((TOP / "scripts" / "runs" / "boards").iterdir()):
-        found = {name: lines for name, lines in sections(path)}
-        stubs = b"\n".join(found.get("stand-ins", [])) + b"\n"
-        yield Case(f"boards/{path.name}", pairs(found.get("variables", [])), stubs, [b"\n".join(found["script"])])
-    for path in sorted((TOP / "examples").glob("*/input.txt")):
-        variables = imported((path.parent / "environment.txt").read_bytes())
-        stubs = (path.parent / "stand-ins.txt").read_bytes()
-        yield Case(f"examples/{path.parent.name}", variables, stubs, steps_of(path.read_bytes()))
+    for row in boards():
+        yield Case(f"boards/{row.name}", row.setup.variables, row.setup.stand_ins, [row.setup.script])
+    for name, variables, stubs, given in examples():
+        yield Case(f"examples/{name}", variables, stubs, steps_of(given))
 
 
 def typed(board, script):

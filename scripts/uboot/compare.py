@@ -17,6 +17,7 @@ from pathlib import Path
 
 from board import Board, Silent
 from cases import answers_of, cases, typed
+from counted import check, end
 from dry_run import ANSWER, TOP, Copy, answer_of
 from images import COUNT, MANY, answers_to_many, answers_to_row, faults_of_environment
 from rows import Row, fault_of, read_rows
@@ -62,25 +63,19 @@ def with_variables(row, program, folder):
         return typed(board, script), answer_of(match[1], match[2])
 
 
-class Report:
-    def __init__(self):
-        self.passed = self.failed = 0
+def take(name, fault):
+    """A comparison, and its fault if it has one."""
+    check(name, fault is None, fault)
 
-    def take(self, name, fault):
-        if fault is None:
-            self.passed += 1
-        else:
-            self.failed += 1
-            print(f"FAILED: {name}: {fault}", flush=True)
 
-    def take_row(self, row, answers):
-        """Takes a comparison, whose two answers `answers` gives or has a fault in their place."""
-        try:
-            board, dry_run = answers()
-        except FAULTS as fault:
-            self.take(row.name, f"{type(fault).__name__}: {fault}")
-            return
-        self.take(row.name, fault_of(row, board, dry_run))
+def take_row(row, answers):
+    """Takes a comparison, whose two answers `answers` gives or has a fault in their place."""
+    try:
+        board, dry_run = answers()
+    except FAULTS as fault:
+        take(row.name, f"{type(fault).__name__}: {fault}")
+    else:
+        take(row.name, fault_of(row, board, dry_run))
 
 
 def documented_classes():
@@ -88,16 +83,16 @@ def documented_classes():
     return re.findall(r"(?m)^\| `([a-z0-9-]+)` \|", DOCUMENT.read_text())
 
 
-def compare_classes(report, rows):
+def compare_classes(rows):
     named = {name for row in rows for name in row.classes}
     documented = documented_classes()
     for name in sorted(named | set(documented)):
         if name not in named:
-            report.take(name, "no row shows this class of docs/differences.md")
+            take(name, "no row shows this class of docs/differences.md")
         elif documented.count(name) != 1:
-            report.take(name, f"docs/differences.md has this class {documented.count(name)} times")
+            take(name, f"docs/differences.md has this class {documented.count(name)} times")
         else:
-            report.take(name, None)
+            take(name, None)
 
 
 def work_on_scripts(rows, program, folder):
@@ -122,29 +117,27 @@ def work_on_images(rows, program, folder):
         yield Row(f"environment {number}"), lambda number=number: (faults_of_environment(number, program, folder), b"")
 
 
-def compare(report, rows, only, program, folder, pool):
+def compare(rows, only, program, folder, pool):
     """Runs the comparisons that have the text `only` in their names, several at once."""
     plain = [row for row in rows if row.script and not row.variables and only in row.name]
     plain_answers = pool.submit(with_default_environment, plain, program, folder)
     work = [*work_on_scripts(rows, program, folder), *work_on_images(rows, program, folder)]
     work = [(row, pool.submit(answers)) for row, answers in work if only in row.name]
     for index, row in enumerate(plain):
-        report.take_row(row, lambda: plain_answers.result()[index])
+        take_row(row, lambda: plain_answers.result()[index])
     for row, answers in work:
-        report.take_row(row, answers.result)
+        take_row(row, answers.result)
 
 
 def main(arguments):
     rows = [row for path in sorted(HERE.glob("*.rows")) for row in read_rows(path)]
-    report = Report()
     only = arguments[arguments.index("--only") + 1] if "--only" in arguments else ""
-    compare_classes(report, [*rows, MANY])
+    compare_classes([*rows, MANY])
     if "--classes" not in arguments:
         with tempfile.TemporaryDirectory() as folder, ThreadPoolExecutor(os.cpu_count()) as pool:
-            compare(report, rows, only, arguments[0], Path(folder), pool)
-    print(f"{report.passed} passed, {report.failed} failed")
-    return report.failed != 0
+            compare(rows, only, arguments[0], Path(folder), pool)
+    end()
 
 
 if __name__ == "__main__":
-    sys.exit(main(sys.argv[1:]))
+    main(sys.argv[1:])

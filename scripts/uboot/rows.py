@@ -6,7 +6,7 @@ A row is a few lines:
     + SCRIPT       a further line of it
     = NAME=VALUE   before the script: a variable of the environment that the board boots with; a row without any begins with
                    U-Boot's default environment
-    ! CLASS ..     the classes of docs/differences.md in which the two differ; then come their answers:
+    ! CLASS ..     the classes of docs/differences.md in which the two differ; then come their answers, in the same line or below:
     < LINE         of the board
     > LINE         of the dry run
 
@@ -17,7 +17,7 @@ the same.
 A row about a stored image has in a line `% BYTES` its entries, with escapes as Python has them, and perhaps in a line `~ BYTE` what
 fills the rest; its answers are the variables. A row about a script of cases.py has that script's name in a line `@ NAME`.
 
-An empty line ends a row, and so does the next script, and a line that begins with `#`, which is a heading or a comment.
+A line that begins with `#` is a heading or a comment.
 """
 
 import re
@@ -26,6 +26,8 @@ from dataclasses import dataclass, field
 
 @dataclass
 class Row:
+    """One comparison of the two."""
+
     place: str
     case: str = ""
     script: list = field(default_factory=list)
@@ -55,26 +57,27 @@ def take_line(row, mark, rest):
         name, _, value = rest.partition(b"=")
         row.variables[name] = value
     elif mark == "!":
-        row.classes += rest.decode().split()
-    elif mark == "<":
-        row.board.append(rest)
-    elif mark == ">":
-        row.dry_run.append(rest)
+        classes, *both = re.fullmatch(rb"([a-z -]+?)(?: < (.*?)(?: > (.*))?)?", rest).groups()
+        row.classes += classes.decode().split()
+        row.board, row.dry_run = ([answer] if answer is not None else [] for answer in both)
+    elif mark in "<>":
+        (row.board if mark == "<" else row.dry_run).append(rest)
     else:
         raise ValueError(f"{row.place} begins with {mark!r}")
 
 
 def read_rows(path):
-    """The rows of a file."""
-    rows, row = [], None
-    for number, line in enumerate(path.read_bytes().split(b"\n"), 1):
-        if not line or line.startswith(b"#"):
-            row = None
+    """The rows of a file. A script, a case or an image begins one, or the variables before a script."""
+    rows, is_begun = [], False
+    for number, line in enumerate(path.read_bytes().removesuffix(b"\n").split(b"\n"), 1):
+        mark, rest = line[:1].decode(), line[2:]
+        if mark in ("", "#"):
             continue
-        if row is None or (row.script and line.startswith(b"$")):
-            row = Row(f"{path.name} line {number}")
-            rows.append(row)
-        take_line(row, line[:1].decode(), line[2:])
+        if mark in "$@%=":
+            if not is_begun:
+                rows.append(Row(f"{path.name} line {number}"))
+            is_begun = mark == "="
+        take_line(rows[-1], mark, rest)
     return rows
 
 
