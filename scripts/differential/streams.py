@@ -1,5 +1,5 @@
-"""The program over streams as a shell gives them: closed, full, endless or reset, and a session at a pipe, line by line. No row
-writes a byte of the device."""
+"""The program over streams as a shell gives them: closed, full, endless or reset, and a session typed line by line. No row writes a
+byte of the device but at the end of that session."""
 
 import contextlib
 import functools
@@ -12,7 +12,7 @@ import subprocess
 import threading
 from dataclasses import replace
 
-from differential.boards import FIRST, SAVED, SECOND
+from differential.boards import FIRST, SECOND, board
 from differential.running import Case, Cut
 from model.image import Geometry
 from model.program import CANNOT_READ_INPUT, CANNOT_WRITE_OUTPUT, TOO_LONG, Answer
@@ -168,49 +168,80 @@ def sessions():
     yield session("standard error closed", b"setenv a c\n", 0, b"[Finished 0 1]\n", b"", at(2, None))
 
 
-# A session at a pipe, as a person would type: what is written, and the line that comes before the next is written, or nothing
+# What a person types in a session, and the answers, each of which is one write: a block is answered when a dot line or the end follows
 TYPED = [
-    ("the first line", b".x\n", b"[Unknown]\n"),
-    ("a save", b".save\n", b"Saved copy 2\n"),
-    ("a line in two parts", b".ma", None),
-    ("the other part", b"rk a\n", b"[Marked]\n"),
-    ("a block after which nothing comes", b"echo a\n", None),
-    ("a dot line after it", b".x\n", b"a\n[Finished 0 1]\n[Unknown]\n"),
+    (b".x\n", b"[Unknown]\n"),
+    (b"setenv a 1; echo $a\n", b"1\n[Finished 0 2]\n"),
+    (b".mark p\n", b"[Marked]\n"),
+    (b"if usb x\nthen echo b\nelse setenv a 2\nfi\n", b"Unknown command 'usb' - try 'help'\n[Finished 0 2]\n"),
+    (b".save \t\r\n", b"Saved copy 2\n"),
+    (b".mark q\n", b"[Marked]\n"),
+    (b"\n", b"[Finished 0 0]\n"),
+    (b".print\n", b"a=2\n"),
+    (b"setenv b 3; exit 4; echo no\n", b"[Exited 4 2]\n"),
+    (b".print\n", b"a=2\nb=3\n"),
+    (b".undo q\n", b"[Undone]\n"),
+    (b".undo\tp\n", b"[Undone]\n"),
+    (b".undo q\n", b"[Gone]\n"),
+    (b".undo\n", b"[Undone]\n"),
+    (b".print\n", b"a=b\n"),
+    (b".save\n", b"Saved copy 2\n"),
+    (b"echo \"c\n", b"[Syntax]\n"),
+    (b".mark\n", b"[Unknown]\n"),
+    (b"setenv c 1", b"[Finished 0 1]\n"),
 ]
+TYPED_OVER = Geometry(2, 64)
 
 
-def answered(output, wanted, most):
-    """What is read of an answer within this many seconds."""
-    text = b""
-    while len(text) < wanted and select.select([output], [], [], most)[0]:
-        text += os.read(output.fileno(), wanted - len(text)) or b"the end"
-    return text
+def typed_over(second):
+    return board(TYPED_OVER, [TYPED_OVER.image(1, b"a=b\0"), second])
+
+
+def written(screen, most):
+    """What one write gives, if one comes within this many seconds."""
+    return screen.recv(2**16) if select.select([screen], [], [], most)[0] else None
 
 
 def line_by_line(runner):
-    """Each answer comes before the next line is written, and the device is written at the end."""
-    runner.put(over_copies())
-    pipes = {"stdin": subprocess.PIPE, "stdout": subprocess.PIPE, "stderr": subprocess.PIPE}
-    with subprocess.Popen([runner.program, *SESSION], **pipes) as process:
-        for name, text, wanted in TYPED:
-            process.stdin.write(text)
-            process.stdin.flush()
-            answer = answered(process.stdout, len(wanted or b"x"), 20 if wanted else 1)
-            if answer != (wanted or b"") or process.poll() is not None:
-                process.kill()
-                return f"{name}: {answer!r} came in place of {wanted!r}"
-            if runner.left() != over_copies():
-                process.kill()
-                return f"{name}: the device was written"
+    """Each answer comes before more is typed than its line, and the device is written at the end."""
+    before, after, waiting = typed_over(TYPED_OVER.image(0, b"")), typed_over(TYPED_OVER.image(2, b"a=b\0")), []
+    runner.put(before)
+    screen, end = socket.socketpair(socket.AF_UNIX, socket.SOCK_SEQPACKET)
+    with subprocess.Popen([runner.program, *SESSION], stdin=subprocess.PIPE, stdout=end, stderr=subprocess.PIPE) as process:
+        end.close()
+        for text, answer in TYPED:
+            waiting.append(answer)
+            wanted = waiting if text.startswith(b".") else []
+            # (the part without the newline at its end is answered by nothing)
+            for part, answers in ((text[:-1], []), (text[-1:], wanted)):
+                process.stdin.write(part)
+                process.stdin.flush()
+                found = [written(screen, 20) for _ in answers] + [written(screen, 0.1)]
+                if found != [*answers, None] or runner.left() != before:
+                    process.kill()
+                    return f"{text}: {found} in place of {answers}, {runner.left()}"
+            waiting = [] if wanted else waiting
         process.stdin.close()
-        left = process.stdout.read(), process.stderr.read(), process.wait()
-    if left != (b"", b"", 0) or runner.left() != over_copies(second=SAVED):
-        return f"the end of a session: {left}, {runner.left()}"
-    return None
+        left = [written(screen, 20) for _ in (*waiting, b"")], process.stderr.read(), process.wait()
+    return None if left == ([*waiting, b""], b"", 0) and runner.left() == after else f"the end of a session: {left}, {runner.left()}"
+
+
+def at_once(runner):
+    """The same answers in as many writes, where one read gives the whole input."""
+    runner.put(typed_over(TYPED_OVER.image(0, b"")))
+    screen, end = socket.socketpair(socket.AF_UNIX, socket.SOCK_SEQPACKET)
+    given = b"".join(text for text, _ in TYPED)
+    with subprocess.Popen([runner.program, *SESSION], stdin=subprocess.PIPE, stdout=end) as process:
+        end.close()
+        process.stdin.write(given)
+        process.stdin.close()
+        found = list(iter(functools.partial(written, screen, 20), b""))
+    return None if found == [answer for _, answer in TYPED] else f"a session at once: {found}"
 
 
 def typed():
     yield Case("a session line by line", [], check=line_by_line, is_modelled=False, weight=len(TYPED) + 1)
+    yield Case("a session at once", [], check=at_once, is_modelled=False)
 
 
 def chunks():
