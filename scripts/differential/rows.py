@@ -4,8 +4,8 @@
     copies      how many there are, and the bytes of each (1 4096)
     defaults    the default environment: NAME=VALUE
     variables   likewise, written before the first script
-    stand-ins   the stand-in file (for rows mmc / usb 1)
-    limits      on steps, depth, word and output (for boards 100000 8 4096 65536, for rows 1000 4 256 4096)
+    stand-ins   the stand-in file (of a board none, else mmc / usb 1)
+    limits      on steps, depth, word and output (of a board 100000 8 4096 65536, else 1000 4 256 4096)
     $           a script, and + a further line of it
     >           what it prints, and [ENDING STATUS STEPS]; steps that nobody counted by hand are the model's. Behind it `saves` if
                 the copy holds the variables as they are left, and `leaves` with what it changes: NAME=VALUE, or NAME alone
