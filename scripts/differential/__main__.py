@@ -75,6 +75,8 @@ def folder_for(name, folder):
 def main():
     global worker, chunks
     program, preloads, name, *numbers = sys.argv[1:]
+    if not os.path.exists(f"{os.path.dirname(__file__)}/{name}.py"):
+        sys.exit(f"no part is called {name}")
     sys.setrecursionlimit(100_000)
     running.PROGRAM = os.path.abspath(program)
     part = importlib.import_module(f"differential.{name}")
