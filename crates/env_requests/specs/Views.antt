@@ -6,12 +6,19 @@ use Rattle.env_session.specs.Session.{Held, bytes_of}
 use Rattle.env_session.specs.Requests.{entry_in}
 use Rattle.env_session.specs.declared.session.Side.{Side}
 use Rattle.hush_syntax.specs.Scripts.{tree_of}
+use Rattle.hush_commands.specs.Hardware.{hardware}
 use Rattle.hush_run.specs.Meaning.{Rules}
+use Rattle.hush_run.specs.Runs.{rules_in}
 use Rattle.env_requests.specs.Requests.{Request, Run, Write, Import, Save, Print, Mark, Undo, UndoTo, Note, Reply, Ran, Wrote, Imported, Saved, Printed, Marked, Undone, Answer, answer_to, MayBe}
 use Rattle.env_requests.specs.declared.request.Request as code
 use Rattle.env_requests.specs.declared.request.Request.TheVariants as is_request
 use Rattle.env_requests.specs.declared.reply.Reply as told_by
 use Rattle.env_requests.specs.declared.reply.Reply.TheVariants as is_reply
+use Rattle.env_requests.specs.declared.run_rules.RunRules.{RunRules}
+
+-- the rules that a run follows
+abbrev pub rules_of : RunRules → Rules
+rules_of r = rules_in r.shell (hardware r.board.now r.stand_ins.now) r.limits.now
 
 abbrev pub asked : code.Request → Request
 asked (is_request.Run script) = Run (tree_of script)

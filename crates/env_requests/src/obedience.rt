@@ -1,18 +1,22 @@
 //! One request: it is done, and replied to.
 ghost use Rattle.std.specs.Prelude.{◌≡◌, IfOk};
 ghost use Rattle.env_requests.specs.Requests.{listing};
-ghost use Rattle.env_requests.specs.Views.{asked, told, Obeys};
-ghost use Rattle.hush_run.specs.Runs.{rules};
+ghost use Rattle.env_requests.specs.Views.{asked, told, rules_of, Obeys};
+ghost use Rattle.hush_run.specs.Runs.{rules, Runs};
+ghost use Rattle.hush_syntax.specs.Scripts.{tree_of};
 
 use crate::reply::Reply;
 use crate::request::Request;
+use crate::run_rules::RunRules;
 use env_session::Session;
 use envvars_core::{Memory, Vars};
-use hush_run::{Limits, Stubs, run};
+use hush_commands::BoardRules;
+use hush_run::{Limits, Outcome, Shell, Stubs, run_in};
+use hush_syntax::Script;
 use std::alloc::Global;
 
-/// Does what a request asks for, and replies. The reply and what is left are what `answer_to` (specs/Requests.antt) gives
-/// for the request, or for the request as memory stopped it.
+/// Does what a request asks for, and replies; a run has the strict shell, whose rules docs/runs.md states. The reply and
+/// what is left are what `answer_to` (specs/Requests.antt) gives for the request, or for the request as memory stopped it.
 pub fn obey(
     alloc: Global,
     session: &mut Session,
@@ -22,8 +26,27 @@ pub fn obey(
 ) -> Reply
     ensures { Obeys (rules stubs.now limits.now) session.old (asked request.now) (told result) session.new }
 {
+    let board = BoardRules::none(alloc);
+    let strict = RunRules {
+        shell: Shell::Strict,
+        stand_ins: stubs,
+        board: &board,
+        limits,
+    };
+    obey_in(alloc, session, request, &strict)
+}
+
+/// The same, where a run follows these rules.
+pub fn obey_in(
+    alloc: Global,
+    session: &mut Session,
+    request: &Request,
+    rules: &RunRules<'_>,
+) -> Reply
+    ensures { Obeys (rules_of rules.now) session.old (asked request.now) (told result) session.new }
+{
     match request {
-        Request::Run(script) => Reply::Ran(run(alloc, session, script, stubs, limits)),
+        Request::Run(script) => Reply::Ran(ran(alloc, session, script, rules)),
         Request::Write { name, value, force } => {
             Reply::Wrote(session.write(name, value.as_deref(), *force))
         }
@@ -34,6 +57,22 @@ pub fn obey(
         Request::Undo => Reply::Undone(session.undo_to(0)),
         Request::UndoTo(number) => Reply::Undone(session.undo_to(*number)),
     }
+}
+
+/// The run of a script.
+fn ran(alloc: Global, session: &mut Session, script: &Script, rules: &RunRules<'_>) -> Outcome
+    ensures { Runs (rules_of rules.now) (tree_of script.now) session.old session.new result }
+{
+    let (outcome, _place) = run_in(
+        rules.shell,
+        alloc,
+        session,
+        script,
+        rules.stand_ins,
+        rules.board,
+        rules.limits,
+    );
+    outcome
 }
 
 /// `name=value` and a newline for each variable, in order of names.

@@ -4,7 +4,9 @@ ghost use Rattle.std.specs.Prelude.{◌≡◌};
 use envimg_core::CopyState::{self, BadCrc, BadLength, Good, Unterminated};
 use envimg_core::Layout::{self, Redundant, Single};
 use envimg_core::Order::{self, Big, Little};
-use envimg_core::{Geometry, ImageWriter, check_copy, crc32, crc32_bitwise, entries};
+use envimg_core::{
+    Choice, Geometry, ImageWriter, check_copy, choose, crc32, crc32_bitwise, entries,
+};
 use std::process::Abort;
 use std::test::Fail;
 
@@ -87,6 +89,32 @@ fn states_of_stored_copies(rt: HostRuntime) {
 }
 
 #[test]
+fn each_prefix_of_an_image_is_too_short(rt: HostRuntime) -> Result<(), Fail> {
+    for length in 0..9usize {
+        let prefix = ONE_VARIABLE.get(..length).ok_or("long enough")?;
+        assert_eq!(rt;
+            check_copy(&geometry(&rt, Single, 9, Little), prefix),
+            BadLength
+        );
+    }
+    Ok(())
+}
+
+/// The states of two copies of which one is bad at least, and which is current.
+const CHOICES: [(CopyState, CopyState, Choice); 3] = [
+    (Good(1), BadCrc, Choice::First),
+    (BadLength, Good(0), Choice::Second),
+    (BadCrc, Unterminated, Choice::Neither),
+];
+
+#[test]
+fn choices_next_to_a_bad_copy(rt: HostRuntime) {
+    for (first, second, choice) in CHOICES {
+        assert_eq!(rt; choose(first, second), choice);
+    }
+}
+
+#[test]
 fn entries_in_stored_order(rt: HostRuntime) -> Result<(), Fail> {
     let mut shown = Vec::new(rt.alloc());
     for (name, value) in entries(b"a=1\0a=2\0b\0c=\0=x\0d==\0\0e=1\0") {
@@ -106,10 +134,12 @@ fn entries_in_stored_order(rt: HostRuntime) -> Result<(), Fail> {
 /// The layout, byte order and size of an image, its flag, whether `a=b` fits, and the bytes.
 type Written = (Layout, Order, u32, u8, bool, &'static [u8]);
 
-/// The last two: no entry fits, and the rest is zeros. A single image has no flag.
-const WRITTEN: [Written; 4] = [
+/// The last three: no entry fits, twice, and the rest is zeros. A single image has no flag.
+const WRITTEN: [Written; 6] = [
     (Single, Little, 9, 0, true, ONE_VARIABLE),
+    (Redundant, Little, 10, 7, true, ONE_FLAG_7),
     (Redundant, Big, 10, 8, true, ONE_BIG_FLAG_8),
+    (Single, Little, 8, 0, false, EMPTY),
     (Single, Little, 8, 9, false, EMPTY),
     (Single, Little, 11, 0, true, b"\x71\xA8\xBB\xEBa=b\0\0\0\0"),
 ];

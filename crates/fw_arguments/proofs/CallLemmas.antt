@@ -5,13 +5,15 @@ use Rattle.std.proofs.lemmas.List.{map-append}
 use Rattle.clap.specs.Words.{AddsAliases, Row, Rule, Text, all_of, first_of, rule_of}
 use Rattle.clap.specs.declared.builder.arg.Arg.{Arg}
 use Rattle.envimg_core.specs.declared.geometry.Order.{Order}
-use Rattle.fw_arguments.specs.Calls.{Defaults, Job, defaults_of, is_client, job_of, lock_of, with_image}
-use Rattle.fw_arguments.specs.Checks.{FileCheck, file_alone, file_check_of, names_environment}
+use Rattle.fw_arguments.specs.Calls.{Defaults, Job, defaults_of, LockFiles, is_client, job_of, locks_of, with_image}
+use Rattle.fw_arguments.specs.Checks.{file_alone, file_check_by, file_check_of, names_environment}
+use Rattle.fw_arguments.specs.Shells.{board_shell, shell_of}
+use Rattle.hush_commands.specs.declared.shell.Shell.{Shell}
 use Rattle.fw_arguments.specs.DryRuns.{DryRun, GivenScript, and_then, run_within, script_of, script_within}
-use Rattle.fw_arguments.specs.Values.{first_or}
+use Rattle.fw_arguments.specs.Values.{first_or, is_given}
 use Rattle.run_limits.specs.Limits.{Bounds}
 use Rattle.fw_arguments.specs.Report.{Subject, in_order, report_of, subject_of}
-use Rattle.fw_arguments.specs.Words.{big_endian, either_order, order_by, source_in}
+use Rattle.fw_arguments.specs.Words.{either_order, order_by, source_in}
 
 pub text_or : (o : Option (Bor (List ℕ))) (other : Bor (List ℕ)) → (unwrap_or o other).now ≡ unwrap_or (option_map (λ s. s.now) o) other.now
 text_or None other = refl
@@ -25,24 +27,25 @@ alias_rule old new alias shown rule (same, more) is =
     ∙ ap (λ xs. record (rule_of old) { aliases = xs }) (map-append (λ (a : Bor (List ℕ) × Bool). a.0.now) old.aliases.items ((alias, shown) ∷ []))
     ∙ ap (λ (r : Rule). record r { aliases = r.aliases ++ alias.now ∷ [] }) is
 
-pub with_image_is : (order : Order) (name : Text) (rows : List Row) (image : Option ℕ) (config : Text) (defaults : Defaults) (lock : Option Text) (chosen : Order) (only : Bool) (job : Job) →
-    config ≡ first_or (codes "/etc/fw_env.config") (codes "config") rows → defaults ≡ defaults_of name rows → lock ≡ lock_of name rows →
-    chosen ≡ either_order order (order_by (source_in big_endian.id rows)) → only ≡ is_client name → Ok job ≡ job_of name rows →
-    Ok (record { config = config; image = image; defaults = defaults; lock = lock; order = chosen; only_changes = only; job = job }) ≡ with_image order name rows image
-with_image_is order name rows image config defaults lock chosen only job p q l r o j =
-    λ i. and_then (j i) (λ k. Ok (record { config = p i; image = image; defaults = q i; lock = l i; order = r i; only_changes = o i; job = k }))
+pub with_image_is : (order : Order) (name : Text) (rows : List Row) (image : Option ℕ) (config : Text) (defaults : Defaults) (locks : LockFiles) (chosen : Order) (only over : Bool) (job : Job) →
+    config ≡ first_or (codes "/etc/fw_env.config") (codes "config") rows → defaults ≡ defaults_of name rows → locks ≡ locks_of name rows →
+    chosen ≡ either_order order (order_by (source_in (codes "big-endian") rows)) → only ≡ is_client name →
+    over ≡ is_given (codes "overwrite") rows → Ok job ≡ job_of name rows →
+    Ok (record { config = config; image = image; defaults = defaults; locks = locks; order = chosen; only_changes = only; overwrite = over; job = job }) ≡ with_image order name rows image
+with_image_is order name rows image config defaults locks chosen only over job p q l r o w j =
+    λ i. and_then (j i) (λ k. Ok (record { config = p i; image = image; defaults = q i; locks = l i; order = r i; only_changes = o i; overwrite = w i; job = k }))
 
 -- the run of a script with what was found for it
-pub script_is : (rows : List Row) (dry : DryRun) (limits : Bounds) (boots : Option (List Text)) (script : GivenScript) →
-    Ok script ≡ script_of rows → dry ≡ run_within rows limits → boots ≡ all_of (codes "boots") rows →
-    Ok (record { dry = dry; boots = unwrap_or boots []; script = script }) ≡ script_within rows limits
-script_is rows dry limits boots script p d b = λ i. and_then (p i) (λ k. Ok (record { dry = d i; boots = unwrap_or (b i) []; script = k }))
+pub script_is : (shell : Shell) (rows : List Row) (dry : DryRun) (limits : Bounds) (boots : Option (List Text)) (script : GivenScript) →
+    Ok script ≡ script_of rows → dry ≡ run_within shell rows limits → boots ≡ all_of (codes "boots") rows →
+    Ok (record { dry = dry; boots = unwrap_or boots []; script = script }) ≡ script_within shell rows limits
+script_is shell rows dry limits boots script p d b = λ i. and_then (p i) (λ k. Ok (record { dry = d i; boots = unwrap_or (b i) []; script = k }))
 
 pub report_is : (order chosen : Order) (rows : List Row) (subject : Subject) →
-    chosen ≡ either_order order (order_by (source_in big_endian.id rows)) → Ok subject ≡ subject_of rows → Ok (record { order = chosen; subject = subject }) ≡ report_of order rows
+    chosen ≡ either_order order (order_by (source_in (codes "big-endian") rows)) → Ok subject ≡ subject_of rows → Ok (record { order = chosen; subject = subject }) ≡ report_of order rows
 report_is order chosen rows subject p q = λ i. in_order (p i) (q i)
 
 -- a check of a script in a file, if an environment is named as well
 pub refused_file : (rows : List Row) (path text : List ℕ) → text ≡ file_alone → names_environment rows ≡ true → Err text ≡ file_check_of path rows
 refused_file rows path text is named =
-    ap Err is ∙ ap (λ (b : Bool). if b then Err file_alone else Ok (let c : FileCheck = record { stand_ins = first_of (codes "stubs") rows; path = path } in c)) (sym named)
+    ap Err is ∙ ap (λ (b : Bool). if b then Err file_alone else and_then (shell_of board_shell rows) (λ shell. Ok (file_check_by path rows shell))) (sym named)

@@ -1,11 +1,12 @@
 -- What clap's rules report of some arguments, computed by the checker.
-use Rattle.std.proofs.Common.{◌≡◌, [], ◌∷◌, Some, None, codes, refl}
+use Rattle.std.proofs.Common.{◌≡◌, [], ◌∷◌, Some, None, codes, option_map, refl}
 use Rattle.clap.proofs.OnLiterals.{clap_on_literals}
+use Rattle.clap.specs.Words.{first_of}
 use Rattle.clap.specs.declared.error.kind.ErrorKind.TheVariants.{ArgumentConflict, DisplayHelp, DisplayVersion, InvalidSubcommand, MissingRequiredArgument, TooManyValues, UnknownArgument}
 use Rattle.envimg_core.specs.declared.geometry.Order.TheVariants.{Little, Big}
 use Rattle.fw_arguments.specs.DryRuns.{number_in}
 use Rattle.fw_arguments.specs.ImageSizes.{size_in}
-use Rattle.fw_arguments.specs.ProgramNames.{faults, name_in, order_of}
+use Rattle.fw_arguments.specs.ProgramNames.{called_by, faults, name_in, order_of}
 use Rattle.fw_arguments.specs.declared.program_name.ProgramName.TheVariants.{Fwenv, FwenvWith, Printenv}
 use Rattle.fw_arguments.specs.declared.program_name.Subcommand.TheVariants as sub
 
@@ -170,6 +171,19 @@ subcommand_first = refl
 
 pub option_first : name_in (codes "fwenv" ∷ codes "--big-endian" ∷ codes "export" ∷ []) ≡ Fwenv
 option_first = refl
+
+-- an option that is given twice, to another tool and to fwenv
+pub last_counts : option_map (λ c. first_of (codes "config") c.1) (called_by (codes "fw_printenv" ∷ codes "-c" ∷ codes "one" ∷ codes "--config=two" ∷ [])) ≡ Some (Some (codes "two"))
+unfolding clap_on_literals
+last_counts = refl
+
+pub twice_in_another_tool : faults (codes "fw_printenv" ∷ codes "-c" ∷ codes "one" ∷ codes "-n" ∷ codes "-n" ∷ codes "-c" ∷ codes "two" ∷ []) ≡ []
+unfolding clap_on_literals
+twice_in_another_tool = refl
+
+pub twice_in_fwenv : faults (codes "fwenv" ∷ codes "printenv" ∷ codes "-c" ∷ codes "one" ∷ codes "-c" ∷ codes "two" ∷ []) ≡ ArgumentConflict ∷ []
+unfolding clap_on_literals
+twice_in_fwenv = refl
 
 -- the sizes of an image in memory
 pub size_with_0x : size_in (codes "0x4000") ≡ Some 16384

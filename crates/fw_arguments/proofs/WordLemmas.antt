@@ -1,6 +1,10 @@
 -- What the arguments choose.
-use Rattle.std.proofs.Common.{arith, ◌≡◌, ◌≤◌, ◌||◌, Bool, Bor, List, [], ◌∷◌, length, Option, Some, None, option_map, true, false, refl, sym, ap, ap₂, ◌∙◌, subst}
-use Rattle.std.specs.Prelude.{unwrap_or, codes, find, option_and_then}
+use Rattle.std.proofs.Common.{arith, ◌≡◌, ◌≤◌, ◌<◌, ◌+◌, ◌||◌, ℕ, zero, suc, drop, take, map, get_or, Bool, Bor, List, [], ◌∷◌, length, Option, Some, None, option_map, true, false, refl, sym, ap, ap₂, ◌∙◌, subst}
+use Rattle.std.specs.Prelude.{if◌then◌else◌, unwrap_or, codes, find, option_and_then}
+use native.Mathlib.Numerals.{unary_clauses}
+use Rattle.std.specs.List.{fold}
+use Rattle.std.proofs.lemmas.List.{map-append, take_more}
+use Rattle.std.proofs.lemmas.List.Sums.{fold-append}
 use Rattle.std.specs.Str.{bytes_eq}
 use Rattle.clap.proofs.OnLiterals.{clap_on_literals}
 use Rattle.clap.proofs.WalkLemmas.{find_row}
@@ -15,7 +19,7 @@ use Rattle.clap.specs.declared.parser.matches.ArgMatches.{ArgMatches}
 use Rattle.clap.specs.declared.parser.matches.Found.{Found}
 use Rattle.envimg_core.specs.declared.geometry.Order.TheVariants.{Little}
 use Rattle.fw_arguments.specs.ProgramNames.{app_of_name, called_in, called_under, order_under}
-use Rattle.fw_arguments.specs.Words.{IsTool, big_endian, fwenv, order_by, order_in, source_in}
+use Rattle.fw_arguments.specs.Words.{IsTool, fwenv, order_by, order_in, source_in}
 use Rattle.fw_arguments.specs.declared.program_name.ProgramName.{ProgramName}
 use Rattle.fw_arguments.specs.declared.program_name.ProgramName.TheVariants.{Fwenv, FwenvWith, Printenv, Setenv}
 use Rattle.fw_arguments.specs.declared.program_name.Subcommand.TheVariants as sub
@@ -31,7 +35,7 @@ source_found f id = of_entry (find (λ e. bytes_eq e.0.now id) f.entries.items) 
     of_entry (Some e) = refl
 
 -- the byte order that matches choose, by their rows
-pub order_by_rows : (m : ArgMatches) → order_in m ≡ order_by (source_in big_endian.id (rows_of (found_of m)))
+pub order_by_rows : (m : ArgMatches) → order_in m ≡ order_by (source_in (codes "big-endian") (rows_of (found_of m)))
 order_by_rows m = ap order_by (source_found (found_of m) (codes "big-endian"))
 
 app_simple : (name : ProgramName) → is_simple (app_of_name name) ≡ true
@@ -141,3 +145,16 @@ pub called_found : (m : ArgMatches) (o : Option (Bor Text × Bor ArgMatches)) �
 called_found m None name rows =
     none_there (out-ArgMatches m).subcommand (λ b. ((out-SubCommand (box_value b)).name.now, rows_of (found_of (out-SubCommand (box_value b)).matches))) name
 called_found m (Some p) name rows = sym (called_is m p.0.now (rows_of (found_of p.1.now)) name rows)
+
+-- one step of a search, and of a fold
+pub find_next : {X : Type 0} (p : X → Bool) (xs : List X) (i : ℕ) (d : X) → i < length xs →
+    find p (drop i xs) ≡ (if p (get_or xs i d) then Some (get_or xs i d) else find p (drop (i + 1) xs))
+find_next p [] i d bound = absurd (omega (arith, bound))
+find_next p (x ∷ xs) zero d bound = refl
+find_next p (x ∷ xs) (suc i) d bound = let h = find_next p xs i d (omega (arith, bound)) in simp unary_clauses (simp unary_clauses at h)
+
+pub fold_more : {A B X : Type 0} (f : B → A → B) (g : X → A) (a : B) (xs : List X) (i : ℕ) (d : X) → i < length xs →
+    fold f a (map g (take (i + 1) xs)) ≡ f (fold f a (map g (take i xs))) (g (get_or xs i d))
+fold_more f g a xs i d bound =
+    ap (λ ys. fold f a (map g ys)) (take_more xs i d bound) ∙ ap (fold f a) (map-append g (take i xs) (get_or xs i d ∷ []))
+    ∙ fold-append f a (map g (take i xs)) (g (get_or xs i d) ∷ [])

@@ -1,5 +1,5 @@
 -- What the arguments of a subcommand ask for (docs/tools.md, "Subcommands over files").
-use Rattle.std.specs.Prelude.{ℕ, ◌||◌, Bool, true, false, List, [], ◌∷◌, ◌++◌, Option, Some, None, Result, Ok, Err, option_map, codes, if◌then◌else◌}
+use Rattle.std.specs.Prelude.{ℕ, ◌||◌, ◌&&◌, not, Bool, true, false, List, [], ◌∷◌, ◌++◌, Option, Some, None, Result, Ok, Err, option_map, codes, if◌then◌else◌}
 use Rattle.std.specs.Borrow.{Bor}
 use Rattle.std.specs.Str.{bytes_eq}
 use Rattle.clap.specs.Words.{Row, Text, first_of}
@@ -9,11 +9,13 @@ pub use Rattle.fw_arguments.specs.DryRuns.{texts}
 use Rattle.fw_arguments.specs.Checks.{EnvironmentCheck, environment_check_of, environment_check_view}
 use Rattle.fw_arguments.specs.ImageSizes.{image_of, whole_text}
 use Rattle.fw_arguments.specs.Values.{all_values, first_or, is_given}
-use Rattle.fw_arguments.specs.Words.{big_endian, either_order, order_by, source_in}
+use Rattle.fw_arguments.specs.Words.{either_order, order_by, source_in}
 use Rattle.fw_arguments.specs.declared.call.Call as calls
 use Rattle.fw_arguments.specs.declared.task.Printing.{Printing}
 use Rattle.fw_arguments.specs.declared.task.Printing.TheVariants.{Lines, OneValue, Values}
 use Rattle.fw_arguments.specs.declared.call.Defaults as defaults
+use Rattle.fw_arguments.specs.declared.call.LockFiles as locks
+use Rattle.fw_arguments.specs.declared.call.LockFiles.TheVariants as lock
 use Rattle.fw_arguments.specs.declared.call.Job as jobs
 use Rattle.fw_arguments.specs.declared.call.Job.TheVariants as job
 use Rattle.fw_arguments.specs.declared.task.Task as tasks
@@ -46,16 +48,26 @@ pub record Defaults : Type 0 where
   pub need_copy : Bool
   pub whole : Bool
 
--- a subcommand with its files: the configuration, the default environment and the folder of the lock file, if
--- there is one; the size of the erased image in memory that replaces the configuration's copies, if there is
--- one; its byte order; whether copies are written back only if a variable changed; and what it does
+-- the lock files: none; the one in this folder; the usual ones, of which one that is there has to be had; or the
+-- usual ones as far as they can be had
+pub data LockFiles : Type 0 where
+  Nothing : LockFiles
+  In : Text → LockFiles
+  Usual : LockFiles
+  IfPossible : LockFiles
+
+-- a subcommand with its files: the configuration, the default environment and the lock files; the size of the erased
+-- image in memory that replaces the configuration's copies, if there is one; its byte order; whether copies are
+-- written back only if a variable changed; whether copies may be written over that are good in another way than the
+-- configuration has them; and what it does
 pub record Call : Type 0 where
   pub config : Text
   pub image : Option ℕ
   pub defaults : Defaults
-  pub lock : Option Text
+  pub locks : LockFiles
   pub order : Order
   pub only_changes : Bool
+  pub overwrite : Bool
   pub job : Job
 
 -- whether a task changes the session
@@ -77,6 +89,10 @@ keeps_lock (Tool task) = changes task
 keeps_lock (Tries run) = false
 keeps_lock (Runs run) = run.dry.write
 keeps_lock (Checks check) = false
+
+-- whether a call writes copies back, and none that is good in another way than the configuration has it
+abbrev pub spares : Call → Bool
+spares call = writes call.job && not call.overwrite
 
 -- the end of a message about wrong arguments: the right usage
 abbrev pub usage : Text → Text
@@ -150,6 +166,10 @@ abbrev pub ran : Result ScriptRun Text → Result Job Text
 ran (Ok run) = Ok (Runs run)
 ran (Err text) = Err text
 
+abbrev pub checked : Result EnvironmentCheck Text → Result Job Text
+checked (Ok check) = Ok (Checks check)
+checked (Err text) = Err text
+
 abbrev pub called : Result Task Text → Result Job Text
 called (Ok task) = Ok (Tool task)
 called (Err text) = Err text
@@ -159,7 +179,7 @@ abbrev pub job_of : Text → List Row → Result Job Text
 job_of name rows =
     if bytes_eq name (codes "session") then tried (dry_run_of rows)
     else if bytes_eq name (codes "run") then ran (script_run_of rows)
-    else if bytes_eq name (codes "check") then Ok (Checks (environment_check_of rows))
+    else if bytes_eq name (codes "check") then checked (environment_check_of rows)
     else called (task_of name rows)
 
 -- the names of other tools, which have their own rules
@@ -179,12 +199,14 @@ defaults_by None name rows = record {
 abbrev pub defaults_of : Text → List Row → Defaults
 defaults_of name rows = defaults_by (whole_text name rows) name rows
 
-abbrev pub some_text : Text → Option Text
-some_text [] = None
-some_text (b ∷ bs) = Some (b ∷ bs)
+-- fw_printenv and fw_setenv are told the folder of one lock file, or of none by an empty text
+abbrev pub locks_in : Option Text → LockFiles
+locks_in None = Usual
+locks_in (Some []) = Nothing
+locks_in (Some (b ∷ bs)) = In (b ∷ bs)
 
-abbrev pub lock_of : Text → List Row → Option Text
-lock_of name rows = if is_client name then some_text (first_or (codes "/var/lock") (codes "lock") rows) else None
+abbrev pub locks_of : Text → List Row → LockFiles
+locks_of name rows = if is_client name then locks_in (first_of (codes "lock") rows) else IfPossible
 
 -- a job with its files and its byte order
 abbrev pub with_files : Order → Text → List Row → Option ℕ → Job → Call
@@ -192,9 +214,10 @@ with_files order name rows image job = record {
   config = first_or (codes "/etc/fw_env.config") (codes "config") rows;
   image = image;
   defaults = defaults_of name rows;
-  lock = lock_of name rows;
-  order = either_order order (order_by (source_in big_endian.id rows));
+  locks = locks_of name rows;
+  order = either_order order (order_by (source_in (codes "big-endian") rows));
   only_changes = is_client name;
+  overwrite = is_given (codes "overwrite") rows;
   job = job;
 }
 
@@ -223,14 +246,21 @@ job_view (job.Check check) = Checks (environment_check_view check)
 abbrev pub defaults_view : defaults.Defaults → Defaults
 defaults_view d = record { path = option_map (λ p. p.now) d.path; plain = d.plain; need_copy = d.need_copy; whole = d.whole }
 
+abbrev pub locks_view : locks.LockFiles → LockFiles
+locks_view lock.Nothing = Nothing
+locks_view (lock.In folder) = In folder.now
+locks_view lock.Usual = Usual
+locks_view lock.IfPossible = IfPossible
+
 abbrev pub call_view : calls.Call → Call
 call_view c = record {
   config = c.config.now;
   image = c.image;
   defaults = defaults_view c.defaults;
-  lock = option_map (λ l. l.now) c.lock;
+  locks = locks_view c.locks;
   order = c.order;
   only_changes = c.only_changes;
+  overwrite = c.overwrite;
   job = job_view c.job;
 }
 

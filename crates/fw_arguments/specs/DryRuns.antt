@@ -5,15 +5,19 @@ use Rattle.clap.specs.Words.{Row, Text, first_of}
 use Rattle.text_parts.specs.declared.digits.Base.TheVariants.{Decimal}
 use Rattle.text_parts.specs.Numerals.{numeral}
 use Rattle.run_limits.specs.Limits.{Bounds, bounds, most_steps, most_depth, most_word, most_output}
-use Rattle.fw_arguments.specs.Values.{all_values, first_or, is_given}
-use Rattle.fw_arguments.specs.Words.{usual_steps, usual_depth, usual_word, usual_output}
+use Rattle.hush_commands.specs.declared.shell.Shell.{Shell}
+use Rattle.fw_arguments.specs.Shells.{board_shell, shell_of, strict_shell, usual_depth}
+use Rattle.fw_arguments.specs.Values.{all_values, first_or, is_given, value_or}
+use Rattle.fw_arguments.specs.Words.{usual_steps, usual_word, usual_output}
 use Rattle.fw_arguments.specs.declared.dry_runs.DryRun as dry_runs
 use Rattle.fw_arguments.specs.declared.dry_runs.GivenScript as scripts
 use Rattle.fw_arguments.specs.declared.dry_runs.GivenScript.TheVariants as code
 use Rattle.fw_arguments.specs.declared.dry_runs.ScriptRun as script_runs
 
--- whether the copies are written back, the stand-ins' file, if there is one, and the limits of each block
+-- whose rules count, whether the copies are written back, the stand-ins' file, if there is one, and the limits of each
+-- block
 pub record DryRun : Type 0 where
+  pub shell : Shell
   pub write : Bool
   pub stand_ins : Option Text
   pub limits : Bounds
@@ -31,13 +35,9 @@ abbrev pub bad : (option most : Text) → Text
 bad option most =
     codes "' for '--" ++ option ++ codes " <N>': not a number from 0 to " ++ most ++ 10 ∷ 10 ∷ codes "For more information, try '--help'." ++ 10 ∷ []
 
-abbrev pub number_or : Text → Text → Option ℕ → Result ℕ Text
-number_or why word (Some n) = Ok n
-number_or why word None = Err (codes "error: invalid value '" ++ word ++ why)
-
 -- the number that an option gives, or the usual one if it isn't given
 abbrev pub number_of : (id usual : Text) → ℕ → Text → List Row → Result ℕ Text
-number_of id usual most why rows = number_or why (first_or usual id rows) (number_in most (first_or usual id rows))
+number_of id usual most why rows = value_or why (first_or usual id rows) (number_in most (first_or usual id rows))
 
 abbrev pub and_then : {A B : Type 0} → Result A Text → (A → Result B Text) → Result B Text
 and_then (Ok a) next = next a
@@ -46,8 +46,8 @@ and_then (Err text) next = Err text
 abbrev pub steps_of : List Row → Result ℕ Text
 steps_of rows = number_of (codes "steps") usual_steps most_steps (bad (codes "steps") (codes "1000000")) rows
 
-abbrev pub depth_of : List Row → Result ℕ Text
-depth_of rows = number_of (codes "depth") usual_depth most_depth (bad (codes "depth") (codes "16")) rows
+abbrev pub depth_of : Shell → List Row → Result ℕ Text
+depth_of shell rows = number_of (codes "depth") (usual_depth shell) most_depth (bad (codes "depth") (codes "16")) rows
 
 abbrev pub word_of : List Row → Result ℕ Text
 word_of rows = number_of (codes "word") usual_word most_word (bad (codes "word") (codes "65536")) rows
@@ -56,16 +56,25 @@ abbrev pub output_of : List Row → Result ℕ Text
 output_of rows = number_of (codes "output") usual_output most_output (bad (codes "output") (codes "16777216")) rows
 
 -- the limits of each block, or the text for the first number that is wrong
-abbrev pub limits_of : List Row → Result Bounds Text
-limits_of rows =
-    and_then (steps_of rows) (λ steps. and_then (depth_of rows) (λ depth. and_then (word_of rows) (λ word.
+abbrev pub limits_of : Shell → List Row → Result Bounds Text
+limits_of shell rows =
+    and_then (steps_of rows) (λ steps. and_then (depth_of shell rows) (λ depth. and_then (word_of rows) (λ word.
     and_then (output_of rows) (λ output. Ok (bounds steps depth word output)))))
 
-abbrev pub run_within : List Row → Bounds → DryRun
-run_within rows limits = record { write = is_given (codes "write") rows; stand_ins = first_of (codes "stubs") rows; limits = limits }
+abbrev pub run_within : Shell → List Row → Bounds → DryRun
+run_within shell rows limits = record {
+  shell = shell;
+  write = is_given (codes "write") rows;
+  stand_ins = first_of (codes "stubs") rows;
+  limits = limits;
+}
 
+abbrev pub dry_run_by : List Row → Shell → Result DryRun Text
+dry_run_by rows shell = and_then (limits_of shell rows) (λ limits. Ok (run_within shell rows limits))
+
+-- a session's shell is the strict one if none is named
 abbrev pub dry_run_of : List Row → Result DryRun Text
-dry_run_of rows = and_then (limits_of rows) (λ limits. Ok (run_within rows limits))
+dry_run_of rows = and_then (shell_of strict_shell rows) (dry_run_by rows)
 
 -- a script to run: these variables, one after the other; a text among the arguments; that of a file
 pub data GivenScript : Type 0 where
@@ -103,19 +112,23 @@ script_by (n ∷ names) text path = if is_some text || is_some path then Err sev
 abbrev pub script_of : List Row → Result GivenScript Text
 script_of rows = script_by (all_values (codes "names") rows) (first_of (codes "text") rows) (first_of (codes "script") rows)
 
-abbrev pub script_within : List Row → Bounds → Result ScriptRun Text
-script_within rows limits =
-    and_then (script_of rows) (λ script. Ok (record { dry = run_within rows limits; boots = all_values (codes "boots") rows; script = script }))
+abbrev pub script_within : Shell → List Row → Bounds → Result ScriptRun Text
+script_within shell rows limits =
+    and_then (script_of rows) (λ script. Ok (record { dry = run_within shell rows limits; boots = all_values (codes "boots") rows; script = script }))
 
+abbrev pub script_run_by : List Row → Shell → Result ScriptRun Text
+script_run_by rows shell = and_then (limits_of shell rows) (script_within shell rows)
+
+-- a run's shell is a board's if none is named
 abbrev pub script_run_of : List Row → Result ScriptRun Text
-script_run_of rows = and_then (limits_of rows) (script_within rows)
+script_run_of rows = and_then (shell_of board_shell rows) (script_run_by rows)
 
 -- the code's answers, in this form
 abbrev pub texts : Option (Bor (List (Bor Text))) → List Text
 texts words = unwrap_or (option_map (λ w. map (λ x. x.now) w.now) words) []
 
 abbrev pub dry_run_view : dry_runs.DryRun → DryRun
-dry_run_view r = record { write = r.write; stand_ins = option_map (λ path. path.now) r.stand_ins; limits = r.limits }
+dry_run_view r = record { shell = r.shell; write = r.write; stand_ins = option_map (λ path. path.now) r.stand_ins; limits = r.limits }
 
 abbrev pub script_view : scripts.GivenScript → GivenScript
 script_view (code.Names names) = Names (map (λ n. n.now) names.now)

@@ -1,5 +1,5 @@
 -- The image's size if the environment is only a text (docs/dry-runs.md, "An environment without a board").
-use Rattle.std.specs.Prelude.{ℕ, ◌||◌, ◌&&◌, Bool, List, [], ◌∷◌, ◌++◌, Option, Some, None, Result, Ok, Err, codes, if◌then◌else◌, option_and_then}
+use Rattle.std.specs.Prelude.{ℕ, ◌||◌, ◌&&◌, not, Bool, List, [], ◌∷◌, ◌++◌, Option, Some, None, Result, Ok, Err, codes, if◌then◌else◌, option_and_then}
 use Rattle.std.specs.Str.{bytes_eq}
 use Rattle.clap.specs.Words.{Row, Text, first_of}
 use Rattle.envcfg_core.specs.Numerals.{size_of}
@@ -24,6 +24,13 @@ env_and other = codes "error: the argument '--env <FILE>' cannot be used with '"
 abbrev pub size_alone : Text
 size_alone = codes "error: the argument '--size <N>' is only for '--env <FILE>'" ++ help_ends
 
+-- what is wrong if copies are to be written over, and not to be written
+abbrev pub overwrite_alone : Text
+overwrite_alone = codes "error: the argument '--overwrite' is only for '--write'" ++ help_ends
+
+abbrev pub overwrites_alone : List Row → Bool
+overwrites_alone rows = is_given (codes "overwrite") rows && not (is_given (codes "write") rows)
+
 -- a size that an image may have, in the form that a configuration has
 abbrev pub size_in : Text → Option ℕ
 size_in word = option_and_then copy_size (size_of word)
@@ -42,11 +49,14 @@ in_memory rows =
     else if is_given (codes "default") rows then Err (env_and (codes "--default <FILE>"))
     else if is_given (codes "need-copy") rows then Err (env_and (codes "--need-copy"))
     else if is_given (codes "write") rows then Err (env_and (codes "--write"))
+    else if overwrites_alone rows then Err overwrite_alone
     else sized (first_or usual_size (codes "size") rows)
 
 abbrev pub in_devices : Text → List Row → Result (Option ℕ) Text
 in_devices name rows =
-    if takes_text name && is_given (codes "size") rows then Err size_alone else Ok None
+    if takes_text name && is_given (codes "size") rows then Err size_alone
+    else if takes_text name && overwrites_alone rows then Err overwrite_alone
+    else Ok None
 
 -- `None` if the copies are those of a configuration
 abbrev pub image_by : Option Text → Text → List Row → Result (Option ℕ) Text

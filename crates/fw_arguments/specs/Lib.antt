@@ -1,11 +1,12 @@
 -- What the public calls promise.
 pub mod Calls
 pub mod Checks
-pub mod ClientWords
 pub mod DryRuns
 pub mod ImageSizes
 pub mod ProgramNames
 pub mod Report
+pub mod Shells
+pub mod Table
 pub mod Values
 pub mod WordFaults
 pub mod Words

@@ -6,7 +6,7 @@ use Rattle.envimg_core.specs.declared.geometry.Order.{Order}
 use Rattle.fw_arguments.specs.Calls.{Call, call_of, call_view}
 use Rattle.fw_arguments.specs.Checks.{FileCheck, file_check_of, file_check_view}
 use Rattle.fw_arguments.specs.Values.{first_or, is_given}
-use Rattle.fw_arguments.specs.Words.{big_endian, either_order, order_by, source_in}
+use Rattle.fw_arguments.specs.Words.{either_order, order_by, source_in}
 use Rattle.fw_arguments.specs.declared.report.Asked as asked
 use Rattle.fw_arguments.specs.declared.report.Asked.TheVariants as answer
 use Rattle.fw_arguments.specs.declared.report.Report as reports
@@ -48,7 +48,7 @@ in_order order (Ok subject) = Ok (record { order = order; subject = subject })
 in_order order (Err text) = Err text
 
 abbrev pub report_of : Order → List Row → Result Report Text
-report_of order rows = in_order (either_order order (order_by (source_in big_endian.id rows))) (subject_of rows)
+report_of order rows = in_order (either_order order (order_by (source_in (codes "big-endian") rows))) (subject_of rows)
 
 abbrev pub looked : Result Report Text → Result Asked Text
 looked (Ok report) = Ok (Look report)

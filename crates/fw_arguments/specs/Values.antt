@@ -1,5 +1,5 @@
 -- What clap's rules found in the command line, for one argument.
-use Rattle.std.specs.Prelude.{Bool, true, false, List, [], Option, Some, unwrap_or}
+use Rattle.std.specs.Prelude.{Bool, true, false, List, [], ◌++◌, Option, Some, None, Result, Ok, Err, codes, unwrap_or}
 use Rattle.clap.specs.Words.{Row, Text, all_of, first_of}
 use Rattle.clap.specs.declared.parser.matches.ValueSource.{ValueSource}
 use Rattle.clap.specs.declared.parser.matches.ValueSource.TheVariants.{CommandLine}
@@ -19,3 +19,8 @@ all_values id rows = unwrap_or (all_of id rows) []
 
 abbrev pub first_or : Text → Text → List Row → Text
 first_or other id rows = unwrap_or (first_of id rows) other
+
+-- what a word is read as, or the text for what is wrong with it
+abbrev pub value_or : {A : Type 0} → (why word : Text) → Option A → Result A Text
+value_or why word (Some a) = Ok a
+value_or why word None = Err (codes "error: invalid value '" ++ word ++ why)

@@ -48,6 +48,10 @@ pub(crate) const BAD_WORD: &[u8] =
 pub(crate) const BAD_OUTPUT: &[u8] =
     b"' for '--output <N>': not a number from 0 to 16777216\n\nFor more information, try '--help'.\n";
 
+pub(crate) const BAD_SHELL: &[u8] =
+    b"' for '--shell <SHELL>'\n  [possible values: board, strict]\n\n\
+      For more information, try '--help'.\n";
+
 pub(crate) const BAD_SIZE: &[u8] =
     b"' for '--size <N>': not the size of an image in hexadecimal, 0x8 to 0x100000\n\n\
       For more information, try '--help'.\n";
@@ -72,6 +76,11 @@ pub(crate) const ENV_AND_WRITE: &[u8] =
 /// Standard error if a size is given without such an environment.
 pub(crate) const SIZE_ALONE: &[u8] =
     b"error: the argument '--size <N>' is only for '--env <FILE>'\n\n\
+      For more information, try '--help'.\n";
+
+/// Standard error if a dry run is to write over copies, and not to write.
+pub(crate) const OVERWRITE_ALONE: &[u8] =
+    b"error: the argument '--overwrite' is only for '--write'\n\n\
       For more information, try '--help'.\n";
 
 /// Standard error if `run` has no script, or more than one.

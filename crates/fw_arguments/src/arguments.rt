@@ -5,8 +5,8 @@ ghost use Rattle.fw_arguments.specs.ProgramNames.{called_in};
 ghost use Rattle.fw_arguments.specs.Values.{first_or, given_by, is_given};
 ghost use Rattle.fw_arguments.specs.Words.{either_order, order_in};
 
-use crate::command_line::BIG_ENDIAN;
 use crate::program_name::ProgramName;
+use crate::table::BIG_ENDIAN;
 use clap::ArgMatches;
 use clap::parser::ValueSource;
 use envimg_core::Order;
@@ -50,7 +50,7 @@ fn is_from_words(source: Option<ValueSource>) -> bool
 pub fn chosen_order(matches: &ArgMatches<'_>) -> Order
     ensures { result ≡ order_in matches.now }
 {
-    match matches.value_source(BIG_ENDIAN) {
+    match matches.value_source(BIG_ENDIAN.id) {
         Some(ValueSource::CommandLine) => Order::Big,
         _ => Order::Little,
     }

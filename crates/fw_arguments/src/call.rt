@@ -1,16 +1,16 @@
 //! What the arguments of a subcommand ask for.
 ghost use Rattle.std.specs.Prelude.{◌≡◌, option_copied};
 ghost use Rattle.clap.specs.Words.{found_of, rows_of};
-ghost use Rattle.fw_arguments.specs.Calls.{call_of, call_view, called, defaults_of, defaults_view, is_client, job_of, job_view, keeps_lock, lock_of, ran, some_text, task_of, tried, with_image, writes};
+ghost use Rattle.fw_arguments.specs.Calls.{call_of, call_view, called, checked, defaults_of, defaults_view, is_client, job_of, job_view, keeps_lock, locks_in, locks_of, locks_view, ran, spares, task_of, tried, with_image, writes};
+ghost use Rattle.fw_arguments.specs.Checks.{environment_check_of};
 ghost use Rattle.fw_arguments.specs.DryRuns.{dry_run_of, script_run_of};
 ghost use Rattle.fw_arguments.specs.WordFaults.{word_seen};
 
 use crate::arguments::{chosen_order, either_order, first, first_or, is_given};
 use crate::check_requests::{EnvironmentCheck, read_environment_check};
-use crate::client_words::LOCK_FOLDER;
-use crate::command_line::CONFIG;
 use crate::dry_runs::{DryRun, ScriptRun, read_dry_run, read_script_run};
 use crate::image_size::{read_image, whole_text};
+use crate::table::CONFIG_PATH;
 use crate::task::{Task, read_task};
 use crate::word_fault::WordFault;
 use clap::ArgMatches;
@@ -25,14 +25,25 @@ pub struct Call<'m, 'w> {
     pub image: Option<u32>,
     /// The default environment.
     pub defaults: Defaults<'w>,
-    /// The folder of the lock file, if there is one.
-    pub lock: Option<&'w str>,
+    /// The lock files that are held while it uses the copies.
+    pub locks: LockFiles<'w>,
     /// The byte order of the copies.
     pub order: Order,
     /// Whether copies are written back only if a variable changed.
     pub only_changes: bool,
+    /// Whether copies may be written over that are good in another way than the configuration has them.
+    pub overwrite: bool,
     /// What it does over the session.
     pub job: Job<'m, 'w>,
+}
+
+impl Call<'_, '_> {
+    /// Whether it writes copies back, and none that is good in another way than the configuration has it.
+    pub fn spares(&self) -> bool
+        ensures { result ≡ spares (call_view self.now) }
+    {
+        self.job.writes() && !self.overwrite
+    }
 }
 
 /// The default environment that is asked for.
@@ -46,6 +57,19 @@ pub struct Defaults<'w> {
     pub need_copy: bool,
     /// Whether the text is the whole environment, so that no copy is missed.
     pub whole: bool,
+}
+
+/// The lock files of a call: those that U-Boot's tools and libubootenv lock, too.
+#[derive(Clone, Copy, Debug)]
+pub enum LockFiles<'w> {
+    /// None.
+    Nothing,
+    /// The one in this folder, which has to be had.
+    In(&'w str),
+    /// The usual ones. One that is there has to be had.
+    Usual,
+    /// The usual ones, as far as they can be had.
+    IfPossible,
 }
 
 /// What a subcommand does over its session.
@@ -113,12 +137,13 @@ fn with_image<'m, 'w>(
 {
     match read_job(name, found) {
         Ok(job) => Ok(Call {
-            config: first_or(found, "config", CONFIG),
+            config: first_or(found, "config", CONFIG_PATH),
             image,
             defaults: defaults_of(name, found),
-            lock: lock_of(name, found),
+            locks: locks_of(name, found),
             order: either_order(order, chosen_order(found)),
             only_changes: is_client(name),
+            overwrite: is_given(found, "overwrite"),
             job,
         }),
         Err(fault) => Err(fault),
@@ -136,7 +161,7 @@ fn read_job<'m, 'w>(name: &str, found: &'m ArgMatches<'w>) -> Result<Job<'m, 'w>
         return script_job(found);
     }
     if name == "check" {
-        return Ok(Job::Check(read_environment_check(found)));
+        return check_job(found);
     }
     tool_job(name, found)
 }
@@ -157,6 +182,16 @@ fn script_job<'m, 'w>(found: &'m ArgMatches<'w>) -> Result<Job<'m, 'w>, WordFaul
 {
     match read_script_run(found) {
         Ok(run) => Ok(Job::Script(run)),
+        Err(fault) => Err(fault),
+    }
+}
+
+/// The check that the arguments of `check` ask for.
+fn check_job<'m, 'w>(found: &'m ArgMatches<'w>) -> Result<Job<'m, 'w>, WordFault<'w>>
+    ensures { word_seen job_view result ≡ checked (environment_check_of (rows_of (found_of found.now))) }
+{
+    match read_environment_check(found) {
+        Ok(check) => Ok(Job::Check(check)),
         Err(fault) => Err(fault),
     }
 }
@@ -198,20 +233,29 @@ fn defaults_of<'w>(name: &str, found: &ArgMatches<'w>) -> Defaults<'w>
     }
 }
 
-/// The folder of the lock file.
-fn lock_of<'w>(name: &str, found: &ArgMatches<'w>) -> Option<&'w str>
-    ensures { option_copied result ≡ lock_of name.now (rows_of (found_of found.now)) }
+/// The lock files.
+fn locks_of<'w>(name: &str, found: &ArgMatches<'w>) -> LockFiles<'w>
+    ensures { locks_view result ≡ locks_of name.now (rows_of (found_of found.now)) }
 {
     if is_client(name) {
-        some_text(first_or(found, "lock", LOCK_FOLDER))
+        locks_in(first(found, "lock"))
     } else {
-        None
+        LockFiles::IfPossible
     }
 }
 
-/// The text, or `None` if it is empty.
-fn some_text(text: &str) -> Option<&str>
-    ensures { option_copied result ≡ some_text text.now }
+/// The lock files, by the folder that is given.
+fn locks_in(folder: Option<&str>) -> LockFiles<'_>
+    ensures { locks_view result ≡ locks_in (option_copied folder.entry) }
 {
-    if text.is_empty() { None } else { Some(text) }
+    match folder {
+        None => LockFiles::Usual,
+        Some(folder) => {
+            if folder.is_empty() {
+                LockFiles::Nothing
+            } else {
+                LockFiles::In(folder)
+            }
+        }
+    }
 }

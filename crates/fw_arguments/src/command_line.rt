@@ -1,39 +1,20 @@
-//! The arguments that the program is called with.
-ghost use Rattle.std.specs.Prelude.{◌≡◌, IfOk, codes, false, map};
-ghost use Rattle.clap.specs.Words.{FailsBy, app_of, fault_of, new_app, rule_of};
-ghost use Rattle.fw_arguments.specs.ProgramNames.{app_of_name, app_of_subcommand, called_in, called_under, order_under};
-ghost use Rattle.fw_arguments.specs.Words.{IsTool, fwenv, order_in};
-ghost use Rattle.fw_arguments.specs.Words as words;
-ghost use Rattle.fw_arguments.specs.declared.program_name.ProgramName.TheVariants.{FwenvWith};
+//! clap's commands, made of the table.
+ghost use Rattle.std.specs.Prelude.{◌≡◌, IfOk, false, map};
+ghost use Rattle.std.specs.List.{fold};
+ghost use Rattle.clap.specs.Words.{FailsBy, app_of, fault_of, rule_of};
+ghost use Rattle.clap.specs.declared.builder.command.Command.TheViews.{out-Command};
+ghost use Rattle.fw_arguments.specs.ProgramNames.{app_of_name, called_in, called_under, client_of, order_under};
+ghost use Rattle.fw_arguments.specs.Words.{IsTool, app_of_row, order_in, rule_of_row, with_called, with_names, with_row, with_takes};
+ghost use Rattle.fw_arguments.specs.Table.{called_view, names_view, row_view, takes_view};
 
-use crate::client_words::{fw_printenv, fw_setenv};
-use crate::dry_run_words::{check, run, session};
-use crate::program_name::{ProgramName, Subcommand};
-use crate::upkeep_words::{restore, status, wanted_file};
+use crate::program_name::{ProgramName, SUBCOMMANDS, Subcommand};
+use crate::table::{Called, FW_PRINTENV, FW_SETENV, FWENV, Names, Row, Takes};
 use clap::{Arg, ArgAction, ArgMatches, Command, Error};
 use std::alloc::{AllocError, Global};
 use std::convert::AsStr;
 
-/// What the program does, in one line.
-const ABOUT: &str =
-    "Prints the variables of the U-Boot environment image on standard input, a line NAME=VALUE each, or by a command \
-     reads and writes those of a board, or tries its boot scripts";
-
-/// An example for the end of the help.
-const EXAMPLE: &str =
-    "Example:\n  dd if=/dev/mtd1 bs=64k count=1 | fwenv\n  fwenv printenv bootcmd";
-
 /// What `--version` prints after the program's name.
-pub(crate) const VERSION: &str = "0.2.0";
-
-/// The flag for images of big-endian boards, and its help text.
-pub(crate) const BIG_ENDIAN: &str = "big-endian";
-
-const BIG_ENDIAN_HELP: &str =
-    "The image is a big-endian board's: its checksum has the highest byte first";
-
-/// The configuration if none is given.
-pub(crate) const CONFIG: &str = "/etc/fw_env.config";
+pub(crate) const VERSION: &str = "0.3.0";
 
 /// Reads the arguments of the command line, the program's own name first, as those of the program under this name. The
 /// text of an error is the help, the version, or what is wrong with the arguments.
@@ -51,255 +32,107 @@ pub fn read_words<'a, S: AsStr>(
     Ok(matches)
 }
 
-/// The flag for images of big-endian boards.
-pub(crate) fn big_endian<'a>(alloc: Global) -> Arg<'a>
-    ensures rule { rule_of result ≡ words.big_endian }
-    ensures local { result.global ≡ false }
-{
-    flag(alloc, BIG_ENDIAN)
-        .long(BIG_ENDIAN)
-        .help(BIG_ENDIAN_HELP)
-}
-
-/// An argument without a value: it is there or not.
-pub(crate) fn flag<'a>(alloc: Global, id: &'a str) -> Arg<'a>
-    ensures rule { rule_of result ≡ words.flag id.entry.now }
-    ensures local { result.global ≡ false }
-{
-    Arg::new(alloc, id).action(ArgAction::SetTrue)
-}
-
-/// `-c FILE`, which all subcommands have.
-pub(crate) fn config<'a>(alloc: Global) -> Arg<'a>
-    ensures rule { rule_of result ≡ words.config }
-    ensures local { result.global ≡ false }
-{
-    Arg::new(alloc, "config")
-        .short('c')
-        .value_name("FILE")
-        .help("The configuration that names the copies")
-        .default_value(CONFIG)
-}
-
-/// `--default FILE`, which all subcommands have.
-pub(crate) fn default<'a>(alloc: Global) -> Arg<'a>
-    ensures rule { rule_of result ≡ words.default }
-    ensures local { result.global ≡ false }
-{
-    Arg::new(alloc, "default")
-        .long("default")
-        .value_name("FILE")
-        .help("The default environment, a text as for import; without it that is empty")
-}
-
-/// `--need-copy`
-fn need_copy<'a>(alloc: Global) -> Arg<'a>
-    ensures rule { rule_of result ≡ words.need_copy }
-    ensures local { result.global ≡ false }
-{
-    flag(alloc, "need-copy").long("need-copy").help(
-        "Does nothing if no copy is good and no default environment is given, and says why",
-    )
-}
-
-/// A subcommand without arguments.
-pub(crate) fn bare<'a>(
-    alloc: Global,
-    name: &'a str,
-    about: &'a str,
-    example: &'a str,
-) -> Command<'a>
-    ensures { IsTool (new_app name.entry.now) result }
-{
-    Command::new(alloc, name).about(about).after_help(example)
-}
-
-/// A subcommand over a session, with the options that all of them have.
-pub(crate) fn tool<'a>(
-    alloc: Global,
-    name: &'a str,
-    about: &'a str,
-    example: &'a str,
-) -> Result<Command<'a>, AllocError>
-    ensures { IfOk result (IsTool (words.tool name.entry.now)) }
-{
-    let command = bare(alloc, name, about, example)
-        .arg(config(alloc))?
-        .arg(default(alloc))?
-        .arg(need_copy(alloc))?
-        .arg(big_endian(alloc))?;
-    Ok(command)
-}
-
-/// The command of a name.
+/// The command of a name. With a subcommand after it, it has only that: to build all of them takes longer than to print
+/// a small environment.
 fn command_of_name<'a>(alloc: Global, name: ProgramName) -> Result<Command<'a>, AllocError>
     ensures { IfOk result (λ c. app_of c ≡ app_of_name name) }
 {
     match name {
-        ProgramName::Fwenv => command(alloc),
-        ProgramName::FwenvWith(subcommand) => command_with(alloc, subcommand),
-        ProgramName::Printenv => fw_printenv(alloc),
-        ProgramName::Setenv => fw_setenv(alloc),
+        ProgramName::Fwenv => with_subcommands(alloc, command_of(alloc, FWENV)?, &SUBCOMMANDS),
+        ProgramName::FwenvWith(subcommand) => {
+            with_subcommands(alloc, command_of(alloc, FWENV)?, &[subcommand])
+        }
+        ProgramName::Printenv => client_of(alloc, FW_PRINTENV),
+        ProgramName::Setenv => client_of(alloc, FW_SETENV),
     }
 }
 
-/// The command, as clap's rules have it.
-fn command<'a>(alloc: Global) -> Result<Command<'a>, AllocError>
-    ensures { IfOk result (λ c. app_of c ≡ fwenv) }
+/// The command of another tool's row: of an option that is given twice the last one counts, as in that tool.
+fn client_of<'a>(alloc: Global, row: Called) -> Result<Command<'a>, AllocError>
+    ensures { IfOk result (λ c. app_of c ≡ client_of (called_view (λ t. t.now) (λ o. o.now) row.entry)) }
 {
-    let top = top(alloc)?;
-    let printing = top.subcommand(printenv(alloc)?)?;
-    let setting = printing.subcommand(setenv(alloc)?)?;
-    let importing = setting.subcommand(import(alloc)?)?;
-    let exporting = importing.subcommand(export(alloc)?)?;
-    let restoring = exporting.subcommand(restore(alloc)?)?;
-    let reporting = restoring.subcommand(status(alloc)?)?;
-    let running = reporting.subcommand(run(alloc)?)?;
-    let checking = running.subcommand(check(alloc)?)?;
-    let talking = checking.subcommand(session(alloc)?)?;
-    Ok(talking)
+    Ok(command_of(alloc, row)?.args_override_self(true))
 }
 
-/// The command with only one subcommand: to build all of them takes longer than to print a small environment.
-fn command_with<'a>(alloc: Global, subcommand: Subcommand) -> Result<Command<'a>, AllocError>
-    ensures { IfOk result (λ c. app_of c ≡ app_of_name (FwenvWith subcommand)) }
+/// A command with these subcommands.
+fn with_subcommands<'a>(
+    alloc: Global,
+    command: Command<'a>,
+    subcommands: &[Subcommand],
+) -> Result<Command<'a>, AllocError>
+    ensures { IfOk result (λ c. app_of c ≡ fold with_called (app_of command.entry) subcommands.now) }
 {
-    let top = top(alloc)?;
-    let command = top.subcommand(command_of(alloc, subcommand)?)?;
-    Ok(command)
+    let mut built = command;
+    for subcommand in subcommands {
+        built = built.subcommand(command_of(alloc, subcommand.row())?)?;
+    }
+    Ok(built)
 }
 
-/// A subcommand, as clap's rules have it.
-fn command_of<'a>(alloc: Global, subcommand: Subcommand) -> Result<Command<'a>, AllocError>
-    ensures { IfOk result (IsTool (app_of_subcommand subcommand)) }
+/// A row's command.
+fn command_of<'a>(alloc: Global, row: Called) -> Result<Command<'a>, AllocError>
+    ensures { IfOk result (IsTool (app_of_row (called_view (λ t. t.now) (λ o. o.now) row.entry))) }
 {
-    match subcommand {
-        Subcommand::Printenv => printenv(alloc),
-        Subcommand::Setenv => setenv(alloc),
-        Subcommand::Import => import(alloc),
-        Subcommand::Export => export(alloc),
-        Subcommand::Restore => restore(alloc),
-        Subcommand::Status => status(alloc),
-        Subcommand::Run => run(alloc),
-        Subcommand::Check => check(alloc),
-        Subcommand::Session => session(alloc),
+    let (name, about, example): (&'a str, &'a str, &'a str) = (row.name, row.about, row.example);
+    let bare = Command::new(alloc, name).about(about).after_help(example);
+    if row.has_version {
+        with_options(alloc, bare.version(VERSION), row.options)
+    } else {
+        with_options(alloc, bare, row.options)
     }
 }
 
-/// The command without its subcommands.
-fn top<'a>(alloc: Global) -> Result<Command<'a>, AllocError>
-    ensures { IfOk result (λ c. app_of c ≡ words.top) }
+/// A command with these options.
+fn with_options<'a>(
+    alloc: Global,
+    command: Command<'a>,
+    options: &[Row],
+) -> Result<Command<'a>, AllocError>
+    requires { (out-Command command).has_globals ≡ false }
+    ensures { IfOk result (IsTool (fold with_row (app_of command.entry) (map (row_view (λ t. t.now)) options.now))) }
 {
-    Command::new(alloc, "fwenv")
-        .about(ABOUT)
-        .version(VERSION)
-        .after_help(EXAMPLE)
-        .arg(big_endian(alloc))
+    let mut built = command;
+    for row in options {
+        built = built.arg(arg_of(alloc, *row)?)?;
+    }
+    Ok(built)
 }
 
-/// An argument that takes any number of values.
-pub(crate) fn any_number<'a>(alloc: Global, id: &'a str, name: &'a str) -> Arg<'a>
-    ensures rule { rule_of result ≡ words.any_number id.entry.now }
-    ensures local { result.global ≡ false }
+/// A row's argument.
+fn arg_of<'a>(alloc: Global, row: Row) -> Result<Arg<'a>, AllocError>
+    ensures rule { IfOk result (λ a. rule_of a ≡ rule_of_row (row_view (λ t. t.now) row.entry)) }
+    ensures local { IfOk result (λ a. a.global ≡ false) }
 {
-    Arg::new(alloc, id).value_name(name).num_args(0..)
+    let bare = Arg::new(alloc, row.id).help(row.help);
+    with_names(with_takes(bare, row.takes), row.names)
 }
 
-/// `NAMES`
-pub(crate) fn names<'a>(alloc: Global, help: &'a str) -> Arg<'a>
-    ensures rule { rule_of result ≡ words.any_number (codes "names") }
-    ensures local { result.global ≡ false }
+/// An argument that takes this.
+fn with_takes<'a>(arg: Arg<'a>, takes: Takes<&'a str>) -> Arg<'a>
+    ensures rule { rule_of result ≡ with_takes (takes_view (λ t. t.now) takes.entry) (rule_of arg.entry) }
+    ensures local { result.global ≡ arg.entry.global }
 {
-    any_number(alloc, "names", "NAMES").help(help)
+    match takes {
+        Takes::Nothing => arg.action(ArgAction::SetTrue),
+        Takes::Version => arg.action(ArgAction::Version),
+        Takes::One(name) => arg.value_name(name),
+        Takes::Wanted(name) => arg.value_name(name).required(true),
+        Takes::Any(name) => arg.value_name(name).num_args(0..),
+        Takes::Many(name) => arg.value_name(name).action(ArgAction::Append),
+        Takes::Usual(name, usual) => arg.value_name(name).default_value(usual),
+    }
 }
 
-/// `printenv`
-fn printenv<'a>(alloc: Global) -> Result<Command<'a>, AllocError>
-    ensures { IfOk result (IsTool words.printenv) }
+/// An argument with these names.
+fn with_names<'a>(arg: Arg<'a>, names: Names<&'a str>) -> Result<Arg<'a>, AllocError>
+    ensures rule { IfOk result (λ a. rule_of a ≡ with_names (names_view (λ t. t.now) names.entry) (rule_of arg.entry)) }
+    ensures local { IfOk result (λ a. a.global ≡ arg.entry.global) }
 {
-    let value_only = flag(alloc, "value-only")
-        .short('n')
-        .help("Prints the value of one name and nothing else");
-    let names = names(alloc, "The variables; without names all of them");
-    let plain = tool(
-        alloc,
-        "printenv",
-        "Prints variables, a line NAME=VALUE each",
-        "Example:\n  fwenv printenv bootcmd bootdelay",
-    )?;
-    let command = plain.arg(value_only)?.arg(names)?;
-    Ok(command)
-}
-
-/// `-s FILE`
-pub(crate) fn script<'a>(alloc: Global) -> Arg<'a>
-    ensures rule { rule_of result ≡ words.script }
-    ensures local { result.global ≡ false }
-{
-    Arg::new(alloc, "script").short('s').value_name("FILE").help(
-        "Takes names and values from the lines of a script, in place of NAME",
-    )
-}
-
-/// `NAME`
-pub(crate) fn name<'a>(alloc: Global) -> Arg<'a>
-    ensures rule { rule_of result ≡ words.one (codes "name") }
-    ensures local { result.global ≡ false }
-{
-    Arg::new(alloc, "name")
-        .value_name("NAME")
-        .help("The variable")
-}
-
-/// `WORDS`
-pub(crate) fn words<'a>(alloc: Global) -> Arg<'a>
-    ensures rule { rule_of result ≡ words.any_number (codes "words") }
-    ensures local { result.global ≡ false }
-{
-    any_number(alloc, "words", "WORDS").help(
-        "The value, joined by spaces; without words the variable is deleted",
-    )
-}
-
-/// `setenv`
-fn setenv<'a>(alloc: Global) -> Result<Command<'a>, AllocError>
-    ensures { IfOk result (IsTool words.setenv) }
-{
-    let plain = tool(
-        alloc,
-        "setenv",
-        "Sets or deletes a variable, or several by a script, and saves",
-        "Example:\n  fwenv setenv bootargs console=ttyS0,115200 quiet\n  fwenv setenv bootargs -- -x",
-    )?;
-    let command = plain
-        .arg(script(alloc))?
-        .arg(name(alloc))?
-        .arg(words(alloc))?;
-    Ok(command)
-}
-
-/// `import`
-fn import<'a>(alloc: Global) -> Result<Command<'a>, AllocError>
-    ensures { IfOk result (IsTool words.import) }
-{
-    let plain = tool(
-        alloc,
-        "import",
-        "Sets the variables of a text, and saves",
-        "Example:\n  fwenv import variables.txt",
-    )?;
-    let command = plain.arg(wanted_file(alloc))?;
-    Ok(command)
-}
-
-/// `export`
-fn export<'a>(alloc: Global) -> Result<Command<'a>, AllocError>
-    ensures { IfOk result (IsTool words.export) }
-{
-    tool(
-        alloc,
-        "export",
-        "Prints every variable as a text that import reads",
-        "Example:\n  fwenv export > variables.txt",
-    )
+    match names {
+        Names::Operand => Ok(arg),
+        Names::Letter(letter) => Ok(arg.short(letter)),
+        Names::Long(long) => Ok(arg.long(long)),
+        Names::Both(letter, long) => Ok(arg.short(letter).long(long)),
+        Names::More(letter, long, alias) => arg.short(letter).long(long).visible_alias(alias),
+    }
 }

@@ -1,22 +1,28 @@
 //! What the words of `session` and `run` ask for.
 ghost use Rattle.std.specs.Prelude.{◌≡◌, ◌≤◌, map, option_map, option_copied, codes, IfOk, IfSome};
 ghost use Rattle.clap.specs.Words.{found_of, rows_of};
-ghost use Rattle.fw_arguments.specs.DryRuns.{dry_run_of, dry_run_view, limits_of, number_in, number_of, run_within, script_by, script_of, script_run_of, script_run_view, script_view, script_within, text_by, texts};
+ghost use Rattle.fw_arguments.specs.DryRuns.{depth_of, dry_run_by, dry_run_of, dry_run_view, limits_of, number_in, number_of, run_within, script_by, script_of, script_run_by, script_run_of, script_run_view, script_view, script_within, text_by, texts};
 ghost use Rattle.fw_arguments.specs.WordFaults.{word_seen};
+ghost use Rattle.run_limits.specs.Limits.{most_depth};
 
 use crate::argument_texts::{
     BAD_DEPTH, BAD_OUTPUT, BAD_STEPS, BAD_WORD, INVALID_VALUE, NO_SCRIPT, SEVERAL_SCRIPTS,
 };
 use crate::arguments::{first, first_or, is_given, values};
-use crate::dry_run_words::{DEPTH, OUTPUT, STEPS, WORD};
+use crate::shells::{read_shell, usual_depth};
+use crate::table::{BOARD_SHELL, STRICT_SHELL, USUAL_OUTPUT, USUAL_STEPS, USUAL_WORD};
 use crate::word_fault::WordFault;
 use clap::ArgMatches;
+use hush_commands::Shell;
 use run_limits::{Limits, MOST_DEPTH, MOST_OUTPUT, MOST_STEPS, MOST_WORD};
 use text_parts::{Base, numeral};
 
-/// What a session and the run of a script have: `[--write] [--stubs FILE] [--steps N] [--depth N] [--word N] [--output N]`.
+/// What a session and the run of a script have: `[--shell SHELL] [--write] [--stubs FILE] [--steps N] [--depth N] [--word N]
+/// [--output N]`.
 #[derive(Clone, Copy, Debug)]
 pub struct DryRun<'w> {
+    /// Whose rules count where shells differ.
+    pub shell: Shell,
     /// Whether the copies are written back.
     pub write: bool,
     /// The path of the stand-ins, if there are any.
@@ -47,39 +53,58 @@ pub enum GivenScript<'m, 'w> {
     File(&'w str),
 }
 
-/// The dry run that the words of `session` or `run` ask for, or what is wrong with its numbers.
+/// The dry run that the words of `session` ask for, or what is wrong with its shell or its numbers.
 pub(crate) fn read_dry_run<'w>(found: &ArgMatches<'w>) -> Result<DryRun<'w>, WordFault<'w>>
     ensures { word_seen dry_run_view result ≡ dry_run_of (rows_of (found_of found.now)) }
 {
-    match read_limits(found) {
-        Ok(limits) => Ok(dry_run_within(found, limits)),
+    match read_shell(found, STRICT_SHELL) {
+        Ok(shell) => dry_run_by(found, shell),
         Err(fault) => Err(fault),
     }
 }
 
-/// The dry run within these limits.
-fn dry_run_within<'w>(found: &ArgMatches<'w>, limits: Limits) -> DryRun<'w>
-    ensures { dry_run_view result ≡ run_within (rows_of (found_of found.now)) limits }
+/// The same by a shell.
+fn dry_run_by<'w>(found: &ArgMatches<'w>, shell: Shell) -> Result<DryRun<'w>, WordFault<'w>>
+    ensures { word_seen dry_run_view result ≡ dry_run_by (rows_of (found_of found.now)) shell }
+{
+    match read_limits(found, shell) {
+        Ok(limits) => Ok(dry_run_within(found, shell, limits)),
+        Err(fault) => Err(fault),
+    }
+}
+
+/// The dry run by a shell within these limits.
+fn dry_run_within<'w>(found: &ArgMatches<'w>, shell: Shell, limits: Limits) -> DryRun<'w>
+    ensures { dry_run_view result ≡ run_within shell (rows_of (found_of found.now)) limits }
 {
     DryRun {
+        shell,
         write: is_given(found, "write"),
         stand_ins: first(found, "stubs"),
         limits,
     }
 }
 
-/// The limits of each run. The first number that is wrong is answered.
-fn read_limits<'w>(found: &ArgMatches<'w>) -> Result<Limits, WordFault<'w>>
-    ensures { word_seen (λ l. l) result ≡ limits_of (rows_of (found_of found.now)) }
+/// The limits of each run by a shell. The first number that is wrong is answered.
+fn read_limits<'w>(found: &ArgMatches<'w>, shell: Shell) -> Result<Limits, WordFault<'w>>
+    ensures { word_seen (λ l. l) result ≡ limits_of shell (rows_of (found_of found.now)) }
 {
-    let steps = number(found, "steps", STEPS, MOST_STEPS, BAD_STEPS)?;
-    let depth = number(found, "depth", DEPTH, MOST_DEPTH, BAD_DEPTH)?;
-    let word = number(found, "word", WORD, MOST_WORD, BAD_WORD)?;
-    let output = number(found, "output", OUTPUT, MOST_OUTPUT, BAD_OUTPUT)?;
+    let steps = number(found, "steps", USUAL_STEPS, MOST_STEPS, BAD_STEPS)?;
+    let depth = read_depth(found, shell)?;
+    let word = number(found, "word", USUAL_WORD, MOST_WORD, BAD_WORD)?;
+    let output = number(found, "output", USUAL_OUTPUT, MOST_OUTPUT, BAD_OUTPUT)?;
     match Limits::new(steps, depth, word, output) {
         Some(limits) => Ok(limits),
         None => unreachable!(),
     }
+}
+
+/// How many starts may be inside one another by a shell.
+fn read_depth<'w>(found: &ArgMatches<'w>, shell: Shell) -> Result<u32, WordFault<'w>>
+    ensures read { word_seen (λ n. n) result ≡ depth_of shell (rows_of (found_of found.now)) }
+    ensures most { IfOk result (λ n. n ≤ most_depth) }
+{
+    number(found, "depth", usual_depth(shell), MOST_DEPTH, BAD_DEPTH)
 }
 
 /// The run of a script that the words of `run` ask for, or what is wrong with them.
@@ -88,8 +113,21 @@ pub(crate) fn read_script_run<'m, 'w>(
 ) -> Result<ScriptRun<'m, 'w>, WordFault<'w>>
     ensures { word_seen script_run_view result ≡ script_run_of (rows_of (found_of found.now)) }
 {
-    match read_limits(found) {
-        Ok(limits) => with_limits(found, limits),
+    match read_shell(found, BOARD_SHELL) {
+        Ok(shell) => script_run_by(found, shell),
+        Err(fault) => Err(fault),
+    }
+}
+
+/// The same by a shell.
+fn script_run_by<'m, 'w>(
+    found: &'m ArgMatches<'w>,
+    shell: Shell,
+) -> Result<ScriptRun<'m, 'w>, WordFault<'w>>
+    ensures { word_seen script_run_view result ≡ script_run_by (rows_of (found_of found.now)) shell }
+{
+    match read_limits(found, shell) {
+        Ok(limits) => with_limits(found, shell, limits),
         Err(fault) => Err(fault),
     }
 }
@@ -97,13 +135,14 @@ pub(crate) fn read_script_run<'m, 'w>(
 /// The same within these limits.
 fn with_limits<'m, 'w>(
     found: &'m ArgMatches<'w>,
+    shell: Shell,
     limits: Limits,
 ) -> Result<ScriptRun<'m, 'w>, WordFault<'w>>
-    ensures { word_seen script_run_view result ≡ script_within (rows_of (found_of found.now)) limits }
+    ensures { word_seen script_run_view result ≡ script_within shell (rows_of (found_of found.now)) limits }
 {
     match read_script(found) {
         Ok(script) => Ok(ScriptRun {
-            dry: dry_run_within(found, limits),
+            dry: dry_run_within(found, shell, limits),
             boots: values(found, "boots"),
             script,
         }),

@@ -1,15 +1,15 @@
 //! The size of the image under an environment that is only a text.
 ghost use Rattle.std.specs.Prelude.{◌≡◌, option_copied};
 ghost use Rattle.clap.specs.Words.{found_of, rows_of};
-ghost use Rattle.fw_arguments.specs.ImageSizes.{image_of, in_devices, in_memory, size_in, sized, takes_text, whole_text};
+ghost use Rattle.fw_arguments.specs.ImageSizes.{image_of, in_devices, in_memory, overwrites_alone, size_in, sized, takes_text, whole_text};
 ghost use Rattle.fw_arguments.specs.WordFaults.{word_seen};
 
 use crate::argument_texts::{
     BAD_SIZE, ENV_AND_CONFIG, ENV_AND_COPY, ENV_AND_DEFAULT, ENV_AND_WRITE, INVALID_VALUE,
-    SIZE_ALONE,
+    OVERWRITE_ALONE, SIZE_ALONE,
 };
 use crate::arguments::{first, first_or, is_given};
-use crate::dry_run_words::SIZE;
+use crate::table::USUAL_SIZE;
 use crate::word_fault::WordFault;
 use clap::ArgMatches;
 use envimg_core::SIZE_MAX;
@@ -57,7 +57,17 @@ fn in_devices<'w>(name: &str, found: &ArgMatches<'w>) -> Result<Option<u32>, Wor
     if takes_text(name) && is_given(found, "size") {
         return Err(WordFault::of(SIZE_ALONE));
     }
+    if takes_text(name) && overwrites_alone(found) {
+        return Err(WordFault::of(OVERWRITE_ALONE));
+    }
     Ok(None)
+}
+
+/// Whether a dry run is to write over copies, and not to write.
+fn overwrites_alone(found: &ArgMatches<'_>) -> bool
+    ensures { result ≡ overwrites_alone (rows_of (found_of found.now)) }
+{
+    is_given(found, "overwrite") && !is_given(found, "write")
 }
 
 /// The size of an image in memory; nothing of a board may be given with it.
@@ -76,7 +86,10 @@ fn in_memory<'w>(found: &ArgMatches<'w>) -> Result<Option<u32>, WordFault<'w>>
     if is_given(found, "write") {
         return Err(WordFault::of(ENV_AND_WRITE));
     }
-    sized(first_or(found, "size", SIZE))
+    if overwrites_alone(found) {
+        return Err(WordFault::of(OVERWRITE_ALONE));
+    }
+    sized(first_or(found, "size", USUAL_SIZE))
 }
 
 /// The size that an argument spells.

@@ -1,8 +1,13 @@
 //! The names that the program answers to, and the subcommands of `fwenv`.
 ghost use Rattle.std.specs.Prelude.{◌≡◌, ◌||◌, ◌∷◌, map};
 ghost use Rattle.std.specs.Str.{bytes_eq};
-ghost use Rattle.fw_arguments.specs.ProgramNames.{fwenv_by, is_named, name_by, name_in, subcommand_named};
+ghost use Rattle.fw_arguments.specs.ProgramNames.{fwenv_by, is_named, name_by, name_in};
+ghost use Rattle.fw_arguments.specs.Table.{called_view, is_called, row_of};
+ghost use Rattle.std.specs.List.{find};
 
+use crate::table::{
+    CHECK, Called, EXPORT, IMPORT, PRINTENV, RESTORE, RUN, SESSION, SETENV, STATUS,
+};
 use std::convert::AsStr;
 
 /// A name under which the program is called.
@@ -53,24 +58,55 @@ impl ProgramName {
     }
 }
 
+/// Every subcommand, in the order of the help.
+pub const SUBCOMMANDS: [Subcommand; 9] = [
+    Subcommand::Printenv,
+    Subcommand::Setenv,
+    Subcommand::Import,
+    Subcommand::Export,
+    Subcommand::Restore,
+    Subcommand::Status,
+    Subcommand::Run,
+    Subcommand::Check,
+    Subcommand::Session,
+];
+
 impl Subcommand {
-    /// The subcommand of a name.
-    fn named(name: &str) -> Option<Subcommand>
-        ensures { result ≡ subcommand_named name.now }
+    /// Its row.
+    pub(crate) fn row(self) -> Called
+        ensures { called_view (λ t. t.now) (λ o. o.now) result ≡ row_of self }
     {
-        match name {
-            "printenv" => Some(Subcommand::Printenv),
-            "setenv" => Some(Subcommand::Setenv),
-            "import" => Some(Subcommand::Import),
-            "export" => Some(Subcommand::Export),
-            "restore" => Some(Subcommand::Restore),
-            "status" => Some(Subcommand::Status),
-            "run" => Some(Subcommand::Run),
-            "check" => Some(Subcommand::Check),
-            "session" => Some(Subcommand::Session),
-            _ => None,
+        match self {
+            Subcommand::Printenv => PRINTENV,
+            Subcommand::Setenv => SETENV,
+            Subcommand::Import => IMPORT,
+            Subcommand::Export => EXPORT,
+            Subcommand::Restore => RESTORE,
+            Subcommand::Status => STATUS,
+            Subcommand::Run => RUN,
+            Subcommand::Check => CHECK,
+            Subcommand::Session => SESSION,
         }
     }
+
+    /// Whether this is its name.
+    fn is_called(self, name: &str) -> bool
+        ensures { result ≡ is_called name.now self }
+    {
+        self.row().name == name
+    }
+}
+
+/// The first of these that has a name.
+fn named_in(subcommands: &[Subcommand], name: &str) -> Option<Subcommand>
+    ensures { result ≡ find (is_called name.now) subcommands.now }
+{
+    for subcommand in subcommands {
+        if subcommand.is_called(name) {
+            return Some(*subcommand);
+        }
+    }
+    None
 }
 
 /// The name in a path, which these arguments follow.
@@ -92,7 +128,7 @@ fn fwenv_by<S: AsStr>(words: &[S]) -> ProgramName
 {
     match words.first() {
         None => ProgramName::Fwenv,
-        Some(first) => match Subcommand::named(first.as_str()) {
+        Some(first) => match named_in(&SUBCOMMANDS, first.as_str()) {
             None => ProgramName::Fwenv,
             Some(subcommand) => ProgramName::FwenvWith(subcommand),
         },

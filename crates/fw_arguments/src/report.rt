@@ -9,7 +9,7 @@ use crate::argument_texts::CONFIG_AND_FILE;
 use crate::arguments::{chosen_order, either_order, first, first_or, is_given};
 use crate::call::{Call, read_call};
 use crate::check_requests::{FileCheck, read_file_check};
-use crate::command_line::CONFIG;
+use crate::table::CONFIG_PATH;
 use crate::word_fault::WordFault;
 use clap::ArgMatches;
 use envimg_core::Order;
@@ -123,7 +123,7 @@ fn read_subject<'w>(found: &ArgMatches<'w>) -> Result<Subject<'w>, WordFault<'w>
 {
     subject_by(
         is_given(found, "config"),
-        first_or(found, "config", CONFIG),
+        first_or(found, "config", CONFIG_PATH),
         first(found, "file"),
     )
 }

@@ -52,7 +52,7 @@ pub enum Task<'m, 'w> {
 
 impl Task<'_, '_> {
     /// Whether it changes the session.
-    pub(crate) fn changes(&self) -> bool
+    pub fn changes(&self) -> bool
         ensures { result ≡ changes (task_view self.now) }
     {
         match self {

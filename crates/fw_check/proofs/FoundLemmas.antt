@@ -5,6 +5,7 @@ use Rattle.std.specs.List.{list_any, position_or_len}
 use Rattle.std.proofs.lemmas.Grind.{fold-append}
 use Rattle.memchr.specs.Find.{IsFirstByte}
 use Rattle.text_parts.proofs.CutLemmas.{list_any-answer, position_or_len-found}
+use Rattle.hush_commands.specs.declared.shell.Shell.{Shell}
 use Rattle.fw_check.specs.Findings.{Finding, Known, Report, assigned_findings, error_at, is_defined, is_return, is_undefined, refused_sentence, return_findings, return_sentence, target_findings, undefined_sentence, warning_at, with_finding, with_findings}
 use Rattle.fw_check.specs.Found.{Found, found_more}
 
@@ -31,14 +32,14 @@ so-yes old new t b f same holds is = is ∙ ap (λ (x : Bool). found_more old (i
 so-no : (old new : Found) (t b : Bool) (f : Finding) → t ≡ b → t ≡ false → new ≡ old → new ≡ found_more old (if-so b f)
 so-no old new t b f same fails is = is ∙ sym (found-none old) ∙ ap (λ (x : Bool). found_more old (if-so x f)) (sym fails ∙ same)
 
-module _ (known : Option Known) (count : ℕ) (literal : Option (List ℕ)) (name : List ℕ) (named : Some name ≡ literal) (old new : Found) (t : Bool) where
-  pub assigned-yes : t ≡ is_defined known name → t ≡ true → new ≡ found_more old (warning_at count (refused_sentence name) ∷ []) → new ≡ found_more old (assigned_findings known count literal)
+module _ (shell : Shell) (known : Option Known) (count : ℕ) (literal : Option (List ℕ)) (name : List ℕ) (named : Some name ≡ literal) (old new : Found) (t : Bool) where
+  pub assigned-yes : t ≡ is_defined known name → t ≡ true → new ≡ found_more old (warning_at count (refused_sentence shell name) ∷ []) → new ≡ found_more old (assigned_findings shell known count literal)
   assigned-yes same holds is =
-      so-yes old new t (is_defined known name) (warning_at count (refused_sentence name)) same holds is ∙ ap (λ (o : Option (List ℕ)). found_more old (assigned_findings known count o)) named
+      so-yes old new t (is_defined known name) (warning_at count (refused_sentence shell name)) same holds is ∙ ap (λ (o : Option (List ℕ)). found_more old (assigned_findings shell known count o)) named
 
-  pub assigned-no : t ≡ is_defined known name → t ≡ false → new ≡ old → new ≡ found_more old (assigned_findings known count literal)
+  pub assigned-no : t ≡ is_defined known name → t ≡ false → new ≡ old → new ≡ found_more old (assigned_findings shell known count literal)
   assigned-no same fails is =
-      so-no old new t (is_defined known name) (warning_at count (refused_sentence name)) same fails is ∙ ap (λ (o : Option (List ℕ)). found_more old (assigned_findings known count o)) named
+      so-no old new t (is_defined known name) (warning_at count (refused_sentence shell name)) same fails is ∙ ap (λ (o : Option (List ℕ)). found_more old (assigned_findings shell known count o)) named
 
   pub target-yes : t ≡ is_undefined known name → t ≡ true → new ≡ found_more old (error_at count (undefined_sentence name) ∷ []) → new ≡ found_more old (target_findings known count literal)
   target-yes same holds is =

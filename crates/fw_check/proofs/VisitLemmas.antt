@@ -6,12 +6,13 @@ use Rattle.std.specs.List.{fold}
 use Rattle.std.proofs.lemmas.Grind.{flat_map-append}
 use Rattle.envimg_core.specs.Environment.{Environment}
 use Rattle.hush_syntax.specs.FaultPlaces.{IsFaultOf}
-use Rattle.hush_syntax.specs.Reading.{read}
+use Rattle.hush_syntax.specs.Reading.{read_in}
+use Rattle.hush_syntax.specs.declared.nodes.Bodies.{Bodies}
 use Rattle.hush_syntax.specs.declared.syntax_fault.FaultKind.TheVariants.{Memory}
 use Rattle.hush_syntax.specs.declared.syntax_fault.SyntaxFault.{SyntaxFault}
-use Rattle.hush_commands.specs.Stubs.{Statuses}
+use Rattle.hush_run.specs.Meaning.{bodies_of}
 use Rattle.fw_check.specs.Checking.{AreVisited, Faulty, Reports, Script, Visit, after_visit, in_all, is_among, is_set, known_after, reading_findings, value_in, with_name, with_names}
-use Rattle.fw_check.specs.Findings.{Known, Report, error_at, fault_sentence, return_findings}
+use Rattle.fw_check.specs.Findings.{Given, Known, Report, error_at, fault_sentence, return_findings}
 use Rattle.fw_check.specs.Found.{Found, found_more}
 use Rattle.fw_check.specs.NameSets.{no_names, with_all}
 use Rattle.fw_check.specs.Naming.{foreseen_in, given_in, run_in}
@@ -19,33 +20,33 @@ use Rattle.fw_check.specs.Reports.{GoesOn, Reads, ReadsItems}
 use Rattle.fw_check.proofs.FoundLemmas.{found-append}
 use Rattle.fw_check.proofs.NameLemmas.{all-among, with-append}
 
-module _ (known : Option Known) (stubs : Option Statuses) where
+module _ (known : Option Known) (given : Given) where
   -- a script, and a text that isn't one
-  pub read-script : {E : Type 0} (r : Result (Unit {0}) E) (source text : List ℕ) (old new : Found) → source ≡ text → OnOk r (ReadsItems known stubs source old new) → OnOk r (Reads known stubs text old new)
-  read-script (Ok u) source text old new same h = subst (λ t. Reads known stubs t old new) same (Script h.0, h.1, h.2)
+  pub read-script : {E : Type 0} (r : Result (Unit {0}) E) (source text : List ℕ) (old new : Found) → source ≡ text → OnOk r (ReadsItems known given source old new) → OnOk r (Reads known given text old new)
+  read-script (Ok u) source text old new same h = subst (λ t. Reads known given t old new) same (Script h.0, h.1, h.2)
   read-script (Err e) source text old new same h = tt
 
-  pub read-fault : {E : Type 0} (r : Result (Unit {0}) E) (source text : List ℕ) (fault : SyntaxFault) (old new : Found) → source ≡ text → (fault.kind ≢ Memory → read source ≡ None) →
+  pub read-fault : {E : Type 0} (r : Result (Unit {0}) E) (source text : List ℕ) (fault : SyntaxFault) (old new : Found) → source ≡ text → (fault.kind ≢ Memory → read_in (bodies_of given.shell) source ≡ None) →
       (fault.kind ≢ Memory → IsFaultOf source fault) →
-      OnOk r ((fault.kind ≢ Memory) × (new ≡ found_more old (error_at fault.place (fault_sentence fault.kind) ∷ []))) → OnOk r (Reads known stubs text old new)
+      OnOk r ((fault.kind ≢ Memory) × (new ≡ found_more old (error_at fault.place (fault_sentence fault.kind) ∷ []))) → OnOk r (Reads known given text old new)
   read-fault (Ok u) source text fault old new same unread first h =
-      (Faulty fault, (h.0, ap read (sym same) ∙ unread h.0, subst (λ t. IsFaultOf t fault) same (first h.0)), h.1)
+      (Faulty fault, (h.0, ap (read_in (bodies_of given.shell)) (sym same) ∙ unread h.0, subst (λ t. IsFaultOf t fault) same (first h.0)), h.1)
   read-fault (Err e) source text fault old new same unread first h = tt
 
   pub script-checked : (name text : List ℕ) (report after : Report) (first second third : Found) → first ≡ record { name = name; text = text; report = report } →
-      second ≡ found_more first (return_findings first.text) → Reads known stubs text second third → after ≡ third.report → GoesOn known stubs name text report after
+      second ≡ found_more first (return_findings first.text) → Reads known given text second third → after ≡ third.report → GoesOn known given name text report after
   script-checked name text report after first second third begun returned h done =
-      let ys = reading_findings known stubs text h.0 in
+      let ys = reading_findings known given text h.0 in
       let two = h.2 ∙ ap (λ (f : Found). found_more f ys) returned ∙ found-append first (return_findings first.text) ys
       ∙ ap (λ (f : Found). found_more f (return_findings f.text ++ ys)) begun in
       (h.0, h.1, done ∙ ap (λ (f : Found). f.report) two)
 
   -- a visit, and then the others
-  pub report-first : (env : Environment) (name : List ℕ) (names : List (List ℕ)) (report after final : Report) → GoesOn known stubs name (value_in env name) report after →
-      Reports env known stubs names after final → Reports env known stubs (name ∷ names) report final
+  pub report-first : (env : Environment) (name : List ℕ) (names : List (List ℕ)) (report after final : Report) → GoesOn known given name (value_in env name) report after →
+      Reports env known given names after final → Reports env known given (name ∷ names) report final
   report-first env name names report after final h rest =
       let v : Visit = record { name = name; reading = h.0 } in
-      (v ∷ rest.0, ap (λ (ns : List (List ℕ)). name ∷ ns) rest.1, (h.1, rest.2), ap (λ (r : Report). fold (after_visit env known stubs) r rest.0) (sym h.2) ∙ rest.3)
+      (v ∷ rest.0, ap (λ (ns : List (List ℕ)). name ∷ ns) rest.1, (h.1, rest.2), ap (λ (r : Report). fold (after_visit env known given) r rest.0) (sym h.2) ∙ rest.3)
 
 -- ---- the names that are visited
 
@@ -77,18 +78,18 @@ abbrev IsSet : Environment → (names_in : List ℕ → List (List ℕ)) → Lis
 IsSet env names_in visited set = set ≡ with_all no_names (in_all names_in env visited)
 
 -- from these names on the first ones were visited, and these are the sets of what their scripts give and foresee
-pub record Follows (env : Environment) (first now : List (List ℕ)) (index : ℕ) (given foreseen : List ℕ → Bool) : Type 0 where
-  pub visited : (rest : List (List ℕ)) → AreVisited env now index rest → AreVisited env first 0 (take index now ++ rest)
-  pub gives : IsSet env given_in (take index now) given
-  pub foresees : IsSet env foreseen_in (take index now) foreseen
+pub record Follows (bodies : Bodies) (env : Environment) (first now : List (List ℕ)) (index : ℕ) (given foreseen : List ℕ → Bool) : Type 0 where
+  pub visited : (rest : List (List ℕ)) → AreVisited bodies env now index rest → AreVisited bodies env first 0 (take index now ++ rest)
+  pub gives : IsSet env (given_in bodies) (take index now) given
+  pub foresees : IsSet env (foreseen_in bodies) (take index now) foreseen
 
-pub follows-none : (env : Environment) (names : List (List ℕ)) (given foreseen : List ℕ → Bool) → given ≡ no_names → foreseen ≡ no_names → Follows env names names 0 given foreseen
-follows-none env names given foreseen none nor = record { visited = λ rest h. h; gives = none; foresees = nor }
+pub follows-none : (bodies : Bodies) (env : Environment) (names : List (List ℕ)) (given foreseen : List ℕ → Bool) → given ≡ no_names → foreseen ≡ no_names → Follows bodies env names names 0 given foreseen
+follows-none bodies env names given foreseen none nor = record { visited = λ rest h. h; gives = none; foresees = nor }
 
-module _ (env : Environment) (first now more : List (List ℕ)) (index : ℕ) (name : List ℕ) (here : slice_get now index ≡ Some name) (followed : more ≡ with_names env now (run_in (value_in env name))) where
+module _ (bodies : Bodies) (env : Environment) (first now more : List (List ℕ)) (index : ℕ) (name : List ℕ) (here : slice_get now index ≡ Some name) (followed : more ≡ with_names env now (run_in bodies (value_in env name))) where
   next-visited : take (index + 1) more ≡ take index now ++ name ∷ []
   next-visited =
-      let l = longer env now (run_in (value_in env name)) in
+      let l = longer env now (run_in bodies (value_in env name)) in
       (λ i. take (let e : index + 1 ≡ suc index = omega arith in e i) ((followed ∙ l.1) i)) ∙ take-next now l.0 index name here
 
   next-names : (names_in : List ℕ → List (List ℕ)) → in_all names_in env (take (index + 1) more) ≡ in_all names_in env (take index now) ++ names_in (value_in env name)
@@ -103,31 +104,31 @@ module _ (env : Environment) (first now more : List (List ℕ)) (index : ℕ) (n
       ∙ with-append no_names (in_all names_in env (take index now)) (names_in (value_in env name))
       ∙ ap (with_all no_names) (sym (next-names names_in))
 
-  pub follows-next : (given foreseen gives foresees : List ℕ → Bool) → Follows env first now index given foreseen → gives ≡ with_all given (given_in (value_in env name)) →
-      foresees ≡ with_all foreseen (foreseen_in (value_in env name)) → Follows env first more (index + 1) gives foresees
+  pub follows-next : (given foreseen gives foresees : List ℕ → Bool) → Follows bodies env first now index given foreseen → gives ≡ with_all given (given_in bodies (value_in env name)) →
+      foresees ≡ with_all foreseen (foreseen_in bodies (value_in env name)) → Follows bodies env first more (index + 1) gives foresees
   follows-next given foreseen gives foresees so_far added foreseen_too = record {
     visited = λ rest h.
-        let after = subst (λ (n : ℕ). AreVisited env more n rest) (let e : index + 1 ≡ suc index = omega arith in e) h in
-        let all = so_far.visited (name ∷ rest) (here, subst (λ ns. AreVisited env ns (suc index) rest) followed after) in
-        subst (AreVisited env first 0) (sym (append_assoc (take index now) (name ∷ []) rest) ∙ ap (λ (ns : List (List ℕ)). ns ++ rest) (sym next-visited)) all;
-    gives = next-set given_in given gives so_far.gives added;
-    foresees = next-set foreseen_in foreseen foresees so_far.foresees foreseen_too;
+        let after = subst (λ (n : ℕ). AreVisited bodies env more n rest) (let e : index + 1 ≡ suc index = omega arith in e) h in
+        let all = so_far.visited (name ∷ rest) (here, subst (λ ns. AreVisited bodies env ns (suc index) rest) followed after) in
+        subst (AreVisited bodies env first 0) (sym (append_assoc (take index now) (name ∷ []) rest) ∙ ap (λ (ns : List (List ℕ)). ns ++ rest) (sym next-visited)) all;
+    gives = next-set (given_in bodies) given gives so_far.gives added;
+    foresees = next-set (foreseen_in bodies) foreseen foresees so_far.foresees foreseen_too;
   }
 
 pub no-more : (names : List (List ℕ)) (index : ℕ) (o : Option (Vec ℕ Global)) → option_map (λ v. v.items) o ≡ slice_get names index → ((v : Vec ℕ Global) → o ≡ Some v → ⊥) → slice_get names index ≡ None
 no-more names index None e none = sym e
 no-more names index (Some v) e none = absurd (none v refl)
 
-module _ (env : Environment) (first now : List (List ℕ)) (index : ℕ) (end : slice_get now index ≡ None) where
-  pub visited-all : (given foreseen : List ℕ → Bool) → Follows env first now index given foreseen → AreVisited env first 0 now
-  visited-all given foreseen f = subst (AreVisited env first 0) (append-nil (take index now) ∙ take-whole now index end) (f.visited [] end)
+module _ (bodies : Bodies) (env : Environment) (first now : List (List ℕ)) (index : ℕ) (end : slice_get now index ≡ None) where
+  pub visited-all : (given foreseen : List ℕ → Bool) → Follows bodies env first now index given foreseen → AreVisited bodies env first 0 now
+  visited-all given foreseen f = subst (AreVisited bodies env first 0) (append-nil (take index now) ∙ take-whole now index end) (f.visited [] end)
 
   set-all : (names_in : List ℕ → List (List ℕ)) (set : List ℕ → Bool) → IsSet env names_in (take index now) set → set ≡ is_among (in_all names_in env now)
   set-all names_in set is =
       is ∙ ap (λ (ns : List (List ℕ)). with_all no_names (in_all names_in env ns)) (take-whole now index end) ∙ all-among (in_all names_in env now)
 
-  pub given-all : (given foreseen : List ℕ → Bool) → Follows env first now index given foreseen → given ≡ (known_after env now).given
-  given-all given foreseen f = set-all given_in given f.gives
+  pub given-all : (given foreseen : List ℕ → Bool) → Follows bodies env first now index given foreseen → given ≡ (known_after bodies env now).given
+  given-all given foreseen f = set-all (given_in bodies) given f.gives
 
-  pub foreseen-all : (given foreseen : List ℕ → Bool) → Follows env first now index given foreseen → foreseen ≡ (known_after env now).foreseen
-  foreseen-all given foreseen f = set-all foreseen_in foreseen f.foresees
+  pub foreseen-all : (given foreseen : List ℕ → Bool) → Follows bodies env first now index given foreseen → foreseen ≡ (known_after bodies env now).foreseen
+  foreseen-all given foreseen f = set-all (foreseen_in bodies) foreseen f.foresees

@@ -6,10 +6,13 @@ use Rattle.std.specs.FinMap.{entries, get}
 use Rattle.std.specs.Io.KnownBytes.{Keeps}
 use Rattle.hush_words.specs.Parts.{written}
 use Rattle.hush_syntax.specs.FaultPlaces.{IsFaultOf}
-use Rattle.hush_syntax.specs.Reading.{read}
+use Rattle.hush_syntax.specs.Reading.{read_in}
+use Rattle.hush_syntax.specs.declared.nodes.Bodies.{Bodies}
 use Rattle.hush_syntax.specs.declared.syntax_fault.FaultKind.TheVariants.{Memory}
 use Rattle.hush_syntax.specs.declared.syntax_fault.SyntaxFault.{SyntaxFault}
+use Rattle.hush_commands.specs.declared.shell.Shell.{Shell}
 use Rattle.hush_commands.specs.Stubs.{Statuses}
+use Rattle.hush_run.specs.Meaning.{bodies_of}
 use Rattle.envimg_core.specs.Environment.{Environment, Pair, bytes_cmp}
 use Rattle.envvars_core.specs.Attributes.{attributes}
 use Rattle.envvars_core.specs.Types.{has_type}
@@ -19,7 +22,7 @@ use Rattle.fw_engines.specs.declared.tool_end.StreamFault.TheVariants as stream
 use Rattle.fw_check.specs.declared.items.Item.{Item}
 use Rattle.fw_check.specs.Statements.{AreItemsOf}
 use Rattle.fw_check.specs.Naming.{foreseen_in, given_in, run_in}
-use Rattle.fw_check.specs.Findings.{Finding, Known, error_at, fault_sentence, return_findings, item_findings, Report, no_lines, report_end, with_error, with_findings}
+use Rattle.fw_check.specs.Findings.{Finding, Given, Known, given_with, error_at, fault_sentence, return_findings, item_findings, Report, no_lines, report_end, with_error, with_findings}
 
 -- ---- one script
 
@@ -30,17 +33,17 @@ pub data Reading : Type 0 where
 
 -- a text with a fault isn't a script, and has a fault of this kind at this place; which of its tokens is not
 -- expected, and whether such a token is before the fault of a word, is not stated here
-abbrev pub IsReading : List ℕ → Reading → Type 0
-IsReading text (Faulty fault) = (fault.kind ≢ Memory) × (read text ≡ None) × IsFaultOf text fault
-IsReading text (Script items) = AreItemsOf text items
+abbrev pub IsReading : Bodies → List ℕ → Reading → Type 0
+IsReading bodies text (Faulty fault) = (fault.kind ≢ Memory) × (read_in bodies text ≡ None) × IsFaultOf text fault
+IsReading bodies text (Script items) = AreItemsOf bodies text items
 
-abbrev pub reading_findings : Option Known → Option Statuses → List ℕ → Reading → List Finding
-reading_findings known stubs text (Faulty fault) = error_at fault.place (fault_sentence fault.kind) ∷ []
-reading_findings known stubs text (Script items) = flat_map (item_findings known stubs (written text)) items
+abbrev pub reading_findings : Option Known → Given → List ℕ → Reading → List Finding
+reading_findings known given text (Faulty fault) = error_at fault.place (fault_sentence fault.kind) ∷ []
+reading_findings known given text (Script items) = flat_map (item_findings known given (written text)) items
 
 -- the first carriage return, and what is found from the start of the script on
-abbrev pub findings : Option Known → Option Statuses → List ℕ → Reading → List Finding
-findings known stubs text reading = return_findings text ++ reading_findings known stubs text reading
+abbrev pub findings : Option Known → Given → List ℕ → Reading → List Finding
+findings known given text reading = return_findings text ++ reading_findings known given text reading
 
 -- ---- what is printed
 
@@ -91,42 +94,42 @@ abbrev pub value_in : Environment → List ℕ → List ℕ
 value_in env name = unwrap_or (get env name) []
 
 -- from the name of this index on, these names are visited: those that each one's script runs are added last
-abbrev pub AreVisited : Environment → List (List ℕ) → ℕ → List (List ℕ) → Type 0
-AreVisited env names index [] = slice_get names index ≡ None
-AreVisited env names index (v ∷ vs) =
-    (slice_get names index ≡ Some v) × AreVisited env (with_names env names (run_in (value_in env v))) (suc index) vs
+abbrev pub AreVisited : Bodies → Environment → List (List ℕ) → ℕ → List (List ℕ) → Type 0
+AreVisited bodies env names index [] = slice_get names index ≡ None
+AreVisited bodies env names index (v ∷ vs) =
+    (slice_get names index ≡ Some v) × AreVisited bodies env (with_names env names (run_in bodies (value_in env v))) (suc index) vs
 
 -- the names in all these scripts, by those in a text
 abbrev pub in_all : (names_in : List ℕ → List (List ℕ)) → Environment → List (List ℕ) → List (List ℕ)
 in_all names_in env visited = flat_map (λ name. names_in (value_in env name)) visited
 
-abbrev pub known_after : Environment → List (List ℕ) → Known
-known_after env visited =
-    record { env = env; given = is_among (in_all given_in env visited); foreseen = is_among (in_all foreseen_in env visited) }
+abbrev pub known_after : Bodies → Environment → List (List ℕ) → Known
+known_after bodies env visited =
+    record { env = env; given = is_among (in_all (given_in bodies) env visited); foreseen = is_among (in_all (foreseen_in bodies) env visited) }
 
 -- a variable, and what its value is read as
 pub record Visit : Type 0 where
   pub name : List ℕ
   pub reading : Reading
 
-abbrev pub IsVisit : Environment → Visit → Type 0
-IsVisit env v = IsReading (value_in env v.name) v.reading
+abbrev pub IsVisit : Bodies → Environment → Visit → Type 0
+IsVisit bodies env v = IsReading bodies (value_in env v.name) v.reading
 
-abbrev pub after_visit : Environment → Option Known → Option Statuses → Report → Visit → Report
-after_visit env known stubs report v =
-    with_findings v.name (value_in env v.name) report (findings known stubs (value_in env v.name) v.reading)
+abbrev pub after_visit : Environment → Option Known → Given → Report → Visit → Report
+after_visit env known given report v =
+    with_findings v.name (value_in env v.name) report (findings known given (value_in env v.name) v.reading)
 
 -- with what is found in the scripts of these names, `report` becomes `final`
-abbrev pub Reports : Environment → Option Known → Option Statuses → List (List ℕ) → Report → Report → Type 0
-Reports env known stubs names report final =
-    (visits : List Visit) × (map (λ v. v.name) visits ≡ names) × AllByRecursion (IsVisit env) visits
-    × (fold (after_visit env known stubs) report visits ≡ final)
+abbrev pub Reports : Environment → Option Known → Given → List (List ℕ) → Report → Report → Type 0
+Reports env known given names report final =
+    (visits : List Visit) × (map (λ v. v.name) visits ≡ names) × AllByRecursion (IsVisit (bodies_of given.shell) env) visits
+    × (fold (after_visit env known given) report visits ≡ final)
 
 -- a check that begins with these names and this report ends with `final`
-abbrev pub ComesTo : Environment → Option Statuses → List (List ℕ) → Report → Report → Type 0
-ComesTo env stubs names report final =
-    (visited : List (List ℕ)) × AreVisited env names 0 visited
-    × Reports env (Some (known_after env visited)) stubs visited report final
+abbrev pub ComesTo : Environment → Given → List (List ℕ) → Report → Report → Type 0
+ComesTo env given names report final =
+    (visited : List (List ℕ)) × AreVisited (bodies_of given.shell) env names 0 visited
+    × Reports env (Some (known_after (bodies_of given.shell) env visited)) given visited report final
 
 -- ---- values without their types
 
@@ -144,14 +147,15 @@ with_types env report = fold (with_typed env) report (entries env)
 -- ---- the whole
 
 -- a check of an environment from these names on
-abbrev pub Checks : Environment → Option Statuses → List (List ℕ) → Option (List ℕ) → Option (List ℕ) → ToolEnd → Type 0
-Checks env stubs names old new end =
-    ((report : Report) × ComesTo env stubs (first_names env names) (first_report env names) report
+abbrev pub Checks : Shell → Environment → Option Statuses → List (List ℕ) → Option (List ℕ) → Option (List ℕ) → ToolEnd → Type 0
+Checks shell env stubs names old new end =
+    ((report : Report) × ComesTo env (given_with shell stubs) (first_names env names) (first_report env names) report
     × PrintsReport old new (with_types env report) end)
     ⊎ LacksMemory old new end
 
 -- a check of one script, without an environment
-abbrev pub ChecksText : Option Statuses → (name text : List ℕ) → Option (List ℕ) → Option (List ℕ) → ToolEnd → Type 0
-ChecksText stubs name text old new end =
-    ((reading : Reading) × IsReading text reading × PrintsReport old new (with_findings name text no_lines (findings None stubs text reading)) end)
+abbrev pub ChecksText : Shell → Option Statuses → (name text : List ℕ) → Option (List ℕ) → Option (List ℕ) → ToolEnd → Type 0
+ChecksText shell stubs name text old new end =
+    ((reading : Reading) × IsReading (bodies_of shell) text reading
+    × PrintsReport old new (with_findings name text no_lines (findings None (given_with shell stubs) text reading)) end)
     ⊎ LacksMemory old new end

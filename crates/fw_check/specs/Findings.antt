@@ -8,6 +8,8 @@ use Rattle.hush_words.specs.declared.parts.Word.{Word}
 use Rattle.hush_syntax.specs.Trees.{words_in}
 use Rattle.hush_syntax.specs.declared.syntax_fault.FaultKind.{FaultKind}
 use Rattle.hush_syntax.specs.declared.syntax_fault.FaultKind.TheVariants as fault
+use Rattle.hush_commands.specs.declared.shell.Shell.{Shell}
+use Rattle.hush_commands.specs.declared.shell.Shell.TheVariants.{Strict, Board}
 use Rattle.hush_commands.specs.Stubs.{Statuses}
 use Rattle.envimg_core.specs.Environment.{Environment}
 use Rattle.fw_engines.specs.TextPlaces.{place_of}
@@ -165,23 +167,29 @@ command_findings stubs text [] = []
 command_findings stubs text (word ∷ words) =
     called_findings stubs (begin_in_parentheses (words_in text words)) word.start (literal_of (word_atoms text word))
 
-abbrev pub operator_sentence : List ℕ → List ℕ
-operator_sentence name = codes "`test` has no operator `" ++ name ++ codes "` here, and is false"
+-- the strict shell takes the words as false
+abbrev pub operator_end : Shell → List ℕ
+operator_end Strict = codes "` here, and is false"
+operator_end Board = codes "` here"
 
-abbrev pub wrong_findings : Option Target → List Finding
-wrong_findings None = []
-wrong_findings (Some t) = error_at t.count (operator_sentence t.name) ∷ []
+abbrev pub operator_sentence : Shell → List ℕ → List ℕ
+operator_sentence shell name = codes "`test` has no operator `" ++ name ++ operator_end shell
+
+abbrev pub wrong_findings : Shell → Option Target → List Finding
+wrong_findings shell None = []
+wrong_findings shell (Some t) = error_at t.count (operator_sentence shell t.name) ∷ []
 
 -- each word of a test counts as one field, whatever its value
-abbrev pub after_field : Written → Expected → Word → Expected
-after_field text expected word = after_word expected word.start (literal_of (word_atoms text word))
+abbrev pub after_field : Shell → Written → Expected → Word → Expected
+after_field shell text expected word = after_word shell expected word.start (literal_of (word_atoms text word))
 
-abbrev pub test_findings : Written → List Word → List Finding
-test_findings text words = wrong_findings (wrong_in (fold (after_field text) ATerm words))
+abbrev pub test_findings : Shell → Written → List Word → List Finding
+test_findings shell text words = wrong_findings shell (wrong_in (fold (after_field shell text) ATerm words))
 
-abbrev pub operator_findings : Written → List Word → List Finding
-operator_findings text [] = []
-operator_findings text (word ∷ words) = if is_test (literal_of (word_atoms text word)) then test_findings text words else []
+abbrev pub operator_findings : Shell → Written → List Word → List Finding
+operator_findings shell text [] = []
+operator_findings shell text (word ∷ words) =
+    if is_test (literal_of (word_atoms text word)) then test_findings shell text words else []
 
 abbrev pub undefined_sentence : List ℕ → List ℕ
 undefined_sentence name = codes "`run " ++ name ++ codes "` names a variable that is not defined"
@@ -225,21 +233,34 @@ word_findings known text word = names_findings known word.start None (substitute
 
 -- ---- assignments and the heads of `for`
 
-abbrev pub refused_sentence : List ℕ → List ℕ
-refused_sentence name = codes "`" ++ name ++ codes "` is an environment variable, so it can not be assigned"
+-- the strict shell refuses it; on a board the environment's value goes before the one that is assigned
+abbrev pub refused_end : Shell → List ℕ
+refused_end Strict = codes "` is an environment variable, so it can not be assigned"
+refused_end Board = codes "` is an environment variable, which hides what is assigned"
 
-abbrev pub assigned_findings : Option Known → ℕ → Option (List ℕ) → List Finding
-assigned_findings known count None = []
-assigned_findings known count (Some name) =
-    if is_defined known name then warning_at count (refused_sentence name) ∷ [] else []
+abbrev pub refused_sentence : Shell → List ℕ → List ℕ
+refused_sentence shell name = codes "`" ++ name ++ refused_end shell
+
+abbrev pub assigned_findings : Shell → Option Known → ℕ → Option (List ℕ) → List Finding
+assigned_findings shell known count None = []
+assigned_findings shell known count (Some name) =
+    if is_defined known name then warning_at count (refused_sentence shell name) ∷ [] else []
 
 -- ---- a whole script
 
-abbrev pub item_findings : Option Known → Option Statuses → Written → Item → List Finding
-item_findings known stubs text (item.Call words) =
-    command_findings stubs text words.now ++ operator_findings text words.now ++ run_findings known text words.now
+-- by whose rules, and with which stand-ins, if names of commands are looked up
+pub record Given : Type 0 where
+  pub shell : Shell
+  pub stubs : Option Statuses
+
+abbrev pub given_with : Shell → Option Statuses → Given
+given_with shell stubs = record { shell = shell; stubs = stubs }
+
+abbrev pub item_findings : Option Known → Given → Written → Item → List Finding
+item_findings known given text (item.Call words) =
+    command_findings given.stubs text words.now ++ operator_findings given.shell text words.now ++ run_findings known text words.now
     ++ flat_map (word_findings known text) words.now
-item_findings known stubs text (item.Assignment name value) =
-    assigned_findings known name.start (literal_of (word_atoms text name)) ++ word_findings known text value
-item_findings known stubs text (item.Binding name words) =
-    assigned_findings known name.start (literal_of (word_atoms text name)) ++ flat_map (word_findings known text) words.now
+item_findings known given text (item.Assignment name value) =
+    assigned_findings given.shell known name.start (literal_of (word_atoms text name)) ++ word_findings known text value
+item_findings known given text (item.Binding name words) =
+    assigned_findings given.shell known name.start (literal_of (word_atoms text name)) ++ flat_map (word_findings known text) words.now

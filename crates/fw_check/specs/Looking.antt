@@ -3,7 +3,7 @@ use Rattle.std.specs.Prelude.{Bool, true, false, Option, option_map}
 use Rattle.hush_commands.specs.Stubs.{Statuses}
 use Rattle.envvars_core.specs.declared.refusals.Refusal.{Refusal}
 use Rattle.envvars_core.specs.declared.refusals.Refusal.TheVariants as refusal
-use Rattle.fw_check.specs.Findings.{Known}
+use Rattle.fw_check.specs.Findings.{Given, Known, given_with}
 use Rattle.fw_check.specs.NameSets.{set_of}
 use Rattle.fw_check.specs.declared.lookups.Lookups.{Lookups}
 use Rattle.fw_check.specs.declared.lookups.Variables.{Variables}
@@ -16,6 +16,9 @@ known_in l = option_map known_view l.variables
 
 abbrev pub stubs_in : Lookups → Option Statuses
 stubs_in l = option_map (λ stubs. stubs.now) l.stubs
+
+abbrev pub rules_in : Lookups → Given
+rules_in l = given_with l.shell (stubs_in l)
 
 -- a write is refused for the type of its value
 abbrev pub is_for_type : Refusal → Bool

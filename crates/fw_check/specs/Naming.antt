@@ -2,6 +2,7 @@
 use Rattle.std.specs.Prelude.{ℕ, Bool, false, List, [], ◌∷◌, codes, Option, Some, None, option_to_list, if◌then◌else◌}
 use Rattle.std.specs.List.{flat_map}
 use Rattle.hush_words.specs.Words.{Atom}
+use Rattle.hush_syntax.specs.declared.nodes.Bodies.{Bodies}
 use Rattle.fw_check.specs.Literals.{is_called, is_word_of, literal_of, substituted}
 use Rattle.fw_check.specs.Statements.{Statement, Calls, Assigns, Binds, statements_in}
 
@@ -26,8 +27,8 @@ run_names (Assigns name value) = []
 run_names (Binds name words) = []
 
 -- those that the script of a text runs
-abbrev pub run_in : List ℕ → List (List ℕ)
-run_in text = flat_map run_names (statements_in text)
+abbrev pub run_in : Bodies → List ℕ → List (List ℕ)
+run_in bodies text = flat_map run_names (statements_in bodies text)
 
 -- ---- names that are given to something
 
@@ -50,8 +51,8 @@ given_names (Assigns name value) = name ∷ []
 given_names (Binds name words) = name ∷ []
 
 -- those that the script of a text gives
-abbrev pub given_in : List ℕ → List (List ℕ)
-given_in text = flat_map given_names (statements_in text)
+abbrev pub given_in : Bodies → List ℕ → List (List ℕ)
+given_in bodies text = flat_map given_names (statements_in bodies text)
 
 -- ---- names that are foreseen: a command sets their variables, tests them, or asks for them
 
@@ -100,5 +101,5 @@ foreseen_names (Assigns name value) = []
 foreseen_names (Binds name words) = []
 
 -- those that the script of a text foresees
-abbrev pub foreseen_in : List ℕ → List (List ℕ)
-foreseen_in text = flat_map foreseen_names (statements_in text)
+abbrev pub foreseen_in : Bodies → List ℕ → List (List ℕ)
+foreseen_in bodies text = flat_map foreseen_names (statements_in bodies text)

@@ -2,23 +2,23 @@
 use Rattle.std.specs.Prelude.{◌≡◌, ℕ, List, Option}
 use Rattle.std.specs.List.{flat_map}
 use Rattle.hush_words.specs.Parts.{written}
-use Rattle.hush_commands.specs.Stubs.{Statuses}
+use Rattle.hush_run.specs.Meaning.{bodies_of}
 use Rattle.fw_check.specs.declared.items.Item.{Item}
 use Rattle.fw_check.specs.Statements.{AreItemsOf}
 use Rattle.fw_check.specs.Checking.{IsReading, Reading, findings, reading_findings}
-use Rattle.fw_check.specs.Findings.{Known, Report, item_findings, with_findings}
+use Rattle.fw_check.specs.Findings.{Given, Known, Report, item_findings, with_findings}
 use Rattle.fw_check.specs.Found.{Found, found_more}
 
-module _ (known : Option Known) (stubs : Option Statuses) where
+module _ (known : Option Known) (given : Given) where
   -- what is found in the statements of a script was added
   abbrev pub ReadsItems : List ℕ → Found → Found → Type 0
   ReadsItems text old new =
-      (items : List Item) × AreItemsOf text items × (new ≡ found_more old (flat_map (item_findings known stubs (written text)) items))
+      (items : List Item) × AreItemsOf (bodies_of given.shell) text items × (new ≡ found_more old (flat_map (item_findings known given (written text)) items))
 
   -- the same for what a text is read as
   abbrev pub Reads : List ℕ → Found → Found → Type 0
-  Reads text old new = (reading : Reading) × IsReading text reading × (new ≡ found_more old (reading_findings known stubs text reading))
+  Reads text old new = (reading : Reading) × IsReading (bodies_of given.shell) text reading × (new ≡ found_more old (reading_findings known given text reading))
 
   -- a report was continued with what is found in a script
   abbrev pub GoesOn : (name text : List ℕ) → Report → Report → Type 0
-  GoesOn name text old new = (reading : Reading) × IsReading text reading × (new ≡ with_findings name text old (findings known stubs text reading))
+  GoesOn name text old new = (reading : Reading) × IsReading (bodies_of given.shell) text reading × (new ≡ with_findings name text old (findings known given text reading))

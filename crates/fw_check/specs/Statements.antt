@@ -2,8 +2,9 @@
 use Rattle.std.specs.Prelude.{◌≡◌, ℕ, List, [], ◌∷◌, ◌++◌, map, Option, Some, None}
 use Rattle.hush_words.specs.Words.{Atom}
 use Rattle.hush_words.specs.Parts.{Written, written, word_atoms}
-use Rattle.hush_syntax.specs.Grammar.{Command, Simple, Assign, If, For, While, Until, Branches, Elif, Else, Fi, Chain, First, Links, End, Link, Chains, Last, More, SpellsText}
-use Rattle.hush_syntax.specs.Reading.{read}
+use Rattle.hush_syntax.specs.Grammar.{Command, Simple, Assign, If, For, While, Until, Branches, Elif, Else, Fi, Chain, First, Links, End, Link, Chains, Last, More, SpellsIn}
+use Rattle.hush_syntax.specs.Reading.{read_in}
+use Rattle.hush_syntax.specs.declared.nodes.Bodies.{Bodies}
 use Rattle.hush_syntax.specs.Trees.{words_in, name_in}
 use Rattle.fw_check.specs.declared.items.Item.{Item}
 use Rattle.fw_check.specs.declared.items.Item.TheVariants as item
@@ -47,9 +48,9 @@ abbrev pub of_reading : Option (Option Chains) → List Statement
 of_reading None = []
 of_reading (Some tree) = of_script tree
 
--- those of the script that a text is; a text that isn't a script has none
-abbrev pub statements_in : List ℕ → List Statement
-statements_in text = of_reading (read text)
+-- those of the script that a text is, whose bodies are of this kind; a text that isn't a script has none
+abbrev pub statements_in : Bodies → List ℕ → List Statement
+statements_in bodies text = of_reading (read_in bodies text)
 
 -- the statement of an item of the code, whose words are ranges of the text
 abbrev pub statement_of : Written → Item → Statement
@@ -58,6 +59,6 @@ statement_of text (item.Assignment name value) = Assigns (name_in text name) (wo
 statement_of text (item.Binding name words) = Binds (name_in text name) (words_in text words.now)
 
 -- these are the statements of the script that this text is
-abbrev pub AreItemsOf : List ℕ → List Item → Type 0
-AreItemsOf text items =
-    (tree : Option Chains) × SpellsText tree text × (map (statement_of (written text)) items ≡ of_script tree)
+abbrev pub AreItemsOf : Bodies → List ℕ → List Item → Type 0
+AreItemsOf bodies text items =
+    (tree : Option Chains) × SpellsIn bodies tree text × (map (statement_of (written text)) items ≡ of_script tree)

@@ -8,7 +8,7 @@ use crate::commands::{CommandFault, lack_of};
 use crate::literals::is_word_of;
 use crate::name_set::ScriptNames;
 use envvars_core::Vars;
-use hush_commands::{Stubs, is_builtin};
+use hush_commands::{Shell, Stubs, is_builtin};
 use std::alloc::Global;
 
 /// What the names of variables are looked up in.
@@ -70,6 +70,8 @@ impl<'k> Variables<'k> {
 #[derive(Clone, Copy)]
 pub(crate) struct Lookups<'k> {
     pub(crate) alloc: Global,
+    /// Whose rules count where shells differ.
+    pub(crate) shell: Shell,
     /// `None` if names of variables aren't looked up.
     pub(crate) variables: Option<Variables<'k>>,
     /// The stand-ins; `None` if names of commands aren't looked up.

@@ -3,9 +3,10 @@ ghost use Rattle.std.specs.Prelude.{◌≡◌, ◌==◌, ◌&&◌, not, fold, le
 ghost use Rattle.std.specs.List.{list_all};
 ghost use Rattle.fw_check.specs.Expecting.{expected_view, suspect_view};
 ghost use Rattle.fw_check.specs.Findings.{after_field};
-ghost use Rattle.fw_check.specs.Operators.{ATerm, Joint, Operator, after_word, begins_option, ends_at, is_sign, looks_like_operator, or_first, suspect, wrong_in};
+ghost use Rattle.fw_check.specs.Operators.{ATerm, Joint, Operator, after_board_term, after_joined, after_operand, after_strict_term, after_term, after_word, begins_option, ends_at, is_sign, looks_like_operator, or_first, suspect, wrong_in};
 
 use crate::literals::{is_word_of, literal};
+use hush_commands::Shell;
 use hush_syntax::{Text, Word};
 use std::alloc::{AllocError, Global};
 
@@ -28,6 +29,12 @@ enum Expected {
     Operand,
     /// `-a` or `-o`.
     Joint,
+    /// On a board the operator of a comparison of a `!`, `-a` or `-o`, else a term.
+    Joined,
+    /// The interface after a board's `-e`; then the device, and the file as an operand.
+    Interface,
+    /// The device after it.
+    Device,
     /// The words aren't an expression, for another reason than an operator.
     Nothing,
     /// This isn't an operator.
@@ -38,58 +45,94 @@ const COMPARISONS: [&[u8]; 10] = [
     b"=", b"!=", b"<", b">", b"-eq", b"-ne", b"-lt", b"-le", b"-gt", b"-ge",
 ];
 
-/// The first of these words of a test that is in the place of an operator and looks like one, but isn't.
+/// The first of these words of a test that is in the place of an operator and looks like one, but isn't one by the rules of
+/// the shell.
 pub(crate) fn wrong_operator(
     alloc: Global,
+    shell: Shell,
     text: &Text,
     words: &[Word],
 ) -> Result<Option<Suspect>, AllocError>
     ensures { IfOk result
-        (λ wrong. option_map suspect_view wrong ≡ wrong_in (fold (after_field text.now) ATerm words.now)) }
+        (λ wrong. option_map suspect_view wrong ≡ wrong_in (fold (after_field shell text.now) ATerm words.now)) }
 {
     let mut expected = Expected::ATerm;
     for word in words {
         let bytes = literal(alloc, text, *word)?;
-        expected = after_word(expected, word.start as usize, bytes);
+        expected = after_word(shell, expected, word.start as usize, bytes);
     }
     Ok(wrong_in(expected))
 }
 
 /// What is expected after one more word, which has these bytes if it is without a substitution.
-fn after_word(expected: Expected, count: usize, bytes: Option<Vec<u8>>) -> Expected
+fn after_word(shell: Shell, expected: Expected, count: usize, bytes: Option<Vec<u8>>) -> Expected
     ensures { expected_view result
-        ≡ after_word (expected_view expected) count (option_map (λ v. v.items) bytes) }
+        ≡ after_word shell (expected_view expected) count (option_map (λ v. v.items) bytes) }
 {
     match expected {
-        Expected::ATerm => after_term(count, bytes),
+        Expected::ATerm => after_term(shell, count, bytes),
         Expected::Operator(first) => after_operator(first, count, bytes),
-        Expected::Operand => Expected::Joint,
+        Expected::Operand => after_operand(shell),
         Expected::Joint => after_joint(count, bytes),
+        Expected::Joined => after_joined(shell, count, bytes),
+        Expected::Interface => Expected::Device,
+        Expected::Device => Expected::Operand,
         Expected::Nothing => Expected::Nothing,
         Expected::Wrong(wrong) => Expected::Wrong(wrong),
     }
 }
 
-fn after_term(count: usize, bytes: Option<Vec<u8>>) -> Expected
-    ensures { expected_view result ≡ after_word ATerm count (option_map (λ v. v.items) bytes) }
+fn after_term(shell: Shell, count: usize, bytes: Option<Vec<u8>>) -> Expected
+    ensures { expected_view result ≡ after_term shell count (option_map (λ v. v.items) bytes) }
 {
     match bytes {
         None => Expected::Operator(None),
-        Some(bytes) => {
-            if is_word_of(&[b"!"], &bytes) {
-                Expected::ATerm
-            } else if is_word_of(&[b"-n", b"-z"], &bytes) {
-                Expected::Operand
-            } else {
-                Expected::Operator(suspected(count, bytes))
-            }
-        }
+        Some(bytes) => match shell {
+            Shell::Strict => after_strict_term(count, bytes),
+            Shell::Board => after_board_term(count, bytes),
+        },
+    }
+}
+
+fn after_strict_term(count: usize, bytes: Vec<u8>) -> Expected
+    ensures { expected_view result ≡ after_strict_term count bytes.items }
+{
+    if is_word_of(&[b"!"], &bytes) {
+        Expected::ATerm
+    } else if is_word_of(&[b"-n", b"-z"], &bytes) {
+        Expected::Operand
+    } else {
+        Expected::Operator(suspected(count, bytes))
+    }
+}
+
+fn after_board_term(count: usize, bytes: Vec<u8>) -> Expected
+    ensures { expected_view result ≡ after_board_term count bytes.items }
+{
+    if is_word_of(&[b"!", b"-a", b"-o"], &bytes) {
+        Expected::Joined
+    } else if is_word_of(&[b"-n", b"-z"], &bytes) {
+        Expected::Operand
+    } else if is_word_of(&[b"-e"], &bytes) {
+        Expected::Interface
+    } else {
+        Expected::Operator(suspected(count, bytes))
+    }
+}
+
+/// What is expected after the last word of a term.
+fn after_operand(shell: Shell) -> Expected
+    ensures { expected_view result ≡ after_operand shell }
+{
+    match shell {
+        Shell::Strict => Expected::Joint,
+        Shell::Board => Expected::ATerm,
     }
 }
 
 fn after_operator(first: Option<Suspect>, count: usize, bytes: Option<Vec<u8>>) -> Expected
-    ensures { expected_view result
-        ≡ after_word (Operator (option_map suspect_view first)) count (option_map (λ v. v.items) bytes) }
+    ensures { (shell : Shell) → expected_view result
+        ≡ after_word shell (Operator (option_map suspect_view first)) count (option_map (λ v. v.items) bytes) }
 {
     match bytes {
         None => ends_at(first),
@@ -104,7 +147,7 @@ fn after_operator(first: Option<Suspect>, count: usize, bytes: Option<Vec<u8>>) 
 }
 
 fn after_joint(count: usize, bytes: Option<Vec<u8>>) -> Expected
-    ensures { expected_view result ≡ after_word Joint count (option_map (λ v. v.items) bytes) }
+    ensures { (shell : Shell) → expected_view result ≡ after_word shell Joint count (option_map (λ v. v.items) bytes) }
 {
     match bytes {
         None => Expected::Nothing,
@@ -113,6 +156,21 @@ fn after_joint(count: usize, bytes: Option<Vec<u8>>) -> Expected
                 Expected::ATerm
             } else {
                 ends_at(suspected(count, bytes))
+            }
+        }
+    }
+}
+
+fn after_joined(shell: Shell, count: usize, bytes: Option<Vec<u8>>) -> Expected
+    ensures { expected_view result ≡ after_joined shell count (option_map (λ v. v.items) bytes) }
+{
+    match bytes {
+        None => Expected::Operator(None),
+        Some(bytes) => {
+            if is_word_of(&COMPARISONS, &bytes) {
+                Expected::Operand
+            } else {
+                after_term(shell, count, Some(bytes))
             }
         }
     }
@@ -144,6 +202,7 @@ fn wrong_in(expected: Expected) -> Option<Suspect>
         Expected::Wrong(wrong) => Some(wrong),
         Expected::Operator(first) => first,
         Expected::ATerm | Expected::Operand | Expected::Joint | Expected::Nothing => None,
+        Expected::Joined | Expected::Interface | Expected::Device => None,
     }
 }
 

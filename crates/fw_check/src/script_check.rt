@@ -1,13 +1,14 @@
 //! What is found in a script, and what is printed of a single script.
 ghost use Rattle.std.specs.Prelude.{◌≡◌, ◌≢◌, [], ◌∷◌, Some, IfOk, OnOk, option_map};
-ghost use Rattle.hush_syntax.specs.Grammar.{SpellsText};
+ghost use Rattle.hush_syntax.specs.Grammar.{SpellsIn};
 ghost use Rattle.hush_syntax.specs.Scripts.{source_of, tree_of};
+ghost use Rattle.hush_run.specs.Meaning.{bodies_of};
 ghost use Rattle.hush_syntax.specs.declared.syntax_fault.FaultKind.TheVariants as kind;
 ghost use Rattle.fw_engines.specs.declared.tool_end.StreamFault.TheVariants as stream;
 ghost use Rattle.fw_check.specs.Checking.{ChecksText, PrintsReport};
 ghost use Rattle.fw_check.specs.Findings.{error_at, fault_sentence, report_end};
 ghost use Rattle.fw_check.specs.Found.{found_more};
-ghost use Rattle.fw_check.specs.Looking.{known_in, stubs_in};
+ghost use Rattle.fw_check.specs.Looking.{known_in, rules_in};
 ghost use Rattle.fw_check.specs.Reports.{GoesOn, Reads, ReadsItems};
 
 use crate::findings::{Findings, Report};
@@ -16,28 +17,31 @@ use crate::lookups::Lookups;
 use crate::statements::check_items;
 use fw_engines::streams::write_two;
 use fw_engines::{StreamFault, ToolEnd};
-use hush_commands::Stubs;
+use hush_commands::{Shell, Stubs};
+use hush_run::bodies_of;
 use hush_syntax::{FaultKind, Script, SyntaxFault};
 use std::alloc::{AllocError, Global};
 use std::io::Write;
 
-/// Prints on `output` what is found in one script. No environment is used; with stand-ins a command that is
+/// Prints on `output` what is found in one script by the rules of a shell. No environment is used; with stand-ins a command that is
 /// neither a builtin nor one of them is an error. The status is 1 if an error was found, else 0. docs/tools.md has the
 /// texts.
 ///
 /// At the fault `Memory` nothing is printed.
 pub fn check_text<W: Write>(
     alloc: Global,
+    shell: Shell,
     stubs: Option<&Stubs>,
     name: &[u8],
     text: &[u8],
     output: &mut W,
 ) -> ToolEnd
-    ensures { ChecksText (option_map (λ s. s.now) stubs.entry) name.now text.now
+    ensures { ChecksText shell (option_map (λ s. s.now) stubs.entry) name.now text.now
         (W.contents output.old) (W.contents output.new) result }
 {
     let lookups = Lookups {
         alloc,
+        shell,
         variables: None,
         stubs,
     };
@@ -91,7 +95,7 @@ pub(crate) fn check_script(
     name: &[u8],
     text: &[u8],
 ) -> Result<Report, AllocError>
-    ensures { IfOk result (λ after. GoesOn (known_in lookups.now) (stubs_in lookups.now) name.now text.now
+    ensures { IfOk result (λ after. GoesOn (known_in lookups.now) (rules_in lookups.now) name.now text.now
         report after) }
 {
     let mut found = Findings::new(report, name, text);
@@ -106,10 +110,10 @@ fn check_reading(
     text: &[u8],
     found: &mut Findings<'_>,
 ) -> Result<(), AllocError>
-    ensures { OnOk result (Reads (known_in lookups.now) (stubs_in lookups.now) text.now found.old found.new) }
+    ensures { OnOk result (Reads (known_in lookups.now) (rules_in lookups.now) text.now found.old found.new) }
 {
     let source = Vec::from_slice(lookups.alloc, text)?;
-    match Script::parse(lookups.alloc, source) {
+    match Script::parse_in(lookups.alloc, source, bodies_of(lookups.shell)) {
         Ok(script) => check_parsed(lookups, &script, found),
         Err(fault) => add_fault(fault, found),
     }
@@ -121,8 +125,8 @@ fn check_parsed(
     script: &Script,
     found: &mut Findings<'_>,
 ) -> Result<(), AllocError>
-    requires { SpellsText (tree_of script.now) (source_of script.now) }
-    ensures { OnOk result (ReadsItems (known_in lookups.now) (stubs_in lookups.now) (source_of script.now)
+    requires { SpellsIn (bodies_of lookups.now.shell) (tree_of script.now) (source_of script.now) }
+    ensures { OnOk result (ReadsItems (known_in lookups.now) (rules_in lookups.now) (source_of script.now)
         found.old found.new) }
 {
     let items = items_of(lookups.alloc, script)?;

@@ -3,10 +3,10 @@ ghost use Rattle.std.specs.Prelude.{◌≡◌, ◌++◌, [], ◌∷◌, if◌the
 ghost use Rattle.std.specs.List.{flat_map};
 ghost use Rattle.hush_words.specs.Parts.{word_atoms};
 ghost use Rattle.fw_check.specs.Commands.{command_sentence};
-ghost use Rattle.fw_check.specs.Findings.{argument_findings, assigned_findings, called_findings, command_findings, error_at, item_findings, operator_findings, run_findings, target_findings, test_findings, word_findings};
+ghost use Rattle.fw_check.specs.Findings.{argument_findings, assigned_findings, called_findings, command_findings, error_at, item_findings, operator_end, operator_findings, refused_end, run_findings, target_findings, test_findings, word_findings};
 ghost use Rattle.fw_check.specs.Found.{found_more};
 ghost use Rattle.fw_check.specs.Literals.{literal_of};
-ghost use Rattle.fw_check.specs.Looking.{known_in, stubs_in};
+ghost use Rattle.fw_check.specs.Looking.{known_in, rules_in, stubs_in};
 
 use crate::commands::{CommandFault, begin_in_parentheses};
 use crate::findings::{Findings, Severity};
@@ -15,6 +15,7 @@ use crate::literals::{is_called, literal};
 use crate::lookups::Lookups;
 use crate::operators::wrong_operator;
 use crate::undefined_names::{check_word, check_words};
+use hush_commands::Shell;
 use hush_syntax::{Text, Word};
 use std::alloc::AllocError;
 
@@ -26,7 +27,7 @@ pub(crate) fn check_items(
     findings: &mut Findings<'_>,
 ) -> Result<(), AllocError>
     ensures { OnOk result (findings.new ≡ found_more findings.old
-        (flat_map (item_findings (known_in lookups.now) (stubs_in lookups.now) text.now) items.now)) }
+        (flat_map (item_findings (known_in lookups.now) (rules_in lookups.now) text.now) items.now)) }
 {
     for item in items {
         check_item(lookups, text, *item, findings)?;
@@ -42,7 +43,7 @@ fn check_item(
     findings: &mut Findings<'_>,
 ) -> Result<(), AllocError>
     ensures { OnOk result (findings.new ≡ found_more findings.old
-        (item_findings (known_in lookups.now) (stubs_in lookups.now) text.now item.entry)) }
+        (item_findings (known_in lookups.now) (rules_in lookups.now) text.now item.entry)) }
 {
     match item {
         Item::Call(words) => check_call(lookups, text, words, findings),
@@ -65,7 +66,7 @@ fn check_call(
     findings: &mut Findings<'_>,
 ) -> Result<(), AllocError>
     ensures { OnOk result (findings.new ≡ found_more findings.old
-        (command_findings (stubs_in lookups.now) text.now words.now ++ operator_findings text.now words.now
+        (command_findings (stubs_in lookups.now) text.now words.now ++ operator_findings lookups.now.shell text.now words.now
         ++ run_findings (known_in lookups.now) text.now words.now
         ++ flat_map (word_findings (known_in lookups.now) text.now) words.now)) }
 {
@@ -147,20 +148,30 @@ fn check_operators(
     findings: &mut Findings<'_>,
 ) -> Result<(), AllocError>
     ensures { OnOk result (findings.new ≡ found_more findings.old
-        (if tests then test_findings text.now words.now else [])) }
+        (if tests then test_findings lookups.now.shell text.now words.now else [])) }
 {
     if !tests {
         return Ok(());
     }
-    match wrong_operator(lookups.alloc, text, words)? {
+    match wrong_operator(lookups.alloc, lookups.shell, text, words)? {
         Some(wrong) => findings.add(
             wrong.count,
             Severity::Error,
             b"`test` has no operator `",
             &wrong.bytes,
-            b"` here, and is false",
+            operator_end(lookups.shell),
         ),
         None => Ok(()),
+    }
+}
+
+/// After a word of a test that is no operator.
+fn operator_end(shell: Shell) -> &'static [u8]
+    ensures { result.now ≡ operator_end shell }
+{
+    match shell {
+        Shell::Strict => b"` here, and is false",
+        Shell::Board => b"` here",
     }
 }
 
@@ -218,7 +229,7 @@ fn check_assigned(
     findings: &mut Findings<'_>,
 ) -> Result<(), AllocError>
     ensures { OnOk result (findings.new ≡ found_more findings.old
-        (assigned_findings (known_in lookups.now) word.start (literal_of (word_atoms text.now word)))) }
+        (assigned_findings lookups.now.shell (known_in lookups.now) word.start (literal_of (word_atoms text.now word)))) }
 {
     let Some(name) = literal(lookups.alloc, text, word)? else {
         return Ok(());
@@ -229,8 +240,18 @@ fn check_assigned(
             Severity::Warning,
             b"`",
             &name,
-            b"` is an environment variable, so it can not be assigned",
+            refused_end(lookups.shell),
         )?;
     }
     Ok(())
+}
+
+/// After the name of such a variable.
+fn refused_end(shell: Shell) -> &'static [u8]
+    ensures { result.now ≡ refused_end shell }
+{
+    match shell {
+        Shell::Strict => b"` is an environment variable, so it can not be assigned",
+        Shell::Board => b"` is an environment variable, which hides what is assigned",
+    }
 }

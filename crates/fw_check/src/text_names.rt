@@ -1,6 +1,7 @@
 //! The names that the script of a text runs, gives to something and foresees.
 ghost use Rattle.std.specs.Prelude.{◌≡◌, ◌≢◌, OnOk};
 ghost use Rattle.hush_syntax.specs.Scripts.{tree_of};
+ghost use Rattle.hush_run.specs.Meaning.{bodies_of};
 ghost use Rattle.hush_syntax.specs.declared.syntax_fault.FaultKind.TheVariants as kind;
 ghost use Rattle.std.specs.List.{flat_map};
 ghost use Rattle.fw_check.specs.Checking.{with_names};
@@ -14,26 +15,29 @@ use crate::items::items_of;
 use crate::name_set::ScriptNames;
 use crate::run_names::follow_items;
 use envvars_core::Vars;
+use hush_commands::Shell;
+use hush_run::bodies_of;
 use hush_syntax::{FaultKind, Script, SyntaxFault};
 use std::alloc::{AllocError, Global};
 
 /// Adds the names that the script of a text runs to those that are followed, and those that it gives and foresees to
-/// those of the other scripts.
+/// those of the other scripts. It is read by the rules of the shell.
 pub(crate) fn follow_text(
     alloc: Global,
+    shell: Shell,
     vars: &Vars,
     text: &[u8],
     names: &mut Names,
     gathered: &mut ScriptNames,
 ) -> Result<(), AllocError>
-    ensures names { OnOk result (names.new ≡ with_names vars.now.env names.old (run_in text.now)) }
+    ensures names { OnOk result (names.new ≡ with_names vars.now.env names.old (run_in (bodies_of shell) text.now)) }
     ensures given { OnOk result
-        (set_of gathered.new.given ≡ with_all (set_of gathered.old.given) (given_in text.now)) }
+        (set_of gathered.new.given ≡ with_all (set_of gathered.old.given) (given_in (bodies_of shell) text.now)) }
     ensures foreseen { OnOk result
-        (set_of gathered.new.foreseen ≡ with_all (set_of gathered.old.foreseen) (foreseen_in text.now)) }
+        (set_of gathered.new.foreseen ≡ with_all (set_of gathered.old.foreseen) (foreseen_in (bodies_of shell) text.now)) }
 {
     let source = Vec::from_slice(alloc, text)?;
-    match Script::parse(alloc, source) {
+    match Script::parse_in(alloc, source, bodies_of(shell)) {
         Ok(script) => follow_script(alloc, vars, &script, names, gathered),
         Err(fault) => no_script(fault),
     }

@@ -1,7 +1,9 @@
 //! What is found in the scripts of an environment.
 ghost use Rattle.std.specs.Prelude.{◌≡◌, ◌⊎◌, [], IfOk, OnOk, map, option_map};
 ghost use Rattle.fw_check.specs.Checking.{AreVisited, Checks, ComesTo, LacksMemory, PrintsReport, Reports, first_names, first_report, known_after, value_in, with_given, with_names, with_types};
-ghost use Rattle.fw_check.specs.Looking.{known_in, stubs_in};
+ghost use Rattle.hush_run.specs.Meaning.{bodies_of};
+ghost use Rattle.fw_check.specs.Findings.{given_with};
+ghost use Rattle.fw_check.specs.Looking.{known_in, rules_in};
 ghost use Rattle.fw_check.specs.NameSets.{set_of};
 
 use crate::findings::Report;
@@ -13,7 +15,7 @@ use crate::text_names::follow_text;
 use crate::typed_values::check_types;
 use envvars_core::Vars;
 use fw_engines::ToolEnd;
-use hush_commands::Stubs;
+use hush_commands::{Shell, Stubs};
 use std::alloc::{AllocError, Global};
 use std::io::Write;
 
@@ -23,7 +25,7 @@ const USUAL: [&[u8]; 3] = [b"bootcmd", b"altbootcmd", b"preboot"];
 /// After a given name that isn't defined.
 const UNDEFINED: &[u8] = b": error: no variable of this name is defined\n";
 
-/// Prints on `output` what is found in the scripts of an environment: in those of the given names, without names in
+/// Prints on `output` what is found in the scripts of an environment by the rules of a shell: in those of the given names, without names in
 /// those of `bootcmd`, `altbootcmd` and `preboot`, and in each that one of them runs by an argument without a
 /// substitution. Each is checked once, in the order in which they are met. With stand-ins a command that is neither a
 /// builtin nor one of them is an error. So is a `run` of a name that neither the environment has nor one of these
@@ -34,15 +36,16 @@ const UNDEFINED: &[u8] = b": error: no variable of this name is defined\n";
 /// At the fault `Memory` nothing is printed.
 pub fn check<W: Write>(
     alloc: Global,
+    shell: Shell,
     vars: &Vars,
     stubs: Option<&Stubs>,
     names: &[&[u8]],
     output: &mut W,
 ) -> ToolEnd
-    ensures { Checks vars.now.env (option_map (λ s. s.now) stubs.entry) (map (λ n. n.now) names.now)
+    ensures { Checks shell vars.now.env (option_map (λ s. s.now) stubs.entry) (map (λ n. n.now) names.now)
         (W.contents output.old) (W.contents output.new) result }
 {
-    match check_all(alloc, vars, stubs, names) {
+    match check_all(alloc, shell, vars, stubs, names) {
         Err(_) => lacks_memory(),
         Ok(report) => print_typed(vars, report, output),
     }
@@ -62,19 +65,21 @@ fn print_typed<W: Write>(vars: &Vars, report: Report, output: &mut W) -> ToolEnd
 /// The report on the scripts from these names on.
 fn check_all(
     alloc: Global,
+    shell: Shell,
     vars: &Vars,
     stubs: Option<&Stubs>,
     names: &[&[u8]],
 ) -> Result<Report, AllocError>
-    ensures { IfOk result (λ report. ComesTo vars.now.env (option_map (λ s. s.now) stubs.entry)
+    ensures { IfOk result (λ report. ComesTo vars.now.env (given_with shell (option_map (λ s. s.now) stubs.entry))
         (first_names vars.now.env (map (λ n. n.now) names.now))
         (first_report vars.now.env (map (λ n. n.now) names.now)) report) }
 {
     let report = report_given(alloc, vars, names)?;
     let mut visited = first_names(alloc, vars, names)?;
-    let gathered = follow_all(alloc, vars, &mut visited)?;
+    let gathered = follow_all(alloc, shell, vars, &mut visited)?;
     let lookups = Lookups {
         alloc,
+        shell,
         variables: Some(Variables {
             vars,
             names: &gathered,
@@ -132,17 +137,22 @@ fn names_in(alloc: Global, vars: &Vars, names: &[&[u8]]) -> Result<Names, AllocE
 
 /// Adds the names that the scripts of these names run, and those that theirs run, at the end. The answer is which names
 /// all these scripts give and foresee.
-fn follow_all(alloc: Global, vars: &Vars, names: &mut Names) -> Result<ScriptNames, AllocError>
-    ensures visited { OnOk result (AreVisited vars.now.env names.old 0 names.new) }
+fn follow_all(
+    alloc: Global,
+    shell: Shell,
+    vars: &Vars,
+    names: &mut Names,
+) -> Result<ScriptNames, AllocError>
+    ensures visited { OnOk result (AreVisited (bodies_of shell) vars.now.env names.old 0 names.new) }
     ensures given { IfOk result
-        (λ gathered. set_of gathered.given ≡ (known_after vars.now.env names.new).given) }
+        (λ gathered. set_of gathered.given ≡ (known_after (bodies_of shell) vars.now.env names.new).given) }
     ensures foreseen { IfOk result
-        (λ gathered. set_of gathered.foreseen ≡ (known_after vars.now.env names.new).foreseen) }
+        (λ gathered. set_of gathered.foreseen ≡ (known_after (bodies_of shell) vars.now.env names.new).foreseen) }
 {
     let mut gathered = ScriptNames::new(alloc);
     let mut index = 0;
     while let Some(name) = names.copy(alloc, index)? {
-        follow_text(alloc, vars, value(vars, &name), names, &mut gathered)?;
+        follow_text(alloc, shell, vars, value(vars, &name), names, &mut gathered)?;
         index += 1;
     }
     Ok(gathered)
@@ -155,7 +165,7 @@ fn report_all(
     names: &[Vec<u8>],
     report: Report,
 ) -> Result<Report, AllocError>
-    ensures { IfOk result (λ final. Reports vars.now.env (known_in lookups.now) (stubs_in lookups.now)
+    ensures { IfOk result (λ final. Reports vars.now.env (known_in lookups.now) (rules_in lookups.now)
         (map (λ n. n.items) names.now) report final) }
 {
     let mut so_far = report;

@@ -1,16 +1,18 @@
 -- How the tools that change a session end.
-use Rattle.std.proofs.Common.{◌≡◌, ℕ, zero, suc, ◌+◌, ◌<◌, ◌≤◌, List, [], ◌∷◌, Option, Some, None, false, length, take, drop, map, get_or, arith, refl, sym, ap, ◌∙◌, subst, cond, inr}
-use Rattle.std.specs.Prelude.{IsSomeAnd, MatchOption, is_some, slice_get}
-use Rattle.std.proofs.lemmas.List.{append-nil}
+use Rattle.std.proofs.Common.{◌≡◌, ℕ, zero, suc, ◌+◌, ◌<◌, ◌≤◌, List, [], ◌∷◌, Option, Some, None, false, length, take, drop, map, get_or, arith, refl, sym, ap, ◌∙◌, subst, cond, inr, append_assoc}
+use Rattle.std.specs.Prelude.{◌⊎◌, ◌++◌, IsSomeAnd, IsTrue, MatchOption, is_some, slice_get}
+use Rattle.std.proofs.lemmas.List.{append-nil, length-map, take_all, drop_all}
 use Rattle.std.proofs.KnownBytes.{Appends-nil, Keeps-refl}
 use Rattle.std.specs.Io.KnownBytes.{Appends}
 use Rattle.env_session.specs.Session.{Held, last_saved, side_of, written, saved}
-use Rattle.env_session.specs.Requests.{IsChange, refusal_in, write_done, imported, tally}
+use Rattle.env_session.specs.Requests.{IsChange, entry_in, refusal_in, write_done, imported, tally}
+use Rattle.envcfg_core.specs.Entries.{entry_view}
+use Rattle.envcfg_core.specs.declared.entry.TextEntry.{TextEntry}
 use Rattle.envimg_core.specs.Pieces.{Entry}
 use Rattle.envvars_core.specs.declared.refusals.Refusal.{Refusal}
 use Rattle.fw_engines.specs.Streams.{AppendsPart}
 use Rattle.fw_engines.specs.Tool.{PrintsText}
-use Rattle.fw_engines.specs.Changes.{Changing, Effect, Ends, Changes, LacksMemory, LacksMemoryToSet, NeedsMemory, silent, refused_by, unless_refused, set_effect, script_effect}
+use Rattle.fw_engines.specs.Changes.{Changing, Effect, Ends, Changes, LacksMemory, LacksMemoryToName, LacksMemoryToSet, NeedsMemory, NeedsMemoryToName, count_status, count_text, named_import_effect, pair_of, silent, refused_by, refused_line, refused_lines, unless_refused, set_effect, script_effect}
 use Rattle.text_parts.specs.Words.{spaced}
 use Rattle.fw_engines.specs.declared.tool_end.ToolEnd.{ToolEnd}
 use Rattle.fw_engines.specs.declared.tool_end.StreamFault.{StreamFault}
@@ -38,6 +40,20 @@ pub in_import : (old new : Held) (n : ℕ) (es : List Entry) (k : ℕ) → ◌�
 in_import old new n es k so_far change =
     let left = some_left es k (IsChange (imported old (take k es)).0) change in
     at_write old new new n es k left.0 left.1 so_far left.2 (subst (λ h. IsChange h left.0) (sym (ap (λ p. p.0) so_far)) left.3) refl
+
+pub in_entry : (old now new : Held) (n : ℕ) (es : List Entry) (k : ℕ) (e : Entry) (rest : List Entry) → ◌≡◌ {A = Held × ℕ} (now, n) (imported old (take k es)) →
+    drop k es ≡ e ∷ rest → IsChange now e ⊎ IsTrue (is_some (refusal_in now e.0 e.1 false)) → new ≡ now → LacksMemoryToName old es new
+in_entry old now new n es k e rest so_far cut lacks is =
+    (k, n, ap (λ (h : Held). (h, n)) is ∙ so_far, subst (λ h. NeedsMemoryToName h (drop k es)) (sym is) (subst (NeedsMemoryToName now) (sym cut) lacks))
+
+pub at_import_save : (old now new : Held) (n : ℕ) (es : List Entry) → ◌≡◌ {A = Held × ℕ} (now, n) (imported old es) →
+    last_saved (side_of now) now.marks ≡ false → new ≡ now → LacksMemoryToName old es new
+at_import_save old now new n es so_far unsaved is = (
+  length es,
+  n,
+  ap (λ (h : Held). (h, n)) is ∙ so_far ∙ ap (imported old) (sym (take_all (length es) es (omega arith))),
+  subst (λ h. NeedsMemoryToName h (drop (length es) es)) (sym is) (subst (NeedsMemoryToName now) (sym (drop_all (length es) es (omega arith))) unsaved),
+)
 
 pub ran_out : (end : ToolEnd) (a : Option (List ℕ)) (old new : Held) (effect : Effect) (lacks : Held → Type 0) → (end.status ≡ 1) × (end.fault ≡ Some Memory) → lacks new →
     Changes (record { session = old; errors = a }) (record { session = new; errors = a }) effect lacks end
@@ -136,6 +152,45 @@ drop_none g [] zero h = refl
 drop_none g [] (suc i) h = refl
 drop_none g (x ∷ xs) zero h = absurd (omega arith)
 drop_none g (x ∷ xs) (suc i) h = drop_none g xs i (omega arith)
+
+-- ---- an import
+
+-- the line of the first entry, and those of the others
+refused_first : (now : Held) (x : TextEntry) (xs : List TextEntry) →
+    refused_line (refusal_in now (entry_in x).0 (entry_in x).1 false) (entry_view x) ++ refused_lines (write_done now (entry_in x).0 (entry_in x).1 false) (map entry_view xs)
+    ≡ refused_lines now (map entry_view (x ∷ xs))
+refused_first now x xs = refl
+
+pub lines_more : (xs : List TextEntry) (i : ℕ) (x : TextEntry) (now new : Held) (a b total : List ℕ) → drop i xs ≡ x ∷ drop (i + 1) xs →
+    new ≡ write_done now (entry_in x).0 (entry_in x).1 false → b ≡ a ++ refused_line (refusal_in now (entry_in x).0 (entry_in x).1 false) (entry_view x) →
+    a ++ refused_lines now (map entry_view (drop i xs)) ≡ total → b ++ refused_lines new (map entry_view (drop (i + 1) xs)) ≡ total
+lines_more xs i x now new a b total cut done line so_far =
+    ap (λ t. t ++ refused_lines new (map entry_view (drop (i + 1) xs))) line
+    ∙ append_assoc a (refused_line (refusal_in now (entry_in x).0 (entry_in x).1 false) (entry_view x)) (refused_lines new (map entry_view (drop (i + 1) xs)))
+    ∙ ap (λ h. a ++ (refused_line (refusal_in now (entry_in x).0 (entry_in x).1 false) (entry_view x) ++ refused_lines h (map entry_view (drop (i + 1) xs)))) done
+    ∙ ap (λ t. a ++ t) (refused_first now x (drop (i + 1) xs))
+    ∙ ap (λ ys. a ++ refused_lines now (map entry_view ys)) (sym cut) ∙ so_far
+
+pub lines_end : (xs : List TextEntry) (i : ℕ) (now : Held) (a total : List ℕ) → length xs ≤ i → a ++ refused_lines now (map entry_view (drop i xs)) ≡ total → a ≡ total
+lines_end xs i now a total none so_far = sym (append-nil a) ∙ ap (λ ys. a ++ refused_lines now (map entry_view ys)) (sym (drop_all i xs none)) ∙ so_far
+
+pub all_imported : (old now : Held) (n : ℕ) (xs : List TextEntry) (i : ℕ) → length xs ≤ i → ◌≡◌ {A = Held × ℕ} (now, n) (imported old (take i (map entry_in xs))) →
+    ◌≡◌ {A = Held × ℕ} (now, n) (imported old (map entry_in xs))
+all_imported old now n xs i none so_far = so_far ∙ ap (imported old) (take_all i (map entry_in xs) (omega (arith, none, length-map xs entry_in)))
+
+-- entries without their lines
+pub pairs_are : (xs : List TextEntry) → map entry_in xs ≡ map pair_of (map entry_view xs)
+pairs_are [] = refl
+pairs_are (x ∷ xs) = ap (λ es. entry_in x ∷ es) (pairs_are xs)
+
+pub import_ends : (end : ToolEnd) (a b : Option (List ℕ)) (old mid new : Held) (n : ℕ) (xs : List TextEntry) (lines : List ℕ) → ◌≡◌ {A = Held × ℕ} (mid, n) (imported old (map entry_in xs)) →
+    lines ≡ refused_lines old (map entry_view xs) → new ≡ saved mid → PrintsText a b (lines ++ count_text n) (count_status n) end →
+    Changes (record { session = old; errors = a }) (record { session = new; errors = b }) (named_import_effect old (map entry_view xs)) (LacksMemoryToName old (map pair_of (map entry_view xs))) end
+import_ends end a b old mid new n xs lines done are is prints =
+    let all = done ∙ ap (imported old) (pairs_are xs) in
+    text_ends end a b old new (named_import_effect old (map entry_view xs)) _ (is ∙ ap (λ (p : Held × ℕ). saved p.0) all)
+    (subst (λ t. PrintsText a b t (named_import_effect old (map entry_view xs)).status end) (ap (λ t. t ++ count_text n) are ∙ ap (λ (p : Held × ℕ). refused_lines old (map entry_view xs) ++ count_text p.1) all)
+    (subst (λ s. PrintsText a b (lines ++ count_text n) s end) (ap (λ (p : Held × ℕ). count_status p.1) all) prints))
 
 pub one_written : (h now : Held) (e : Entry) → None ≡ refusal_in h e.0 e.1 false → now ≡ write_done h e.0 e.1 false → ◌≡◌ {A = Held × ℕ} (now, 0) (imported h (e ∷ []))
 unfolding imported

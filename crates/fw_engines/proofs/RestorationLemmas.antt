@@ -1,5 +1,5 @@
 -- Forced writes one after the other, and how a restore ends.
-use Rattle.std.proofs.Common.{◌≡◌, ℕ, zero, suc, ◌+◌, ◌<◌, length, drop, map, get_or, arith, List, [], ◌∷◌, ◌++◌, Option, Some, None, true, false, cond, refl, sym, ap, ◌∙◌, subst, append_assoc}
+use Rattle.std.proofs.Common.{◌≡◌, ◌≢◌, ℕ, zero, suc, ◌+◌, ◌<◌, length, drop, map, get_or, arith, List, [], ◌∷◌, ◌++◌, Option, Some, None, true, false, cond, refl, sym, ap, ◌∙◌, subst, append_assoc}
 use Rattle.std.specs.Prelude.{MatchOption, is_some, Result, Err, IfSome, IfNone, IsTrue, IsOk}
 use Rattle.std.specs.FinMap as env
 use Rattle.env_session.proofs.LawLemmas.{change_from}
@@ -11,10 +11,14 @@ use Rattle.envvars_core.specs.declared.refusals.Refusal.TheVariants as refusal
 use Rattle.std.proofs.KnownBytes.{Appends-nil, Keeps-refl}
 use Rattle.env_session.specs.Session.{Held, last_saved, side_of, written, saved}
 use Rattle.env_session.specs.Requests.{refusal_in, write_done}
-use Rattle.envcfg_core.specs.Entries.{Entry}
+use Rattle.envcfg_core.specs.Entries.{Entry, entry_view}
+use Rattle.envcfg_core.specs.declared.entry.TextEntry.{TextEntry}
 use Rattle.envvars_core.specs.declared.refusals.Refusal.{Refusal}
 use Rattle.fw_engines.specs.Changes.{Changing, Effect, Ends, Changes, silent}
-use Rattle.fw_engines.specs.Restoration.{IsForcedChange, LacksMemoryToForce, WritesAll, forced_effect, refused_in_line, unless_refused_in}
+use Rattle.fw_engines.specs.Restoration.{IsForcedChange, LacksMemoryToForce, LacksMemoryToRestore, WritesAll, forced_effect, refused_in_line, restore_effect, restoring, unless_refused_in}
+use Rattle.fw_engines.specs.Tool.{PrintsText}
+use Rattle.fw_engines.specs.declared.tool_texts.TheConstants.{NO_ENTRY}
+use Rattle.fw_engines.proofs.ChangeLemmas.{text_ends}
 use Rattle.fw_engines.specs.declared.tool_end.ToolEnd.{ToolEnd}
 use Rattle.fw_engines.specs.declared.tool_end.StreamFault.{StreamFault}
 use Rattle.fw_engines.specs.declared.tool_end.StreamFault.TheVariants.{Read, Write, Memory}
@@ -102,3 +106,15 @@ drop_cut g [] i d h = absurd (omega (arith, h))
 drop_cut g (y ∷ xs) zero d h = refl
 drop_cut g (y ∷ xs) (suc i) d h =
     drop_cut g xs i d (omega (arith, h)) ∙ ap (λ (n : ℕ). g (get_or xs i d) ∷ drop n (g y ∷ map g xs)) (let k : suc (i + 1) ≡ suc i + 1 = omega arith in k)
+
+-- ---- a text without an entry, and one with some
+
+pub none_restored : (end : ToolEnd) (a b : Option (List ℕ)) (h : Held) (es : List TextEntry) → length es ≡ 0 →
+    PrintsText a b NO_ENTRY.now 1 end →
+    Changes (record { session = h; errors = a }) (record { session = h; errors = b }) (restore_effect h (map entry_view es)) (LacksMemoryToRestore h (map entry_view es)) end
+none_restored end a b h [] none prints = text_ends end a b h h (restore_effect h []) (LacksMemoryToRestore h []) refl prints
+none_restored end a b h (e ∷ es) none prints = absurd (omega (arith, none))
+
+pub some_restored : (h : Held) (es : List TextEntry) → length es ≢ 0 → restore_effect h (map entry_view es) ≡ forced_effect h (restoring h.now.env (map entry_view es))
+some_restored h [] some = absurd (some refl)
+some_restored h (e ∷ es) some = refl

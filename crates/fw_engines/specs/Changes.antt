@@ -1,12 +1,13 @@
 -- What setenv, a set script and an import do to a session (docs/tools.md, "The tools over a session").
-use Rattle.std.specs.Prelude.{◌≡◌, ◌⊎◌, ◌<◌, ℕ, zero, suc, List, [], ◌∷◌, ◌++◌, Option, Some, None, length, take, drop, false, codes}
+use Rattle.std.specs.Prelude.{◌≡◌, ◌⊎◌, ◌<◌, ℕ, zero, suc, List, [], ◌∷◌, ◌++◌, Option, Some, None, length, map, take, drop, false, codes, is_some, IsTrue}
 use Rattle.std.specs.Fmt.{decimal}
 use Rattle.std.specs.Io.KnownBytes.{Appends, Keeps}
 use Rattle.env_session.specs.Session.{Held, last_saved, side_of, written, saved}
-use Rattle.env_session.specs.Requests.{IsChange, refusal_in, imported}
+use Rattle.env_session.specs.Requests.{IsChange, refusal_in, imported, write_done}
+use Rattle.envcfg_core.specs.Entries as text_entries
 use Rattle.envimg_core.specs.Pieces.{Entry}
 use Rattle.envvars_core.specs.declared.refusals.Refusal.{Refusal}
-use Rattle.envvars_core.specs.Refusals.{refusal_text}
+use Rattle.envvars_core.specs.Refusals.{before_name, refusal_text}
 use Rattle.text_parts.specs.Words.{spaced}
 use Rattle.fw_engines.specs.Streams.{AppendsPart}
 use Rattle.fw_engines.specs.declared.tool_end.ToolEnd.{ToolEnd}
@@ -55,9 +56,32 @@ abbrev pub count_status : ℕ → ℕ
 count_status zero = 0
 count_status (suc n) = 1
 
+-- a refusal's text, with the line of the entry that is refused
+abbrev pub text_in_line : Refusal → text_entries.Entry → List ℕ
+text_in_line r e = before_name r ++ e.name ++ codes "\" in line " ++ decimal e.line ++ 10 ∷ []
+
+abbrev pub refused_line : Option Refusal → text_entries.Entry → List ℕ
+refused_line None e = []
+refused_line (Some r) e = text_in_line r e
+
+-- the entries that are refused, a line each
+abbrev pub refused_lines : Held → List text_entries.Entry → List ℕ
+refused_lines h [] = []
+refused_lines h (e ∷ es) = refused_line (refusal_in h e.name e.value false) e ++ refused_lines (write_done h e.name e.value false) es
+
+-- an entry without its line
+abbrev pub pair_of : text_entries.Entry → Entry
+pair_of e = (e.name, e.value)
+
 -- each entry in its order as an unforced write, and a save; then the count of those that were refused
 abbrev pub import_effect : Held → List Entry → Effect
 import_effect h es = record { text = count_text (imported h es).1; status = count_status (imported h es).1; session = saved (imported h es).0 }
+
+-- the same, and before the count those that were refused
+abbrev pub named_import_effect : Held → List text_entries.Entry → Effect
+named_import_effect h es =
+    let done = imported h (map pair_of es) in
+    record { text = refused_lines h es ++ count_text done.1; status = count_status done.1; session = saved done.0 }
 
 -- where memory may run out: at a write that no check refuses and that changes a value, or after the last one
 -- at a save of a copy that wasn't saved since the last mark
@@ -77,6 +101,15 @@ LacksMemoryToSet old name words new = ((1 < length words) × (new ≡ old)) ⊎ 
 -- an import goes on after what is refused
 abbrev pub LacksMemoryToImport : Held → List Entry → Held → Type 0
 LacksMemoryToImport old writes new = (refused : ℕ) × LacksMemory old writes refused new
+
+-- where those are named, memory is needed for their lines too
+abbrev pub NeedsMemoryToName : Held → List Entry → Type 0
+NeedsMemoryToName h [] = last_saved (side_of h) h.marks ≡ false
+NeedsMemoryToName h (e ∷ es) = IsChange h e ⊎ IsTrue (is_some (refusal_in h e.0 e.1 false))
+
+abbrev pub LacksMemoryToName : Held → List Entry → Held → Type 0
+LacksMemoryToName old writes new =
+    (k : ℕ) × (refused : ℕ) × ((new, refused) ≡ imported old (take k writes)) × NeedsMemoryToName new (drop k writes)
 
 -- how a tool that changes a session ends. If memory ran out, nothing was printed, no copy has changed, and a
 -- prefix of its writes is done, as `lacks` states it

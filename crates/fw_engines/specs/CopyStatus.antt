@@ -63,16 +63,19 @@ abbrev pub size_words : ℕ → ℕ → List ℕ
 size_words meant size = if size == meant then [] else concat (codes " with size 0x" ∷ hexadecimal size ∷ [])
 
 -- the way in which bytes are good, as far as it differs from the one meant
-abbrev pub way_words : Meant → Option Shape → List ℕ
-way_words meant None = []
-way_words meant (Some way) = concat (codes ", good" ∷ layout_words meant.layout way.layout ∷ order_words meant.order way.order ∷ size_words meant.size way.size ∷ [])
+abbrev pub way_words : Meant → Shape → List ℕ
+way_words meant way = concat (codes " good" ∷ layout_words meant.layout way.layout ∷ order_words meant.order way.order ∷ size_words meant.size way.size ∷ [])
+
+abbrev pub way_hint : Meant → Option Shape → List ℕ
+way_hint meant None = []
+way_hint meant (Some way) = concat (codes "," ∷ way_words meant way ∷ [])
 
 -- what may help if bytes aren't good as meant
 unfoldable pub hint_words : Meant → List ℕ → List ℕ
 hint_words meant bytes =
     if is_filled 255 (take meant.size bytes) then codes ", erased (all bytes FF)"
     else if is_filled 0 (take meant.size bytes) then codes ", erased (all bytes 00)"
-    else way_words meant (good_way meant bytes)
+    else way_hint meant (good_way meant bytes)
 
 abbrev pub bad_words : CopyState → Meant → List ℕ → List ℕ
 bad_words state meant bytes = concat (fault_words state ∷ hint_words meant bytes ∷ [])

@@ -2,6 +2,8 @@ pub mod Changes
 pub mod CopyStatus
 pub mod Defaults
 pub mod Messages
+pub mod Misplaced
+pub mod Misread
 pub mod Restoration
 pub mod ScriptFaults
 pub mod Shown

@@ -1,7 +1,6 @@
 -- What a restore does to a session (docs/tools.md, "The tools over a session").
 use Rattle.std.specs.Prelude.{◌≡◌, ◌⊎◌, ℕ, Bool, false, true, List, [], ◌∷◌, ◌++◌, codes, map, Option, Some, None, option_copied, if◌then◌else◌}
 use Rattle.std.specs.List.{flat_map}
-use Rattle.std.specs.Fmt.{decimal}
 use Rattle.std.specs.Str.{bytes_eq}
 use Rattle.std.specs.FinMap.{entries, get}
 use Rattle.env_session.specs.Requests.{refusal_in}
@@ -10,9 +9,9 @@ use Rattle.envcfg_core.specs.Entries.{Entry}
 use Rattle.envimg_core.specs.Environment.{Environment}
 use Rattle.envvars_core.specs.Attributes.{flags_name}
 use Rattle.envvars_core.specs.Olds.{same_value}
-use Rattle.envvars_core.specs.Refusals.{before_name, given}
+use Rattle.envvars_core.specs.Refusals.{given}
 use Rattle.envvars_core.specs.declared.refusals.Refusal.{Refusal}
-use Rattle.fw_engines.specs.Changes.{Effect, silent}
+use Rattle.fw_engines.specs.Changes.{Effect, silent, text_in_line}
 use Rattle.fw_engines.specs.declared.restoration.ForcedWrite.{ForcedWrite}
 
 abbrev pub is_flags : Entry → Bool
@@ -38,10 +37,6 @@ names_of env = map (λ p. p.0) (entries env)
 abbrev pub restoring : Environment → List Entry → List Entry
 restoring env es = map deletion (names_of env) ++ flags_last es
 
--- a refusal's text, with the line of the entry that is refused
-abbrev pub text_in_line : Refusal → Entry → List ℕ
-text_in_line r e = before_name r ++ e.name ++ codes "\" in line " ++ decimal e.line ++ 10 ∷ []
-
 abbrev pub refused_in_line : Refusal → Entry → Held → Effect
 refused_in_line r e h = record { text = text_in_line r e; status = 1; session = h }
 
@@ -54,8 +49,10 @@ abbrev pub forced_effect : Held → List Entry → Effect
 forced_effect h [] = silent (saved h)
 forced_effect h (e ∷ es) = unless_refused_in (refusal_in h e.name e.value true) e h (forced_effect (written h e.name e.value) es)
 
+-- a text without an entry is refused
 abbrev pub restore_effect : Held → List Entry → Effect
-restore_effect h es = forced_effect h (restoring h.now.env es)
+restore_effect h [] = record { text = codes "## Error: the text has no entry, and nothing is restored" ++ 10 ∷ []; status = 1; session = h }
+restore_effect h (e ∷ es) = forced_effect h (restoring h.now.env (e ∷ es))
 
 -- ---- where memory may run out
 

@@ -1,21 +1,24 @@
 //! The variables of a session, set and saved.
-ghost use Rattle.std.specs.Prelude.{◌≡◌, ◌<◌, [], ◌∷◌, length, map, option_copied, false, IfOk, OnErr, Some, MatchBool, MatchOption};
+ghost use Rattle.std.specs.Prelude.{◌≡◌, ◌⊎◌, ◌<◌, ◌++◌, [], ◌∷◌, length, map, option_copied, false, IfOk, OnErr, IsTrue, Some, is_some, MatchBool, MatchOption};
 ghost use Rattle.std.specs.Fmt.{decimal};
 ghost use Rattle.std.specs.Io.KnownBytes.{Appends};
-ghost use Rattle.env_session.specs.Requests.{IsChange, entry_in, refusal_in, write_done};
+ghost use Rattle.env_session.specs.Requests.{IsChange, entry_in, imported, refusal_in, write_done};
 ghost use Rattle.env_session.specs.Session.{last_saved, saved, side_of};
+ghost use Rattle.envcfg_core.specs.Entries.{entry_view};
 ghost use Rattle.envvars_core.specs.Refusals.{refusal_text};
-ghost use Rattle.fw_engines.specs.Changes.{Changes, LacksMemory, LacksMemoryToImport, LacksMemoryToSet, count_status, count_text, import_effect, script_effect, set_effect};
+ghost use Rattle.fw_engines.specs.Changes.{Changes, LacksMemory, LacksMemoryToImport, LacksMemoryToName, LacksMemoryToSet, count_status, count_text, import_effect, named_import_effect, pair_of, refused_line, refused_lines, script_effect, set_effect, text_in_line};
 ghost use Rattle.fw_engines.specs.Streams.{AppendsPart};
 ghost use Rattle.text_parts.specs.Words.{spaced};
 ghost use Rattle.fw_engines.specs.Tool.{PrintsText};
 
+use crate::copy_words::push_all;
 use crate::streams::{write_decimal, write_text, write_three};
 use crate::tool_end::{StreamFault, ToolEnd};
-use crate::tool_texts::{ENTRIES_REFUSED, ERROR};
+use crate::tool_texts::{ENTRIES_REFUSED, ERROR, NEWLINE, QUOTE_IN_LINE};
 use env_session::{ImportEnding, Session};
 use envcfg_core::TextEntry;
 use envvars_core::{Memory, Refusal};
+use itoa::Buffer;
 use std::alloc::Global;
 use std::io::Write;
 use text_parts::joined;
@@ -86,9 +89,95 @@ pub fn import<E: Write>(session: &mut Session, entries: &[TextEntry], errors: &m
         ImportEnding::Memory => ToolEnd::stopped(StreamFault::Memory),
         ImportEnding::Done => match session.save() {
             Err(_) => ToolEnd::stopped(StreamFault::Memory),
-            Ok(_side) => print_count(errors, report.refused),
+            Ok(_side) => print_refused(errors, b"", report.refused),
         },
     }
+}
+
+/// The same, and before the count the text of each refusal is printed, with the line of its entry.
+///
+/// At the fault `Memory` nothing is printed, no copy has changed, and a prefix of the entries is done.
+pub fn import_named<E: Write>(
+    alloc: Global,
+    session: &mut Session,
+    entries: &[TextEntry],
+    errors: &mut E,
+) -> ToolEnd
+    ensures { Changes (record { session = session.old; errors = E.contents errors.old })
+        (record { session = session.new; errors = E.contents errors.new })
+        (named_import_effect session.old (map entry_view entries.now))
+        (LacksMemoryToName session.old (map pair_of (map entry_view entries.now))) result }
+{
+    let mut lines = Vec::new(alloc);
+    match import_all(session, entries, &mut lines) {
+        Err(_) => ToolEnd::stopped(StreamFault::Memory),
+        Ok(refused) => match session.save() {
+            Err(_) => ToolEnd::stopped(StreamFault::Memory),
+            Ok(_side) => print_refused(errors, &lines, refused),
+        },
+    }
+}
+
+/// Takes each entry in its order as an unforced write, appends a line for each that is refused, and answers how many
+/// those are.
+fn import_all(
+    session: &mut Session,
+    entries: &[TextEntry],
+    lines: &mut Vec<u8>,
+) -> Result<usize, Memory>
+    ensures done { IfOk result (λ refused. (session.new, refused) ≡ imported session.old (map entry_in entries.now)) }
+    ensures lines { IfOk result (λ _. lines.new.items ≡ lines.old.items ++ refused_lines session.old (map entry_view entries.now)) }
+    ensures lacking { OnErr result (LacksMemoryToName session.old (map entry_in entries.now) session.new) }
+{
+    let mut refused = 0;
+    for entry in entries {
+        match import_entry(session, entry, lines) {
+            Ok(no) => refused += usize::from(no),
+            Err(Memory) => return Err(Memory),
+        }
+    }
+    Ok(refused)
+}
+
+/// Takes one entry as an unforced write, appends its line if it is refused, and answers whether it is.
+fn import_entry(
+    session: &mut Session,
+    entry: &TextEntry,
+    lines: &mut Vec<u8>,
+) -> Result<bool, Memory>
+    ensures refused { IfOk result (λ no. no ≡ is_some (refusal_in session.old (entry_in entry.now).0 (entry_in entry.now).1 false)) }
+    ensures done { IfOk result (λ _. session.new ≡ write_done session.old (entry_in entry.now).0 (entry_in entry.now).1 false) }
+    ensures line { IfOk result (λ _. lines.new.items ≡ lines.old.items
+        ++ refused_line (refusal_in session.old (entry_in entry.now).0 (entry_in entry.now).1 false) (entry_view entry.now)) }
+    ensures unchanged { OnErr result (session.new ≡ session.old) }
+    ensures lacking { OnErr result (IsChange session.old (entry_in entry.now)
+        ⊎ IsTrue (is_some (refusal_in session.old (entry_in entry.now).0 (entry_in entry.now).1 false))) }
+{
+    match write_entry(session, entry) {
+        Ok(None) => Ok(false),
+        Ok(Some(refusal)) => match push_refusal(lines, refusal, entry) {
+            Ok(()) => Ok(true),
+            Err(Memory) => Err(Memory),
+        },
+        Err(Memory) => Err(Memory),
+    }
+}
+
+/// Appends a refusal's text with the line of its entry.
+fn push_refusal(lines: &mut Vec<u8>, refusal: Refusal, entry: &TextEntry) -> Result<(), Memory>
+    ensures { IfOk result (λ _. lines.new.items ≡ lines.old.items ++ text_in_line refusal (entry_view entry.now)) }
+{
+    let mut digits = Buffer::new();
+    push_all(lines, &[refusal.before_name()])?;
+    push_all(
+        lines,
+        &[
+            entry.name.as_slice(),
+            QUOTE_IN_LINE,
+            digits.format(entry.line).as_bytes(),
+            NEWLINE,
+        ],
+    )
 }
 
 /// Writes a value and saves.
@@ -155,10 +244,13 @@ fn print_refusal<E: Write>(errors: &mut E, refusal: Refusal, name: &[u8]) -> Too
     }
 }
 
-/// Prints how many entries were refused, if any were; the status is then 1.
-fn print_count<E: Write>(errors: &mut E, refused: usize) -> ToolEnd
-    ensures { PrintsText (E.contents errors.old) (E.contents errors.new) (count_text refused) (count_status refused) result }
+/// Prints these lines about refused entries and how many there are, if any were refused; the status is then 1.
+fn print_refused<E: Write>(errors: &mut E, lines: &[u8], refused: usize) -> ToolEnd
+    ensures { PrintsText (E.contents errors.old) (E.contents errors.new) (lines.now ++ count_text refused) (count_status refused) result }
 {
+    if !write_text(errors, lines) {
+        return ToolEnd::stopped(StreamFault::Write);
+    }
     if refused == 0 {
         return ToolEnd::done(0);
     }

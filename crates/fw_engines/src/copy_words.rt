@@ -1,7 +1,7 @@
 //! The text about one copy: that it is good, or what is wrong with it and what may help.
 ghost use Rattle.std.specs.Prelude.{◌≡◌, ◌++◌, IfOk, map, option_copied};
 ghost use Rattle.std.specs.List.{concat};
-ghost use Rattle.fw_engines.specs.CopyStatus.{bad_words, copy_words, fault_words, good_words, hint_words, layout_words, meant_by, order_words, size_words, way_words};
+ghost use Rattle.fw_engines.specs.CopyStatus.{bad_words, copy_words, fault_words, good_words, hint_words, layout_words, meant_by, order_words, size_words, way_hint, way_words};
 
 use crate::ways::{Meant, first_bytes, good_way, is_filled};
 use envimg_core::{CopyState, Geometry, Layout, Order, check_copy};
@@ -42,7 +42,7 @@ pub(crate) fn push_bad(
 }
 
 /// What bytes are meant to be by a geometry.
-fn meant_by(geometry: &Geometry) -> Meant
+pub(crate) fn meant_by(geometry: &Geometry) -> Meant
     ensures { result ≡ meant_by geometry.now }
 {
     Meant {
@@ -77,17 +77,25 @@ fn push_hint(text: &mut Vec<u8>, meant: &Meant, bytes: &[u8]) -> Result<(), Memo
     }
     match good_way(meant, bytes) {
         None => Ok(()),
-        Some(way) => push_way(text, meant, &way),
+        Some(way) => push_way_hint(text, meant, &way),
     }
 }
 
+/// Appends that bytes are good in this way.
+fn push_way_hint(text: &mut Vec<u8>, meant: &Meant, way: &Geometry) -> Result<(), Memory>
+    ensures { IfOk result (λ _. text.new.items ≡ text.old.items ++ way_hint meant.now (Some way.now)) }
+{
+    push_all(text, &[b","])?;
+    push_way(text, meant, way)
+}
+
 /// Appends the way in which bytes are good, as far as it differs from the one meant.
-fn push_way(text: &mut Vec<u8>, meant: &Meant, way: &Geometry) -> Result<(), Memory>
-    ensures { IfOk result (λ _. text.new.items ≡ text.old.items ++ way_words meant.now (Some way.now)) }
+pub(crate) fn push_way(text: &mut Vec<u8>, meant: &Meant, way: &Geometry) -> Result<(), Memory>
+    ensures { IfOk result (λ _. text.new.items ≡ text.old.items ++ way_words meant.now way.now) }
 {
     let layout = layout_words(meant.layout, way.layout());
     let order = order_words(meant.order, way.order());
-    push_all(text, &[b", good", layout, order])?;
+    push_all(text, &[b" good", layout, order])?;
     push_size(text, meant.size, way.size() as usize)
 }
 

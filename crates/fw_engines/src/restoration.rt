@@ -4,15 +4,15 @@ ghost use Rattle.std.specs.List.{flat_map};
 ghost use Rattle.std.specs.Io.KnownBytes.{Appends};
 ghost use Rattle.env_session.specs.Requests.{refusal_in, write_done};
 ghost use Rattle.envcfg_core.specs.Entries.{entry_view};
-ghost use Rattle.fw_engines.specs.Changes.{Changes};
-ghost use Rattle.fw_engines.specs.Restoration.{IsForcedChange, LacksMemoryToForce, LacksMemoryToRestore, deletion, flags_last, forced_effect, is_flags, kept, names_of, restore_effect, text_in_line, write_view};
+ghost use Rattle.fw_engines.specs.Changes.{Changes, text_in_line};
+ghost use Rattle.fw_engines.specs.Restoration.{IsForcedChange, LacksMemoryToForce, LacksMemoryToRestore, deletion, flags_last, forced_effect, is_flags, kept, names_of, restore_effect, restoring, write_view};
 ghost use Rattle.fw_engines.specs.Streams.{AppendsPart};
 ghost use Rattle.fw_engines.specs.Tool.{PrintsText};
 
 use crate::changes::save;
 use crate::streams::{write_decimal, write_text, write_three};
-use crate::tool_end::{StreamFault, ToolEnd};
-use crate::tool_texts::{NEWLINE, QUOTE_IN_LINE};
+use crate::tool_end::{StreamFault, ToolEnd, print_text};
+use crate::tool_texts::{NEWLINE, NO_ENTRY, QUOTE_IN_LINE};
 use env_session::Session;
 use envcfg_core::TextEntry;
 use envvars_core::{Memory, Refusal, Vars};
@@ -34,7 +34,8 @@ struct ForcedWrite<'a> {
 
 /// Deletes every variable, writes the entries in their order but for `.flags`, which comes last, and saves: so the variables
 /// are those of the text, and no others. All writes are forced: the access isn't checked. The first refusal ends it: its text
-/// is printed on `errors` with the line of its entry, status 1, and nothing is saved.
+/// is printed on `errors` with the line of its entry, status 1, and nothing is saved. Nor is it without an entry, which is
+/// reported.
 ///
 /// At the fault `Memory` nothing is printed, no copy has changed, and a prefix of the writes is done, none of which is
 /// refused; nor is the next, if there is one.
@@ -49,6 +50,9 @@ pub fn restore<E: Write>(
         (restore_effect session.old (map entry_view entries.now))
         (LacksMemoryToRestore session.old (map entry_view entries.now)) result }
 {
+    if entries.is_empty() {
+        return print_text(errors, NO_ENTRY, 1);
+    }
     match names_of(alloc, session.vars()) {
         Err(_) => ToolEnd::stopped(StreamFault::Memory),
         Ok(names) => restore_over(alloc, session, &names, entries, errors),
@@ -66,7 +70,7 @@ fn restore_over<E: Write>(
     requires { map (λ n. n.items) names.now ≡ names_of session.old.now.env }
     ensures { Changes (record { session = session.old; errors = E.contents errors.old })
         (record { session = session.new; errors = E.contents errors.new })
-        (restore_effect session.old (map entry_view entries.now))
+        (forced_effect session.old (restoring session.old.now.env (map entry_view entries.now)))
         (LacksMemoryToRestore session.old (map entry_view entries.now)) result }
 {
     match writes_of(alloc, names, entries) {

@@ -28,7 +28,10 @@ pub(crate) const ERROR: &[u8] = b"## Error: ";
 
 pub(crate) const ENTRIES_REFUSED: &[u8] = b" entries refused\n";
 
-/// Between the name of an entry that a restore refuses and the number of its line.
+/// Standard error if the text of a restore has no entry.
+pub(crate) const NO_ENTRY: &[u8] = b"## Error: the text has no entry, and nothing is restored\n";
+
+/// Between the name of an entry that an import or a restore refuses and the number of its line.
 pub(crate) const QUOTE_IN_LINE: &[u8] = b"\" in line ";
 
 pub(crate) const NEWLINE: &[u8] = b"\n";

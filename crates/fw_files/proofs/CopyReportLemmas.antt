@@ -57,7 +57,7 @@ subject_small order (File path) old new status (bytes, prints) =
 
 pub reports_small : (report : Report) (old new : Writers) (status : ℕ) → ReportsOn report old new status → status ≤ 1
 reports_small report old new status (inl stopped) = omega (arith, stopped.1)
-reports_small report old new status (inr reports) = subject_small report.order report.subject old new status reports
+reports_small report old new status (inr (waited, has, reports)) = subject_small report.order report.subject _ new status reports
 
 -- ---- a survey
 

@@ -1,4 +1,5 @@
+mod ChangedLemmas
 mod CopyReportLemmas
 pub mod FileLemmas
 mod OpeningLemmas
-mod SaidLemmas
+pub mod SaidLemmas

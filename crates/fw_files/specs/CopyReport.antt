@@ -11,6 +11,7 @@ use Rattle.fw_engines.specs.declared.copy_status.FoundCopy.{FoundCopy}
 use Rattle.fw_engines.specs.declared.copy_status.Survey.{Survey}
 use Rattle.fw_engines.specs.declared.tool_end.ToolEnd.{ToolEnd}
 use Rattle.fw_arguments.specs.Report.{Copies, File, Report, Subject}
+use Rattle.fw_files.specs.Locks.{HasWaited}
 use Rattle.fw_files.specs.Said.{Says, Stops}
 use Rattle.fw_files.specs.declared.copies.ReadCopy.{ReadCopy}
 use Rattle.fw_files.specs.declared.source.Source.{Source}
@@ -61,6 +62,9 @@ abbrev pub ReportsSubject : Order → Subject → Writers → Writers → ℕ �
 ReportsSubject order (Copies path) old new status = (survey : Survey) × IsSurveyOf order path survey × PrintsReport (status_of survey) old new status
 ReportsSubject order (File path) old new status = (bytes : List ℕ) × PrintsReport (file_status_of order path bytes) old new status
 
--- or before that a file can't be used, or memory runs out
+-- or before that a file can't be used, or memory runs out; locks may have been waited for
 abbrev pub ReportsOn : Report → Writers → Writers → ℕ → Type 0
-ReportsOn report old new status = Stops old new status ⊎ ReportsSubject report.order report.subject old new status
+ReportsOn report old new status =
+    Stops old new status
+    ⊎ ((waited : Option (List ℕ)) × HasWaited old.errors waited
+    × ReportsSubject report.order report.subject (record { output = old.output; errors = waited }) new status)

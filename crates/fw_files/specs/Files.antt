@@ -75,6 +75,8 @@ abbrev pub fault_line : Explains → List ℕ → FileFault → Option (List ℕ
 fault_line explains path (file.CannotRead why) = Some (codes "fwenv: cannot read " ++ path ++ ending explains why)
 fault_line explains path (file.CannotWrite why) = Some (codes "fwenv: cannot write " ++ path ++ ending explains why)
 fault_line explains path file.TooShort = Some (codes "fwenv: " ++ path ++ codes " is too short" ++ 10 ∷ [])
+fault_line explains path file.Yaml = Some (codes "fwenv: " ++ path ++ codes " is YAML: fwenv reads lines of DEVICE OFFSET SIZE" ++ 10 ∷ [])
+fault_line explains path file.UbiVolume = Some (codes "fwenv: " ++ path ++ codes " is a UBI volume by its name: fwenv reads files and block devices" ++ 10 ∷ [])
 fault_line explains path file.Memory = Some (message_of stream.Memory)
 fault_line explains path fault = None
 

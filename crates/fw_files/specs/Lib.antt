@@ -1,9 +1,10 @@
 -- What the public calls promise.
+pub mod Copies
 pub mod CopyReport
 pub mod Files
+pub mod Locks
+pub mod Misread
 pub mod Opening
 pub mod Reasons
 pub mod Said
 pub mod Source
--- What the steps of the code do: no promise mentions these.
-pub mod Copies

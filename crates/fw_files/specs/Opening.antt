@@ -1,5 +1,5 @@
 -- A session over copies, just opened (docs/tools.md, "Subcommands over files").
-use Rattle.std.specs.Prelude.{◌≡◌, ℕ, false, List, replicate, Option, Some, None}
+use Rattle.std.specs.Prelude.{◌≡◌, ℕ, Bool, false, List, replicate, Option, Some, None}
 use Rattle.env_session.specs.Session.{Held, opened}
 use Rattle.envimg_core.specs.Geometry.{Shape, room_of}
 use Rattle.envimg_core.specs.declared.geometry.Layout.TheVariants.{Single}
@@ -7,7 +7,8 @@ use Rattle.envimg_core.specs.declared.geometry.Order.{Order}
 use Rattle.envvars_core.specs.Variables.{Contents}
 use Rattle.fw_arguments.specs.Calls.{Defaults}
 use Rattle.fw_engines.specs.Streams.{AppendsFront}
-use Rattle.fw_files.specs.Source.{AreDefaultsOf, lacks_copy, second_bytes, warned}
+use Rattle.fw_files.specs.Misread.{Spares}
+use Rattle.fw_files.specs.Source.{AreDefaultsOf, IsTaken, lacks_copy, second_bytes, warned}
 use Rattle.fw_files.specs.declared.source.Source.{Source}
 
 -- the copies of a session: some of a configuration, in this byte order, or an erased image of this size
@@ -16,11 +17,13 @@ AreCopies None order shape first second = shape.order ≡ order
 AreCopies (Some size) order shape first second =
     (shape ≡ record { layout = Single; size = size; order = order }) × (first ≡ replicate size 255) × (second ≡ None)
 
--- a session just opened over such copies, with the defaults of some text if its path is given, else with none
-abbrev pub IsOpening : (image : Option ℕ) → Order → Defaults → Held → Type 0
-IsOpening image order asked session =
+-- a session just opened over such copies, with the defaults of some text if its path is given, else with none; if the copies are to be
+-- spared none of them is good in another way
+abbrev pub IsOpening : (image : Option ℕ) → Order → (spares : Bool) → Defaults → Held → Type 0
+IsOpening image order spares asked session =
     (shape : Shape) × (first : List ℕ) × (second : Option (List ℕ)) × (defaults : Contents)
     × AreCopies image order shape first second × AreDefaultsOf (room_of shape) asked defaults × (session ≡ opened shape first second defaults)
+    × Spares session.now.current spares shape first second
 
 -- the same copies as they were read
 abbrev pub AreCopiesIn : (image : Option ℕ) → Order → Source → Type 0
@@ -35,3 +38,14 @@ OpensOver source asked session =
 -- a copy is good, or no copy has to be: then there is a warning, unless the text is the whole environment
 abbrev pub IsAccepted : Defaults → Held → Option (List ℕ) → Option (List ℕ) → Type 0
 IsAccepted asked session old said = (lacks_copy asked session.now.current ≡ false) × AppendsFront old said (warned asked.whole session.now.current)
+
+-- a session opened with the default environment of this text, or an empty one, over copies that it may write if they are to be spared
+pub record IsOpenedWith (source : Source) (taken : Defaults) (spares : Bool) (session : Held) (old said : Option (List ℕ)) : Type 0 where
+  pub opens : OpensOver source taken session
+  pub accepted : IsAccepted taken session old said
+  pub spared : Spares session.now.current spares source.geometry source.first.bytes.items (second_bytes source.second)
+
+-- a text of plain lines is taken only if no copy is good
+abbrev pub IsOpened : Source → (asked : Defaults) → (spares : Bool) → Held → Option (List ℕ) → Option (List ℕ) → Type 0
+IsOpened source asked spares session old said =
+    (taken : Defaults) × IsTaken session.now.current asked taken × IsOpenedWith source taken spares session old said

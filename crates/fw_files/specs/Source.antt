@@ -45,6 +45,16 @@ takes_initial d = d.plain && is_none d.path
 abbrev pub IsFound : Defaults → Defaults → Type 0
 IsFound asked found = (found ≡ asked) ⊎ ((takes_initial asked ≡ true) × (found ≡ record asked { path = Some (codes "/etc/u-boot-initial-env") }))
 
+-- the same without a text of plain lines
+abbrev pub without_plain : Defaults → Defaults
+without_plain d = if d.plain then record d { path = None } else d
+
+-- the default environment of a session: such a text is read only if no copy is good
+abbrev pub IsTaken : Choice → Defaults → Defaults → Type 0
+IsTaken First asked taken = taken ≡ without_plain asked
+IsTaken Second asked taken = taken ≡ without_plain asked
+IsTaken Neither asked taken = IsFound asked taken
+
 -- plain lines as a text for import: each backslash is escaped
 abbrev pub escaped_byte : ℕ → List ℕ
 escaped_byte b = if b == 92 then b ∷ b ∷ [] else b ∷ []

@@ -2,6 +2,7 @@
 ghost use Rattle.std.specs.Prelude.{◌≡◌, ◌+◌, IfOk, length, nat_le, option_copied};
 ghost use Rattle.std.specs.Str.{bytes_eq};
 ghost use Rattle.fw_files.specs.Copies.{change_in_reads, share_a_byte, stays, to_write};
+ghost use Rattle.fw_files.specs.Misread.{IsContinued};
 ghost use Rattle.fw_files.specs.Files.{copy_fault};
 
 use crate::devices::{is_pipe, is_raw, why_not_sought};
@@ -36,7 +37,11 @@ pub(crate) fn read_copy<X: Files + AllocGlobal>(
     if is_pipe(rt, path) {
         return Err(FileFault::CannotRead(Reason::Unknown));
     }
-    let mut device = OpenOptions::new().read(true).open(rt, path)?;
+    let mut device = match OpenOptions::new().read(true).open(rt, path) {
+        Ok(device) => device,
+        Err(_) if is_ubi_volume(path) => return Err(FileFault::UbiVolume),
+        Err(error) => return Err(FileFault::from(error)),
+    };
     let length = match device.seek(SeekFrom::End(0)) {
         Ok(length) => length,
         Err(error) => return Err(FileFault::CannotRead(why_not_sought(rt, path, error.kind()))),
@@ -50,6 +55,11 @@ pub(crate) fn read_copy<X: Files + AllocGlobal>(
         Ok(()) => Ok(ReadCopy { bytes, start }),
         Err(error) => Err(short_or_unreadable(error.kind())),
     }
+}
+
+/// Whether a path that can't be opened is the name of a UBI volume, `/dev/ubiN:NAME`.
+fn is_ubi_volume(path: &str) -> bool {
+    path.starts_with("/dev/ubi") && path.as_bytes().contains(&b':')
 }
 
 /// Reads at most `most` bytes of a device from `start` on.
@@ -75,7 +85,9 @@ pub(crate) fn with_following<X: Files + AllocGlobal>(
     rt: &X,
     place: &Place,
     copy: ReadCopy,
-) -> Result<ReadCopy, FileFault> {
+) -> Result<ReadCopy, FileFault>
+    ensures { IfOk result (λ found. IsContinued copy.bytes.items found.bytes.items) }
+{
     let ReadCopy { mut bytes, start } = copy;
     let end = start.saturating_add(bytes.len() as u64);
     let most = (SIZE_MAX as usize).saturating_sub(bytes.len());

@@ -4,21 +4,24 @@ ghost use Rattle.envimg_core.specs.declared.geometry.Order.{Order};
 ghost use Rattle.fw_engines.specs.CopyStatus.{file_status_of};
 ghost use Rattle.fw_files.specs.CopyReport.{IsSurveyIn, PrintsReport, ReportsOn, ReportsSubject, device_found, device_in};
 ghost use Rattle.fw_arguments.specs.Report.{Copies, File, report_view};
+ghost use Rattle.fw_files.specs.Locks.{HasWaited};
 ghost use Rattle.fw_files.specs.Said.{SaysSome, Stops};
 ghost use Rattle.fw_files.specs.Source.{IsSourceOf};
 
 use crate::copies::{ReadCopy, with_following};
-use crate::devices::{lock_device, lock_path};
+use crate::devices::lock_path;
 use crate::file_fault::{FileFault, value_or_say};
 use crate::files::read_file;
+use crate::lock_file::lock_copies;
 use crate::reasons::Explains;
 use crate::source::{Source, config_from, read_source};
 use crate::system::{Hold, System};
 use crate::tool_messages::report;
 use envcfg_core::{Config, Place};
 use envimg_core::Order;
-use fw_arguments::{Report, Subject};
+use fw_arguments::{LockFiles, Report, Subject};
 use fw_engines::{FoundCopy, Survey, file_status, status};
+use std::alloc::Global;
 use std::io::Write;
 use std::rt::Files;
 
@@ -99,25 +102,59 @@ fn report_file<X: System + AllocGlobal, W: Write, E: Write>(
         (record { output = W.contents output.old; errors = E.contents errors.old })
         (record { output = W.contents output.new; errors = E.contents errors.new }) (unwrap_or result 1) }
 {
-    let bytes = value_or_say(
-        rt.alloc(),
-        errors,
-        Explains::Reason,
-        path,
-        read_locked(rt, path),
-    )?;
-    let end = file_status(rt.alloc(), order, path.as_bytes(), &bytes, output);
-    Some(report(end, errors))
+    let read = read_locked(rt, path, errors);
+    let bytes = value_or_say(rt.alloc(), errors, Explains::Reason, path, read)?;
+    Some(report_bytes(rt.alloc(), order, path, &bytes, output, errors))
+}
+
+/// Reports on the bytes of a file.
+fn report_bytes<W: Write, E: Write>(
+    alloc: Global,
+    order: Order,
+    path: &str,
+    bytes: &[u8],
+    output: &mut W,
+    errors: &mut E,
+) -> u8
+    ensures { ReportsSubject order (File path.now)
+        (record { output = W.contents output.old; errors = E.contents errors.old })
+        (record { output = W.contents output.new; errors = E.contents errors.new }) result }
+{
+    let end = file_status(alloc, order, path.as_bytes(), bytes, output);
+    report(end, errors)
 }
 
 /// Reads a whole file while no program that takes its lock writes it.
-fn read_locked<X: System + AllocGlobal>(rt: &X, path: &str) -> Result<Vec<u8>, FileFault> {
-    let _lock = lock_path(rt, path, Hold::Shared);
+fn read_locked<X: System + AllocGlobal, E: Write>(
+    rt: &X,
+    path: &str,
+    errors: &mut E,
+) -> Result<Vec<u8>, FileFault>
+    ensures { HasWaited (E.contents errors.old) (E.contents errors.new) }
+{
+    let _lock = lock_path(rt, path, Hold::Shared, errors);
     read_file(rt, path)
 }
 
-/// Reads the copies under a lock, each with what follows it in its device. A fault is reported on `errors`.
+/// Reads the copies under their locks, each with what follows it in its device. A fault is reported on `errors`.
 fn source_or_say<X: System + AllocGlobal, E: Write>(
+    rt: &X,
+    order: Order,
+    config: Config,
+    errors: &mut E,
+) -> Option<Source>
+    ensures { MatchOption result (SaysSome (E.contents errors.old) (E.contents errors.new))
+        (λ source. IsSourceOf order config source × HasWaited (E.contents errors.old) (E.contents errors.new)) }
+{
+    let files = LockFiles::IfPossible;
+    match lock_copies(rt, &config.first, files, Hold::Shared, errors) {
+        None => None,
+        Some(_locks) => read_followed(rt, order, config, errors),
+    }
+}
+
+/// The same once they are locked.
+fn read_followed<X: Files + AllocGlobal, E: Write>(
     rt: &X,
     order: Order,
     config: Config,
@@ -126,7 +163,6 @@ fn source_or_say<X: System + AllocGlobal, E: Write>(
     ensures { MatchOption result (SaysSome (E.contents errors.old) (E.contents errors.new))
         (λ source. IsSourceOf order config source × (E.contents errors.new ≡ E.contents errors.old)) }
 {
-    let _lock = lock_device(rt, &config.first, Hold::Shared);
     let source = read_source(rt, order, config, Explains::Reason, errors)?;
     value_or_say(
         rt.alloc(),

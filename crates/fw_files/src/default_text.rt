@@ -18,7 +18,7 @@ use std::fs::OpenOptions;
 use std::rt::Files;
 
 /// The default environment that is asked for, with the text of the board's build if none is given and it is there.
-pub fn found_defaults<'w, X: Files>(rt: &X, asked: Defaults<'w>) -> Defaults<'w>
+pub(crate) fn found_defaults<'w, X: Files>(rt: &X, asked: Defaults<'w>) -> Defaults<'w>
     ensures { IsFound (defaults_view asked.entry) (defaults_view result) }
 {
     if takes_initial(&asked) && is_there(rt, INITIAL_ENVIRONMENT) {

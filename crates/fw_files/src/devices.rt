@@ -1,33 +1,57 @@
 //! Devices: the locks on them, and what kind of file one is.
+ghost use Rattle.fw_files.specs.Locks.{HasWaited};
 
 use crate::reasons::Reason;
 use crate::system::{Hold, System};
+use crate::waiting::wait_for_lock;
 use envcfg_core::Place;
 use std::fs::{self, FileType, OpenOptions};
-use std::io::ErrorKind;
+use std::io::{ErrorKind, Write};
 use std::os::unix::fs::FileTypeExt;
 use std::rt::Files;
 
 /// Locks the device of a copy against other programs that lock it, until the result is dropped; `None` if it can't be
-/// opened or locked, and it is then used without a lock.
-pub fn lock_device<X: System>(rt: &X, place: &Place, hold: Hold) -> Option<X::File> {
-    lock_path(rt, place.device.as_str(), hold)
+/// opened or locked, and it is then used without a lock. A lock that is waited for is reported on `errors`.
+pub(crate) fn lock_device<X: System, E: Write>(
+    rt: &X,
+    place: &Place,
+    hold: Hold,
+    errors: &mut E,
+) -> Option<X::File>
+    ensures { HasWaited (E.contents errors.old) (E.contents errors.new) }
+{
+    lock_path(rt, place.device.as_str(), hold, errors)
 }
 
 /// The same for the file at a path.
-pub(crate) fn lock_path<X: System>(rt: &X, path: &str, hold: Hold) -> Option<X::File> {
+pub(crate) fn lock_path<X: System, E: Write>(
+    rt: &X,
+    path: &str,
+    hold: Hold,
+    errors: &mut E,
+) -> Option<X::File>
+    ensures { HasWaited (E.contents errors.old) (E.contents errors.new) }
+{
     if is_pipe(rt, path) {
         return None;
     }
     match OpenOptions::new().read(true).open(rt, path) {
-        Ok(device) => locked(rt, device, hold),
+        Ok(device) => locked(rt, device, path, hold, errors),
         Err(_) => None,
     }
 }
 
 /// The open file, if it can be locked.
-fn locked<X: System>(rt: &X, device: X::File, hold: Hold) -> Option<X::File> {
-    if rt.lock(&device, hold) {
+fn locked<X: System, E: Write>(
+    rt: &X,
+    device: X::File,
+    path: &str,
+    hold: Hold,
+    errors: &mut E,
+) -> Option<X::File>
+    ensures { HasWaited (E.contents errors.old) (E.contents errors.new) }
+{
+    if wait_for_lock(rt, &device, path, hold, errors) {
         Some(device)
     } else {
         None

@@ -8,7 +8,8 @@ ghost use Rattle.fw_files.specs.Said.{SaysLine, SaysSome};
 ghost use Rattle.fw_files.specs.declared.file_fault.FileFault.TheVariants.{CannotRead, Memory};
 
 use crate::file_texts::{
-    CANNOT_READ_FILE, CANNOT_WRITE_FILE, COLON, FWENV, IN_LINE, NEWLINE, TOO_SHORT,
+    CANNOT_READ_FILE, CANNOT_WRITE_FILE, COLON, FWENV, IN_LINE, IS_UBI_VOLUME, IS_YAML, NEWLINE,
+    TOO_SHORT,
 };
 use crate::reasons::{Explains, Reason};
 use envcfg_core::{ConfigFault, TextFault};
@@ -32,6 +33,10 @@ pub enum FileFault {
     Memory,
     /// It is a configuration that is refused.
     Config(ConfigFault),
+    /// It is a configuration in YAML, as newer libubootenv has.
+    Yaml,
+    /// It is the name of a UBI volume, as U-Boot's tools have.
+    UbiVolume,
     /// It is a text for import or a set script that is refused.
     Text(TextFault),
     /// It is a stand-in file that is refused.
@@ -96,6 +101,8 @@ pub(crate) fn say_fault<E: Write>(
         }
         FileFault::TooShort => say_path(errors, FWENV, path, TOO_SHORT),
         FileFault::Memory => say(errors, OUT_OF_MEMORY),
+        FileFault::Yaml => say_path(errors, FWENV, path, IS_YAML),
+        FileFault::UbiVolume => say_path(errors, FWENV, path, IS_UBI_VOLUME),
         FileFault::Config(refused) => match refused.to_string(alloc) {
             Ok(name) => say_refused(errors, path, name.as_bytes()),
             Err(_) => say(errors, OUT_OF_MEMORY),

@@ -11,6 +11,12 @@ pub(crate) const FWENV: &[u8] = b"fwenv: ";
 /// After the path of a device that a copy isn't wholly inside.
 pub(crate) const TOO_SHORT: &[u8] = b" is too short\n";
 
+/// After the path of a configuration in YAML, and of a UBI volume.
+pub(crate) const IS_YAML: &[u8] = b" is YAML: fwenv reads lines of DEVICE OFFSET SIZE\n";
+
+pub(crate) const IS_UBI_VOLUME: &[u8] =
+    b" is a UBI volume by its name: fwenv reads files and block devices\n";
+
 /// Between a path and the fault's name, and between that and the number of the line.
 pub(crate) const COLON: &[u8] = b": ";
 
@@ -25,11 +31,23 @@ pub(crate) const COPIES_OVERLAP: &[u8] = b"fwenv: copies overlap\n";
 /// Standard error if neither copy is good.
 pub(crate) const BAD_CRC_DEFAULT: &[u8] = b"Warning: Bad CRC, using default environment\n";
 
+/// Standard error before a copy is written over other data.
+pub(crate) const FIRST_OVER_DATA: &[u8] =
+    b"Warning: the first copy is written over data that is no environment\n";
+
+pub(crate) const SECOND_OVER_DATA: &[u8] =
+    b"Warning: the second copy is written over data that is no environment\n";
+
 /// The default environment of a board's build.
 pub(crate) const INITIAL_ENVIRONMENT: &str = "/etc/u-boot-initial-env";
 
 /// Before the path of a lock file that can't be opened or locked.
 pub(crate) const CANNOT_LOCK: &[u8] = b"fwenv: cannot lock ";
+
+/// Before and after the path of a file whose lock is waited for.
+pub(crate) const WAITING: &[u8] = b"fwenv: waiting for ";
+
+pub(crate) const WHICH_IS_LOCKED: &[u8] = b", which another program has locked\n";
 
 /// Before, between and after the faults of the copies if no copy is good.
 pub(crate) const NO_GOOD_COPY: &[u8] = b"fwenv: no good copy: ";

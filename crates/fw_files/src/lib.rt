@@ -2,8 +2,8 @@
 //! over copies is opened here, copies are written back and reported on, and it is reported why a file can not be used.
 //! docs/tools.md states the rules.
 //!
-//! To read in this order: system, reasons, file_fault, files; devices, copies, source, default_text, opening,
-//! changed_copies; copy_report; lock_file, tool_messages, file_texts.
+//! To read in this order: system, reasons, file_fault, files; waiting, devices, lock_file, copies, source, default_text,
+//! misread_copies, opening, changed_copies; copy_report; tool_messages, file_texts.
 #![tactic(auto)]
 
 mod changed_copies;
@@ -15,22 +15,22 @@ mod file_fault;
 mod file_texts;
 mod files;
 mod lock_file;
+mod misread_copies;
 mod opening;
 mod reasons;
 mod source;
 mod system;
 mod tool_messages;
+mod waiting;
 
 pub use changed_copies::{write_back, write_other_first};
 pub use copies::ReadCopy;
 pub use copy_report::run_report;
-pub use default_text::found_defaults;
-pub use devices::lock_device;
 pub use file_fault::{FileFault, value_or_say};
 pub use files::{entries_or_say, read_file, read_stand_in_file, read_stand_ins, script_from};
-pub use lock_file::lock_or_say;
+pub use lock_file::{LockedFiles, Locks, lock_copies};
 pub use opening::open;
 pub use reasons::{Explains, Reason};
 pub use source::{Source, config_or_say, erased_or_say, read_source};
-pub use system::{Hold, System};
+pub use system::{Attempt, Hold, System};
 pub use tool_messages::{message_of, report};

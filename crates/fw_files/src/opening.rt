@@ -1,15 +1,17 @@
 //! The session over the copies that were read.
-ghost use Rattle.std.specs.Prelude.{◌≡◌, IfOk, MatchOption};
+ghost use Rattle.std.specs.Prelude.{◌≡◌, true, IfOk, MatchOption};
 ghost use Rattle.env_session.specs.Session.{bytes_of, opened, opening_choice};
 ghost use Rattle.fw_arguments.specs.Calls.{defaults_view};
 ghost use Rattle.fw_engines.specs.Streams.{AppendsFront};
-ghost use Rattle.fw_files.specs.Opening.{IsAccepted, OpensOver};
+ghost use Rattle.fw_files.specs.Misread.{Spares};
+ghost use Rattle.fw_files.specs.Opening.{IsAccepted, IsOpened, IsOpenedWith, OpensOver};
 ghost use Rattle.fw_files.specs.Said.{SaysSome};
 ghost use Rattle.fw_files.specs.Source.{fault_of_copy, lacks_copy, second_bytes, warned};
 
-use crate::default_text::given_defaults;
-use crate::file_fault::{FileFault, say_fault};
+use crate::default_text::{found_defaults, given_defaults};
+use crate::file_fault::{FileFault, say_fault, value_or_say};
 use crate::file_texts::{BAD_CRC_DEFAULT, IN_FIRST, IN_SECOND, LOOK_AT, NO_GOOD_COPY};
+use crate::misread_copies::spare_misread;
 use crate::reasons::Explains;
 use crate::source::Source;
 use env_session::{Session, Stored};
@@ -21,22 +23,68 @@ use std::alloc::{AllocError, Global};
 use std::io::Write;
 use std::rt::Files;
 
-/// The session over these copies, with the default environment of a text, or an empty one. If neither copy is good,
-/// that is reported on `errors`, before a fault of the text; if one has to be, the result is `None`, and the copies'
-/// faults are reported.
+/// The session over these copies, with the default environment of a text, or an empty one; a text of plain lines is read
+/// only if neither copy is good. If neither is, that is reported on `errors`, before a fault of the text. The result is
+/// `None`, with the reason reported, if one has to be, or if copies are to be spared (`spares`) and one of them is good in
+/// another way than the configuration has it.
 pub fn open<X: Files + AllocGlobal, E: Write>(
     rt: &X,
     source: &Source,
     asked: &Defaults<'_>,
+    spares: bool,
     explains: Explains,
     errors: &mut E,
 ) -> Option<Session>
     ensures { MatchOption result (SaysSome (E.contents errors.old) (E.contents errors.new))
-        (λ session. OpensOver source.now (defaults_view asked.now) session
-        × IsAccepted (defaults_view asked.now) session (E.contents errors.old) (E.contents errors.new)) }
+        (λ session. IsOpened source.now (defaults_view asked.now) spares session (E.contents errors.old) (E.contents errors.new)) }
+{
+    if asked.plain {
+        open_plain(rt, source, asked, spares, explains, errors)
+    } else {
+        open_with(rt, source, asked, spares, explains, errors)
+    }
+}
+
+/// The same if the text has plain lines, and may be that of the board's build.
+fn open_plain<X: Files + AllocGlobal, E: Write>(
+    rt: &X,
+    source: &Source,
+    asked: &Defaults<'_>,
+    spares: bool,
+    explains: Explains,
+    errors: &mut E,
+) -> Option<Session>
+    requires { asked.now.plain ≡ true }
+    ensures { MatchOption result (SaysSome (E.contents errors.old) (E.contents errors.new))
+        (λ session. IsOpened source.now (defaults_view asked.now) spares session (E.contents errors.old) (E.contents errors.new)) }
+{
+    let none = Vars::empty(rt.alloc(), source.geometry.room());
+    let opened = start(rt.alloc(), source, none);
+    let session = value_or_say(rt.alloc(), errors, explains, "", opened)?;
+    match session.current() {
+        Choice::First => Some(session),
+        Choice::Second => Some(session),
+        Choice::Neither => {
+            let found = found_defaults(rt, *asked);
+            open_with(rt, source, &found, spares, explains, errors)
+        }
+    }
+}
+
+/// The session with the default environment of this text, or with an empty one.
+fn open_with<X: Files + AllocGlobal, E: Write>(
+    rt: &X,
+    source: &Source,
+    asked: &Defaults<'_>,
+    spares: bool,
+    explains: Explains,
+    errors: &mut E,
+) -> Option<Session>
+    ensures { MatchOption result (SaysSome (E.contents errors.old) (E.contents errors.new))
+        (λ session. IsOpenedWith source.now (defaults_view asked.now) spares session (E.contents errors.old) (E.contents errors.new)) }
 {
     match session_over(rt, source, asked) {
-        Ok(session) => accept(source, asked, session, errors),
+        Ok(session) => accept(rt, source, asked, spares, session, errors),
         Err(fault) => {
             let current = current_of(source);
             warn(asked.whole | lacks_copy(asked, current), current, errors);
@@ -52,22 +100,52 @@ pub fn open<X: Files + AllocGlobal, E: Write>(
     }
 }
 
-/// The session, with a warning if neither copy is good; `None` if one has to be, and then their faults are reported.
-fn accept<E: Write>(
+/// The session, with a warning if neither copy is good; `None` if one has to be, or if they are spared, and then it is
+/// reported why.
+fn accept<X: Files + AllocGlobal, E: Write>(
+    rt: &X,
     source: &Source,
     asked: &Defaults<'_>,
+    spares: bool,
     session: Session,
     errors: &mut E,
 ) -> Option<Session>
     ensures { MatchOption result (SaysSome (E.contents errors.old) (E.contents errors.new)) (λ accepted. (accepted ≡ session)
-        × IsAccepted (defaults_view asked.now) session (E.contents errors.old) (E.contents errors.new)) }
+        × IsAccepted (defaults_view asked.now) session (E.contents errors.old) (E.contents errors.new)
+        × Spares session.now.current spares source.now.geometry source.now.first.bytes.items (second_bytes source.now.second)) }
 {
+    spare(rt, source, spares, session.current(), errors)?;
     if lacks_copy(asked, session.current()) {
         say_faults(source, errors);
         return None;
     }
     warn(asked.whole, session.current(), errors);
     Some(session)
+}
+
+/// Looks whether the copies may be written over, if they are to be spared; `None` if not, and then it is reported why.
+fn spare<X: Files + AllocGlobal, E: Write>(
+    rt: &X,
+    source: &Source,
+    spares: bool,
+    current: Choice,
+    errors: &mut E,
+) -> Option<()>
+    ensures { MatchOption result (SaysSome (E.contents errors.old) (E.contents errors.new))
+        (λ _. Spares current spares source.now.geometry source.now.first.bytes.items (second_bytes source.now.second)
+        × (E.contents errors.new ≡ E.contents errors.old)) }
+{
+    match current {
+        Choice::First => Some(()),
+        Choice::Second => Some(()),
+        Choice::Neither => {
+            if spares {
+                spare_misread(rt, source, errors)
+            } else {
+                Some(())
+            }
+        }
+    }
 }
 
 /// Whether a copy has to be good, and no copy is.

@@ -19,6 +19,7 @@ use std::alloc::{AllocError, Global};
 use std::io::Write;
 use std::rt::Files;
 use std::string::String;
+use text_parts::numbered_lines;
 
 /// Where the copies of a session are, and their bytes as they were read.
 #[derive(Drop)]
@@ -135,8 +136,19 @@ pub(crate) fn config_from(alloc: Global, text: &[u8]) -> Result<Config, FileFaul
     match parse_config(alloc, text) {
         Ok(config) => Ok(config),
         Err(ConfigFault::Memory) => Err(FileFault::Memory),
+        Err(ConfigFault::NoCopy) if is_yaml(text) => Err(FileFault::Yaml),
         Err(fault) => Err(FileFault::Config(fault)),
     }
+}
+
+/// Whether a text in which no line names a copy is YAML: a line that is no comment ends with a colon.
+fn is_yaml(text: &[u8]) -> bool {
+    for (_, line) in numbered_lines(text) {
+        if !line.starts_with(b"#") && line.trim_ascii_end().ends_with(b":") {
+            return true;
+        }
+    }
+    false
 }
 
 /// Reads a copy; a fault is reported on `errors`.

@@ -1,7 +1,14 @@
 //! What the program asks of its system besides std's files: locks on open files.
 
-use std::fs::File;
+use std::fs::{File, TryLockError};
 use std::rt::Files;
+use std::thread;
+use std::time::{Clock, Duration, Instant};
+
+/// How often a lock is tried at most before it is waited for, with a pause of so many milliseconds after each time.
+const TRIES: u32 = 100;
+
+const PAUSE: u64 = 10;
 
 /// Who else may have a lock on the same file.
 #[derive(Clone, Copy, Debug, PartialEq, Eq)]
@@ -12,18 +19,67 @@ pub enum Hold {
     Alone,
 }
 
+/// What tries to lock a file came to.
+#[derive(Clone, Copy, Debug, PartialEq, Eq)]
+pub enum Attempt {
+    /// It is locked.
+    Locked,
+    /// Another program has a lock on it.
+    Held,
+    /// It can't be locked.
+    Failed,
+}
+
 /// The system under the program. A test replaces it, as it does std's files.
 pub trait System: Files {
-    /// Waits for the advisory lock on an open file, which lasts until the file is closed; false if it can't be locked.
+    /// Tries for a second to take the advisory lock on an open file, which lasts until the file is closed.
+    fn try_lock(&self, file: &Self::File, hold: Hold) -> Attempt;
+
+    /// Waits for that lock; false if the file can't be locked.
     fn lock(&self, file: &Self::File, hold: Hold) -> bool;
 }
 
 impl System for HostRuntime {
+    fn try_lock(&self, file: &File, hold: Hold) -> Attempt {
+        let begun = Instant::now(self).ok();
+        for _ in 0..TRIES {
+            match tried_once(file, hold) {
+                Attempt::Held if !is_over(self, &begun) => thread::sleep(
+                    self,
+                    Duration::from_millis(PAUSE),
+                ),
+                attempt => return attempt,
+            }
+        }
+        Attempt::Held
+    }
+
     fn lock(&self, file: &File, hold: Hold) -> bool {
         let locked = match hold {
             Hold::Shared => file.lock_shared(),
             Hold::Alone => file.lock(),
         };
         locked.is_ok()
+    }
+}
+
+/// What one try comes to.
+fn tried_once(file: &File, hold: Hold) -> Attempt {
+    let tried = match hold {
+        Hold::Shared => file.try_lock_shared(),
+        Hold::Alone => file.try_lock(),
+    };
+    match tried {
+        Ok(()) => Attempt::Locked,
+        Err(TryLockError::WouldBlock) => Attempt::Held,
+        Err(TryLockError::Error(_)) => Attempt::Failed,
+    }
+}
+
+/// Whether a second has gone by, as far as the clock says.
+fn is_over(clock: &impl Clock, begun: &Option<Instant>) -> bool {
+    match begun {
+        Some(begun) => matches!(begun.elapsed(clock), Ok(passed) if passed.as_secs() > 0),
+        None => false,
     }
 }

@@ -6,7 +6,8 @@ use Rattle.std.specs.Prelude.{Vec, vec_len}
 use Rattle.std.specs.declared.alloc.Global.{Global}
 use Rattle.fw_session.specs.Input.{Item, Block, Dot}
 use Rattle.fw_session.specs.Streams.{Counts}
-use Rattle.hush_run.specs.Meaning.{Rules}
+use Rattle.hush_syntax.specs.declared.nodes.Bodies.{Bodies}
+use Rattle.hush_run.specs.Meaning.{Rules, bodies_of}
 use Rattle.env_requests.specs.Requests.{Note}
 use Rattle.fw_session.specs.Asked.{Asked, asked_by, asked_by_line}
 use Rattle.fw_session.specs.Turns.{NamedSession, turn, turns, MayStand, AllStand}
@@ -176,11 +177,11 @@ pub answers_no_block : (rules : Rules) (h : NamedSession) (bytes : List ℕ) (k 
 answers_no_block rules h [] k out n l e = answered_none rules h out n
 answers_no_block rules h (b ∷ bs) k out n l e = absurd (let bad : k ≡ 0 = eqb-true _ _ e in omega arith)
 
-pub answers_block : (rules : Rules) (h h' : NamedSession) (bytes block : List ℕ) (k : ℕ) (a : Asked) (out out' : Option (List ℕ)) (n n' : ℕ) (ok : Bool) → length bytes ≡ k → (k == 0) ≡ false → block ≡ bytes → IsAskedByBlock block a → Answered rules h a out out' n n' h' ok →
+pub answers_block : (rules : Rules) (bodies : Bodies) (h h' : NamedSession) (bytes block : List ℕ) (k : ℕ) (a : Asked) (out out' : Option (List ℕ)) (n n' : ℕ) (ok : Bool) → length bytes ≡ k → (k == 0) ≡ false → block ≡ bytes → bodies ≡ bodies_of rules.shell → IsAskedByBlock bodies block a → Answered rules h a out out' n n' h' ok →
     AnsweredOrCut rules h (block_items bytes) out out' n n' h' ok
-answers_block rules h h' [] block k a out out' n n' ok l e is asks p = absurd (eqb-false _ _ e (sym l))
-answers_block rules h h' (b ∷ bs) block k a out out' n n' ok l e is asks p =
-    answers_one rules h h' (Block (b ∷ bs)) out out' n n' ok (block_answered rules h h' (b ∷ bs) a out out' n n' ok (subst (λ v. IsAskedByBlock v a) is asks) p)
+answers_block rules bodies h h' [] block k a out out' n n' ok l e is kind asks p = absurd (eqb-false _ _ e (sym l))
+answers_block rules bodies h h' (b ∷ bs) block k a out out' n n' ok l e is kind asks p =
+    answers_one rules h h' (Block (b ∷ bs)) out out' n n' ok (block_answered rules h h' (b ∷ bs) a out out' n n' ok (subst (λ v. IsAskedByBlock (bodies_of rules.shell) v a) is (subst (λ v. IsAskedByBlock v block a) kind asks)) p)
 
 -- a block and then a dot line
 pub answers_both : (rules : Rules) (h h' h'' : NamedSession) (block block' line line' : List ℕ) (a : Asked) (out out' out'' : Option (List ℕ)) (n n' n'' : ℕ) (ok : Bool) → block' ≡ block → a ≡ asked_by_line line' → line' ≡ line →

@@ -1,7 +1,7 @@
 -- What the blocks and dot lines of a session leave is what a list of requests leaves.
 use Rattle.std.proofs.Common.{◌≡◌, ℕ, List, [], ◌∷◌, map, Option, Some, None, refl, subst, inl, inr}
 use Rattle.env_session.specs.Session.{Held}
-use Rattle.hush_run.specs.Meaning.{Rules}
+use Rattle.hush_run.specs.Meaning.{Rules, bodies_of}
 use Rattle.env_requests.specs.Requests.{Request, UndoTo, Note, answer_to, MayBe}
 use Rattle.env_requests.specs.Headline.{replies, AllMayBe, left_by}
 use Rattle.env_requests.proofs.ReturnLemmas.{all_undos_return}
@@ -37,7 +37,7 @@ done_first rules t h' (Seeks name) note may more = sought_first rules t h' (last
 
 turn_first : (rules : Rules) (t : NamedSession) (h' : Held) (item : Item) (note : Note) → MayStand rules t item note → Requested rules (turn rules t item note).session.held h' → Requested rules t.held h'
 unfolding turn MayStand
-turn_first rules t h' item note may more = done_first rules t h' (asked_by item note) note may more
+turn_first rules t h' item note may more = done_first rules t h' (asked_by (bodies_of rules.shell) item note) note may more
 
 pub turns_first : (rules : Rules) (items : List Item) (notes : List Note) (t : NamedSession) (h' : Held) → AllStand rules t items notes → Requested rules (turns rules t items notes).session.held h' → Requested rules t.held h'
 unfolding turns AllStand

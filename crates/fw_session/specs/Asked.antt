@@ -3,7 +3,8 @@ use Rattle.std.specs.Prelude.{ℕ, ◌==◌, ◌||◌, ◌&&◌, nat_le, not, Bo
 use Rattle.std.specs.List.{list_any}
 use Rattle.std.specs.Str.{bytes_eq}
 use Rattle.hush_syntax.specs.Grammar.{Chains}
-use Rattle.hush_syntax.specs.Reading.{read}
+use Rattle.hush_syntax.specs.Reading.{read_in}
+use Rattle.hush_syntax.specs.declared.nodes.Bodies.{Bodies}
 use Rattle.env_requests.specs.Requests.{Request, Run, Save, Print, Mark, Undo, Note, Through, Refused, Stopped}
 use Rattle.fw_session.specs.Input.{Item, Block, Dot}
 
@@ -79,12 +80,12 @@ abbrev pub asked_by_script : Option (Option Chains) → Asked
 asked_by_script None = Says (with_newline (codes "[Syntax]"))
 asked_by_script (Some tree) = Asks (Run tree) None
 
--- memory may run out while a block is read as a script
-abbrev pub asked_by_block : List ℕ → Note → Asked
-asked_by_block text Through = asked_by_script (read text)
-asked_by_block text Refused = Says no_memory
-asked_by_block text (Stopped n) = asked_by_script (read text)
+-- memory may run out while a block is read as a script, whose bodies are of this kind
+abbrev pub asked_by_block : Bodies → List ℕ → Note → Asked
+asked_by_block bodies text Through = asked_by_script (read_in bodies text)
+asked_by_block bodies text Refused = Says no_memory
+asked_by_block bodies text (Stopped n) = asked_by_script (read_in bodies text)
 
-unfoldable pub asked_by : Item → Note → Asked
-asked_by (Block text) note = asked_by_block text note
-asked_by (Dot line) note = asked_by_line line
+unfoldable pub asked_by : Bodies → Item → Note → Asked
+asked_by bodies (Block text) note = asked_by_block bodies text note
+asked_by bodies (Dot line) note = asked_by_line line

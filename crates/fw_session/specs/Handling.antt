@@ -4,7 +4,8 @@ use Rattle.std.specs.List.{list_all}
 use Rattle.fw_session.specs.Input.{Item, Block, joined, items_of, to_last_dot}
 use Rattle.fw_session.specs.Streams.{Writes}
 use Rattle.hush_run.specs.Meaning.{Rules}
-use Rattle.hush_syntax.specs.Reading.{read}
+use Rattle.hush_syntax.specs.Reading.{read_in}
+use Rattle.hush_syntax.specs.declared.nodes.Bodies.{Bodies}
 use Rattle.env_requests.specs.Requests.{Note}
 use Rattle.fw_session.specs.Asked.{Asked, Says, asked_by_script, no_memory}
 use Rattle.fw_session.specs.Turns.{NamedSession, done, turn, MayDo, MayStand}
@@ -70,8 +71,8 @@ pub record Answered (rules : Rules) (t : NamedSession) (asked : Asked) (out out'
   pub session : t' ≡ (done rules t asked note).session
 
 -- what a block asks for, or that memory ran out while it was read as a script
-abbrev pub IsAskedByBlock : List ℕ → Asked → Type 0
-IsAskedByBlock text asked = (asked ≡ asked_by_script (read text)) ⊎ (asked ≡ Says no_memory)
+abbrev pub IsAskedByBlock : Bodies → List ℕ → Asked → Type 0
+IsAskedByBlock bodies text asked = (asked ≡ asked_by_script (read_in bodies text)) ⊎ (asked ≡ Says no_memory)
 
 -- an item answered
 pub record ItemAnswered (rules : Rules) (t : NamedSession) (item : Item) (out out' : Option (List ℕ)) (n n' : ℕ)

@@ -6,7 +6,7 @@ use Rattle.env_session.specs.Session.{Held}
 use Rattle.env_session.specs.declared.undo.UndoFault.TheVariants as undo
 use Rattle.hush_commands.specs.Saving.{saved_line}
 use Rattle.hush_run.specs.declared.ending.Ending.{Ending}
-use Rattle.hush_run.specs.Meaning.{Rules}
+use Rattle.hush_run.specs.Meaning.{Rules, bodies_of}
 use Rattle.hush_run.specs.Runs.{ending_name}
 use Rattle.env_requests.specs.Requests.{UndoTo, Note, Reply, Ran, Wrote, Imported, Saved, Printed, Marked, Undone, Answer, answer_to, MayBe, listing}
 use Rattle.fw_session.specs.Input.{Item}
@@ -95,7 +95,7 @@ done rules t (Asks request name) note = shows (answer_to rules t.held request no
 done rules t (Seeks name) note = sought rules t (last_named name (standing t)) note
 
 unfoldable pub turn : Rules → NamedSession → Item → Note → Turn
-turn rules t item note = done rules t (asked_by item note) note
+turn rules t item note = done rules t (asked_by (bodies_of rules.shell) item note) note
 
 abbrev pub MaySeek : Rules → Held → Option ℕ → Note → Type 0
 MaySeek rules h None note = Unit {0}
@@ -108,7 +108,7 @@ MayDo rules t (Asks request name) note = MayBe rules t.held request note
 MayDo rules t (Seeks name) note = MaySeek rules t.held (last_named name (standing t)) note
 
 unfoldable pub MayStand : Rules → NamedSession → Item → Note → Type 0
-MayStand rules t item note = MayDo rules t (asked_by item note) note
+MayStand rules t item note = MayDo rules t (asked_by (bodies_of rules.shell) item note) note
 
 abbrev pub and_then : Turn → Turn → Turn
 and_then first next = record { text = first.text ++ next.text; session = next.session }

@@ -10,16 +10,16 @@ use crate::dot_lines::Asked;
 use arrayvec::ArrayVec;
 use env_requests::Request;
 use hush_run::Outcome;
-use hush_syntax::{FaultKind, Script};
+use hush_syntax::{Bodies, FaultKind, Script};
 use itoa::Buffer;
 use std::alloc::Global;
 use std::io::Write;
 
-/// What a block asks for.
-pub(crate) fn asked_by_block(alloc: Global, block: Vec<u8>) -> Asked
-    ensures { IsAskedByBlock block.items (asked_view result) }
+/// What a block asks for, if the bodies of a script may be so.
+pub(crate) fn asked_by_block(alloc: Global, bodies: Bodies, block: Vec<u8>) -> Asked
+    ensures { IsAskedByBlock bodies block.items (asked_view result) }
 {
-    match Script::parse(alloc, block) {
+    match Script::parse_in(alloc, block, bodies) {
         Ok(script) => Asked::Request(Request::Run(script), None),
         Err(fault) => match fault.kind {
             FaultKind::Memory => Asked::Text(b"[Memory]\n"),

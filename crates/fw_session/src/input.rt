@@ -5,70 +5,60 @@ ghost use Rattle.fw_session.specs.NamedSessions.{session_of};
 ghost use Rattle.fw_session.specs.Ends.{AnsweredOrCut};
 ghost use Rattle.fw_session.specs.Handling.{IsPending, IsLine, block_items};
 ghost use Rattle.fw_session.specs.Talks.{HandlesPiece, HandlesByte, HandlesLine};
-ghost use Rattle.hush_run.specs.Runs.{rules};
+ghost use Rattle.env_requests.specs.Views.{rules_of};
 
 use crate::blocks::asked_by_block;
 use crate::dot_lines::asked_by_line;
 use crate::replies::answer;
 use crate::session_end::Stop;
 use crate::talk::Talk;
-use hush_run::{Limits, Stubs};
+use env_requests::RunRules;
+use hush_run::bodies_of;
 use std::io::Write;
 use std::mem;
 
 /// Answers what waits at the end of the input.
-pub(crate) fn answer_rest<W: Write>(
-    talk: &mut Talk,
-    stand_ins: &Stubs,
-    limits: &Limits,
-    output: &mut W,
-) -> bool
+pub(crate) fn answer_rest<W: Write>(talk: &mut Talk, rules: &RunRules<'_>, output: &mut W) -> bool
     requires { IsPending talk.old.bytes.items talk.old.start }
-    ensures { AnsweredOrCut (rules stand_ins.now limits.now) (session_of talk.old) (items_of talk.old.bytes.items)
+    ensures { AnsweredOrCut (rules_of rules.now) (session_of talk.old) (items_of talk.old.bytes.items)
         (W.contents output.old) (W.contents output.new) talk.old.written talk.new.written (session_of talk.new) result }
 {
     if talk.start < talk.bytes.len() && talk.bytes[talk.start] == b'.' {
-        answer_dot(talk, stand_ins, limits, output)
+        answer_dot(talk, rules, output)
     } else {
-        answer_block(talk, stand_ins, limits, output)
+        answer_block(talk, rules, output)
     }
 }
 
 /// Answers the dot line that waits, whole or not, and before it the block.
-fn answer_dot<W: Write>(talk: &mut Talk, stand_ins: &Stubs, limits: &Limits, output: &mut W) -> bool
+fn answer_dot<W: Write>(talk: &mut Talk, rules: &RunRules<'_>, output: &mut W) -> bool
     requires { talk.old.start ≤ length talk.old.bytes.items }
     ensures empty { talk.new.bytes.items ≡ [] }
     ensures start { talk.new.start ≡ 0 }
-    ensures answers { AnsweredOrCut (rules stand_ins.now limits.now) (session_of talk.old)
+    ensures answers { AnsweredOrCut (rules_of rules.now) (session_of talk.old)
         (block_items (take talk.old.start talk.old.bytes.items) ++ Dot (drop talk.old.start talk.old.bytes.items) ∷ [])
         (W.contents output.old) (W.contents output.new) talk.old.written talk.new.written (session_of talk.new) result }
 {
     let asked = asked_by_line(&talk.bytes[talk.start..]);
     talk.bytes.truncate(talk.start);
     talk.start = 0;
-    answer_block(talk, stand_ins, limits, output)
+    answer_block(talk, rules, output)
         && answer(
             talk.alloc,
             &mut talk.session,
             &mut talk.names,
             asked,
-            stand_ins,
-            limits,
+            rules,
             output,
             &mut talk.written,
         )
 }
 
 /// Answers the block that waits, if it has bytes.
-fn answer_block<W: Write>(
-    talk: &mut Talk,
-    stand_ins: &Stubs,
-    limits: &Limits,
-    output: &mut W,
-) -> bool
+fn answer_block<W: Write>(talk: &mut Talk, rules: &RunRules<'_>, output: &mut W) -> bool
     ensures empty { talk.new.bytes.items ≡ [] }
     ensures start { talk.new.start ≡ talk.old.start }
-    ensures answers { AnsweredOrCut (rules stand_ins.now limits.now) (session_of talk.old) (block_items talk.old.bytes.items)
+    ensures answers { AnsweredOrCut (rules_of rules.now) (session_of talk.old) (block_items talk.old.bytes.items)
         (W.contents output.old) (W.contents output.new) talk.old.written talk.new.written (session_of talk.new) result }
 {
     if talk.bytes.is_empty() {
@@ -79,9 +69,8 @@ fn answer_block<W: Write>(
         talk.alloc,
         &mut talk.session,
         &mut talk.names,
-        asked_by_block(talk.alloc, block),
-        stand_ins,
-        limits,
+        asked_by_block(talk.alloc, bodies_of(rules.shell), block),
+        rules,
         output,
         &mut talk.written,
     )
@@ -90,16 +79,15 @@ fn answer_block<W: Write>(
 /// Handles a piece of the input.
 pub(crate) fn handle_piece<W: Write>(
     talk: &mut Talk,
-    stand_ins: &Stubs,
-    limits: &Limits,
+    rules: &RunRules<'_>,
     output: &mut W,
     piece: &[u8],
 ) -> Result<(), Stop>
     requires { IsPending talk.old.bytes.items talk.old.start }
-    ensures { HandlesPiece (rules stand_ins.now limits.now) piece.now talk.old talk.new (W.contents output.old) (W.contents output.new) result }
+    ensures { HandlesPiece (rules_of rules.now) piece.now talk.old talk.new (W.contents output.old) (W.contents output.new) result }
 {
     for byte in piece {
-        match handle_byte(talk, stand_ins, limits, output, *byte) {
+        match handle_byte(talk, rules, output, *byte) {
             Ok(()) => {}
             Err(stop) => return Err(stop),
         }
@@ -110,20 +98,19 @@ pub(crate) fn handle_piece<W: Write>(
 /// Handles one byte of the input.
 fn handle_byte<W: Write>(
     talk: &mut Talk,
-    stand_ins: &Stubs,
-    limits: &Limits,
+    rules: &RunRules<'_>,
     output: &mut W,
     byte: u8,
 ) -> Result<(), Stop>
     requires { IsPending talk.old.bytes.items talk.old.start }
-    ensures { HandlesByte (rules stand_ins.now limits.now) byte talk.old talk.new (W.contents output.old) (W.contents output.new) result }
+    ensures { HandlesByte (rules_of rules.now) byte talk.old talk.new (W.contents output.old) (W.contents output.new) result }
 {
     match talk.bytes.push(byte) {
         Err(_) => Err(Stop::Memory),
         Ok(()) => {
             if byte != b'\n' {
                 Ok(())
-            } else if handle_line(talk, stand_ins, limits, output) {
+            } else if handle_line(talk, rules, output) {
                 Ok(())
             } else {
                 Err(Stop::Write)
@@ -133,17 +120,12 @@ fn handle_byte<W: Write>(
 }
 
 /// Handles a whole line.
-fn handle_line<W: Write>(
-    talk: &mut Talk,
-    stand_ins: &Stubs,
-    limits: &Limits,
-    output: &mut W,
-) -> bool
+fn handle_line<W: Write>(talk: &mut Talk, rules: &RunRules<'_>, output: &mut W) -> bool
     requires { IsLine talk.old.bytes.items talk.old.start }
-    ensures { HandlesLine (rules stand_ins.now limits.now) talk.old talk.new (W.contents output.old) (W.contents output.new) result }
+    ensures { HandlesLine (rules_of rules.now) talk.old talk.new (W.contents output.old) (W.contents output.new) result }
 {
     if talk.bytes[talk.start] == b'.' {
-        answer_dot(talk, stand_ins, limits, output)
+        answer_dot(talk, rules, output)
     } else {
         talk.start = talk.bytes.len();
         true

@@ -17,4 +17,4 @@ mod talk;
 
 pub use script_run::run;
 pub use session_end::{SessionEnd, SessionEnding};
-pub use talk::session;
+pub use talk::{session, session_in};

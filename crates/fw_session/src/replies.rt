@@ -1,6 +1,6 @@
 //! Replies: what a block or a dot line asks for is done, and what is replied is written.
 ghost use Rattle.std.specs.Prelude.{◌≡◌, ◌<◌, Some, None, length};
-ghost use Rattle.env_requests.specs.Views.{asked, told};
+ghost use Rattle.env_requests.specs.Views.{asked, told, rules_of};
 ghost use Rattle.env_requests.specs.Requests.{UndoTo};
 ghost use Rattle.fw_session.specs.Asked.{Asks};
 ghost use Rattle.fw_session.specs.Handling.{Answered};
@@ -9,15 +9,13 @@ ghost use Rattle.fw_session.specs.Streams.{Writes};
 ghost use Rattle.fw_session.specs.Turns.{text_of};
 ghost use Rattle.fw_session.specs.Views.{asked_view, name_of};
 ghost use Rattle.hush_commands.specs.Saving.{saved_line};
-ghost use Rattle.hush_run.specs.Runs.{rules};
 
 use crate::answers::{write_lines, write_text};
 use crate::blocks::write_outcome;
 use crate::dot_lines::Asked;
 use crate::mark_names::{Name, Names, last_named, name_mark, standing};
-use env_requests::{Reply, Request, obey};
+use env_requests::{Reply, Request, RunRules, obey_in};
 use env_session::{Session, Side, UndoFault};
-use hush_run::{Limits, Stubs};
 use std::alloc::Global;
 use std::io::Write;
 
@@ -27,25 +25,22 @@ pub(crate) fn answer<W: Write>(
     session: &mut Session,
     names: &mut Names,
     asked: Asked,
-    stand_ins: &Stubs,
-    limits: &Limits,
+    rules: &RunRules<'_>,
     output: &mut W,
     written: &mut u64,
 ) -> bool
-    ensures { Answered (rules stand_ins.now limits.now) (named_session session.old (names_of names.old.items)) (asked_view asked)
+    ensures { Answered (rules_of rules.now) (named_session session.old (names_of names.old.items)) (asked_view asked)
         (W.contents output.old) (W.contents output.new) written.old written.new (named_session session.new (names_of names.new.items)) result }
 {
     match asked {
         Asked::Text(text) => write_text(output, text, written),
         Asked::Request(request, name) => answer_request(
-            alloc, session, names, request, name, stand_ins, limits, output, written,
+            alloc, session, names, request, name, rules, output, written,
         ),
         Asked::UndoTo(name) => match last_named(standing(names, session), &name) {
             Some(found) => {
                 let request = undo_to(session, found);
-                answer_request(
-                    alloc, session, names, request, None, stand_ins, limits, output, written,
-                )
+                answer_request(alloc, session, names, request, None, rules, output, written)
             }
             None => write_text(output, b"[Gone]\n", written),
         },
@@ -69,16 +64,15 @@ fn answer_request<W: Write>(
     names: &mut Names,
     request: Request,
     name: Option<Name>,
-    stand_ins: &Stubs,
-    limits: &Limits,
+    rules: &RunRules<'_>,
     output: &mut W,
     written: &mut u64,
 ) -> bool
-    ensures { Answered (rules stand_ins.now limits.now) (named_session session.old (names_of names.old.items))
+    ensures { Answered (rules_of rules.now) (named_session session.old (names_of names.old.items))
         (Asks (asked request) (name_of name)) (W.contents output.old) (W.contents output.new) written.old written.new
         (named_session session.new (names_of names.new.items)) result }
 {
-    let reply = obey(alloc, session, &request, stand_ins, limits);
+    let reply = obey_in(alloc, session, &request, rules);
     name_mark(names, &reply, name);
     write_reply(session, reply, output, written)
 }

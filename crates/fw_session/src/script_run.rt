@@ -1,38 +1,45 @@
 //! A script that is run over a session for its own status.
 ghost use Rattle.std.specs.Prelude.{◌≡◌, MatchBool};
-ghost use Rattle.hush_run.specs.Runs.{rules};
+ghost use Rattle.env_requests.specs.Views.{rules_of};
 ghost use Rattle.hush_syntax.specs.Scripts.{tree_of};
 ghost use Rattle.fw_session.specs.ScriptRun.{RunsScript, ended_by_itself, ended_by_limit, ended_so, is_well, outcome_texts};
 ghost use Rattle.fw_engines.specs.Streams.{AppendsPart};
 ghost use Rattle.std.specs.Io.KnownBytes.{Appends};
 ghost use Rattle.fw_engines.specs.Tool.{Prints};
 
+use env_requests::RunRules;
 use env_session::Session;
 use fw_engines::streams::{write_parts, write_text};
 use fw_engines::{OUT_OF_MEMORY, StreamFault, ToolEnd};
-use hush_run::{Ending, Limits, Outcome, StartedName, Stubs, run_with_place};
+use hush_run::{Ending, Outcome, StartedName, run_in};
 use hush_syntax::Script;
 use itoa::Buffer;
 use std::alloc::Global;
 use std::io::Write;
 
-/// Runs a script over a session, under limits and with stand-ins, and prints its text on `output`. The status is 0 if
-/// it reached its end or an `exit` with status 0, else 1, and then `errors` gets a line on how it ended.
-/// docs/dry-runs.md has the texts.
+/// Runs a script over a session by these rules, and prints its text on `output`. The status is 0 if it reached its end or
+/// an `exit` with status 0, else 1, and then `errors` gets a line on how it ended. docs/dry-runs.md has the texts.
 pub fn run<W: Write, E: Write>(
     alloc: Global,
     session: &mut Session,
     script: &Script,
-    stubs: &Stubs,
-    limits: &Limits,
+    rules: &RunRules<'_>,
     output: &mut W,
     errors: &mut E,
 ) -> ToolEnd
-    ensures { RunsScript (rules stubs.now limits.now) (tree_of script.now) session.old session.new
+    ensures { RunsScript (rules_of rules.now) (tree_of script.now) session.old session.new
         (record { output = W.contents output.old; errors = E.contents errors.old })
         (record { output = W.contents output.new; errors = E.contents errors.new }) result }
 {
-    let (outcome, place) = run_with_place(alloc, session, script, stubs, limits);
+    let (outcome, place) = run_in(
+        rules.shell,
+        alloc,
+        session,
+        script,
+        rules.stand_ins,
+        rules.board,
+        rules.limits,
+    );
     print_outcome(&outcome, &place, output, errors)
 }
 

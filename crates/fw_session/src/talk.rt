@@ -4,13 +4,16 @@ ghost use Rattle.fw_session.specs.NamedSessions.{named_session, session_of, unna
 ghost use Rattle.fw_session.specs.Ends.{Ends, AreRequests, LastUndoRestores};
 ghost use Rattle.fw_session.specs.Handling.{IsPending};
 ghost use Rattle.fw_session.specs.Talks.{Finishes};
+ghost use Rattle.env_requests.specs.Views.{rules_of};
 ghost use Rattle.hush_run.specs.Runs.{rules};
 
 use crate::input::{answer_rest, handle_piece};
 use crate::mark_names::{Names, unnamed};
 use crate::session_end::{SessionEnd, SessionEnding, Stop};
+use env_requests::RunRules;
 use env_session::Session;
-use hush_run::{Limits, Stubs};
+use hush_commands::BoardRules;
+use hush_run::{Limits, Shell, Stubs};
 use std::alloc::Global;
 use std::io::{Read, Write};
 
@@ -38,7 +41,7 @@ pub(crate) struct Talk {
 /// Answers the blocks of script and the dot lines of `input` on `output`, each before more is read, until the reader ends,
 /// a stream fails, or memory for the block that is being read is refused; `SessionEnding` says which. At most 16,777,217
 /// bytes are read. docs/dry-runs.md has the rules. Each block that is a script and each dot line that asks for anything is
-/// a request to the session, obeyed by [`env_requests::obey`].
+/// a request to the session, obeyed by [`env_requests::obey`]; the shell is the strict one.
 pub fn session<R: Read, W: Write>(
     alloc: Global,
     session: Session,
@@ -54,21 +57,45 @@ pub fn session<R: Read, W: Write>(
     ensures undone { LastUndoRestores result.ending session (R.remaining input.old) (W.contents output.old)
         (W.contents output.new) result.session }
 {
+    let board = BoardRules::none(alloc);
+    let strict = RunRules {
+        shell: Shell::Strict,
+        stand_ins,
+        board: &board,
+        limits,
+    };
+    session_in(alloc, session, &strict, input, output)
+}
+
+/// The same, where each block is read and run by these rules, as [`env_requests::obey_in`] does it.
+pub fn session_in<R: Read, W: Write>(
+    alloc: Global,
+    session: Session,
+    rules: &RunRules<'_>,
+    input: &mut R,
+    output: &mut W,
+) -> SessionEnd
+    ensures ends { (names : List (Option (List ℕ))) × Ends result.ending (rules_of rules.now) (unnamed session)
+        (R.remaining input.old) (R.remaining input.new) (W.contents output.old) (W.contents output.new) result.read
+        result.written (named_session result.session names) }
+    ensures requests { AreRequests (rules_of rules.now) session result.session }
+    ensures undone { LastUndoRestores result.ending session (R.remaining input.old) (W.contents output.old)
+        (W.contents output.new) result.session }
+{
     // Does nothing: it tells the prover that the opening exists.
     let _marks = session.marks();
-    answer_all(alloc, session, stand_ins, limits, input, output)
+    answer_all(alloc, session, rules, input, output)
 }
 
 /// The same, of which the other two clauses follow.
 fn answer_all<R: Read, W: Write>(
     alloc: Global,
     session: Session,
-    stand_ins: &Stubs,
-    limits: &Limits,
+    rules: &RunRules<'_>,
     input: &mut R,
     output: &mut W,
 ) -> SessionEnd
-    ensures { (names : List (Option (List ℕ))) × Ends result.ending (rules stand_ins.now limits.now) (unnamed session)
+    ensures { (names : List (Option (List ℕ))) × Ends result.ending (rules_of rules.now) (unnamed session)
         (R.remaining input.old) (R.remaining input.new) (W.contents output.old) (W.contents output.new) result.read
         result.written (named_session result.session names) }
 {
@@ -79,10 +106,10 @@ fn answer_all<R: Read, W: Write>(
         let most = (INPUT_LIMIT - read).min(PIECE);
         match input.read(&mut piece[..most]) {
             Err(_) => return ended(talk, SessionEnding::ReadFault, read),
-            Ok(0) => return finished(talk, stand_ins, limits, output, read),
+            Ok(0) => return finished(talk, rules, output, read),
             Ok(count) => {
                 read += count;
-                match handle_piece(&mut talk, stand_ins, limits, output, &piece[..count]) {
+                match handle_piece(&mut talk, rules, output, &piece[..count]) {
                     Ok(()) => {}
                     Err(Stop::Write) => return ended(talk, SessionEnding::WriteFault, read),
                     Err(Stop::Memory) => return ended(talk, SessionEnding::Memory, read),
@@ -92,7 +119,7 @@ fn answer_all<R: Read, W: Write>(
     }
     match input.read(&mut piece[..1]) {
         Err(_) => ended(talk, SessionEnding::ReadFault, read),
-        Ok(0) => finished(talk, stand_ins, limits, output, read),
+        Ok(0) => finished(talk, rules, output, read),
         Ok(_) => ended(talk, SessionEnding::TooLong, read),
     }
 }
@@ -131,21 +158,15 @@ fn ended(talk: Talk, ending: SessionEnding, read: usize) -> SessionEnd
 }
 
 /// The input has ended: what waits is answered.
-fn finished<W: Write>(
-    talk: Talk,
-    stand_ins: &Stubs,
-    limits: &Limits,
-    output: &mut W,
-    read: usize,
-) -> SessionEnd
+fn finished<W: Write>(talk: Talk, rules: &RunRules<'_>, output: &mut W, read: usize) -> SessionEnd
     requires { IsPending talk.bytes.items talk.start }
     ensures read { result.read ≡ read }
-    ensures ends { (names : List (Option (List ℕ))) × Finishes (rules stand_ins.now limits.now) (session_of talk)
+    ensures ends { (names : List (Option (List ℕ))) × Finishes (rules_of rules.now) (session_of talk)
         talk.bytes.items (W.contents output.old) (W.contents output.new) talk.written result.written
         (named_session result.session names) result.ending }
 {
     let mut talk = talk;
-    if answer_rest(&mut talk, stand_ins, limits, output) {
+    if answer_rest(&mut talk, rules, output) {
         ended(talk, SessionEnding::Done, read)
     } else {
         ended(talk, SessionEnding::WriteFault, read)

@@ -5,3 +5,4 @@ mod HelpLemmas
 mod SessionRunLemmas
 pub mod Rows
 pub mod SameTexts
+mod WarnLemmas

@@ -1,15 +1,21 @@
 -- How a dry run is left, put together.
-use Rattle.std.proofs.Common.{◌≡◌, ℕ, Bool, true, false, List, Option, Some, None, inl, inr, sym, ap, subst}
-use Rattle.std.specs.Prelude.{Result, Ok, Err, IfOk, unwrap_or}
+use Rattle.std.proofs.Common.{◌≡◌, ℕ, Bool, true, false, List, Option, Some, None, inl, inr, refl, sym, ap, subst}
+use Rattle.std.specs.Prelude.{MatchOption, Result, Ok, Err, IfOk, unwrap_or}
 use Rattle.std.specs.Result.{result_ok}
 use Rattle.env_session.specs.Session.{Held}
 use Rattle.hush_commands.specs.Stubs.{Statuses}
 use Rattle.fw_session.specs.declared.session_end.SessionEnding.{SessionEnding}
 use Rattle.fw_arguments.specs.DryRuns.{DryRun}
+use Rattle.fw_files.specs.Copies.{warned_of}
+use Rattle.fw_files.specs.Locks.{HasWaited}
+use Rattle.fw_files.specs.declared.source.Source.{Source}
+use Rattle.env_session.specs.declared.session.Stored.{Stored}
 use Rattle.fw_files.specs.Said.{SaysSome}
+use Rattle.fw_files.proofs.SaidLemmas.{not_waited, said_then, waited_said}
 use Rattle.fw_files.specs.Files.{AreStubsOf}
-use Rattle.fw_tools.specs.SessionRun.{ClosesDryRun, Reports, TriesOver, TriesWith, text_for}
+use Rattle.fw_tools.specs.SessionRun.{ClosesDryRun, Reports, TriesOver, TriesWith, WaitsAndWarns, text_for}
 use Rattle.fw_engines.specs.Streams.{AppendsFront, Streams}
+use Rattle.fw_tools.proofs.WarnLemmas.{may_warn, no_warning}
 
 pub tried_over : {E : Type 0} (run : DryRun) (session : Held) (old : Streams) (outcome : Result Statuses E) (stand_ins : Statuses) (errors : Option (List ℕ)) (new : Streams) (status : ℕ) →
     Some stand_ins ≡ result_ok outcome → IfOk outcome (AreStubsOf run.stand_ins) → errors ≡ old.errors →
@@ -26,8 +32,19 @@ tried_over run session old (Err e) stand_ins errors new status is stands same tr
     no e = cc
 
 pub reported : (kept : Bool) (end : SessionEnding) (old new : Option (List ℕ)) (status : ℕ) → Reports (text_for end) old new status → ClosesDryRun kept end old new status
-reported true end old new status reports = inr reports
+reported true end old new status reports = inr (old, (old, not_waited old old refl, no_warning old), reports)
 reported false end old new status reports = reports
+
+-- once the copies are written, for which locks may have been waited for, and a warning printed
+pub reported_after : (kept : Bool) (end : SessionEnding) (old said new : Option (List ℕ)) (status : ℕ) → kept ≡ true → WaitsAndWarns old said →
+    Reports (text_for end) said new status → ClosesDryRun kept end old new status
+reported_after true end old said new status is says reports = inr (said, says, reports)
+reported_after false end old said new status is says reports = absurd cc
+
+pub written_after : {T : Type 0} (done : Option T) (source : Source) (stored : Stored) (a b c : Option (List ℕ)) → HasWaited a b →
+    MatchOption done (SaysSome b c) (λ _. AppendsFront b c (warned_of source stored)) → MatchOption done (SaysSome a c) (λ _. WaitsAndWarns a c)
+written_after None source stored a b c waited said = said_then a b c (waited_said a b waited) said
+written_after (Some v) source stored a b c waited warned = (b, waited, may_warn source stored b c warned)
 
 pub not_written : (kept : Bool) (end : SessionEnding) (old new : Option (List ℕ)) (status : ℕ) → kept ≡ true → SaysSome old new → status ≡ 1 → ClosesDryRun kept end old new status
 not_written true end old new status is says one = inl (says, one)

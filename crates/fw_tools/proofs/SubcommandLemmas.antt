@@ -10,21 +10,23 @@ use Rattle.envimg_core.specs.declared.geometry.Order.{Order}
 use Rattle.envvars_core.specs.declared.refusals.Refusal.{Refusal}
 use Rattle.fw_files.specs.Opening.{AreCopiesIn, IsAccepted, IsOpening, OpensOver}
 use Rattle.fw_tools.specs.Subcommands.{Acts, Closes, DoesJob, Scene, Uses, UsesTool, printed_so}
-use Rattle.fw_arguments.specs.Calls.{Call, Checks, Defaults, Job, Runs, Task, Tool, Tries}
+use Rattle.fw_arguments.specs.Calls.{Call, Checks, Defaults, Job, Runs, Task, Tool, Tries, spares}
 use Rattle.fw_tools.proofs.CheckLemmas.{check_small}
 use Rattle.fw_arguments.specs.DryRuns.{ScriptRun}
 use Rattle.fw_tools.specs.ScriptRuns as ScriptRuns
 use Rattle.fw_tools.specs.ScriptRuns.{ClosesRun, RunsOver}
 use Rattle.fw_session.specs.ScriptRun.{ended_so, is_well, outcome_texts, run_texts}
 use Rattle.hush_run.specs.declared.ending.Ending.{Ending}
-use Rattle.fw_files.specs.Source.{IsFound, second_bytes}
+use Rattle.fw_files.specs.Locks.{HasWaited}
+use Rattle.fw_files.specs.Misread.{Spares}
+use Rattle.fw_files.specs.Source.{IsTaken, second_bytes}
 use Rattle.fw_files.specs.declared.source.Source.{Source}
 use Rattle.fw_arguments.specs.declared.task.Printing.{Printing}
 use Rattle.fw_arguments.specs.declared.task.Printing.TheVariants.{Lines, OneValue, Values}
 use Rattle.fw_engines.specs.TextForm.{export_texts, status_for}
 use Rattle.fw_engines.specs.VariableLines.{complaint, named, one_name, printed, status_of}
 use Rattle.fw_engines.specs.Changes.{Changing, Effect, Ends, count_status, script_effect, unless_refused}
-use Rattle.fw_engines.specs.Restoration.{forced_effect, restoring, unless_refused_in}
+use Rattle.fw_engines.specs.Restoration.{forced_effect, restore_effect, restoring, unless_refused_in}
 use Rattle.fw_tools.specs.SessionRun.{ClosesDryRun, Reports, is_kept, text_for}
 use Rattle.fw_session.specs.declared.session_end.SessionEnding.{SessionEnding}
 use Rattle.fw_engines.specs.Streams.{Streams, Writers}
@@ -34,23 +36,19 @@ use Rattle.fw_engines.specs.declared.tool_end.StreamFault.TheVariants.{Read, Wri
 use Rattle.fw_engines.specs.declared.tool_end.ToolEnd.{ToolEnd}
 
 -- a session over what was read is one over such copies
-pub opens_so : (image : Option ℕ) (order : Order) (source : Source) (asked : Defaults) (session : Held) →
-    AreCopiesIn image order source → OpensOver source asked session → IsOpening image order asked session
-opens_so image order source asked session copies (defaults, are, is) =
-    (source.geometry, source.first.bytes.items, second_bytes source.second, defaults, copies, are, is)
+pub opens_so : (image : Option ℕ) (order : Order) (spares : Bool) (source : Source) (asked : Defaults) (session : Held) →
+    AreCopiesIn image order source → OpensOver source asked session →
+    Spares session.now.current spares source.geometry source.first.bytes.items (second_bytes source.second) → IsOpening image order spares asked session
+opens_so image order spares source asked session copies (defaults, are, is) spared =
+    (source.geometry, source.first.bytes.items, second_bytes source.second, defaults, copies, are, is, spared)
 
 -- a session was opened, with or without a warning, and worked on
-pub opened_session : (call : Call) (asked : Defaults) (old : Streams) (session : Held) (warned : Option (List ℕ)) (new : Streams) (status : ℕ) →
-    IsFound call.defaults asked → IsOpening call.image call.order asked session → IsAccepted asked session old.errors warned →
+pub opened_session : (call : Call) (asked : Defaults) (old : Streams) (waited : Option (List ℕ)) (session : Held) (warned : Option (List ℕ)) (new : Streams) (status : ℕ) →
+    HasWaited old.errors waited → IsTaken session.now.current call.defaults asked → IsOpening call.image call.order (spares call) asked session →
+    IsAccepted asked session waited warned →
     DoesJob call.job session (record { input = old.input; output = old.output; errors = warned }) new status → Uses call old new status
-opened_session call asked old session warned new status found opening accepted does = inr (asked, session, warned, found, opening, accepted, does)
-
--- what was done with nothing printed before
-pub uses_after : (call : Call) (input output errors errors' : Option (List ℕ)) (new : Streams) (status status' : ℕ) → errors' ≡ errors → status' ≡ status →
-    Uses call (record { input = input; output = output; errors = errors' }) new status → Uses call (record { input = input; output = output; errors = errors }) new status'
-uses_after call input output errors errors' new status status' same is uses =
-    subst (λ s. Uses call (record { input = input; output = output; errors = errors }) new s) (sym is)
-    (subst (λ e. Uses call (record { input = input; output = output; errors = e }) new status) same uses)
+opened_session call asked old waited session warned new status has found opening accepted does =
+    inr (waited, asked, session, warned, has, found, opening, accepted, does)
 
 -- a tool's task was done, and the session closed
 pub used_tool : (task : Task) (session : Held) (old : Writers) (after : Scene) (end : ToolEnd) (errors : Option (List ℕ)) (status : ℕ) →
@@ -109,6 +107,10 @@ forced_small : (h : Held) (entries : List text_entries.Entry) → (forced_effect
 forced_small h [] = omega arith
 forced_small h (e ∷ es) = unless_in_small (refusal_in h e.name e.value true) e h _ (forced_small (written h e.name e.value) es)
 
+restore_small : (h : Held) (entries : List text_entries.Entry) → (restore_effect h entries).status ≤ 1
+restore_small h [] = omega arith
+restore_small h (e ∷ es) = forced_small h (restoring h.now.env (e ∷ es))
+
 count_small : (n : ℕ) → count_status n ≤ 1
 count_small zero = omega arith
 count_small (suc n) = omega arith
@@ -119,11 +121,11 @@ acts_small (Task.Set name words) old new end acts = ends_small end.fault _ _ _ _
 acts_small (Task.SetScript path) old new end acts = ends_small end.fault _ _ _ _ end.status (script_small old.session acts.0) acts.1.1
 acts_small (Task.Import path) old new end acts = ends_small end.fault _ _ _ _ end.status (count_small _) acts.1.1
 acts_small Task.Export old new end acts = printed_small end.fault _ _ _ end.status (for_small (export_texts old.session.now.env).errors) acts.1
-acts_small (Task.Restore path) old new end acts = ends_small end.fault _ _ _ _ end.status (forced_small old.session (restoring old.session.now.env acts.1)) acts.2.1.1
+acts_small (Task.Restore path) old new end acts = ends_small end.fault _ _ _ _ end.status (restore_small old.session acts.1) acts.2.1.1
 
 closes_small : (end : ToolEnd) (old new : Option (List ℕ)) (status : ℕ) → end.status ≤ 1 → Closes end old new status → status ≤ 1
 closes_small end old new status small (inl failed) = omega (arith, failed.1)
-closes_small end old new status small (inr closed) = omega (arith, closed.1, small)
+closes_small end old new status small (inr (warned, warns, closed, is)) = omega (arith, is, small)
 
 tool_small : (task : Task) (session : Held) (old new : Writers) (status : ℕ) → UsesTool task session old new status → status ≤ 1
 tool_small task session old new status (inl stopped) = omega (arith, stopped.1)
@@ -135,7 +137,7 @@ reports_small (Some text) old new status (said, is) = omega (arith, is)
 
 leaves_small : (kept : Bool) (end : SessionEnding) (old new : Option (List ℕ)) (status : ℕ) → ClosesDryRun kept end old new status → status ≤ 1
 leaves_small true end old new status (inl (said, is)) = omega (arith, is)
-leaves_small true end old new status (inr reports) = reports_small (text_for end) old new status reports
+leaves_small true end old new status (inr (said, says, reports)) = reports_small (text_for end) said new status reports
 leaves_small false end old new status reports = reports_small (text_for end) old new status reports
 
 run_small : (fault : Option StreamFault) (status : ℕ) (old new : Writers) (texts : Texts) → texts.status ≤ 1 →
@@ -153,7 +155,7 @@ texts_small e place status steps text =
 
 run_closes_small : (kept : Bool) (end : ToolEnd) (old new : Option (List ℕ)) (status : ℕ) → end.status ≤ 1 → ClosesRun kept end old new status → status ≤ 1
 run_closes_small true end old new status small (inl failed) = omega (arith, failed.1)
-run_closes_small true end old new status small (inr closed) = omega (arith, closed.1, small)
+run_closes_small true end old new status small (inr (warned, warns, closed, is)) = omega (arith, is, small)
 run_closes_small false end old new status small closed = omega (arith, closed.1, small)
 
 script_run_small : (run : ScriptRun) (session : Held) (old new : Writers) (status : ℕ) → RunsOver run session old new status → status ≤ 1
@@ -172,7 +174,7 @@ job_small (Checks check) session old new status (unread, checks) = check_small c
 
 pub uses_small : (call : Call) (old new : Streams) (status : ℕ) → Uses call old new status → status ≤ 1
 uses_small call old new status (inl stopped) = omega (arith, stopped.1.1)
-uses_small call old new status (inr (asked, session, warned, found, opening, accepted, does)) = job_small call.job session _ new status does
+uses_small call old new status (inr (waited, asked, session, warned, has, found, opening, accepted, does)) = job_small call.job session _ new status does
 
 -- ---- texts that are made first and then written
 

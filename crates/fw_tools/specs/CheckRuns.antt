@@ -24,11 +24,11 @@ abbrev pub ChecksOver : EnvironmentCheck → Held → Writers → Writers → �
 ChecksOver check session old new status =
     Stops old new status
     ⊎ ((stand_ins : Option Statuses) × (end : ToolEnd) × AreStandInsGiven check.stand_ins stand_ins
-    × Checks session.now.env stand_ins check.names old.output new.output end × Ends end old.errors new.errors status)
+    × Checks check.shell session.now.env stand_ins check.names old.output new.output end × Ends end old.errors new.errors status)
 
 -- the same for the script in a file
 abbrev pub ChecksFile : FileCheck → Writers → Writers → ℕ → Type 0
 ChecksFile check old new status =
     Stops old new status
     ⊎ ((stand_ins : Option Statuses) × (text : List ℕ) × (end : ToolEnd) × AreStandInsGiven check.stand_ins stand_ins
-    × ChecksText stand_ins check.path text old.output new.output end × Ends end old.errors new.errors status)
+    × ChecksText check.shell stand_ins check.path text old.output new.output end × Ends end old.errors new.errors status)

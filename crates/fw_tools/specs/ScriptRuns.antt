@@ -5,16 +5,20 @@ use Rattle.clap.specs.Words.{Text}
 use Rattle.env_session.specs.Session.{Held}
 use Rattle.hush_syntax.specs.Grammar.{Chains}
 use Rattle.hush_syntax.specs.FaultPlaces.{IsFaultOf}
-use Rattle.hush_syntax.specs.Reading.{read}
+use Rattle.hush_syntax.specs.Reading.{read_in}
+use Rattle.hush_syntax.specs.declared.nodes.Bodies.{Bodies}
 use Rattle.hush_syntax.specs.declared.syntax_fault.SyntaxFault.{SyntaxFault}
 use Rattle.hush_commands.specs.Stubs.{Statuses, with_boot}
-use Rattle.hush_run.specs.Runs.{rules}
+use Rattle.hush_commands.specs.Hardware.{hardware}
+use Rattle.hush_run.specs.Meaning.{bodies_of}
+use Rattle.hush_run.specs.Runs.{rules_in}
 use Rattle.fw_engines.specs.ScriptFaults.{fault_line}
 use Rattle.fw_session.specs.ScriptRun.{RunsScript}
 use Rattle.fw_engines.specs.Streams.{AppendsFront, Writers}
 use Rattle.fw_engines.specs.declared.tool_end.ToolEnd.{ToolEnd}
 use Rattle.fw_engines.specs.declared.tool_end.StreamFault.TheVariants.{Memory}
 use Rattle.fw_arguments.specs.DryRuns.{GivenScript, Names, Words, File, ScriptRun}
+use Rattle.fw_files.specs.Copies.{MayWarn}
 use Rattle.fw_files.specs.Said.{Says, SaysSome, Stops, message_of}
 use Rattle.fw_files.specs.Files.{AreStubsOf}
 
@@ -42,10 +46,10 @@ name_of_script (Words given) = codes "-e"
 name_of_script (File path) = path
 
 -- it is reported that memory ran out, or where and why a text isn't a script: a fault that it has there
-abbrev pub Refuses : (name text : List ℕ) → Option (List ℕ) → Option (List ℕ) → Type 0
-Refuses name text old new =
+abbrev pub Refuses : Bodies → (name text : List ℕ) → Option (List ℕ) → Option (List ℕ) → Type 0
+Refuses bodies name text old new =
     AppendsFront old new (message_of Memory)
-    ⊎ ((fault : SyntaxFault) × (read text ≡ None) × IsFaultOf text fault ×
+    ⊎ ((fault : SyntaxFault) × (read_in bodies text ≡ None) × IsFaultOf text fault ×
     AppendsFront old new (fault_line name text fault.place fault.kind))
 
 -- the copies are written back if that was asked for and the status is 0
@@ -53,21 +57,22 @@ abbrev pub is_kept : Bool → (status : ℕ) → Bool
 is_kept write status = write && status == 0
 
 abbrev pub ClosesRun : Bool → ToolEnd → Option (List ℕ) → Option (List ℕ) → ℕ → Type 0
-ClosesRun true end old new status = (SaysSome old new × (status ≡ 1)) ⊎ (Says end.fault old new × (status ≡ end.status))
+ClosesRun true end old new status =
+    (SaysSome old new × (status ≡ 1)) ⊎ ((warned : Option (List ℕ)) × MayWarn old warned × Says end.fault warned new × (status ≡ end.status))
 ClosesRun false end old new status = Says end.fault old new × (status ≡ end.status)
 
 -- a script with this tree is run over a session, and the session is left
 abbrev pub RunsTree : ScriptRun → Statuses → Option Chains → Held → Writers → Writers → ℕ → Type 0
 RunsTree run stand_ins tree session old new status =
     (after : Held) × (between : Option (List ℕ)) × (end : ToolEnd)
-    × RunsScript (rules stand_ins run.dry.limits) tree session after old (record { output = new.output; errors = between }) end
+    × RunsScript (rules_in run.dry.shell (hardware [] stand_ins) run.dry.limits) tree session after old (record { output = new.output; errors = between }) end
     × ClosesRun (is_kept run.dry.write end.status) end between new.errors status
 
--- a text is run, if it is a script
+-- a text is run, if it is a script by the rules of the shell
 abbrev pub RunsText : ScriptRun → Statuses → List ℕ → Held → Writers → Writers → ℕ → Type 0
 RunsText run stand_ins text session old new status =
-    ((new.output ≡ old.output) × Refuses (name_of_script run.script) text old.errors new.errors × (status ≡ 1))
-    ⊎ ((tree : Option Chains) × (read text ≡ Some tree) × RunsTree run stand_ins tree session old new status)
+    ((new.output ≡ old.output) × Refuses (bodies_of run.dry.shell) (name_of_script run.script) text old.errors new.errors × (status ≡ 1))
+    ⊎ ((tree : Option Chains) × (read_in (bodies_of run.dry.shell) text ≡ Some tree) × RunsTree run stand_ins tree session old new status)
 
 -- the stand-ins, with those of these names made to boot
 abbrev pub with_boots : Statuses → List Text → Statuses

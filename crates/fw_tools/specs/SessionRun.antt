@@ -3,14 +3,17 @@ use Rattle.std.specs.Prelude.{◌≡◌, ◌⊎◌, ℕ, Bool, true, false, List
 use Rattle.clap.specs.Words.{Text}
 use Rattle.env_session.specs.Session.{Held}
 use Rattle.hush_commands.specs.Stubs.{Statuses}
-use Rattle.hush_run.specs.Runs.{rules}
+use Rattle.hush_commands.specs.Hardware.{hardware}
+use Rattle.hush_run.specs.Runs.{rules_in}
 use Rattle.fw_session.specs.Ends.{Ends}
 use Rattle.fw_session.specs.Turns.{NamedSession}
 use Rattle.fw_session.specs.NamedSessions.{unnamed}
 use Rattle.fw_session.specs.declared.session_end.SessionEnding.{SessionEnding}
 use Rattle.fw_session.specs.declared.session_end.SessionEnding.TheVariants as ending
 use Rattle.fw_arguments.specs.DryRuns.{DryRun}
+use Rattle.fw_files.specs.Copies.{MayWarn}
 use Rattle.fw_files.specs.Files.{AreStubsOf}
+use Rattle.fw_files.specs.Locks.{HasWaited}
 use Rattle.fw_files.specs.Said.{SaysSome, Stops, message_of}
 use Rattle.fw_engines.specs.Streams.{AppendsFront, Streams, writers_of}
 use Rattle.fw_engines.specs.declared.tool_end.StreamFault.TheVariants.{Read, Write, Memory}
@@ -33,16 +36,22 @@ abbrev pub Reports : Option Text → Option (List ℕ) → Option (List ℕ) →
 Reports None old new status = (new ≡ old) × (status ≡ 0)
 Reports (Some text) old new status = AppendsFront old new text × (status ≡ 1)
 
+-- the copies are written back: locks may have been waited for, and then a warning printed that one is written over other
+-- data
+abbrev pub WaitsAndWarns : Option (List ℕ) → Option (List ℕ) → Type 0
+WaitsAndWarns old new = (waited : Option (List ℕ)) × HasWaited old waited × MayWarn waited new
+
 -- if copies are written back, that may fail
 abbrev pub ClosesDryRun : Bool → SessionEnding → Option (List ℕ) → Option (List ℕ) → ℕ → Type 0
-ClosesDryRun true end old new status = (SaysSome old new × (status ≡ 1)) ⊎ Reports (text_for end) old new status
+ClosesDryRun true end old new status =
+    (SaysSome old new × (status ≡ 1)) ⊎ ((said : Option (List ℕ)) × WaitsAndWarns old said × Reports (text_for end) said new status)
 ClosesDryRun false end old new status = Reports (text_for end) old new status
 
 -- standard input is answered over a session, with these stand-ins
 abbrev pub TriesWith : DryRun → Statuses → Held → Streams → Streams → ℕ → Type 0
 TriesWith run stand_ins session old new status =
     (end : SessionEnding) × (read : ℕ) × (written : ℕ) × (after : NamedSession)
-    × Ends end (rules stand_ins run.limits) (unnamed session) old.input new.input old.output new.output read written after
+    × Ends end (rules_in run.shell (hardware [] stand_ins) run.limits) (unnamed session) old.input new.input old.output new.output read written after
     × ClosesDryRun (is_kept run.write end) end old.errors new.errors status
 
 -- or before that the stand-ins' file can't be used, or memory runs out

@@ -1,5 +1,5 @@
 -- What a subcommand does over a session, and what it prints (docs/tools.md, "Subcommands over files").
-use Rattle.std.specs.Prelude.{◌≡◌, ◌⊎◌, ℕ, ◌==◌, ◌&&◌, Bool, true, false, if◌then◌else◌, List, Option, Result, Ok, Err}
+use Rattle.std.specs.Prelude.{◌≡◌, ◌⊎◌, ℕ, ◌==◌, ◌&&◌, Bool, true, false, if◌then◌else◌, List, map, Option, Result, Ok, Err}
 use Rattle.env_session.specs.Session.{Held}
 use Rattle.envimg_core.specs.Pieces.{Entry}
 use Rattle.envimg_core.specs.declared.choice.Choice.{Choice}
@@ -7,12 +7,14 @@ use Rattle.envimg_core.specs.declared.choice.Choice.TheVariants.{Neither}
 use Rattle.envcfg_core.specs.Entries as text_entries
 use Rattle.envcfg_core.specs.Import.{import_of}
 use Rattle.clap.specs.Words.{Text}
-use Rattle.fw_arguments.specs.Calls.{Call, Checks, Defaults, Job, Tool, Tries, Runs, Task, writes}
+use Rattle.fw_arguments.specs.Calls.{Call, Checks, Defaults, Job, Tool, Tries, Runs, Task, spares, writes}
 use Rattle.fw_tools.specs.CheckRuns.{ChecksFile, ChecksOver}
+use Rattle.fw_files.specs.Copies.{MayWarn}
 use Rattle.fw_files.specs.CopyReport.{ReportsOn}
 use Rattle.fw_arguments.specs.Report.{Asked, Check, Look, Work}
 use Rattle.fw_files.specs.Opening.{IsAccepted, IsOpening}
-use Rattle.fw_files.specs.Source.{IsFound}
+use Rattle.fw_files.specs.Source.{IsTaken}
+use Rattle.fw_files.specs.Locks.{HasWaited}
 use Rattle.fw_files.specs.Said.{Says, SaysSome, Stops}
 use Rattle.fw_engines.specs.TextForm.{export_texts}
 use Rattle.fw_engines.specs.VariableLines.{named, printed}
@@ -21,7 +23,7 @@ use Rattle.fw_files.specs.declared.system.Hold.{Hold}
 use Rattle.fw_files.specs.declared.system.Hold.TheVariants.{Alone, Shared}
 use Rattle.fw_arguments.specs.declared.task.Printing.{Printing}
 use Rattle.fw_arguments.specs.declared.task.Printing.TheVariants.{Lines, OneValue, Values}
-use Rattle.fw_engines.specs.Changes.{Changes, Changing, Effect, LacksMemory, LacksMemoryToImport, LacksMemoryToSet, import_effect, script_effect, set_effect}
+use Rattle.fw_engines.specs.Changes.{Changes, Changing, Effect, LacksMemory, LacksMemoryToName, LacksMemoryToSet, named_import_effect, pair_of, script_effect, set_effect}
 use Rattle.fw_engines.specs.Restoration.{LacksMemoryToRestore, restore_effect}
 use Rattle.text_parts.specs.Words.{spaced}
 use Rattle.fw_tools.specs.SessionRun.{TriesOver}
@@ -62,7 +64,7 @@ abbrev pub Acts : Task → Scene → Scene → ToolEnd → Type 0
 Acts (Task.Print names printing) old new end = PrintsAll old new (printed_so printing old.session.now.env names) end
 Acts (Task.Set name words) old new end = ChangesAll old new (set_effect old.session name (spaced words)) (LacksMemoryToSet old.session name words) end
 Acts (Task.SetScript path) old new end = (entries : List Entry) × ChangesAll old new (script_effect old.session entries) (LacksMemory old.session entries 0) end
-Acts (Task.Import path) old new end = (entries : List Entry) × ChangesAll old new (import_effect old.session entries) (LacksMemoryToImport old.session entries) end
+Acts (Task.Import path) old new end = (entries : List text_entries.Entry) × ChangesAll old new (named_import_effect old.session entries) (LacksMemoryToName old.session (map pair_of entries)) end
 Acts Task.Export old new end = PrintsAll old new (export_texts old.session.now.env) end
 Acts (Task.Restore path) old new end = (text : List ℕ) × (entries : List text_entries.Entry) × RestoresFrom old new text entries end
 
@@ -70,14 +72,18 @@ Acts (Task.Restore path) old new end = (text : List ℕ) × (entries : List text
 abbrev pub hold_for : Job → Hold
 hold_for job = if writes job then Alone else Shared
 
--- what stopped a tool is reported, if anything did; or a possibly empty text on a file that can't be written
+-- what stopped a tool is reported, if anything did, perhaps after a warning that a copy is written over other data; or a possibly empty
+-- text on a file that can't be written
 abbrev pub Closes : ToolEnd → Option (List ℕ) → Option (List ℕ) → ℕ → Type 0
-Closes end old new status = (SaysSome old new × (status ≡ 1)) ⊎ (Says end.fault old new × (status ≡ end.status))
+Closes end old new status =
+    (SaysSome old new × (status ≡ 1)) ⊎ ((warned : Option (List ℕ)) × MayWarn old warned × Says end.fault warned new × (status ≡ end.status))
 
--- the copies are left as they are by a job that saves only changes, if no name changed and a copy was good
-abbrev pub is_left : Bool → Choice → ℕ → Bool
-is_left only_changes Neither changed = false
-is_left only_changes choice changed = only_changes && changed == 0
+-- the copies are left as they are by a task that changes nothing, and by one of which only changes are saved, if no name
+-- changed and a copy was good
+abbrev pub is_left : (changes only_changes : Bool) → Choice → ℕ → Bool
+is_left false only_changes choice touched = true
+is_left true only_changes Neither touched = false
+is_left true only_changes choice touched = only_changes && touched == 0
 
 -- a task is done over a session, and the copies are written back; or its file can't be used
 abbrev pub UsesTool : Task → Held → Writers → Writers → ℕ → Type 0
@@ -94,11 +100,13 @@ DoesJob (Tries run) session old new status = TriesOver run session old new statu
 DoesJob (Runs run) session old new status = (new.input ≡ old.input) × RunsOver run session (writers_of old) (writers_of new) status
 DoesJob (Checks check) session old new status = (new.input ≡ old.input) × ChecksOver check session (writers_of old) (writers_of new) status
 
--- a session is opened, with a warning if no copy is good, and worked on
+-- locks may be waited for, then a session is opened, with a warning if no copy is good, and worked on; what writes
+-- copies, and isn't told to write over those that are good in another way, works over none of these
 abbrev pub UsesSession : Call → Streams → Streams → ℕ → Type 0
 UsesSession call old new status =
-    (asked : Defaults) × (session : Held) × (warned : Option (List ℕ))
-    × IsFound call.defaults asked × IsOpening call.image call.order asked session × IsAccepted asked session old.errors warned
+    (waited : Option (List ℕ)) × (asked : Defaults) × (session : Held) × (warned : Option (List ℕ)) × HasWaited old.errors waited
+    × IsTaken session.now.current call.defaults asked × IsOpening call.image call.order (spares call) asked session
+    × IsAccepted asked session waited warned
     × DoesJob call.job session (record { input = old.input; output = old.output; errors = warned }) new status
 
 -- or before that a file can't be used, or memory runs out

@@ -29,6 +29,7 @@ pub(crate) fn check_session<X: System + AllocGlobal, W: Write, E: Write>(
     let names = bytes_or_say(rt.alloc(), asked.names, errors)?;
     let end = check(
         rt.alloc(),
+        asked.shell,
         session.vars(),
         stand_ins.as_ref(),
         &names,
@@ -73,6 +74,7 @@ fn check_file<X: System + AllocGlobal, W: Write, E: Write>(
     )?;
     let end = check_text(
         rt.alloc(),
+        asked.shell,
         stand_ins.as_ref(),
         asked.path.as_bytes(),
         &text,

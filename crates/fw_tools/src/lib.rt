@@ -17,9 +17,9 @@ mod task_work;
 pub use entry_point::{program, words_failed};
 pub use fw_check::{check, check_text};
 pub use fw_engines::{
-    FoundCopy, StreamFault, Survey, ToolEnd, defaults, export, file_status, import, print_values,
-    printenv, restore, set_script, setenv, show, status,
+    FoundCopy, StreamFault, Survey, ToolEnd, defaults, export, file_status, import, import_named,
+    print_values, printenv, restore, set_script, setenv, show, status,
 };
-pub use fw_files::{Hold, System};
-pub use fw_session::{SessionEnd, SessionEnding, run, session};
+pub use fw_files::{Attempt, Hold, System};
+pub use fw_session::{SessionEnd, SessionEnding, run, session, session_in};
 pub use greeting::{greet, talks};

@@ -1,7 +1,7 @@
 //! The script that `run` is given: its text, and the text read as a script.
 ghost use Rattle.std.specs.Prelude.{◌≡◌, ◌++◌, IfOk, MatchOption, Some, map};
 ghost use Rattle.std.specs.List.{flat_map};
-ghost use Rattle.hush_syntax.specs.Reading.{read};
+ghost use Rattle.hush_syntax.specs.Reading.{read_in};
 ghost use Rattle.hush_syntax.specs.Scripts.{tree_of};
 ghost use Rattle.fw_arguments.specs.DryRuns.{script_view};
 ghost use Rattle.fw_files.specs.Said.{SaysSome};
@@ -11,7 +11,7 @@ use fw_arguments::{GivenScript, STANDARD_INPUT};
 use fw_engines::streams::say;
 use fw_engines::{OUT_OF_MEMORY, say_syntax_fault};
 use fw_files::{Explains, FileFault, read_file, value_or_say};
-use hush_syntax::{FaultKind, Script};
+use hush_syntax::{Bodies, FaultKind, Script};
 use std::alloc::{AllocError, Global};
 use std::io::Write;
 use std::rt::Files;
@@ -110,18 +110,19 @@ fn push_quoted(text: &mut Vec<u8>, byte: u8) -> Result<(), AllocError>
     Ok(())
 }
 
-/// The script in a text. If it isn't one, that is reported on `errors`, with its place.
+/// The script in a text, if its bodies may be so. If it isn't one, that is reported on `errors`, with its place.
 pub(crate) fn script_or_say<E: Write>(
     alloc: Global,
+    bodies: Bodies,
     name: &str,
     text: &[u8],
     errors: &mut E,
 ) -> Option<Script>
-    ensures { MatchOption result (Refuses name.now text.now (E.contents errors.old) (E.contents errors.new))
-        (λ script. (read text.now ≡ Some (tree_of script)) × (E.contents errors.new ≡ E.contents errors.old)) }
+    ensures { MatchOption result (Refuses bodies name.now text.now (E.contents errors.old) (E.contents errors.new))
+        (λ script. (read_in bodies text.now ≡ Some (tree_of script)) × (E.contents errors.new ≡ E.contents errors.old)) }
 {
     match Vec::from_slice(alloc, text) {
-        Ok(copy) => parsed_or_say(alloc, name, text, copy, errors),
+        Ok(copy) => parsed_or_say(alloc, bodies, name, text, copy, errors),
         Err(_) => {
             say(errors, OUT_OF_MEMORY);
             None
@@ -132,16 +133,17 @@ pub(crate) fn script_or_say<E: Write>(
 /// The same for a text and its copy.
 fn parsed_or_say<E: Write>(
     alloc: Global,
+    bodies: Bodies,
     name: &str,
     text: &[u8],
     copy: Vec<u8>,
     errors: &mut E,
 ) -> Option<Script>
     requires { copy.items ≡ text.now }
-    ensures { MatchOption result (Refuses name.now text.now (E.contents errors.old) (E.contents errors.new))
-        (λ script. (read text.now ≡ Some (tree_of script)) × (E.contents errors.new ≡ E.contents errors.old)) }
+    ensures { MatchOption result (Refuses bodies name.now text.now (E.contents errors.old) (E.contents errors.new))
+        (λ script. (read_in bodies text.now ≡ Some (tree_of script)) × (E.contents errors.new ≡ E.contents errors.old)) }
 {
-    match Script::parse(alloc, copy) {
+    match Script::parse_in(alloc, copy, bodies) {
         Ok(script) => Some(script),
         Err(fault) => {
             match fault.kind {

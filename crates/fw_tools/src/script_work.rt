@@ -1,24 +1,32 @@
 //! `run`: a script is run over a session for its own status.
 ghost use Rattle.std.specs.Prelude.{◌≡◌, IfOk, MatchOption, map, unwrap_or};
-ghost use Rattle.hush_run.specs.Runs.{rules};
 ghost use Rattle.hush_syntax.specs.Scripts.{tree_of};
 ghost use Rattle.fw_arguments.specs.DryRuns.{script_run_view, texts};
 ghost use Rattle.fw_tools.specs.ScriptRuns.{AreStandInsOf, ClosesRun, RunsOver, RunsText, RunsTree, is_kept, with_boots};
 ghost use Rattle.fw_files.specs.Said.{SaysSome};
 
 use crate::script_source::{name_of_script, script_or_say, text_or_say};
+use env_requests::RunRules;
 use env_session::Session;
 use envimg_core::Choice;
 use fw_arguments::ScriptRun;
 use fw_engines::ToolEnd;
+use fw_engines::streams::write_three;
 use fw_files::{
     Explains, FileFault, Source, System, read_stand_ins, report, value_or_say, write_other_first,
 };
 use fw_session::run;
-use hush_run::Stubs;
+use hush_commands::BoardRules;
+use hush_run::{Stubs, bodies_of};
 use hush_syntax::Script;
 use std::alloc::{AllocError, Global};
 use std::io::Write;
+
+/// Before and after a name of `--boots` of which there is no stand-in.
+const INVALID_VALUE: &[u8] = b"error: invalid value '";
+
+const NO_STAND_IN: &[u8] =
+    b"' for '--boots <NAME>': no stand-in has this name\n\nFor more information, try '--help'.\n";
 
 /// Runs the script that is asked for over a session, and leaves the session; `None` if a file can't be used before.
 pub(crate) fn run_given<X: System + AllocGlobal, W: Write, E: Write>(
@@ -38,7 +46,8 @@ pub(crate) fn run_given<X: System + AllocGlobal, W: Write, E: Write>(
     Some(run_text(rt, source, opened, asked, &stand_ins, &text, output, errors))
 }
 
-/// The stand-ins, with those asked for made to boot; a fault is reported on `errors`.
+/// The stand-ins, with those asked for made to boot; a fault is reported on `errors`, and so is a name of which there is
+/// no stand-in.
 fn stand_ins_or_say<X: System + AllocGlobal, E: Write>(
     rt: &X,
     asked: &ScriptRun<'_, '_>,
@@ -48,13 +57,25 @@ fn stand_ins_or_say<X: System + AllocGlobal, E: Write>(
         (λ stand_ins. AreStandInsOf (script_run_view asked.now) stand_ins × (E.contents errors.new ≡ E.contents errors.old)) }
 {
     let path = asked.dry.stand_ins.unwrap_or("");
-    value_or_say(
-        rt.alloc(),
-        errors,
-        Explains::Reason,
-        path,
-        stand_ins_of(rt, asked),
-    )
+    let outcome = stand_ins_of(rt, asked);
+    let stand_ins = value_or_say(rt.alloc(), errors, Explains::Reason, path, outcome)?;
+    match name_without(&stand_ins, asked.boots) {
+        None => Some(stand_ins),
+        Some(name) => {
+            let _ = write_three(errors, INVALID_VALUE, name.as_bytes(), NO_STAND_IN);
+            None
+        }
+    }
+}
+
+/// The first of these names of which there is no stand-in.
+fn name_without<'a>(stand_ins: &Stubs, names: Option<&[&'a str]>) -> Option<&'a str> {
+    for name in names.unwrap_or(&[]) {
+        if stand_ins.status(name.as_bytes()).is_none() {
+            return Some(*name);
+        }
+    }
+    None
 }
 
 /// The stand-ins, with those asked for made to boot.
@@ -108,7 +129,9 @@ fn run_text<X: System + AllocGlobal, W: Write, E: Write>(
         (record { output = W.contents output.old; errors = E.contents errors.old })
         (record { output = W.contents output.new; errors = E.contents errors.new }) result }
 {
-    match script_or_say(rt.alloc(), name_of_script(&asked.script), text, errors) {
+    let bodies = bodies_of(asked.dry.shell);
+    let name = name_of_script(&asked.script);
+    match script_or_say(rt.alloc(), bodies, name, text, errors) {
         None => 1,
         Some(script) => {
             run_script(
@@ -135,16 +158,14 @@ fn run_script<X: System + AllocGlobal, W: Write, E: Write>(
 {
     let mut session = opened;
     let current = session.current();
-    let limits = &asked.dry.limits;
-    let end = run(
-        rt.alloc(),
-        &mut session,
-        script,
+    let board = BoardRules::none(rt.alloc());
+    let rules = RunRules {
+        shell: asked.dry.shell,
         stand_ins,
-        limits,
-        output,
-        errors,
-    );
+        board: &board,
+        limits: &asked.dry.limits,
+    };
+    let end = run(rt.alloc(), &mut session, script, &rules, output, errors);
     leave(rt, source, asked.dry.write, current, session, end, errors)
 }
 

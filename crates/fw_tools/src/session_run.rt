@@ -1,17 +1,26 @@
 //! `session`: a dry run over standard input and output.
-ghost use Rattle.std.specs.Prelude.{◌≡◌, option_map, unwrap_or};
+ghost use Rattle.std.specs.Prelude.{◌≡◌, ℕ, List, [], MatchOption, Option, option_map, unwrap_or};
+ghost use Rattle.hush_commands.specs.Hardware.{hardware};
+ghost use Rattle.hush_run.specs.Runs.{rules_in};
+ghost use Rattle.fw_session.specs.Ends.{Ends};
+ghost use Rattle.fw_session.specs.NamedSessions.{named_session, unnamed};
 ghost use Rattle.fw_arguments.specs.DryRuns.{dry_run_view};
-ghost use Rattle.fw_tools.specs.SessionRun.{ClosesDryRun, Reports, TriesOver, is_kept, text_for};
+ghost use Rattle.fw_files.specs.Said.{SaysSome};
+ghost use Rattle.fw_tools.specs.SessionRun.{ClosesDryRun, Reports, TriesOver, WaitsAndWarns, is_kept, text_for};
 
-use env_session::Session;
-use fw_arguments::DryRun;
+use env_requests::RunRules;
+use env_session::{Session, Stored};
+use fw_arguments::{DryRun, LockFiles};
 use fw_engines::StreamFault;
 use fw_engines::streams::say;
 use fw_files::{
-    Explains, Hold, Source, System, lock_device, message_of, read_stand_ins, value_or_say,
+    Explains, Hold, Source, System, lock_copies, message_of, read_stand_ins, value_or_say,
     write_back,
 };
-use fw_session::{SessionEnd, SessionEnding, session};
+use fw_session::{SessionEnd, SessionEnding, session_in};
+use hush_commands::BoardRules;
+use hush_run::Stubs;
+use std::alloc::Global;
 use std::io::{Read, Write};
 
 /// Standard error if the input of a session is longer than it may be.
@@ -23,6 +32,7 @@ pub(crate) fn talk<X: System + AllocGlobal, R: Read, W: Write, E: Write>(
     source: &Source,
     opened: Session,
     run: &DryRun<'_>,
+    locks: LockFiles<'_>,
     input: &mut R,
     output: &mut W,
     errors: &mut E,
@@ -39,8 +49,32 @@ pub(crate) fn talk<X: System + AllocGlobal, R: Read, W: Write, E: Write>(
         run.stand_ins.unwrap_or(""),
         read_stand_ins(rt, run.stand_ins),
     )?;
-    let end = session(rt.alloc(), opened, &stand_ins, &run.limits, input, output);
-    Some(leave(rt, source, run.write, end, errors))
+    let end = answer(rt.alloc(), opened, run, &stand_ins, input, output);
+    Some(leave(rt, source, run.write, locks, end, errors))
+}
+
+/// Answers the blocks and dot lines of `input` over a session, with these stand-ins.
+fn answer<R: Read, W: Write>(
+    alloc: Global,
+    opened: Session,
+    run: &DryRun<'_>,
+    stand_ins: &Stubs,
+    input: &mut R,
+    output: &mut W,
+) -> SessionEnd
+    ensures { (names : List (Option (List ℕ))) × Ends result.ending
+        (rules_in run.now.shell (hardware [] stand_ins.now) run.now.limits) (unnamed opened)
+        (R.remaining input.old) (R.remaining input.new) (W.contents output.old) (W.contents output.new) result.read
+        result.written (named_session result.session names) }
+{
+    let board = BoardRules::none(alloc);
+    let rules = RunRules {
+        shell: run.shell,
+        stand_ins,
+        board: &board,
+        limits: &run.limits,
+    };
+    session_in(alloc, opened, &rules, input, output)
 }
 
 /// Writes the copies back if that was asked for and the whole input was handled, reports what stopped the session
@@ -49,6 +83,7 @@ fn leave<X: System + AllocGlobal, E: Write>(
     rt: &X,
     source: &Source,
     write: bool,
+    locks: LockFiles<'_>,
     end: SessionEnd,
     errors: &mut E,
 ) -> u8
@@ -58,10 +93,26 @@ fn leave<X: System + AllocGlobal, E: Write>(
     if !is_kept(write, ending) {
         return report_ending(ending, errors);
     }
-    let _lock = lock_device(rt, &source.config.first, Hold::Alone);
-    match write_back(rt, source, &end.session.close(), Explains::Nothing, errors) {
+    match write_locked(rt, source, locks, &end.session.close(), errors) {
         None => 1,
         Some(()) => report_ending(ending, errors),
+    }
+}
+
+/// Writes the copies back under their locks. A fault is reported on `errors`.
+fn write_locked<X: System + AllocGlobal, E: Write>(
+    rt: &X,
+    source: &Source,
+    locks: LockFiles<'_>,
+    stored: &Stored,
+    errors: &mut E,
+) -> Option<()>
+    ensures { MatchOption result (SaysSome (E.contents errors.old) (E.contents errors.new))
+        (λ _. WaitsAndWarns (E.contents errors.old) (E.contents errors.new)) }
+{
+    match lock_copies(rt, &source.config.first, locks, Hold::Alone, errors) {
+        None => None,
+        Some(_locks) => write_back(rt, source, stored, Explains::Nothing, errors),
     }
 }
 

@@ -1,8 +1,9 @@
 //! The subcommands over the files that the arguments name.
-ghost use Rattle.std.specs.Prelude.{◌≡◌, ◌≤◌, None, MatchOption, if◌then◌else◌, unwrap_or};
+ghost use Rattle.std.specs.Prelude.{◌≡◌, ◌≤◌, Some, None, MatchOption, if◌then◌else◌, unwrap_or};
 ghost use Rattle.fw_files.specs.Opening.{AreCopiesIn};
 ghost use Rattle.fw_tools.specs.Subcommands.{Closes, DoesJob, Uses, UsesTool, hold_for, is_left};
 ghost use Rattle.fw_arguments.specs.Calls.{call_view, job_view, keeps_lock, task_view};
+ghost use Rattle.fw_files.specs.Locks.{HasWaited};
 ghost use Rattle.fw_files.specs.Said.{SaysSome};
 
 use crate::check_work::check_session;
@@ -10,12 +11,13 @@ use crate::script_work::run_given;
 use crate::session_run::talk;
 use crate::task_work::act;
 use env_session::Session;
+use envcfg_core::Config;
 use envimg_core::Choice;
 use fw_arguments::{Call, Job, Task};
 use fw_engines::ToolEnd;
 use fw_files::{
-    Explains, Hold, Source, System, config_or_say, erased_or_say, found_defaults, lock_device,
-    lock_or_say, open, read_source, report, write_back,
+    Explains, Hold, Locks, Source, System, config_or_say, erased_or_say, lock_copies, open,
+    read_source, report, write_back,
 };
 use std::io::{Read, Write};
 
@@ -33,10 +35,7 @@ pub(crate) fn run_call<X: System + AllocGlobal, R: Read, W: Write, E: Write>(
         (record { input = R.remaining input.new; output = W.contents output.new; errors = E.contents errors.new })
         result }
 {
-    match lock_or_say(rt, call.lock, errors) {
-        None => 1,
-        Some(_held) => use_files(rt, call, input, output, errors).unwrap_or(1),
-    }
+    use_files(rt, call, input, output, errors).unwrap_or(1)
 }
 
 /// Opens the session and lets the subcommand work on it; `None` if a file can't be used.
@@ -52,20 +51,26 @@ fn use_files<X: System + AllocGlobal, R: Read, W: Write, E: Write>(
         (record { input = R.remaining input.new; output = W.contents output.new; errors = E.contents errors.new })
         (unwrap_or result 1) }
 {
-    let (source, _lock) = copies_for(rt, call, errors)?;
-    let defaults = found_defaults(rt, call.defaults);
-    let session = open(rt, &source, &defaults, Explains::by(call), errors)?;
+    let (source, _locks) = copies_for(rt, call, errors)?;
+    let session = open(
+        rt,
+        &source,
+        &call.defaults,
+        call.spares(),
+        Explains::by(call),
+        errors,
+    )?;
     work(rt, &source, session, call, input, output, errors)
 }
 
-/// The copies for a subcommand, and the lock under which it works on them, if it has one; `None` if they can't be used.
+/// The copies for a subcommand, and the locks under which it works on them, if it has any; `None` if they can't be used.
 fn copies_for<X: System + AllocGlobal, E: Write>(
     rt: &X,
     call: &Call<'_, '_>,
     errors: &mut E,
-) -> Option<(Source, Option<X::File>)>
+) -> Option<(Source, Option<Locks<X::File>>)>
     ensures { MatchOption result (SaysSome (E.contents errors.old) (E.contents errors.new))
-        (λ found. AreCopiesIn call.now.image call.now.order found.0 × (E.contents errors.new ≡ E.contents errors.old)) }
+        (λ found. AreCopiesIn call.now.image call.now.order found.0 × HasWaited (E.contents errors.old) (E.contents errors.new)) }
 {
     match call.image {
         None => copies_in_devices(rt, call, errors),
@@ -81,18 +86,35 @@ fn copies_in_devices<X: System + AllocGlobal, E: Write>(
     rt: &X,
     call: &Call<'_, '_>,
     errors: &mut E,
-) -> Option<(Source, Option<X::File>)>
+) -> Option<(Source, Option<Locks<X::File>>)>
+    ensures { MatchOption result (SaysSome (E.contents errors.old) (E.contents errors.new))
+        (λ found. AreCopiesIn None call.now.order found.0 × HasWaited (E.contents errors.old) (E.contents errors.new)) }
+{
+    let config = config_or_say(rt, call.config, Explains::by(call), errors)?;
+    let hold = hold_for(&call.job);
+    match lock_copies(rt, &config.first, call.locks, hold, errors) {
+        None => None,
+        Some(locks) => copies_under(rt, call, config, locks, errors),
+    }
+}
+
+/// The same once they are locked.
+fn copies_under<X: System + AllocGlobal, L: Drop, E: Write>(
+    rt: &X,
+    call: &Call<'_, '_>,
+    config: Config,
+    locks: L,
+    errors: &mut E,
+) -> Option<(Source, Option<L>)>
     ensures { MatchOption result (SaysSome (E.contents errors.old) (E.contents errors.new))
         (λ found. AreCopiesIn None call.now.order found.0 × (E.contents errors.new ≡ E.contents errors.old)) }
 {
-    let explains = Explains::by(call);
-    let config = config_or_say(rt, call.config, explains, errors)?;
-    let lock = lock_device(rt, &config.first, hold_for(&call.job));
-    let source = read_source(rt, call.order, config, explains, errors)?;
-    Some((source, lock_for_work(lock, &call.job)))
+    let source = read_source(rt, call.order, config, Explains::by(call), errors)?;
+    Some((source, locks_for_work(locks, &call.job)))
 }
 
-/// How the device of the first copy is locked while the copies are read: exclusively by a job that writes them back.
+/// How the device of the first copy and lock files are locked while the copies are read: exclusively by a job that writes
+/// them back.
 fn hold_for(job: &Job<'_, '_>) -> Hold
     ensures { result ≡ hold_for (job_view job.now) }
 {
@@ -103,12 +125,12 @@ fn hold_for(job: &Job<'_, '_>) -> Hold
     }
 }
 
-/// The lock under which a job works, if it writes what it read: the other jobs release it here. A dry run takes it
+/// The locks under which a job works, if it writes what it read: the other jobs release them here. A dry run takes them
 /// again to write.
-fn lock_for_work<L: Drop>(lock: Option<L>, job: &Job<'_, '_>) -> Option<L>
-    ensures { result ≡ (if keeps_lock (job_view job.now) then lock else None) }
+fn locks_for_work<L: Drop>(locks: L, job: &Job<'_, '_>) -> Option<L>
+    ensures { result ≡ (if keeps_lock (job_view job.now) then Some locks else None) }
 {
-    if job.keeps_lock() { lock } else { None }
+    if job.keeps_lock() { Some(locks) } else { None }
 }
 
 /// Works on a session, and leaves it; `None` if a file can't be used.
@@ -140,7 +162,7 @@ fn work<X: System + AllocGlobal, R: Read, W: Write, E: Write>(
                 errors,
             )
         }
-        Job::DryRun(run) => talk(rt, source, opened, run, input, output, errors),
+        Job::DryRun(run) => talk(rt, source, opened, run, call.locks, input, output, errors),
         Job::Script(run) => run_given(rt, source, opened, run, output, errors),
         Job::Check(check) => check_session(rt, &opened, check, output, errors),
     }
@@ -164,20 +186,25 @@ fn use_tool<X: System + AllocGlobal, W: Write, E: Write>(
     let mut session = opened;
     let current = session.current();
     let end = act(rt, task, explains, &mut session, output, errors)?;
-    if is_left(only_changes, current, session.touched()) {
+    let touched = session.touched();
+    if is_left(task.changes(), only_changes, current, touched) {
         return Some(report(end, errors));
     }
     finish(rt, source, session, end, explains, errors)
 }
 
-/// Whether the copies are left as they are: if only changes are saved, no name was changed (`changed` counts them), and
-/// one of the copies was good at the start (`current`).
-fn is_left(only_changes: bool, current: Choice, changed: usize) -> bool
-    ensures { result ≡ is_left only_changes current changed }
+/// Whether the copies are left as they are, and not compared with what was read: by what changes nothing (`changes`), and,
+/// if only changes are saved, where no name was changed (`touched` counts them) and one of the copies was good at the start
+/// (`current`).
+fn is_left(changes: bool, only_changes: bool, current: Choice, touched: usize) -> bool
+    ensures { result ≡ is_left changes only_changes current touched }
 {
+    if !changes {
+        return true;
+    }
     match current {
         Choice::Neither => false,
-        _ => only_changes && changed == 0,
+        _ => only_changes && touched == 0,
     }
 }
 

@@ -6,7 +6,7 @@ ghost use Rattle.envimg_core.specs.Pieces.{Entry};
 ghost use Rattle.fw_tools.specs.Subcommands.{Acts, printed_so};
 ghost use Rattle.fw_arguments.specs.Calls.{task_view, texts};
 ghost use Rattle.fw_files.specs.Said.{SaysOnly, SaysSome};
-ghost use Rattle.fw_engines.specs.Changes.{Changes, LacksMemory, LacksMemoryToImport, LacksMemoryToSet, import_effect, script_effect, set_effect};
+ghost use Rattle.fw_engines.specs.Changes.{Changes, LacksMemory, LacksMemoryToName, LacksMemoryToSet, named_import_effect, pair_of, script_effect, set_effect};
 ghost use Rattle.fw_engines.specs.Restoration.{LacksMemoryToRestore, restore_effect};
 ghost use Rattle.text_parts.specs.Words.{spaced};
 ghost use Rattle.fw_engines.specs.Tool.{Printed, Prints};
@@ -15,7 +15,7 @@ use env_session::Session;
 use fw_arguments::{Printing, Task};
 use fw_engines::streams::{say, write_text};
 use fw_engines::{
-    OUT_OF_MEMORY, StreamFault, ToolEnd, export, import, print_values, printenv, restore,
+    OUT_OF_MEMORY, StreamFault, ToolEnd, export, import_named, print_values, printenv, restore,
     set_script, setenv,
 };
 use fw_files::{Explains, System, entries_or_say, read_file, script_from, value_or_say};
@@ -166,12 +166,12 @@ fn import_file<X: System + AllocGlobal, E: Write>(
     errors: &mut E,
 ) -> Option<ToolEnd>
     ensures { MatchOption result (SaysSome (E.contents errors.old) (E.contents errors.new))
-        (λ end. (entries : List Entry) × Changes (record { session = session.old; errors = E.contents errors.old })
-        (record { session = session.new; errors = E.contents errors.new }) (import_effect session.old entries)
-        (LacksMemoryToImport session.old entries) end) }
+        (λ end. (entries : List text_entries.Entry) × Changes (record { session = session.old; errors = E.contents errors.old })
+        (record { session = session.new; errors = E.contents errors.new }) (named_import_effect session.old entries)
+        (LacksMemoryToName session.old (map pair_of entries)) end) }
 {
     let entries = entries_or_say(rt, path, explains, errors)?;
-    Some(import(session, &entries, errors))
+    Some(import_named(rt.alloc(), session, &entries, errors))
 }
 
 /// `restore FILE`

@@ -5,3 +5,4 @@ pub mod LawLemmas
 pub mod ExpressionLemmas
 pub mod WrittenLemmas
 pub mod Rows
+pub mod BoardLemmas

@@ -4,6 +4,7 @@ use Rattle.std.specs.Prelude.{codes, map}
 use Rattle.hush_calc.specs.declared.calculation.SetexprFault.TheVariants.{WrongUse, DivisionByZero}
 use Rattle.hush_calc.specs.Numbers.{integer_of, value_of}
 use Rattle.hush_calc.specs.Test.{expression_of}
+use Rattle.hush_calc.specs.Board.{board_test_of}
 use Rattle.hush_calc.specs.Hexadecimal.{hexadecimal}
 use Rattle.hush_calc.specs.Setexpr.{Answer, setexpr_of}
 
@@ -126,3 +127,12 @@ other_operators = refl
 other_numbers_of_words : map setexpr_of ([] ∷ (codes "v" ∷ []) ∷ (codes "v" ∷ codes "3" ∷ codes "^" ∷ []) ∷ (codes "v" ∷ codes "1" ∷ codes "+" ∷ codes "1" ∷ codes "+" ∷ []) ∷ [])
     ≡ Err WrongUse ∷ Err WrongUse ∷ Err WrongUse ∷ Err WrongUse ∷ []
 other_numbers_of_words = refl
+
+-- on a board words that are no expression are true, from two on; of two values that no joint joins the later one counts
+on_a_board : map (board_test_of (λ words. false)) (
+    (codes "x" ∷ []) ∷ (codes "x" ∷ codes "y" ∷ []) ∷ (codes "-eq" ∷ codes "1" ∷ []) ∷ (codes "a" ∷ codes "=" ∷ [])
+    ∷ (codes "!" ∷ codes "=" ∷ codes "!" ∷ []) ∷ (codes "!" ∷ codes "-n" ∷ codes "a" ∷ [])
+    ∷ (codes "a" ∷ codes "=" ∷ codes "a" ∷ codes "b" ∷ codes "=" ∷ codes "c" ∷ []) ∷ (codes "a" ∷ codes "=" ∷ codes "b" ∷ codes "-o" ∷ [])
+    ∷ (codes "-e" ∷ codes "mmc" ∷ codes "0:1" ∷ codes "f" ∷ []) ∷ (codes "-e" ∷ codes "mmc" ∷ codes "0:1" ∷ []) ∷ []
+    ) ≡ false ∷ true ∷ true ∷ true ∷ true ∷ false ∷ false ∷ false ∷ false ∷ true ∷ []
+on_a_board = refl

@@ -1,19 +1,39 @@
 -- Worked examples of docs/runs.md, "Commands", which the checker computes from the definitions.
 use Rattle.std.proofs.Common.{◌≡◌, ℕ, true, false, List, [], ◌∷◌, None, Some, refl}
-use Rattle.std.specs.Prelude.{codes, map}
+use Rattle.std.specs.Prelude.{codes, map, ◌++◌, Ok, Err}
 use Rattle.std.specs.Cmp.Lexicographic.{nat_list_cmp_total}
-use Rattle.std.specs.FinMap.{empty, insert, get-insert, get-empty}
+use Rattle.std.specs.FinMap.{empty, get, insert, entries, get-insert, get-empty}
 use Rattle.env_session.specs.Session.{Held}
 use Rattle.hush_commands.specs.declared.stand_ins.Role.{Role}
-use Rattle.hush_commands.specs.declared.command.Command.TheVariants.{Set, Delete, Calculate, WrongUse, Other}
+use Rattle.hush_commands.specs.declared.command.Command.TheVariants.{Set, Delete, Exists, Calculate, WrongUse, Other}
 use Rattle.hush_commands.specs.declared.follow.Follow.{Follow}
-use Rattle.hush_commands.specs.declared.follow.Follow.TheVariants.{Next, End, Starts}
+use Rattle.hush_commands.specs.declared.follow.Follow.TheVariants.{Next, End, Leaves, Starts, Answers}
 use Rattle.hush_commands.specs.Builtins.{builtin_of}
-use Rattle.hush_commands.specs.Commands.{command_of}
+use Rattle.hush_commands.specs.declared.command.Command.{Command}
+use Rattle.hush_commands.specs.Commands.{command_in}
 use Rattle.hush_commands.specs.Stubs.{Statuses, is_end, with_boot}
+use Rattle.hush_commands.specs.declared.board_rules.PatternWord.{PatternWord}
+use Rattle.hush_commands.specs.declared.board_rules.Rule.{Rule}
+use Rattle.hush_commands.specs.declared.board_rules.Reply.{Reply}
+use Rattle.hush_commands.specs.declared.board_rules.Reply.TheVariants.{Status, Text}
+use Rattle.hush_commands.specs.declared.stand_in_line.StubFault.TheVariants.{Builtin}
+use Rattle.hush_words.specs.Words.{is_blank, ends_word, begins_name, is_in_name, follows_dollar, is_special, is_bare, is_inner, is_escaped}
+use Rattle.hush_words.specs.Reading.{dollar_at, inner_escape, inner_at, double_at, piece_at, passed_at, lexeme_at, tokens_of}
+use Rattle.hush_words.specs.Forms.{is_plain, name_of, assignment_of}
+use Rattle.hush_syntax.specs.Keywords.{keyword_of}
+use Rattle.hush_syntax.specs.Reading.{command, read}
+use Rattle.hush_commands.specs.BoardLines.{Adds, HasRule, NoAnswer, Open, NoScript, NoPattern, AsStandIn, read_board_line}
+use Rattle.hush_commands.specs.Hardware.{Hardware, hardware, ruled, answer_to}
+use Rattle.hush_commands.specs.CommandNames.{name_by, with_name}
 use Rattle.hush_commands.specs.Output.{answer}
+use Rattle.hush_commands.specs.declared.shell.Shell.{Shell}
+use Rattle.hush_commands.specs.declared.shell.Shell.TheVariants.{Strict, Board}
 use Rattle.hush_commands.specs.Carrying.{Done, done_of, other_of}
 use Rattle.hush_commands.specs.Following.{follow_of}
+
+-- the command of the strict shell
+abbrev command_of : List (List ℕ) → Command
+command_of fields = let none : Statuses = empty in command_in Strict (hardware [] none) fields
 
 set : command_of (codes "env" ∷ codes "set" ∷ codes "-f" ∷ codes "n" ∷ codes "1" ∷ []) ≡ Set true (codes "n") (codes "1" ∷ [])
 unfolding builtin_of
@@ -37,7 +57,7 @@ no_builtin = refl
 
 -- what follows if nothing has a stand-in
 follow_after : List (List ℕ) → Follow
-follow_after fields = let none : Statuses = empty in follow_of none fields
+follow_after fields = let none : Statuses = empty in follow_of Strict (hardware [] none) fields
 
 run_starts : follow_after (codes "run" ∷ codes "a" ∷ codes "b" ∷ []) ≡ Starts (codes "a" ∷ codes "b" ∷ [])
 unfolding follow_after builtin_of
@@ -47,46 +67,64 @@ exit_ends : follow_after (codes "exit" ∷ codes "3" ∷ []) ≡ End
 unfolding follow_after builtin_of
 exit_ends = refl
 
+-- on a board it leaves its text, with status 0 if it has none
+board_exit_leaves : let none : Statuses = empty in follow_of Board (hardware [] none) (codes "exit" ∷ []) ≡ Leaves
+unfolding builtin_of
+board_exit_leaves = refl
+
 wrong_exit_goes_on : follow_after (codes "exit" ∷ codes "256" ∷ []) ≡ Next
 unfolding follow_after builtin_of
 wrong_exit_goes_on = refl
 
 -- what fields do after status 7 if nothing has a stand-in
+done_in : Shell → List (List ℕ) → Held → Done
+done_in shell fields held = let none : Statuses = empty in done_of shell (hardware [] none) fields 7 held
+
 done : List (List ℕ) → Held → Done
-done fields held = let none : Statuses = empty in done_of none fields 7 held
+done fields held = done_in Strict fields held
 
 no_fields : (held : Held) → done [] held ≡ (answer 0 [], held)
-unfolding done
+unfolding done done_in
 no_fields held = refl
 
+-- a board leaves the status
+board_no_fields : (held : Held) → done_in Board [] held ≡ (answer 7 [], held)
+unfolding done_in
+board_no_fields held = refl
+
+-- and takes words that are no expression as true
+board_test_of_no_expression : (held : Held) → done_in Board (codes "test" ∷ codes "-eq" ∷ codes "1" ∷ []) held ≡ (answer 0 [], held)
+unfolding done_in builtin_of
+board_test_of_no_expression held = refl
+
 false_with_words : (held : Held) → done (codes "false" ∷ codes "x" ∷ []) held ≡ (answer 1 [], held)
-unfolding done builtin_of
+unfolding done done_in builtin_of
 false_with_words held = refl
 
 run_without_names : (held : Held) → done (codes "run" ∷ []) held ≡ (answer 1 (codes "## Error: wrong use of 'run'\n"), held)
-unfolding done builtin_of
+unfolding done done_in builtin_of
 run_without_names held = refl
 
 run_with_a_name : (held : Held) → done (codes "env" ∷ codes "run" ∷ codes "a" ∷ []) held ≡ (answer 7 [], held)
-unfolding done builtin_of
+unfolding done done_in builtin_of
 run_with_a_name held = refl
 
 delete_without_names : (held : Held) → done (codes "env" ∷ codes "delete" ∷ codes "-f" ∷ []) held ≡ (answer 1 (codes "## Error: wrong use of 'env'\n"), held)
-unfolding done builtin_of
+unfolding done done_in builtin_of
 delete_without_names held = refl
 
 save_with_words : (held : Held) → done (codes "saveenv" ∷ codes "x" ∷ []) held ≡ (answer 1 (codes "## Error: wrong use of 'saveenv'\n"), held)
-unfolding done builtin_of
+unfolding done done_in builtin_of
 save_with_words held = refl
 
 exit_past_255 : (held : Held) → done (codes "exit" ∷ codes "256" ∷ []) held ≡ (answer 1 (codes "## Error: wrong use of 'exit'\n"), held)
-unfolding done builtin_of
+unfolding done done_in builtin_of
 exit_past_255 held = refl
 
-unknown_command : other_of None (codes "ls") (codes "ls" ∷ codes "-l" ∷ []) ≡ answer 1 (codes "Unknown command 'ls' - try 'help'\n")
+unknown_command : other_of None 7 (codes "ls") (codes "ls" ∷ codes "-l" ∷ []) ≡ answer 1 (codes "Unknown command 'ls' - try 'help'\n")
 unknown_command = refl
 
-stand_in_command : other_of (Some 3) (codes "mmc") (codes "mmc" ∷ codes "dev" ∷ []) ≡ answer 3 (codes "+ mmc dev\n")
+stand_in_command : other_of (Some (Status 3 false)) 7 (codes "mmc") (codes "mmc" ∷ codes "dev" ∷ []) ≡ answer 3 (codes "+ mmc dev\n")
 stand_in_command = refl
 
 -- a stand-in that boots ends the run if its status is 0
@@ -94,17 +132,153 @@ boots_with_zero : map is_end (None ∷ Some (record { status = 0; boots = true }
 boots_with_zero = refl
 
 -- stand-ins if `booti` alone has one, with this status, and boots
-booti : ℕ → Statuses
-booti status = let none : Statuses = empty in insert none (codes "booti") (record { status = status; boots = true })
+booti : ℕ → Hardware
+booti status = let none : Statuses = empty in hardware [] (insert none (codes "booti") (record { status = status; boots = true }))
 
-boot_ends : follow_of (booti 0) (codes "booti" ∷ codes "0" ∷ []) ≡ End
+boot_ends : follow_of Strict (booti 0) (codes "booti" ∷ codes "0" ∷ []) ≡ End
 unfolding booti builtin_of
 boot_ends = simp (get-insert {X = Role} nat_list_cmp_total)
 
-failed_boot_goes_on : follow_of (booti 1) (codes "booti" ∷ []) ≡ Next
+failed_boot_goes_on : follow_of Strict (booti 1) (codes "booti" ∷ []) ≡ Next
 unfolding booti builtin_of
 failed_boot_goes_on = simp (get-insert {X = Role} nat_list_cmp_total)
 
 -- a name without a stand-in changes nothing
 told : with_boot (insert (let none : Statuses = empty in none) (codes "x") (record { status = 3; boots = false })) (codes "y") ≡ insert (let none : Statuses = empty in none) (codes "x") (record { status = 3; boots = false })
 told = simp (get-insert {X = Role} nat_list_cmp_total, get-empty)
+
+-- a board: a card in slot 1 with two partitions
+exactly : List ℕ → PatternWord
+exactly text = record { text = text; begins = false }
+
+opened : List ℕ → PatternWord
+opened text = record { text = text; begins = true }
+
+rule : List PatternWord → Reply → Rule
+rule pattern reply = record { pattern = pattern; reply = reply }
+
+card : List Rule
+card =
+    rule (map exactly (codes "mmc" ∷ codes "dev" ∷ codes "0" ∷ [])) (Status 1 false)
+    ∷ rule (map exactly (codes "part" ∷ codes "list" ∷ codes "mmc" ∷ codes "1" ∷ []) ++ opened (codes "-boot") ∷ opened [] ∷ []) (Text (codes "setenv ${5} 2"))
+    ∷ rule (map exactly (codes "mmc" ∷ [])) (Status 0 false)
+    ∷ rule (map exactly (codes "booti" ∷ [])) (Status 0 true)
+    ∷ []
+
+first_rule : ruled card (codes "mmc" ∷ codes "dev" ∷ codes "0" ∷ []) ≡ Some (Status 1 false)
+unfolding card rule exactly opened
+first_rule = refl
+
+further_words : ruled card (codes "mmc" ∷ codes "dev" ∷ codes "1" ∷ []) ≡ Some (Status 0 false)
+unfolding card rule exactly opened
+further_words = refl
+
+text_answer : ruled card (codes "part" ∷ codes "list" ∷ codes "mmc" ∷ codes "1" ∷ codes "-bootable" ∷ codes "p" ∷ []) ≡ Some (Text (codes "setenv ${5} 2"))
+unfolding card rule exactly opened
+text_answer = refl
+
+-- a pattern doesn't fit a call with fewer words
+fewer_words : ruled card (codes "part" ∷ codes "list" ∷ codes "mmc" ∷ codes "1" ∷ codes "-bootable" ∷ []) ≡ None
+unfolding card rule exactly opened
+fewer_words = refl
+
+text_follows : (stubs : Statuses) → follow_of Strict (hardware card stubs) (codes "part" ∷ codes "list" ∷ codes "mmc" ∷ codes "1" ∷ codes "-bootable" ∷ codes "p" ∷ []) ≡ Answers (codes "part" ∷ codes "list" ∷ codes "mmc" ∷ codes "1" ∷ codes "-bootable" ∷ codes "p" ∷ []) (codes "setenv ${5} 2")
+unfolding card rule exactly opened builtin_of
+text_follows stubs = refl
+
+text_prints : (stubs : Statuses) (held : Held) → done_of Strict (hardware card stubs) (codes "part" ∷ codes "list" ∷ codes "mmc" ∷ codes "1" ∷ codes "-bootable" ∷ codes "p" ∷ []) 7 held ≡ (answer 7 (codes "+ part list mmc 1 -bootable p\n"), held)
+unfolding card rule exactly opened builtin_of
+text_prints stubs held = refl
+
+rule_boots : (stubs : Statuses) → follow_of Strict (hardware card stubs) (codes "booti" ∷ codes "0" ∷ []) ≡ End
+unfolding card rule exactly opened builtin_of
+rule_boots stubs = refl
+
+-- what no rule fits is asked of the stand-ins
+after_the_rules : answer_to (hardware card (insert (let none : Statuses = empty in none) (codes "x") (record { status = 3; boots = false }))) (codes "x") (codes "x" ∷ []) ≡ Some (Status 3 false)
+unfolding card rule exactly opened
+after_the_rules = simp (get-insert {X = Role} nat_list_cmp_total)
+
+-- Names of commands on a board without stand-ins: the only one that begins so, up to a `.`.
+beginning : (stubs : Statuses) → entries stubs ≡ [] → get stubs (codes "par") ≡ None → name_by Board (hardware card stubs) (codes "par") ≡ codes "part"
+unfolding card rule exactly opened builtin_of with_name
+beginning stubs none absent = simp (none, absent)
+
+width : (stubs : Statuses) → get stubs (codes "mmc.b") ≡ None → name_by Board (hardware card stubs) (codes "mmc.b") ≡ codes "mmc"
+unfolding card rule exactly opened builtin_of with_name
+width stubs absent = simp absent
+
+-- two rules of one name
+beginning_of_one : (stubs : Statuses) → entries stubs ≡ [] → get stubs (codes "mm") ≡ None → name_by Board (hardware card stubs) (codes "mm") ≡ codes "mmc"
+unfolding card rule exactly opened builtin_of with_name
+beginning_of_one stubs none absent = simp (none, absent)
+
+-- setenv and setexpr
+beginning_of_two : (stubs : Statuses) → entries stubs ≡ [] → get stubs (codes "set") ≡ None → name_by Board (hardware card stubs) (codes "set") ≡ codes "set"
+unfolding card rule exactly opened builtin_of with_name
+beginning_of_two stubs none absent = simp (none, absent)
+
+strict_name : (stubs : Statuses) → name_by Strict (hardware card stubs) (codes "mm") ≡ codes "mm"
+strict_name stubs = refl
+
+-- the words after `env`
+board_env : List (List ℕ) → Command
+board_env words = let none : Statuses = empty in command_in Board (hardware [] none) (codes "env" ∷ words)
+
+env_beginning : board_env (codes "exi" ∷ codes "n" ∷ []) ≡ Exists (codes "n")
+unfolding board_env builtin_of
+env_beginning = refl
+
+env_width : board_env (codes "delete.x" ∷ codes "n" ∷ []) ≡ Delete false (codes "n" ∷ [])
+unfolding board_env builtin_of
+env_width = refl
+
+env_beginning_of_two : board_env (codes "ex" ∷ codes "n" ∷ []) ≡ WrongUse (codes "env")
+unfolding board_env builtin_of
+env_beginning_of_two = refl
+
+-- the files of a board
+disk : List Rule
+disk = rule (map exactly (codes "test" ∷ codes "-e" ∷ codes "mmc" ∷ codes "1:2" ∷ []) ++ opened (codes "/boot") ∷ []) (Status 0 false) ∷ []
+
+file_there : (stubs : Statuses) (held : Held) → done_of Board (hardware disk stubs) (codes "test" ∷ codes "-e" ∷ codes "mmc" ∷ codes "1:2" ∷ codes "/boot/boot.scr" ∷ []) 7 held ≡ (answer 0 [], held)
+unfolding disk rule exactly opened builtin_of
+file_there stubs held = refl
+
+no_file_there : (stubs : Statuses) (held : Held) → get stubs (codes "test -e") ≡ None → done_of Board (hardware disk stubs) (codes "test" ∷ codes "-e" ∷ codes "mmc" ∷ codes "0" ∷ codes "/boot/boot.scr" ∷ []) 7 held ≡ (answer 1 [], held)
+unfolding disk rule exactly opened builtin_of
+no_file_there stubs held absent = simp absent
+
+-- lines of a board file
+line_of_status : read_board_line 3 (codes "mmc dev 0   -> 1") ≡ Ok (HasRule (rule (map exactly (codes "mmc" ∷ codes "dev" ∷ codes "0" ∷ [])) (Status 1 false)))
+unfolding rule exactly read
+line_of_status = refl
+
+line_of_text : read_board_line 3 (codes "load mm* -> setenv filesize 1c4a00 ") ≡ Ok (HasRule (rule (exactly (codes "load") ∷ opened (codes "mm") ∷ []) (Text (codes "setenv filesize 1c4a00"))))
+unfolding rule exactly opened read tokens_of lexeme_at passed_at piece_at inner_at double_at inner_escape is_inner is_escaped is_bare ends_word is_special is_blank command keyword_of is_plain name_of assignment_of begins_name is_in_name dollar_at follows_dollar
+line_of_text = refl
+
+line_of_boot : read_board_line 3 (codes "reset -> resets") ≡ Ok (HasRule (rule (exactly (codes "reset") ∷ []) (Status 0 true)))
+unfolding rule exactly
+line_of_boot = refl
+
+line_of_stand_in : read_board_line 3 (codes "dhcp 1") ≡ Ok (Adds (codes "dhcp", 1))
+unfolding builtin_of
+line_of_stand_in = refl
+
+no_answer : read_board_line 3 (codes "dhcp ->") ≡ Err (NoAnswer 3)
+no_answer = refl
+
+open_answer : read_board_line 3 (codes "dhcp -> ?") ≡ Err (Open 3)
+open_answer = refl
+
+no_script : read_board_line 3 (codes "dhcp -> if") ≡ Err (NoScript 3)
+unfolding rule exactly opened read tokens_of lexeme_at passed_at piece_at inner_at double_at inner_escape is_inner is_escaped is_bare ends_word is_special is_blank command keyword_of is_plain name_of assignment_of begins_name is_in_name dollar_at follows_dollar
+no_script = refl
+
+no_pattern : read_board_line 3 (codes " -> 0") ≡ Err (NoPattern 3)
+no_pattern = refl
+
+line_of_builtin : read_board_line 3 (codes "echo") ≡ Err (AsStandIn (Builtin 3))
+unfolding builtin_of
+line_of_builtin = refl

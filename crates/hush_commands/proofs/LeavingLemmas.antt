@@ -7,10 +7,11 @@ use Rattle.hush_calc.specs.Setexpr.{Answer, setexpr_of}
 use Rattle.hush_calc.specs.declared.calculation.SetexprFault.TheVariants as fault
 use Rattle.hush_commands.specs.declared.command.Command.{Command}
 use Rattle.hush_commands.specs.declared.command.Command.TheVariants as command
-use Rattle.hush_commands.specs.Stubs.{Statuses}
+use Rattle.hush_commands.specs.Hardware.{Hardware}
+use Rattle.hush_commands.specs.declared.shell.Shell.{Shell}
 use Rattle.text_parts.specs.Words.{spaced}
 use Rattle.hush_commands.specs.Writing.{Change, write_of, calculated_by, calculated_of}
-use Rattle.hush_commands.specs.Commands.{command_of}
+use Rattle.hush_commands.specs.Commands.{command_in}
 use Rattle.hush_commands.specs.Carrying.{told, done_by, done_of, deletion_told, deletion_by, deletion_of}
 
 abbrev pub Leaves : Held → Held → Type 0
@@ -32,24 +33,25 @@ calculated_leaves h called (Ok (name, text)) = inr (inr (name, text, false, refl
 calculated_leaves h called (Err fault.WrongUse) = kept h
 calculated_leaves h called (Err fault.DivisionByZero) = kept h
 
-command_leaves : (stand_ins : Statuses) (c : Command) (status : ℕ) (h : Held) → Leaves h (done_by stand_ins c status h).1
-command_leaves stand_ins command.True status h = kept h
-command_leaves stand_ins command.False status h = kept h
-command_leaves stand_ins (command.Echo newline words) status h = kept h
-command_leaves stand_ins (command.Set force name words) status h = told_leaves h (write_of h name (spaced words) force) (written h name (spaced words) force)
-command_leaves stand_ins (command.Print all names) status h = kept h
-command_leaves stand_ins command.Save status h = inr (inl refl)
-command_leaves stand_ins (command.Run names) status h = kept h
-command_leaves stand_ins (command.Delete force names) status h = kept h
-command_leaves stand_ins (command.Exists name) status h = kept h
-command_leaves stand_ins (command.Test words) status h = kept h
-command_leaves stand_ins (command.Calculate called words) status h = told_leaves h (calculated_of h called words) (calculated_leaves h called (setexpr_of words))
-command_leaves stand_ins (command.Exit own) status h = kept h
-command_leaves stand_ins (command.WrongUse called) status h = kept h
-command_leaves stand_ins (command.Other called words) status h = kept h
+command_leaves : (shell : Shell) (stand_ins : Hardware) (c : Command) (status : ℕ) (h : Held) → Leaves h (done_by shell stand_ins c status h).1
+command_leaves shell stand_ins command.Nothing status h = kept h
+command_leaves shell stand_ins command.True status h = kept h
+command_leaves shell stand_ins command.False status h = kept h
+command_leaves shell stand_ins (command.Echo newline words) status h = kept h
+command_leaves shell stand_ins (command.Set force name words) status h = told_leaves h (write_of h name (spaced words) force) (written h name (spaced words) force)
+command_leaves shell stand_ins (command.Print all names) status h = kept h
+command_leaves shell stand_ins command.Save status h = inr (inl refl)
+command_leaves shell stand_ins (command.Run names) status h = kept h
+command_leaves shell stand_ins (command.Delete force names) status h = kept h
+command_leaves shell stand_ins (command.Exists name) status h = kept h
+command_leaves shell stand_ins (command.Test words) status h = kept h
+command_leaves shell stand_ins (command.Calculate called words) status h = told_leaves h (calculated_of h called words) (calculated_leaves h called (setexpr_of words))
+command_leaves shell stand_ins (command.Exit own) status h = kept h
+command_leaves shell stand_ins (command.WrongUse called) status h = kept h
+command_leaves shell stand_ins (command.Other called words) status h = kept h
 
-pub done_leaves : (stand_ins : Statuses) (fields : List (List ℕ)) (status : ℕ) (h : Held) → Leaves h (done_of stand_ins fields status h).1
-done_leaves stand_ins fields status h = command_leaves stand_ins (command_of fields) status h
+pub done_leaves : (shell : Shell) (stand_ins : Hardware) (fields : List (List ℕ)) (status : ℕ) (h : Held) → Leaves h (done_of shell stand_ins fields status h).1
+done_leaves shell stand_ins fields status h = command_leaves shell stand_ins (command_in shell stand_ins fields) status h
 
 deletion_told_leaves : (h : Held) (failed : Bool) (c : Change) → Leaves h c.1 → Leaves h (deletion_told failed c).1
 deletion_told_leaves h failed (None, after) leaves = leaves

@@ -1,11 +1,13 @@
 pub mod BlankLemmas
 pub mod EntryLemmas
 pub mod StandInLemmas
+pub mod CommandNameLemmas
 pub mod Rows
 pub mod ItemLemmas
 pub mod BufferLemmas
 pub mod WordLemmas
 pub mod OutputLemmas
+pub mod LocalLemmas
 pub mod CarryingLemmas
 pub mod CommandRows
 pub mod LeavingLemmas

@@ -22,6 +22,20 @@ is_called SetExpr name =
     || bytes_eq (codes "setexpr.q") name
 is_called Exit name = bytes_eq (codes "exit") name
 
+-- its name, without the suffixes of `setexpr`
+abbrev pub name_of : Builtin → List ℕ
+name_of True = codes "true"
+name_of False = codes "false"
+name_of Echo = codes "echo"
+name_of SetEnv = codes "setenv"
+name_of PrintEnv = codes "printenv"
+name_of SaveEnv = codes "saveenv"
+name_of Run = codes "run"
+name_of Env = codes "env"
+name_of Test = codes "test"
+name_of SetExpr = codes "setexpr"
+name_of Exit = codes "exit"
+
 abbrev pub builtins : List Builtin
 builtins = True ∷ False ∷ Echo ∷ SetEnv ∷ PrintEnv ∷ SaveEnv ∷ Run ∷ Env ∷ Test ∷ SetExpr ∷ Exit ∷ []
 

@@ -1,10 +1,9 @@
 -- What a simple command does (docs/runs.md, "Commands").
-use Rattle.std.specs.Prelude.{◌≡◌, ℕ, ◌<◌, ◌≤◌, Bool, true, false, if◌then◌else◌, List, [], ◌++◌, codes, length, Option, Some, None, unwrap_or, is_some, Result, Ok, Err}
+use Rattle.std.specs.Prelude.{◌≡◌, ℕ, ◌<◌, ◌≤◌, Bool, true, false, if◌then◌else◌, List, [], ◌++◌, codes, length, Option, Some, None, unwrap_or, is_some, get_or, Result, Ok, Err}
 use Rattle.std.specs.FinMap as names
 use Rattle.envvars_core.specs.declared.refusals.Memory.{Memory}
 use Rattle.env_session.specs.Session.{Held, saved, side_of}
 use Rattle.text_parts.specs.Words.{spaced}
-use Rattle.hush_calc.specs.Test.{test_of}
 use Rattle.hush_commands.specs.declared.command.Command.{Command}
 use Rattle.hush_commands.specs.declared.command.Command.TheVariants as command
 use Rattle.hush_commands.specs.declared.follow.Follow.{Follow}
@@ -12,10 +11,14 @@ use Rattle.hush_commands.specs.declared.messages.Message.TheVariants as message
 use Rattle.hush_commands.specs.declared.output.PrintFault.{PrintFault}
 use Rattle.hush_commands.specs.declared.output.PrintFault.TheVariants as fault
 use Rattle.hush_commands.specs.declared.writes.Complaint.{Complaint}
-use Rattle.hush_commands.specs.Stubs.{Statuses, status_of_name}
+use Rattle.hush_commands.specs.declared.board_rules.Reply.{Reply}
+use Rattle.hush_commands.specs.declared.board_rules.Reply.TheVariants.{Status, Text}
+use Rattle.hush_commands.specs.Hardware.{Hardware, answer_to}
+use Rattle.hush_commands.specs.declared.shell.Shell.{Shell}
+use Rattle.hush_commands.specs.Shells.{kept_status, exit_status, test_by}
 use Rattle.hush_commands.specs.Messages.{text_of}
 use Rattle.hush_commands.specs.Output.{Printed, printed, Answer, answer, Answers, LacksRoom, OnMemory, status_if}
-use Rattle.hush_commands.specs.Commands.{command_of}
+use Rattle.hush_commands.specs.Commands.{command_in}
 use Rattle.hush_commands.specs.Listing.{listed}
 use Rattle.hush_commands.specs.Saving.{saved_line}
 use Rattle.hush_commands.specs.Writing.{Change, write_of, calculated_of}
@@ -38,10 +41,15 @@ echo_of newline words = answer 0 (spaced words ++ line_end newline)
 abbrev pub stand_in_of : ℕ → (fields : List (List ℕ)) → Answer
 stand_in_of status fields = answer status (codes "+ " ++ (spaced fields ++ codes "\n"))
 
--- no builtin: a stand-in, if the name has a status
-abbrev pub other_of : Option ℕ → (called : List ℕ) → (fields : List (List ℕ)) → Answer
-other_of (Some status) called fields = stand_in_of status fields
-other_of None called fields = answer 1 (text_of message.UnknownCommand called)
+-- the status of an answer; a text leaves it, since its start follows
+abbrev pub reply_status : (status : ℕ) → Reply → ℕ
+reply_status status (Status own boots) = own
+reply_status status (Text text) = status
+
+-- no builtin: what answers the call, if something does; it is told as it was written
+abbrev pub other_of : Option Reply → (status : ℕ) → (called : List ℕ) → (fields : List (List ℕ)) → Answer
+other_of (Some reply) status called fields = stand_in_of (reply_status status reply) fields
+other_of None status called fields = answer 1 (text_of message.UnknownCommand (get_or fields 0 called))
 
 -- a write, and its complaint
 abbrev pub told : Change → Done
@@ -53,25 +61,26 @@ abbrev pub save_of : Held → Done
 save_of held = (answer 0 (saved_line (side_of held)), saved held)
 
 -- the status is the one before the command
-abbrev pub done_by : Statuses → Command → (status : ℕ) → Held → Done
-done_by stand_ins command.True status held = quiet 0 held
-done_by stand_ins command.False status held = quiet 1 held
-done_by stand_ins (command.Echo newline words) status held = (echo_of newline words, held)
-done_by stand_ins (command.Set force name words) status held = told (write_of held name (spaced words) force)
-done_by stand_ins (command.Print all names) status held = (listed all held.now.env names, held)
-done_by stand_ins command.Save status held = save_of held
-done_by stand_ins (command.Run names) status held = quiet status held
-done_by stand_ins (command.Delete force names) status held = quiet status held
-done_by stand_ins (command.Exists name) status held = quiet (status_if (is_some (names.get held.now.env name))) held
-done_by stand_ins (command.Test words) status held = quiet (status_if (test_of words)) held
-done_by stand_ins (command.Calculate called words) status held = told (calculated_of held called words)
-done_by stand_ins (command.Exit own) status held = quiet (unwrap_or own status) held
-done_by stand_ins (command.WrongUse called) status held = (answer 1 (text_of message.WrongUse called), held)
-done_by stand_ins (command.Other called fields) status held = (other_of (status_of_name stand_ins called) called fields, held)
+abbrev pub done_by : Shell → Hardware → Command → (status : ℕ) → Held → Done
+done_by shell stand_ins command.Nothing status held = quiet (kept_status shell status) held
+done_by shell stand_ins command.True status held = quiet 0 held
+done_by shell stand_ins command.False status held = quiet 1 held
+done_by shell stand_ins (command.Echo newline words) status held = (echo_of newline words, held)
+done_by shell stand_ins (command.Set force name words) status held = told (write_of held name (spaced words) force)
+done_by shell stand_ins (command.Print all names) status held = (listed all held.now.env names, held)
+done_by shell stand_ins command.Save status held = save_of held
+done_by shell stand_ins (command.Run names) status held = quiet status held
+done_by shell stand_ins (command.Delete force names) status held = quiet status held
+done_by shell stand_ins (command.Exists name) status held = quiet (status_if (is_some (names.get held.now.env name))) held
+done_by shell stand_ins (command.Test words) status held = quiet (status_if (test_by shell stand_ins words)) held
+done_by shell stand_ins (command.Calculate called words) status held = told (calculated_of held called words)
+done_by shell stand_ins (command.Exit own) status held = quiet (unwrap_or own (exit_status shell status)) held
+done_by shell stand_ins (command.WrongUse called) status held = (answer 1 (text_of message.WrongUse called), held)
+done_by shell stand_ins (command.Other called fields) status held = (other_of (answer_to stand_ins called fields) status called fields, held)
 
 -- what the command of these fields does
-abbrev pub done_of : Statuses → List (List ℕ) → (status : ℕ) → Held → Done
-done_of stand_ins fields status held = done_by stand_ins (command_of fields) status held
+abbrev pub done_of : Shell → Hardware → List (List ℕ) → (status : ℕ) → Held → Done
+done_of shell stand_ins fields status held = done_by shell stand_ins (command_in shell stand_ins fields) status held
 
 -- A name of `env delete`.
 -- the status is 1 also if an earlier name failed
@@ -102,6 +111,7 @@ Carries done held after old new (Err fault.Memory) = (after ≡ held) × (new �
 
 -- whether a command takes memory for more than its text
 abbrev pub takes_more : Command → Bool
+takes_more command.Nothing = false
 takes_more command.True = false
 takes_more command.False = false
 takes_more (command.Echo newline words) = true

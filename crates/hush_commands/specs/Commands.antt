@@ -1,12 +1,14 @@
 -- Which command the fields of a simple command are, with its operands (docs/runs.md, "Commands").
 use Rattle.std.specs.Prelude.{ℕ, Bool, not, if◌then◌else◌, List, [], ◌∷◌, codes, Option, Some, None}
-use Rattle.std.specs.Str.{bytes_eq}
 use Rattle.hush_calc.specs.Fields.{split_option}
 use Rattle.hush_commands.specs.declared.builtins.Builtin.{Builtin}
 use Rattle.hush_commands.specs.declared.builtins.Builtin.TheVariants as builtin
 use Rattle.hush_commands.specs.declared.command.Command.{Command}
 use Rattle.hush_commands.specs.declared.command.Command.TheVariants as command
 use Rattle.hush_commands.specs.Builtins.{builtin_of}
+use Rattle.hush_commands.specs.declared.shell.Shell.{Shell}
+use Rattle.hush_commands.specs.Hardware.{Hardware}
+use Rattle.hush_commands.specs.CommandNames.{name_by, stands_for}
 use Rattle.hush_commands.specs.Statuses.{status_of}
 
 -- an option, if it is the first word, and the words after it
@@ -70,39 +72,39 @@ exit_command called (digits ∷ []) = exit_with called (status_of digits)
 exit_command called (digits ∷ more ∷ words) = command.WrongUse called
 
 -- the commands of `env`
-abbrev pub env_word : (called word : List ℕ) → List (List ℕ) → Command
-env_word called word words =
-    if bytes_eq (codes "set") word then set_command called words
-    else if bytes_eq (codes "print") word then print_command words
-    else if bytes_eq (codes "save") word then save_command called words
-    else if bytes_eq (codes "run") word then run_command called words
-    else if bytes_eq (codes "delete") word then delete_command called words
-    else if bytes_eq (codes "exists") word then exists_command called words
+abbrev pub env_word : Shell → (called word : List ℕ) → List (List ℕ) → Command
+env_word shell called word words =
+    if stands_for shell 2 (codes "set") word then set_command called words
+    else if stands_for shell 1 (codes "print") word then print_command words
+    else if stands_for shell 2 (codes "save") word then save_command called words
+    else if stands_for shell 1 (codes "run") word then run_command called words
+    else if stands_for shell 3 (codes "delete") word then delete_command called words
+    else if stands_for shell 3 (codes "exists") word then exists_command called words
     else command.WrongUse called
 
-abbrev pub env_command : (called : List ℕ) → List (List ℕ) → Command
-env_command called [] = command.WrongUse called
-env_command called (word ∷ words) = env_word called word words
+abbrev pub env_command : Shell → (called : List ℕ) → List (List ℕ) → Command
+env_command shell called [] = command.WrongUse called
+env_command shell called (word ∷ words) = env_word shell called word words
 
-abbrev pub builtin_command : Builtin → (called : List ℕ) → List (List ℕ) → Command
-builtin_command builtin.True called words = command.True
-builtin_command builtin.False called words = command.False
-builtin_command builtin.Echo called words = echo_command words
-builtin_command builtin.SetEnv called words = set_command called words
-builtin_command builtin.PrintEnv called words = print_command words
-builtin_command builtin.SaveEnv called words = save_command called words
-builtin_command builtin.Run called words = run_command called words
-builtin_command builtin.Env called words = env_command called words
-builtin_command builtin.Test called words = command.Test words
-builtin_command builtin.SetExpr called words = command.Calculate called words
-builtin_command builtin.Exit called words = exit_command called words
+abbrev pub builtin_command : Shell → Builtin → (called : List ℕ) → List (List ℕ) → Command
+builtin_command shell builtin.True called words = command.True
+builtin_command shell builtin.False called words = command.False
+builtin_command shell builtin.Echo called words = echo_command words
+builtin_command shell builtin.SetEnv called words = set_command called words
+builtin_command shell builtin.PrintEnv called words = print_command words
+builtin_command shell builtin.SaveEnv called words = save_command called words
+builtin_command shell builtin.Run called words = run_command called words
+builtin_command shell builtin.Env called words = env_command shell called words
+builtin_command shell builtin.Test called words = command.Test words
+builtin_command shell builtin.SetExpr called words = command.Calculate called words
+builtin_command shell builtin.Exit called words = exit_command called words
 
 -- builtins come first
-abbrev pub named_command : Option Builtin → (called : List ℕ) → List (List ℕ) → Command
-named_command (Some builtin) called words = builtin_command builtin called words
-named_command None called words = command.Other called (called ∷ words)
+abbrev pub named_command : Shell → Option Builtin → (name : List ℕ) → (fields words : List (List ℕ)) → Command
+named_command shell (Some builtin) name fields words = builtin_command shell builtin name words
+named_command shell None name fields words = command.Other name fields
 
--- no fields are as `true`
-abbrev pub command_of : List (List ℕ) → Command
-command_of [] = command.True
-command_of (called ∷ words) = named_command (builtin_of called) called words
+-- a command is called by the name that its first word stands for
+abbrev pub command_in : Shell → Hardware → List (List ℕ) → Command
+command_in shell h [] = command.Nothing
+command_in shell h (word ∷ words) = let name = name_by shell h word in named_command shell (builtin_of name) name (word ∷ words) words

@@ -1,29 +1,47 @@
 -- What follows a simple command (docs/runs.md, "Commands").
-use Rattle.std.specs.Prelude.{ℕ, List, if◌then◌else◌}
+use Rattle.std.specs.Prelude.{ℕ, ◌==◌, ◌&&◌, List, Option, Some, None, if◌then◌else◌}
 use Rattle.hush_commands.specs.declared.command.Command.{Command}
 use Rattle.hush_commands.specs.declared.command.Command.TheVariants as command
 use Rattle.hush_commands.specs.declared.follow.Follow.{Follow}
 use Rattle.hush_commands.specs.declared.follow.Follow.TheVariants as follow
-use Rattle.hush_commands.specs.Commands.{command_of}
-use Rattle.hush_commands.specs.Stubs.{Statuses, ends_run}
+use Rattle.hush_commands.specs.Commands.{command_in}
+use Rattle.hush_commands.specs.declared.board_rules.Reply.{Reply}
+use Rattle.hush_commands.specs.declared.board_rules.Reply.TheVariants.{Status, Text}
+use Rattle.hush_commands.specs.Hardware.{Hardware, answer_to}
+use Rattle.hush_commands.specs.declared.shell.Shell.{Shell}
+use Rattle.hush_commands.specs.declared.shell.Shell.TheVariants.{Strict, Board}
 
--- a stand-in that boots ends the run if its status is 0
-abbrev pub follow_by : Statuses → Command → Follow
-follow_by stand_ins command.True = follow.Next
-follow_by stand_ins command.False = follow.Next
-follow_by stand_ins (command.Echo newline words) = follow.Next
-follow_by stand_ins (command.Set force name words) = follow.Next
-follow_by stand_ins (command.Print all names) = follow.Next
-follow_by stand_ins command.Save = follow.Next
-follow_by stand_ins (command.Run names) = follow.Starts names
-follow_by stand_ins (command.Delete force names) = follow.Deletes force names
-follow_by stand_ins (command.Exists name) = follow.Next
-follow_by stand_ins (command.Test words) = follow.Next
-follow_by stand_ins (command.Calculate called words) = follow.Next
-follow_by stand_ins (command.Exit own) = follow.End
-follow_by stand_ins (command.WrongUse called) = follow.Next
-follow_by stand_ins (command.Other called fields) = if ends_run stand_ins called then follow.End else follow.Next
+-- an answer that boots ends the run if its status is 0; a text is started
+abbrev pub follow_reply : (fields : List (List ℕ)) → Reply → Follow
+follow_reply fields (Status status boots) = if boots && status == 0 then follow.End else follow.Next
+follow_reply fields (Text text) = follow.Answers fields text
+
+abbrev pub follow_to : (fields : List (List ℕ)) → Option Reply → Follow
+follow_to fields None = follow.Next
+follow_to fields (Some reply) = follow_reply fields reply
+
+-- an `exit` ends the run; on a board it ends the text that it is in
+abbrev pub exit_follow : Shell → Follow
+exit_follow Strict = follow.End
+exit_follow Board = follow.Leaves
+
+abbrev pub follow_by : Shell → Hardware → Command → Follow
+follow_by shell stand_ins command.Nothing = follow.Next
+follow_by shell stand_ins command.True = follow.Next
+follow_by shell stand_ins command.False = follow.Next
+follow_by shell stand_ins (command.Echo newline words) = follow.Next
+follow_by shell stand_ins (command.Set force name words) = follow.Next
+follow_by shell stand_ins (command.Print all names) = follow.Next
+follow_by shell stand_ins command.Save = follow.Next
+follow_by shell stand_ins (command.Run names) = follow.Starts names
+follow_by shell stand_ins (command.Delete force names) = follow.Deletes force names
+follow_by shell stand_ins (command.Exists name) = follow.Next
+follow_by shell stand_ins (command.Test words) = follow.Next
+follow_by shell stand_ins (command.Calculate called words) = follow.Next
+follow_by shell stand_ins (command.Exit own) = exit_follow shell
+follow_by shell stand_ins (command.WrongUse called) = follow.Next
+follow_by shell stand_ins (command.Other called fields) = follow_to fields (answer_to stand_ins called fields)
 
 -- what follows the command of these fields
-abbrev pub follow_of : Statuses → List (List ℕ) → Follow
-follow_of stand_ins fields = follow_by stand_ins (command_of fields)
+abbrev pub follow_of : Shell → Hardware → List (List ℕ) → Follow
+follow_of shell stand_ins fields = follow_by shell stand_ins (command_in shell stand_ins fields)

@@ -4,8 +4,12 @@ pub mod Statuses
 pub mod Commands
 pub mod StandInLines
 pub mod Stubs
+pub mod Hardware
+pub mod CommandNames
+pub mod BoardLines
 pub mod Messages
 pub mod Expansion
+pub mod Shells
 pub mod Scopes
 pub mod Buffers
 pub mod Output

@@ -28,9 +28,9 @@ pub(crate) enum Builtin {
 }
 
 impl Builtin {
-    ghost use Rattle.hush_commands.specs.Builtins.{builtin_of, is_called};
+    ghost use Rattle.hush_commands.specs.Builtins.{builtin_of, is_called, name_of};
 
-    const ALL: [Builtin; 11] = [
+    pub(crate) const ALL: [Builtin; 11] = [
         Builtin::True,
         Builtin::False,
         Builtin::Echo,
@@ -53,6 +53,25 @@ impl Builtin {
             .iter()
             .copied()
             .find(|builtin| builtin.is_called(name))
+    }
+
+    /// Its name, without the suffixes of `setexpr`.
+    pub(crate) fn name(self) -> &'static [u8]
+        ensures { result.now ≡ name_of self }
+    {
+        match self {
+            Builtin::True => b"true",
+            Builtin::False => b"false",
+            Builtin::Echo => b"echo",
+            Builtin::SetEnv => b"setenv",
+            Builtin::PrintEnv => b"printenv",
+            Builtin::SaveEnv => b"saveenv",
+            Builtin::Run => b"run",
+            Builtin::Env => b"env",
+            Builtin::Test => b"test",
+            Builtin::SetExpr => b"setexpr",
+            Builtin::Exit => b"exit",
+        }
     }
 
     /// Whether a command of this name is it. The suffixes of `setexpr` say how much memory an address reads.

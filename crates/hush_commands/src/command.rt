@@ -1,9 +1,13 @@
 //! Which command the fields of a simple command are, with its operands (docs/runs.md, "Commands").
 ghost use Rattle.std.specs.Prelude.{◌≡◌};
 
+use crate::board_rules::BoardRules;
 use crate::builtins::Builtin;
+use crate::command_names::{name_by, stands_for};
+use crate::shell::Shell;
 use crate::stand_in_line::read_status;
-use hush_calc::{Fields, is_text};
+use crate::stand_ins::Stubs;
+use hush_calc::Fields;
 use std::marker::Model;
 
 /// A name among the fields: that of a variable, or of the command itself.
@@ -37,7 +41,9 @@ impl<'a> Name<'a> {
 /// A command with its operands.
 #[derive(Drop)]
 pub(crate) enum Command<'a> {
-    /// `true`, or no fields at all
+    /// No fields at all
+    Nothing,
+    /// `true`
     True,
     /// `false`
     False,
@@ -89,7 +95,7 @@ pub(crate) enum Command<'a> {
     WrongUse {
         called: Name<'a>,
     },
-    /// No builtin: a stand-in, or unknown; its name is the first of the fields
+    /// No builtin: a stand-in, or unknown; the first of its fields stands for its name
     Other {
         called: Name<'a>,
         fields: Fields<'a>,
@@ -97,30 +103,44 @@ pub(crate) enum Command<'a> {
 }
 
 impl<'a> Command<'a> {
-    ghost use Rattle.hush_commands.specs.Commands.{command_of, builtin_command};
+    ghost use Rattle.hush_commands.specs.Commands.{command_in, builtin_command};
+    ghost use Rattle.hush_commands.specs.Hardware.{hardware};
     ghost use Rattle.hush_commands.specs.Commands.{env_command, env_word, echo_command, set_command, print_command};
     ghost use Rattle.hush_commands.specs.Commands.{save_command, run_command, delete_command, exists_command};
     ghost use Rattle.hush_commands.specs.Commands.{exit_command, exit_with};
 
     /// The command of these fields.
-    pub(crate) fn of(fields: Fields<'a>) -> Command<'a>
-        ensures { result ≡ command_of fields.entry }
+    pub(crate) fn of(
+        shell: Shell,
+        stand_ins: &'a Stubs,
+        board: &'a BoardRules,
+        fields: Fields<'a>,
+    ) -> Command<'a>
+        ensures { result ≡ command_in shell (hardware board.now stand_ins.now) fields.entry }
     {
         let mut words = fields.again();
         match words.next() {
-            Some(called) => match Builtin::of(called) {
-                Some(builtin) => Command::of_builtin(builtin, called, words),
-                None => Command::Other {
-                    called: Name::of(called),
-                    fields,
-                },
-            },
-            None => Command::True,
+            Some(word) => {
+                let called = name_by(shell, stand_ins, board, word);
+                match Builtin::of(called) {
+                    Some(builtin) => Command::of_builtin(shell, builtin, called, words),
+                    None => Command::Other {
+                        called: Name::of(called),
+                        fields,
+                    },
+                }
+            }
+            None => Command::Nothing,
         }
     }
 
-    fn of_builtin(builtin: Builtin, called: &'a [u8], words: Fields<'a>) -> Command<'a>
-        ensures { result ≡ builtin_command builtin called.now words.entry }
+    fn of_builtin(
+        shell: Shell,
+        builtin: Builtin,
+        called: &'a [u8],
+        words: Fields<'a>,
+    ) -> Command<'a>
+        ensures { result ≡ builtin_command shell builtin called.now words.entry }
     {
         match builtin {
             Builtin::True => Command::True,
@@ -130,7 +150,7 @@ impl<'a> Command<'a> {
             Builtin::PrintEnv => Command::print(words),
             Builtin::SaveEnv => Command::save(called, words),
             Builtin::Run => Command::run(called, words),
-            Builtin::Env => Command::env(called, words),
+            Builtin::Env => Command::env(shell, called, words),
             Builtin::Test => Command::Test { words },
             Builtin::SetExpr => Command::Calculate {
                 called: Name::of(called),
@@ -141,30 +161,30 @@ impl<'a> Command<'a> {
     }
 
     /// `env` with the name of one of its commands.
-    fn env(called: &'a [u8], words: Fields<'a>) -> Command<'a>
-        ensures { result ≡ env_command called.now words.entry }
+    fn env(shell: Shell, called: &'a [u8], words: Fields<'a>) -> Command<'a>
+        ensures { result ≡ env_command shell called.now words.entry }
     {
         let mut rest = words;
         match rest.next() {
-            Some(word) => Command::env_word(called, word, rest),
+            Some(word) => Command::env_word(shell, called, word, rest),
             None => Command::wrong_use(called),
         }
     }
 
-    fn env_word(called: &'a [u8], word: &[u8], words: Fields<'a>) -> Command<'a>
-        ensures { result ≡ env_word called.now word.now words.entry }
+    fn env_word(shell: Shell, called: &'a [u8], word: &[u8], words: Fields<'a>) -> Command<'a>
+        ensures { result ≡ env_word shell called.now word.now words.entry }
     {
-        if is_text(word, b"set") {
+        if stands_for(shell, 2, b"set", word) {
             Command::set(called, words)
-        } else if is_text(word, b"print") {
+        } else if stands_for(shell, 1, b"print", word) {
             Command::print(words)
-        } else if is_text(word, b"save") {
+        } else if stands_for(shell, 2, b"save", word) {
             Command::save(called, words)
-        } else if is_text(word, b"run") {
+        } else if stands_for(shell, 1, b"run", word) {
             Command::run(called, words)
-        } else if is_text(word, b"delete") {
+        } else if stands_for(shell, 3, b"delete", word) {
             Command::delete(called, words)
-        } else if is_text(word, b"exists") {
+        } else if stands_for(shell, 3, b"exists", word) {
             Command::exists(called, words)
         } else {
             Command::wrong_use(called)

@@ -192,7 +192,7 @@ impl FieldBuffer {
     }
 
     /// Adds a text that is cut at its blanks and newlines.
-    fn add_split(&mut self, text: &[u8]) -> Result<(), AllocError>
+    pub(crate) fn add_split(&mut self, text: &[u8]) -> Result<(), AllocError>
         ensures { OnOk result (self.new ≡ with_items self.old (substituted false text.now)) }
     {
         let mut rest = text;

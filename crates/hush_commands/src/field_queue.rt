@@ -1,6 +1,9 @@
 //! Fields that are taken one after the other.
-ghost use Rattle.std.specs.Prelude.{◌≡◌, ◌==◌, length, drop, IfOk};
+ghost use Rattle.std.specs.Prelude.{◌≡◌, ◌==◌, [], length, drop, IfOk};
+ghost use Rattle.hush_commands.specs.Shells.{cut_fields, list_by};
 
+use crate::field_buffer::FieldBuffer;
+use crate::shell::Shell;
 use hush_calc::Fields;
 use std::alloc::{AllocError, Global};
 use std::marker::Model;
@@ -41,6 +44,28 @@ impl FieldQueue {
         })
     }
 
+    /// No fields. It takes no memory.
+    pub fn none(alloc: Global) -> FieldQueue
+        ensures { result ≡ [] }
+    {
+        FieldQueue {
+            bytes: Vec::new(alloc),
+            lengths: Vec::new(alloc),
+            start: 0,
+            done: 0,
+        }
+    }
+
+    /// The fields as the list of a `for`.
+    pub fn list_by(self, alloc: Global, shell: Shell) -> Result<FieldQueue, AllocError>
+        ensures { IfOk result (λ queue. queue ≡ list_by shell self) }
+    {
+        match shell {
+            Shell::Strict => Ok(self),
+            Shell::Board => cut_fields(alloc, self.fields()),
+        }
+    }
+
     /// The fields that are left.
     pub fn fields(&self) -> Fields<'_>
         ensures { result ≡ self.now }
@@ -65,4 +90,17 @@ impl FieldQueue {
             self.done += 1;
         }
     }
+}
+
+/// Each of these fields cut at its blanks and newlines, without the empty ones, in memory of their own.
+fn cut_fields(alloc: Global, fields: Fields<'_>) -> Result<FieldQueue, AllocError>
+    ensures { IfOk result (λ queue. queue ≡ cut_fields fields.entry) }
+{
+    let mut buffer = FieldBuffer::new(alloc);
+    let mut rest = fields;
+    while let Some(field) = rest.next() {
+        buffer.add_split(field)?;
+        buffer.end()?;
+    }
+    Ok(buffer.take(alloc))
 }

@@ -1,11 +1,17 @@
 //! What follows a simple command (docs/runs.md, "Commands").
-ghost use Rattle.std.specs.Prelude.{◌≡◌, true, IfOk, OnErr};
+ghost use Rattle.std.specs.Prelude.{◌≡◌, ℕ, List, true, IfOk, OnErr};
 ghost use Rattle.hush_commands.specs.Carrying.{takes_more};
-ghost use Rattle.hush_commands.specs.Following.{follow_by};
+ghost use Rattle.std.specs.FinMap as names;
+ghost use Rattle.std.specs.Prelude.{option_map};
+ghost use Rattle.hush_commands.specs.Hardware.{hardware, answer_to, role_reply};
+ghost use Rattle.hush_commands.specs.Following.{exit_follow, follow_by, follow_reply, follow_to};
 
+use crate::board_rules::{BoardRules, Bytes, Reply};
 use crate::command::Command;
 use crate::field_queue::FieldQueue;
+use crate::shell::Shell;
 use crate::stand_ins::Stubs;
+use hush_calc::Fields;
 use std::alloc::{AllocError, Global};
 
 /// What follows a simple command.
@@ -13,8 +19,10 @@ use std::alloc::{AllocError, Global};
 pub enum Follow {
     /// What comes next in the script.
     Next,
-    /// The end of the run: it is an `exit` with its words, or a stand-in that boots, with status 0.
+    /// The end of the run: it is an `exit` of the strict shell, or an answer that boots, with status 0.
     End,
+    /// The end of the text that it is in: it is an `exit` of a board.
+    Leaves,
     /// The starts of these names: it is a `run`.
     Starts(FieldQueue),
     /// The deletions of these names: it is an `env delete`.
@@ -24,12 +32,25 @@ pub enum Follow {
         /// The names.
         names: FieldQueue,
     },
+    /// The start of the text that a board answers with.
+    Answers {
+        /// The words of the call.
+        words: FieldQueue,
+        /// The text.
+        text: Bytes,
+    },
 }
 
 impl<'a> Command<'a> {
     /// What follows the command. Memory is taken for names alone.
-    pub(crate) fn follow(&self, alloc: Global, stand_ins: &Stubs) -> Result<Follow, AllocError>
-        ensures follow { IfOk result (λ follow. follow ≡ follow_by stand_ins.now self.now) }
+    pub(crate) fn follow(
+        &self,
+        alloc: Global,
+        shell: Shell,
+        stand_ins: &Stubs,
+        board: &BoardRules,
+    ) -> Result<Follow, AllocError>
+        ensures follow { IfOk result (λ follow. follow ≡ follow_by shell (hardware board.now stand_ins.now) self.now) }
         ensures taken { OnErr result (takes_more self.now ≡ true) }
     {
         match self {
@@ -38,9 +59,67 @@ impl<'a> Command<'a> {
                 force: *force,
                 names: FieldQueue::of(alloc, names)?,
             }),
-            Command::Exit { .. } => Ok(Follow::End),
-            Command::Other { called, .. } if stand_ins.ends(called.bytes()) => Ok(Follow::End),
+            Command::Exit { .. } => Ok(exit_follow(shell)),
+            Command::Other { called, fields } => {
+                follow_other(alloc, stand_ins, board, called.bytes(), fields)
+            }
             _ => Ok(Follow::Next),
         }
+    }
+}
+
+/// What follows an `exit` with its words.
+fn exit_follow(shell: Shell) -> Follow
+    ensures { result ≡ exit_follow shell }
+{
+    match shell {
+        Shell::Strict => Follow::End,
+        Shell::Board => Follow::Leaves,
+    }
+}
+
+/// What follows a call that is no builtin.
+fn follow_other(
+    alloc: Global,
+    stand_ins: &Stubs,
+    board: &BoardRules,
+    called: &[u8],
+    fields: &Fields<'_>,
+) -> Result<Follow, AllocError>
+    ensures { IfOk result (λ follow. follow ≡ follow_to fields.now (answer_to (hardware board.now stand_ins.now) called.now fields.now)) }
+{
+    match board.find(called, fields) {
+        Some(reply) => follow_reply(alloc, reply, fields),
+        None => Ok(follow_stub(stand_ins, called)),
+    }
+}
+
+/// What follows an answer.
+fn follow_reply(alloc: Global, reply: &Reply, fields: &Fields<'_>) -> Result<Follow, AllocError>
+    ensures { IfOk result (λ follow. follow ≡ follow_reply fields.now reply.now) }
+{
+    match reply {
+        Reply::Status { status, boots } => {
+            if *boots && *status == 0 {
+                Ok(Follow::End)
+            } else {
+                Ok(Follow::Next)
+            }
+        }
+        Reply::Text(text) => Ok(Follow::Answers {
+            words: FieldQueue::of(alloc, fields)?,
+            text: Bytes::of(alloc, text.as_bytes())?,
+        }),
+    }
+}
+
+/// What follows the stand-in of a name.
+fn follow_stub(stand_ins: &Stubs, called: &[u8]) -> Follow
+    ensures { (fields : List (List ℕ)) → result ≡ follow_to fields (option_map role_reply (names.get stand_ins.now called.now)) }
+{
+    if stand_ins.ends(called) {
+        Follow::End
+    } else {
+        Follow::Next
     }
 }

@@ -1,12 +1,14 @@
 //! One simple command of a dry run: its words are expanded to fields, and it is carried out by them. Also the stand-ins
 //! for commands that need hardware, and the messages of commands that fail. docs/runs.md states the rules.
 //!
-//! To read in this order: builtins, stand_in_line, stand_ins; locals, expansion, field_buffer, field_queue;
+//! To read in this order: shell; builtins, stand_in_line, stand_ins, board_rules, command_names; locals, expansion, field_buffer, field_queue;
 //! command, follow, execution; writes, listing; messages, output.
 #![tactic(auto)]
 
+mod board_rules;
 mod builtins;
 mod command;
+mod command_names;
 mod execution;
 mod expansion;
 mod field_buffer;
@@ -16,10 +18,12 @@ mod listing;
 mod locals;
 mod messages;
 mod output;
+mod shell;
 mod stand_in_line;
 mod stand_ins;
 mod writes;
 
+pub use board_rules::{BoardRules, Bytes, Pattern, PatternWord, Reply, Rule};
 pub use builtins::is_builtin;
 pub use execution::carry_out;
 pub use expansion::{ExpansionFault, Scope};
@@ -29,6 +33,7 @@ pub use follow::Follow;
 pub use locals::Locals;
 pub use messages::Message;
 pub use output::{Output, PrintFault};
+pub use shell::{Shell, kept_status};
 pub use stand_in_line::StubFault;
 pub use stand_ins::Stubs;
 pub use writes::delete;

@@ -1,7 +1,11 @@
 //! Local variables.
 ghost use Rattle.std.specs.Prelude.{◌≡◌, OnOk, OnErr, option_copied};
 ghost use Rattle.std.specs.FinMap as env;
+ghost use Rattle.std.specs.Prelude.{IfOk};
+ghost use Rattle.hush_commands.specs.Hardware.{with_words};
 
+use hush_calc::Fields;
+use itoa::Buffer;
 use std::alloc::{AllocError, Global};
 use std::collections::BTreeMap;
 use std::marker::Model;
@@ -60,5 +64,31 @@ impl Locals {
             Ok(_old) => Ok(()),
             Err(_) => Err(AllocError),
         }
+    }
+
+    /// The same, in memory of their own.
+    fn again(&self) -> Result<Locals, AllocError>
+        ensures { IfOk result (λ locals. locals ≡ self.now) }
+    {
+        let values = self.values.clone()?;
+        Ok(Locals { values })
+    }
+
+    /// These, and the words of a call as `0`, `1`, `2` and so on.
+    pub fn with_words(&self, alloc: Global, words: Fields<'_>) -> Result<Locals, AllocError>
+        ensures { IfOk result (λ locals. locals ≡ with_words self.now words.entry) }
+    {
+        let mut locals = self.again()?;
+        let mut rest = words;
+        let mut number: usize = 0;
+        while let Some(word) = rest.next() {
+            let mut digits = Buffer::new();
+            locals.set(alloc, digits.format(number).as_bytes(), word)?;
+            let Some(next) = number.checked_add(1) else {
+                return Err(AllocError);
+            };
+            number = next;
+        }
+        Ok(locals)
     }
 }

@@ -1,9 +1,11 @@
 //! Stand-ins: names of commands that need hardware, each with the status that it answers and whether it boots.
-ghost use Rattle.std.specs.Prelude.{◌≡◌, Some, Ok, IfOk, IfErr, OnOk, OnErr};
+ghost use Rattle.hush_commands.specs.CommandNames.{stub_names, with_names};
+ghost use Rattle.std.specs.Prelude.{◌≡◌, map, Some, Ok, IfOk, IfErr, OnOk, OnErr};
 ghost use Rattle.std.specs.FinMap as names;
 ghost use Rattle.hush_commands.specs.Stubs.{stand_ins_of, with_line, with_stand_in, IsFaultOf};
 ghost use Rattle.hush_commands.specs.Stubs.{status_of_name, booting, with_boot, is_end, ends_run};
 
+use crate::command_names::Found;
 use crate::stand_in_line::{StubFault, read_line};
 use std::alloc::{AllocError, Global};
 use std::collections::BTreeMap;
@@ -112,6 +114,13 @@ impl Stubs {
         }
     }
 
+    /// What was found, and the names of these that begin with a word.
+    pub(crate) fn with_names<'a>(&'a self, word: &[u8], found: Found<'a>) -> Found<'a>
+        ensures { result ≡ with_names word.now found.entry (stub_names self.now) }
+    {
+        names_of(&self.roles, word, found)
+    }
+
     /// No stand-ins. It takes no memory.
     fn empty(alloc: Global) -> Stubs
         ensures { result ≡ names.empty }
@@ -154,4 +163,15 @@ impl Stubs {
             None => Ok(()),
         }
     }
+}
+
+/// What was found, and the names of roles that begin with a word.
+fn names_of<'a>(roles: &'a BTreeMap<Vec<u8>, Role>, word: &[u8], found: Found<'a>) -> Found<'a>
+    ensures { result ≡ with_names word.now found.entry (map (λ entry. entry.0.items) roles.now.entries) }
+{
+    let mut so_far = found;
+    for (name, _role) in roles {
+        so_far = so_far.with(word, name.as_slice());
+    }
+    so_far
 }

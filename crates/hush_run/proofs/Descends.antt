@@ -1,22 +1,19 @@
 -- Going down from a node.
-use Rattle.std.proofs.Common.{◌≡◌, ◌+◌, ◌*◌, ◌≤◌, ℕ, List, ◌∷◌, length, Option, Some, refl, sym, ap, ◌∙◌, arith, IsSome}
+use Rattle.std.proofs.Common.{◌≡◌, ◌+◌, ◌*◌, ◌≤◌, List, ◌∷◌, length, Some, refl, sym, ap, ◌∙◌, arith, IsSome}
 use Rattle.hush_syntax.specs.declared.nodes.NodeId.{NodeId}
 use Rattle.hush_run.specs.declared.frames.Frame.{Frame}
 use Rattle.hush_syntax.specs.Scripts.{Parsed, subtree_at}
 use Rattle.hush_run.specs.Meaning.{Rules, Out, ◌>>=◌}
-use Rattle.hush_run.specs.Resume.{begin_in, subtree_does, frame_does, at_in, frame_room, owners, resume, variable_above, within_text, IsFrame, IsStack, FirstPart, Leads, levels}
+use Rattle.hush_run.specs.Resume.{begin_in, subtree_does, frame_does, at_in, frame_room, owners, resume, enclosed, IsFrame, IsStack, FirstPart, Leads, levels}
 use Rattle.hush_run.specs.Stacks.{script_frames}
 use Rattle.hush_run.proofs.Counts.{start-counts}
-use Rattle.hush_run.proofs.PlaceLemmas.{no_text}
 
 pub leads_here : (script : Parsed) (frames : List Frame) (id : NodeId) → IsSome (subtree_at script id) → Leads script frames frames id id
 leads_here script frames id known = (known, (λ scripts stack fits. (stack, fits)), λ rules scripts s le. refl)
 
 -- a frame on top, whose scripts are those that run
-pub resume-frame : (rules : Rules) (scripts : List Parsed) (f : Frame) (fs : List Frame) (o : Out) → 1 ≤ length scripts → owners f scripts ≡ scripts → resume rules scripts (f ∷ fs) o ≡ resume rules scripts fs (o >>= frame_does rules (begin_in rules scripts) (at_in scripts) f)
-resume-frame rules scripts f fs o some same =
-    ap (λ (ps : List Parsed). resume rules ps fs (within_text (variable_above f) o >>= frame_does rules (begin_in rules ps) (at_in ps) f)) same
-    ∙ ap (λ (n : Option (List ℕ)). resume rules scripts fs (within_text n o >>= frame_does rules (begin_in rules scripts) (at_in scripts) f)) (no_text f scripts some same)
+pub resume-frame : (rules : Rules) (scripts : List Parsed) (f : Frame) (fs : List Frame) (o : Out) → owners f scripts ≡ scripts → resume rules scripts (f ∷ fs) o ≡ resume rules scripts fs (enclosed rules.shell f o >>= frame_does rules (begin_in rules scripts) (at_in scripts) f)
+resume-frame rules scripts f fs o same = ap (λ (ps : List Parsed). resume rules ps fs (enclosed rules.shell f o >>= frame_does rules (begin_in rules ps) (at_in ps) f)) same
 
 pub stack-frame : (scripts : List Parsed) (f : Frame) (fs : List Frame) → owners f scripts ≡ scripts → 1 ≤ length scripts → IsFrame (at_in scripts) f → length fs + frame_room (at_in scripts) f ≤ script_frames * length scripts → IsStack scripts fs → IsStack scripts (f ∷ fs)
 stack-frame scripts f fs same some is fits stack = rw same (some, is, fits, stack)
@@ -28,5 +25,5 @@ leads_on script old new id node part f l p = (
   λ rules scripts s le.
       l.2 rules scripts s le
       ∙ ap (λ (o : Out). resume rules (script ∷ scripts) new o) (p.5 rules (begin_in rules (script ∷ scripts)) (start-counts rules (levels rules (script ∷ scripts))) s le)
-      ∙ sym (resume-frame rules (script ∷ scripts) f new (subtree_does rules (begin_in rules (script ∷ scripts)) (subtree_at script part) s) (omega arith) (p.1 (script ∷ scripts))),
+      ∙ sym (resume-frame rules (script ∷ scripts) f new (subtree_does rules (begin_in rules (script ∷ scripts)) (subtree_at script part) s) (p.1 (script ∷ scripts))),
 )

@@ -5,10 +5,10 @@ use Rattle.hush_syntax.specs.Grammar.{Command, Simple, Assign, If, For, While, U
 use Rattle.hush_run.specs.Meaning.Reason.{Steps}
 use Rattle.hush_run.specs.declared.due.Due.{Due}
 use Rattle.hush_run.specs.declared.due.Due.TheVariants as due
-use Rattle.hush_run.specs.Meaning.{Rules, Begin, State, Out, Goes, Ends, ◌>>=◌, ◌then◌, goes_on, with_status, turns, in_turn, deletions, bindings, fields_of, command, chain, chains, start}
+use Rattle.hush_run.specs.Meaning.{Rules, Variable, Begin, State, Out, Goes, Ends, ◌>>=◌, ◌then◌, goes_on, with_status, loop_status, turns, in_turn, deletions, bindings, have_value, fields_of, list_of, in_list, command, chain, chains, start}
 use Rattle.hush_run.specs.Resume.{subtree_does, at_command, of_for}
 use Rattle.hush_run.specs.Turns.{due_does, IsDue, IsPart, IsForNode}
-use Rattle.hush_run.proofs.StepLemmas.{step_halts, simple_halts, for_halts, bind_halts, delete_halts, start_halts}
+use Rattle.hush_run.proofs.StepLemmas.{step_halts, simple_halts, for_halts, bind_halts, delete_halts, start_halts, answer_halts}
 
 abbrev Halts : Rules → (State → Out) → Type 0
 Halts rules p = (s : State) → rules.limits.steps ≤ s.steps → p s ≡ Ends Steps None s
@@ -16,17 +16,17 @@ Halts rules p = (s : State) → rules.limits.steps ≤ s.steps → p s ≡ Ends 
 then-halts : (rules : Rules) (p q : State → Out) → Halts rules p → Halts rules (p then q)
 then-halts rules p q h s le = ap (λ (o : Out). o >>= q) (h s le)
 
-turns-halt : (rules : Rules) (n : ℕ) (wanted : Bool) (c d : State → Out) (last : ℕ) → Halts rules c → Halts rules (turns (suc n) wanted c d last)
+turns-halt : (rules : Rules) (n : ℕ) (wanted : Bool) (c d : State → Out) (last : ℕ) → Halts rules c → Halts rules (turns rules.shell (suc n) wanted c d last)
 unfolding turns
-turns-halt rules n wanted c d last h s le = ap (λ (o : Out). o >>= (λ t. if goes_on wanted t then (d t >>= λ u. turns n wanted c d u.status u) else Goes (with_status last t))) (h s le)
+turns-halt rules n wanted c d last h s le = ap (λ (o : Out). o >>= (λ t. if goes_on wanted t then (d t >>= λ u. turns rules.shell n wanted c d u.status u) else Goes (with_status (loop_status rules.shell last t.status) t))) (h s le)
 
 module _ (rules : Rules) (begin : Begin) where
   mutual
     command-halts : (c : Command) → Halts rules (command rules begin c)
-    command-halts (Simple words) = λ s le. simple_halts rules begin (fields_of rules words s) s le
+    command-halts (Simple words) = λ s le. simple_halts rules begin (have_value words) (fields_of rules words s) s le
     command-halts (Assign name value) = step_halts rules _
     command-halts (If c d branches) = then-halts rules _ _ (chains-halt c)
-    command-halts (For name words d) = λ s le. for_halts rules name (fields_of rules words s) _ s le
+    command-halts (For name words d) = λ s le. for_halts rules name (list_of rules words s) _ s le
     command-halts (While c d) = turns-halt rules rules.limits.steps true _ _ 0 (chains-halt c)
     command-halts (Until c d) = turns-halt rules rules.limits.steps false _ _ 0 (chains-halt c)
 
@@ -34,8 +34,8 @@ module _ (rules : Rules) (begin : Begin) where
     chain-halts (First c links) = then-halts rules _ _ (command-halts c)
 
     pub chains-halt : (cs : Chains) → Halts rules (chains rules begin cs)
-    chains-halt (Last c) = chain-halts c
-    chains-halt (More c cs) = then-halts rules _ _ (chain-halts c)
+    chains-halt (Last c) = λ s le. ap in_list (chain-halts c s le)
+    chains-halt (More c cs) = λ s le. ap (λ (o : Out). in_list o >>= chains rules begin cs) (chain-halts c s le)
 
 bindings-halt : (rules : Rules) (begin : Begin) (name : List ℕ) (body : State → Out) (fields : List (List ℕ)) → 0 < length fields → Halts rules (bindings rules name body fields)
 bindings-halt rules begin name body [] lt s le = absurd (omega (arith, lt))
@@ -45,9 +45,9 @@ deletions-halt : (rules : Rules) (begin : Begin) (force failed : Bool) (names : 
 deletions-halt rules begin force failed [] lt s le = absurd (omega (arith, lt))
 deletions-halt rules begin force failed (n ∷ ns) lt s le = delete_halts rules n ns force failed s begin le
 
-in_turn-halts : (rules : Rules) (begin : Begin) (names : List (List ℕ)) → 0 < length names → ((name : List ℕ) → Halts rules (begin name)) → Halts rules (in_turn begin names)
+in_turn-halts : (rules : Rules) (begin : Begin) (names : List (List ℕ)) → 0 < length names → ((name : List ℕ) → Halts rules (begin (Variable name))) → Halts rules (in_turn begin names)
 in_turn-halts rules begin [] lt h s le = absurd (omega (arith, lt))
-in_turn-halts rules begin (n ∷ ns) lt h s le = then-halts rules (begin n) _ (h n) s le
+in_turn-halts rules begin (n ∷ ns) lt h s le = then-halts rules (begin (Variable n)) _ (h n) s le
 
 subtree-halts : (rules : Rules) (begin : Begin) (o : Option Subtree) → is_some o ≡ true → Halts rules (subtree_does rules begin o)
 subtree-halts rules begin None h = absurd (let f : false ≡ true = h in cc)
@@ -72,3 +72,4 @@ due-halts rules levels at (due.Node node) is part = subtree-halts rules (start r
 due-halts rules levels at (due.Binding node fields) is part = for-node-halts rules (start rules levels) fields (at node) is.1 is.0
 due-halts rules levels at (due.Start names) is part = in_turn-halts rules (start rules levels) names is (λ name s le. start_halts rules levels name s le)
 due-halts rules levels at (due.Delete force failed names) is part = deletions-halt rules (start rules levels) force failed names is
+due-halts rules levels at (due.Answer words text) is part = λ s le. answer_halts rules levels words text s le

@@ -4,8 +4,10 @@ mod TurnLemmas
 mod PlaceLemmas
 mod Descends
 mod RiseLemmas
+mod LeaveLemmas
 mod StepLemmas
 mod NameLemmas
+mod ValueLemmas
 mod NodeLemmas
 mod Halting
 mod AdvanceLemmas

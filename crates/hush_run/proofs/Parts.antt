@@ -1,5 +1,5 @@
 -- A node is its first part and what its frame does after that.
-use Rattle.std.proofs.Common.{◌≡◌, ◌==◌, ◌<◌, ◌≤◌, ◌+◌, ◌*◌, true, false, List, [], ◌∷◌, length, get_or, Option, Some, None, refl, sym, ap, ◌∙◌, arith, if◌then◌else◌, IsSome}
+use Rattle.std.proofs.Common.{◌≡◌, ◌==◌, ◌<◌, ◌≤◌, ◌+◌, ◌*◌, Bool, true, false, List, [], ◌∷◌, length, get_or, Option, Some, None, refl, sym, ap, ◌∙◌, arith, if◌then◌else◌, IsSome}
 use Rattle.hush_syntax.specs.declared.nodes.NodeId.{NodeId}
 use Rattle.hush_syntax.specs.declared.nodes.Link as link
 use Rattle.hush_syntax.specs.declared.nodes.Branch as branch
@@ -7,30 +7,38 @@ use Rattle.hush_run.specs.declared.frames.Frame.TheVariants as frame
 use Rattle.hush_syntax.specs.Nodes.{At, Subtree, chain_of, OfChains, OfChain, OfCommand, AreChains, IsChain, AreBranches}
 use Rattle.hush_syntax.specs.Grammar.{If, While, Until, Branches, Elif, Chain, First, Links, End, Link, Chains, Last, More, depth_in_chain}
 use Rattle.hush_syntax.specs.Reading.{bind}
-use Rattle.hush_run.specs.Meaning.{Rules, Begin, State, Out, Goes, Ends, ◌>>=◌, ◌then◌, joins, command, chain, linked, chains}
+use Rattle.hush_run.specs.Meaning.{Rules, Begin, State, Out, Goes, Leaves, Ends, ◌>>=◌, ◌then◌, in_list, joins, leaves_chain, command, chain, linked, chains}
 use Rattle.hush_run.specs.Resume.{chain_list, link_list, run_chains, run_links, tagged, subtree_does, room, FirstPart}
 use Rattle.hush_run.proofs.Counts.{turns-again, chains-count}
 
 pub bind_goes : (o : Out) → (o >>= Goes) ≡ o
 bind_goes (Goes s) = refl
+bind_goes (Leaves own s) = refl
 bind_goes (Ends e p s) = refl
 
 pub bind_assoc : (o : Out) (f g : State → Out) → ((o >>= f) >>= g) ≡ (o >>= (f then g))
 bind_assoc (Goes s) f g = refl
+bind_assoc (Leaves own s) f g = refl
 bind_assoc (Ends e p s) f g = refl
 
 pub bind_alike : (o : Out) (f g : State → Out) → ((s : State) → f s ≡ g s) → (o >>= f) ≡ (o >>= g)
 bind_alike (Goes s) f g h = h s
+bind_alike (Leaves own s) f g h = refl
 bind_alike (Ends e p s) f g h = refl
 
 -- lists of chains and of links
 pub run_chains-all : (rules : Rules) (begin : Begin) (cs : Chains) (s : State) → chains rules begin cs s ≡ run_chains rules begin (chain_list cs) s
-run_chains-all rules begin (Last c) s = sym (bind_goes (chain rules begin c s))
-run_chains-all rules begin (More c cs) s = bind_alike (chain rules begin c s) _ _ (run_chains-all rules begin cs)
+run_chains-all rules begin (Last c) s = sym (bind_goes (in_list (chain rules begin c s)))
+run_chains-all rules begin (More c cs) s = bind_alike (in_list (chain rules begin c s)) _ _ (run_chains-all rules begin cs)
 
 pub run_links-all : (rules : Rules) (begin : Begin) (ls : Links) (s : State) → linked rules begin ls s ≡ run_links rules begin (tagged (link_list ls)) s
 run_links-all rules begin End s = refl
-run_links-all rules begin (Link o c ls) s = bind_alike (if joins o (s.status == 0) then command rules begin c s else Goes s) _ _ (run_links-all rules begin ls)
+run_links-all rules begin (Link o c ls) s =
+    either (joins o (s.status == 0)) (bind_alike (command rules begin c s) _ _ (run_links-all rules begin ls)) (either (leaves_chain rules.shell) refl (run_links-all rules begin ls s))
+  where
+    either : (b : Bool) {x x' y y' : Out} → x ≡ x' → y ≡ y' → (if b then x else y) ≡ (if b then x' else y')
+    either true e f = e
+    either false e f = f
 
 -- a member of a list does what its chain does, and needs no more frames
 pub member_does : (o : Option Subtree) (c : Chain) → bind o chain_of ≡ Some c → IsSome o × (room o ≤ 3 * depth_in_chain c + 2) × ((rules : Rules) (begin : Begin) (s : State) → subtree_does rules begin o s ≡ chain rules begin c s)
@@ -49,7 +57,7 @@ list_first at id child [] (Last c) e a is = absurd a
 list_first at id child [] (More c cs) e a is = absurd a
 list_first at id child (i ∷ ids) (Last c) e a is =
     let m = member_does (at i) c a.0 in
-    rw (is, e) (m.0, λ scripts. refl, refl, omega (arith, m.1), omega arith, λ rules begin counting s le. sym (bind_goes (chain rules begin c s)) ∙ ap (λ (o : Out). o >>= Goes) (sym (m.2 rules begin s)))
+    rw (is, e) (m.0, λ scripts. refl, refl, omega (arith, m.1), omega arith, λ rules begin counting s le. sym (bind_goes (in_list (chain rules begin c s))) ∙ ap (λ (o : Out). in_list o >>= Goes) (sym (m.2 rules begin s)))
 list_first at id child (i ∷ ids) (More c cs) e a is =
     let m = member_does (at i) c a.0 in
     rw (is, e) (
@@ -59,8 +67,8 @@ list_first at id child (i ∷ ids) (More c cs) e a is =
       omega (arith, m.1),
       omega arith,
       λ rules begin counting s le.
-          bind_alike (chain rules begin c s) _ _ (run_chains-all rules begin cs)
-          ∙ ap (λ (o : Out). o >>= run_chains rules begin (chain_list cs)) (sym (m.2 rules begin s)),
+          bind_alike (in_list (chain rules begin c s)) _ _ (run_chains-all rules begin cs)
+          ∙ ap (λ (o : Out). in_list o >>= run_chains rules begin (chain_list cs)) (sym (m.2 rules begin s)),
     )
 
 pub chain_first : (at : At) (id : NodeId) (l : link.Link) (ls : List link.Link) (c : Chain) → at id ≡ Some (OfChain c) → IsChain at ls c → l ≡ get_or ls 0 l → FirstPart at id (Some (frame.Chain id 1, l.command))

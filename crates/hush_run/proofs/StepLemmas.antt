@@ -1,5 +1,5 @@
 -- What the body of a step shows of itself.
-use Rattle.std.proofs.Common.{◌≡◌, ℕ, zero, suc, ◌<◌, ◌≤◌, ◌==◌, Bool, true, false, not, if◌then◌else◌, List, [], ◌∷◌, ◌++◌, length, Option, Some, None, Result, Ok, Err, option_map, unwrap_or, refl, sym, ap, subst, ◌∙◌, arith, nat_lt, is_some, eqb-true}
+use Rattle.std.proofs.Common.{◌≡◌, ℕ, zero, suc, ◌<◌, ◌≤◌, ◌==◌, Bool, true, false, not, if◌then◌else◌, List, [], ◌∷◌, ◌++◌, length, Option, Some, None, Result, Ok, Err, option_map, unwrap_or, refl, sym, ap, subst, ◌∙◌, arith, nat_lt, is_some, eqb-true, get_or}
 use Rattle.std.proofs.lemmas.Bool.{lt-ltb, le-ltb}
 use Rattle.env_session.specs.Session.{Held}
 use Rattle.hush_words.specs.Words.{Atom}
@@ -8,6 +8,7 @@ use Rattle.hush_commands.specs.declared.follow.Follow.TheVariants as follow
 use Rattle.hush_commands.specs.declared.output.PrintFault.{PrintFault}
 use Rattle.hush_commands.specs.declared.output.PrintFault.TheVariants as print
 use Rattle.hush_commands.specs.Buffers.{Made, whole}
+use Rattle.hush_commands.specs.Shells.{list_by}
 use Rattle.std.specs.FinMap as map
 use Rattle.hush_commands.specs.Expansion.{expanded_value}
 use Rattle.hush_commands.specs.declared.messages.Message.{Message}
@@ -16,16 +17,18 @@ use Rattle.hush_commands.specs.Messages.{text_of}
 use Rattle.hush_commands.specs.Output.{Printed, printed, answer, PrintsWhole}
 use Rattle.hush_syntax.specs.Scripts.{Parsed, tree_of}
 use Rattle.hush_syntax.specs.Grammar.{Chains}
-use Rattle.hush_syntax.specs.Reading.{read}
+use Rattle.hush_syntax.specs.Reading.{read_in}
 use Rattle.hush_commands.specs.Carrying.{Done, done_of, deletion_of, Carries}
 use Rattle.hush_commands.specs.Following.{follow_of}
+use Rattle.hush_commands.specs.declared.shell.Shell.{Shell}
 use Rattle.hush_run.specs.Meaning.Reason.{Exited, Steps, Depth, Word, Output}
 use Rattle.hush_run.specs.declared.ending.Ending.{Ending}
 use Rattle.hush_run.specs.declared.ending.Ending.TheVariants as ending
 use Rattle.hush_run.specs.Runs.{reason_of}
 use Rattle.hush_run.specs.Steps.{ending_of_print}
-use Rattle.hush_run.specs.Meaning.{Reason, Rules, Begin, State, Out, Goes, Ends, ◌>>=◌, ◌then◌, Effect, Does, Exits, Stops, done, step, with_status, carries, fails, exiting, effect, simple, follows, fields_of, for, bindings, assigned, assigned_to, has_variable, known_in, deletions, start, script, in_text, entered, within}
-use Rattle.hush_run.specs.Steps.{Meant, Did, NotDone, Counted, MayStep, FieldsAre, Started, NotStarted, value_of}
+use Rattle.hush_commands.specs.Hardware.{with_words}
+use Rattle.hush_run.specs.Meaning.{answered, Variable, Answer, Reason, Rules, Begin, State, Out, Goes, Ends, ◌>>=◌, ◌then◌, Effect, Does, Exits, Stops, done, step, with_status, carries, fails, exiting, effect, have_value, followed, simple, follows, fields_of, for, bindings, assigned, assigned_to, has_variable, refuses, bound_status, started_status, list_of, known_in, deletions, start, script, in_text, in_answer, entered, within, bodies_of}
+use Rattle.hush_run.specs.Steps.{Meant, Did, NotDone, Counted, MayStep, FieldsAre, Started, NotStarted, Answered, NotAnswered, value_of}
 
 -- a state with another count
 counting : ℕ → State → State
@@ -86,60 +89,73 @@ no_fields rules meant left wanted s made ending.Depth are halts large = absurd a
 no_fields rules meant left wanted s made ending.Output are halts large = absurd are
 
 -- simple commands
-pub simple_halts : (rules : Rules) (begin : Begin) (fields : Option (List (List ℕ))) (s : State) → rules.limits.steps ≤ s.steps → simple rules begin fields s ≡ Ends Steps None s
-simple_halts rules begin None s le = step_halts rules _ s le
-simple_halts rules begin (Some fields) s le = ap (λ (o : Out). o >>= follows rules begin (follow_of rules.stand_ins fields)) (step_halts rules (effect rules.stand_ins fields) s le)
+pub simple_halts : (rules : Rules) (begin : Begin) (has_value : Bool) (fields : Option (List (List ℕ))) (s : State) → rules.limits.steps ≤ s.steps → simple rules begin has_value fields s ≡ Ends Steps None s
+simple_halts rules begin has_value None s le = step_halts rules _ s le
+simple_halts rules begin has_value (Some fields) s le = ap (λ (o : Out). o >>= follows rules begin (followed has_value (follow_of rules.shell rules.stand_ins fields))) (step_halts rules (effect rules.shell rules.stand_ins fields) s le)
 
-pub simple_large : (rules : Rules) (begin : Begin) (fields : Option (List (List ℕ))) (s : State) → s.steps < rules.limits.steps → fields ≡ None → simple rules begin fields s ≡ Ends Word None s
-simple_large rules begin None s lt e = step_stopped rules _ s Word lt refl
-simple_large rules begin (Some fields) s lt e = absurd (let f : true ≡ false = ap (λ (o : Option (List (List ℕ))). is_some o) e in cc)
+pub simple_large : (rules : Rules) (begin : Begin) (has_value : Bool) (fields : Option (List (List ℕ))) (s : State) → s.steps < rules.limits.steps → fields ≡ None → simple rules begin has_value fields s ≡ Ends Word None s
+simple_large rules begin has_value None s lt e = step_stopped rules _ s Word lt refl
+simple_large rules begin has_value (Some fields) s lt e = absurd (let f : true ≡ false = ap (λ (o : Option (List (List ℕ))). is_some o) e in cc)
 
 exiting-stops : (f : Follow) (e : Reason) → exiting f (Stops e) ≡ Stops e
 exiting-stops follow.Next e = refl
 exiting-stops follow.End e = refl
+exiting-stops follow.Leaves e = refl
 exiting-stops (follow.Starts names) e = refl
 exiting-stops (follow.Deletes force names) e = refl
+exiting-stops (follow.Answers words text) e = refl
 
 exiting-does : (f : Follow) (t : State) → (f ≡ follow.End → ⊥) → exiting f (Does t) ≡ Does t
 exiting-does follow.Next t h = refl
 exiting-does follow.End t h = absurd (h refl)
+exiting-does follow.Leaves t h = refl
 exiting-does (follow.Starts names) t h = refl
 exiting-does (follow.Deletes force names) t h = refl
+exiting-does (follow.Answers words text) t h = refl
+
+-- what isn't an `exit` of a board is followed by what follows it
+pub followed-other : (has_value : Bool) (f : Follow) → (f ≡ follow.Leaves → ⊥) → f ≡ followed has_value f
+followed-other has_value follow.Next h = refl
+followed-other has_value follow.End h = refl
+followed-other has_value follow.Leaves h = absurd (h refl)
+followed-other has_value (follow.Starts names) h = refl
+followed-other has_value (follow.Deletes force names) h = refl
+followed-other has_value (follow.Answers words text) h = refl
 
 module _ (rules : Rules) (words : List (List Atom)) (s : State) (fields : List (List ℕ)) (lt : s.steps < rules.limits.steps) (are : fields_of rules words s ≡ Some fields) (after : Held) (new : Printed) where
   abbrev pub d : Done
-  d = done_of rules.stand_ins fields s.status s.held
+  d = done_of rules.shell rules.stand_ins fields s.status s.held
 
-  pub simple_done : (status k : ℕ) (f : Follow) → Carries d s.held after s.printed new (Ok status) → k ≡ suc s.steps → f ≡ follow_of rules.stand_ins fields → (f ≡ follow.End → ⊥) → Did rules (λ r begin t. simple r begin (fields_of r words t) t) (λ g r begin. follows r begin g) s (record { held = after; locals = s.locals; status = status; printed = new; steps = k }) (Ok f)
+  pub simple_done : (status k : ℕ) (g f : Follow) → Carries d s.held after s.printed new (Ok status) → k ≡ suc s.steps → g ≡ follow_of rules.shell rules.stand_ins fields → (g ≡ follow.End → ⊥) → f ≡ followed (have_value words) g → Did rules (λ r begin t. simple r begin (have_value words) (fields_of r words t) t) (λ g r begin. follows r begin g) s (record { held = after; locals = s.locals; status = status; printed = new; steps = k }) (Ok f)
   unfolding effect
-  simple_done status k f c is isf other =
+  simple_done status k g f c is isg other isf =
       rw (c.1, c.2, c.3) (
-      let does : effect rules.stand_ins fields s ≡ Does (carried d s) = ap (exiting (follow_of rules.stand_ins fields)) (fits d s c.0) ∙ exiting-does (follow_of rules.stand_ins fields) (carried d s) (λ e. other (isf ∙ e)) in
-      let did = step_done rules (effect rules.stand_ins fields) s (carried d s) k lt does is in (
+      let does : effect rules.shell rules.stand_ins fields s ≡ Does (carried d s) = ap (exiting (follow_of rules.shell rules.stand_ins fields)) (fits d s c.0) ∙ exiting-does (follow_of rules.shell rules.stand_ins fields) (carried d s) (λ e. other (isg ∙ e)) in
+      let did = step_done rules (effect rules.shell rules.stand_ins fields) s (carried d s) k lt does is in (
         did.0,
         λ n begin le.
-            ap (λ (o : Option (List (List ℕ))). simple (within n rules) begin o s) are
-            ∙ ap (λ (o : Out). o >>= follows (within n rules) begin (follow_of rules.stand_ins fields)) (did.1 n le)
-            ∙ ap (λ (g : Follow). follows (within n rules) begin g (record (carried d s) { steps = k })) (sym isf),
+            ap (λ (o : Option (List (List ℕ))). simple (within n rules) begin (have_value words) o s) are
+            ∙ ap (λ (o : Out). o >>= follows (within n rules) begin (followed (have_value words) (follow_of rules.shell rules.stand_ins fields))) (did.1 n le)
+            ∙ ap (λ (x : Follow). follows (within n rules) begin x (record (carried d s) { steps = k })) (sym (isf ∙ ap (followed (have_value words)) isg)),
       )
       )
 
-  pub simple_left : (status k : ℕ) → Carries d s.held after s.printed new (Ok status) → k ≡ suc s.steps → follow_of rules.stand_ins fields ≡ follow.End → (begin : Begin) → simple rules begin (fields_of rules words s) s ≡ Ends Exited None (record { held = after; locals = s.locals; status = status; printed = new; steps = k })
+  pub simple_left : (status k : ℕ) → Carries d s.held after s.printed new (Ok status) → k ≡ suc s.steps → follow_of rules.shell rules.stand_ins fields ≡ follow.End → (begin : Begin) → simple rules begin (have_value words) (fields_of rules words s) s ≡ Ends Exited None (record { held = after; locals = s.locals; status = status; printed = new; steps = k })
   unfolding effect
   simple_left status k c is end begin =
       rw (c.1, c.2, c.3) (
-      let leaves : effect rules.stand_ins fields s ≡ Exits (carried d s) = ap (exiting (follow_of rules.stand_ins fields)) (fits d s c.0) ∙ ap (λ (g : Follow). exiting g (Does (carried d s))) end in
-      ap (λ (o : Option (List (List ℕ))). simple rules begin o s) are
-      ∙ ap (λ (o : Out). o >>= follows rules begin (follow_of rules.stand_ins fields)) (step_left rules (effect rules.stand_ins fields) s (carried d s) k lt leaves is)
+      let leaves : effect rules.shell rules.stand_ins fields s ≡ Exits (carried d s) = ap (exiting (follow_of rules.shell rules.stand_ins fields)) (fits d s c.0) ∙ ap (λ (g : Follow). exiting g (Does (carried d s))) end in
+      ap (λ (o : Option (List (List ℕ))). simple rules begin (have_value words) o s) are
+      ∙ ap (λ (o : Out). o >>= follows rules begin (followed (have_value words) (follow_of rules.shell rules.stand_ins fields))) (step_left rules (effect rules.shell rules.stand_ins fields) s (carried d s) k lt leaves is)
       )
 
-  pub simple_unprinted : (fault : PrintFault) → Carries d s.held after s.printed new (Err fault) → Did rules (λ r begin t. simple r begin (fields_of r words t) t) (λ g r begin. follows r begin g) s (record { held = after; locals = s.locals; status = s.status; printed = new; steps = s.steps }) (Err (ending_of_print fault))
+  pub simple_unprinted : (fault : PrintFault) → Carries d s.held after s.printed new (Err fault) → Did rules (λ r begin t. simple r begin (have_value words) (fields_of r words t) t) (λ g r begin. follows r begin g) s (record { held = after; locals = s.locals; status = s.status; printed = new; steps = s.steps }) (Err (ending_of_print fault))
   unfolding effect
   simple_unprinted print.Output c =
       rw (c.1, c.2) (
-      let stops : effect rules.stand_ins fields s ≡ Stops Output = ap (exiting (follow_of rules.stand_ins fields)) (too_long d s c.0) ∙ exiting-stops (follow_of rules.stand_ins fields) Output in λ begin.
-      ap (λ (o : Option (List (List ℕ))). simple rules begin o s) are
-      ∙ ap (λ (o : Out). o >>= follows rules begin (follow_of rules.stand_ins fields)) (step_stopped rules (effect rules.stand_ins fields) s Output lt stops)
+      let stops : effect rules.shell rules.stand_ins fields s ≡ Stops Output = ap (exiting (follow_of rules.shell rules.stand_ins fields)) (too_long d s c.0) ∙ exiting-stops (follow_of rules.shell rules.stand_ins fields) Output in λ begin.
+      ap (λ (o : Option (List (List ℕ))). simple rules begin (have_value words) o s) are
+      ∙ ap (λ (o : Out). o >>= follows rules begin (followed (have_value words) (follow_of rules.shell rules.stand_ins fields))) (step_stopped rules (effect rules.shell rules.stand_ins fields) s Output lt stops)
       )
   simple_unprinted print.Memory c = rw (c.0, c.1) refl
 
@@ -153,6 +169,13 @@ pub untold : {X : Type 0} (rules : Rules) (meant : Meant) (left : X → Meant) (
 untold rules meant left message name s new print.Output p stops = rw p.1 (λ begin. stops begin (too_long (answer 1 (text_of message name), s.held) s p.0))
 untold rules meant left message name s new print.Memory p stops = rw p.1 refl
 
+-- the list of a for
+pub listed : (rules : Rules) (words : List (List Atom)) (s : State) (fields : List (List ℕ)) → fields_of rules words s ≡ Some fields → list_of rules words s ≡ Some (list_by rules.shell fields)
+listed rules words s fields e = ap (λ (o : Option (List (List ℕ))). option_map (list_by rules.shell) o) e
+
+pub unlisted : (rules : Rules) (words : List (List Atom)) (s : State) → fields_of rules words s ≡ None → list_of rules words s ≡ None
+unlisted rules words s e = ap (λ (o : Option (List (List ℕ))). option_map (list_by rules.shell) o) e
+
 -- the head of a for
 pub for_halts : (rules : Rules) (name : List ℕ) (fields : Option (List (List ℕ))) (body : State → Out) (s : State) → rules.limits.steps ≤ s.steps → for rules name fields body s ≡ Ends Steps None s
 for_halts rules name None body s le = step_halts rules _ s le
@@ -163,8 +186,8 @@ pub for_large : (rules : Rules) (name : List ℕ) (fields : Option (List (List �
 for_large rules name None body s lt e = step_stopped rules _ s Word lt refl
 for_large rules name (Some fs) body s lt e = absurd (let f : true ≡ false = ap (λ (o : Option (List (List ℕ))). is_some o) e in cc)
 
-module _ (rules : Rules) (words : List (List Atom)) (name : List ℕ) (body : Meant) (s : State) (fields : List (List ℕ)) (k : ℕ) (lt : s.steps < rules.limits.steps) (are : fields_of rules words s ≡ Some fields) (is : k ≡ suc s.steps) where
-  pub head_empty : (length fields == 0) ≡ true → Did rules (λ r begin t. for r name (fields_of r words t) (body r begin) t) (λ fs r begin. bindings r name (body r begin) fs) s (record s { status = 0; steps = k }) (Ok fields)
+module _ (rules : Rules) (words : List (List Atom)) (name : List ℕ) (body : Meant) (s : State) (fields : List (List ℕ)) (k : ℕ) (lt : s.steps < rules.limits.steps) (are : list_of rules words s ≡ Some fields) (is : k ≡ suc s.steps) where
+  pub head_empty : (length fields == 0) ≡ true → Did rules (λ r begin t. for r name (list_of r words t) (body r begin) t) (λ fs r begin. bindings r name (body r begin) fs) s (record s { status = 0; steps = k }) (Ok fields)
   head_empty none =
       let did = step_done rules Does s s k lt refl is in
       let empty = nothing fields none in (
@@ -179,7 +202,7 @@ module _ (rules : Rules) (words : List (List Atom)) (name : List ℕ) (body : Me
       nothing [] h = refl
       nothing (f ∷ fs) h = let e : length (f ∷ fs) ≡ 0 = eqb-true _ _ h in absurd (omega (arith, e))
 
-  pub head_some : (length fields == 0) ≡ false → Did rules (λ r begin t. for r name (fields_of r words t) (body r begin) t) (λ fs r begin. bindings r name (body r begin) fs) s (record s { steps = k }) (Ok fields)
+  pub head_some : (length fields == 0) ≡ false → Did rules (λ r begin t. for r name (list_of r words t) (body r begin) t) (λ fs r begin. bindings r name (body r begin) fs) s (record s { steps = k }) (Ok fields)
   head_some some =
       let did = step_done rules Does s s k lt refl is in (
         did.0,
@@ -195,7 +218,7 @@ module _ (rules : Rules) (words : List (List Atom)) (name : List ℕ) (body : Me
 
 -- an assignment
 pub value_large : (rules : Rules) (name : List ℕ) (word : List Atom) (s : State) → s.steps < rules.limits.steps → value_of rules word s ≡ None → step rules (assigned rules name word) s ≡ Ends Word None s
-value_large rules name word s lt e = step_stopped rules (assigned rules name word) s Word lt (ap (λ (o : Option (List ℕ)). assigned_to name o s) (none (expanded_value (known_in s) rules.limits.word word) e))
+value_large rules name word s lt e = step_stopped rules (assigned rules name word) s Word lt (ap (λ (o : Option (List ℕ)). assigned_to rules.shell name o s) (none (expanded_value (known_in s) rules.limits.word word) e))
   where
     none : (o : Option (List ℕ)) → option_map (λ (v : List ℕ). v ∷ []) o ≡ None → o ≡ None
     none None h = refl
@@ -206,14 +229,14 @@ pub value_made : (o : Option (List ℕ)) (m : Made) → option_map whole (option
 value_made None m e = absurd (let f : false ≡ true = ap (λ (p : Option Made). is_some p) e in cc)
 value_made (Some v) m e = (v, refl, sym (ap (λ (p : Option Made). unwrap_or (option_map (λ x. x.done) p) (v ∷ [])) e))
 
-pub assign_refused : (rules : Rules) (name : List ℕ) (word : List Atom) (s : State) (v : List ℕ) → expanded_value (known_in s) rules.limits.word word ≡ Some v → has_variable s name ≡ true → assigned rules name word s ≡ fails IsVariable name s
+pub assign_refused : (rules : Rules) (name : List ℕ) (word : List Atom) (s : State) (v : List ℕ) → expanded_value (known_in s) rules.limits.word word ≡ Some v → refuses rules.shell s name ≡ true → assigned rules name word s ≡ fails IsVariable name s
 assign_refused rules name word s v e is =
-    ap (λ (o : Option (List ℕ)). assigned_to name o s) e
+    ap (λ (o : Option (List ℕ)). assigned_to rules.shell name o s) e
     ∙ ap (λ (b : Bool). if b then fails IsVariable name s else Does (record s { locals = map.insert s.locals name v; status = 0 })) is
 
-pub assign_done : (rules : Rules) (name : List ℕ) (word : List Atom) (s : State) (v : List ℕ) → expanded_value (known_in s) rules.limits.word word ≡ Some v → has_variable s name ≡ false → assigned rules name word s ≡ Does (record s { locals = map.insert s.locals name v; status = 0 })
+pub assign_done : (rules : Rules) (name : List ℕ) (word : List Atom) (s : State) (v : List ℕ) → expanded_value (known_in s) rules.limits.word word ≡ Some v → refuses rules.shell s name ≡ false → assigned rules name word s ≡ Does (record s { locals = map.insert s.locals name v; status = 0 })
 assign_done rules name word s v e is =
-    ap (λ (o : Option (List ℕ)). assigned_to name o s) e
+    ap (λ (o : Option (List ℕ)). assigned_to rules.shell name o s) e
     ∙ ap (λ (b : Bool). if b then fails IsVariable name s else Does (record s { locals = map.insert s.locals name v; status = 0 })) is
 
 pub unprinted : {X : Type 0} (rules : Rules) (meant : Meant) (left : X → Meant) (d : Done) (s : State) (after : Held) (new : Printed) (fault : PrintFault) → Carries d s.held after s.printed new (Err fault) → ((begin : Begin) → carries d s ≡ Stops Output → meant rules begin s ≡ Ends Output None s) → Did rules meant left s (record { held = after; locals = s.locals; status = s.status; printed = new; steps = s.steps }) (Err (ending_of_print fault))
@@ -239,87 +262,140 @@ module _ (rules : Rules) (name : List ℕ) (rest : List (List ℕ)) (force faile
 -- a binding
 module _ (rules : Rules) (name field : List ℕ) (rest : List (List ℕ)) (body : Meant) (s : State) where
   pub bind_halts : (begin : Begin) → rules.limits.steps ≤ s.steps → bindings rules name (body rules begin) (field ∷ rest) s ≡ Ends Steps None s
-  bind_halts begin le = either (has_variable s name)
+  bind_halts begin le = either (refuses rules.shell s name)
     where
-      either : (b : Bool) → (if b then step rules (fails IsVariable name) s else (step rules (λ t. Does (record t { locals = map.insert t.locals name field })) s >>= body rules begin >>= bindings rules name (body rules begin) rest)) ≡ Ends Steps None s
+      either : (b : Bool) → (if b then step rules (fails IsVariable name) s else (step rules (λ t. Does (record t { locals = map.insert t.locals name field; status = bound_status rules.shell t.status })) s >>= body rules begin >>= bindings rules name (body rules begin) rest)) ≡ Ends Steps None s
       either true = step_halts rules _ s le
-      either false = ap (λ (o : Out). o >>= body rules begin >>= bindings rules name (body rules begin) rest) (step_halts rules (λ t. Does (record t { locals = map.insert t.locals name field })) s le)
+      either false = ap (λ (o : Out). o >>= body rules begin >>= bindings rules name (body rules begin) rest) (step_halts rules (λ t. Does (record t { locals = map.insert t.locals name field; status = bound_status rules.shell t.status })) s le)
 
   -- if the name is a variable's, it is as the step that fails
-  pub bind_refused : (t : State) → has_variable s name ≡ true → Did rules (λ r begin. step r (fails IsVariable name)) (λ (u : Unit {0}) r begin. Goes) s t (Ok tt) → Did rules (λ r begin. bindings r name (body r begin) (field ∷ rest)) (λ bound r begin. if bound then (body r begin then bindings r name (body r begin) rest) else Goes) s t (Ok false)
-  bind_refused t taken did = (did.0, λ n begin le. ap (λ (b : Bool). if b then step (within n rules) (fails IsVariable name) s else (step (within n rules) (λ t. Does (record t { locals = map.insert t.locals name field })) s >>= body (within n rules) begin >>= bindings (within n rules) name (body (within n rules) begin) rest)) taken ∙ did.1 n begin le)
+  pub bind_refused : (t : State) → refuses rules.shell s name ≡ true → Did rules (λ r begin. step r (fails IsVariable name)) (λ (u : Unit {0}) r begin. Goes) s t (Ok tt) → Did rules (λ r begin. bindings r name (body r begin) (field ∷ rest)) (λ bound r begin. if bound then (body r begin then bindings r name (body r begin) rest) else Goes) s t (Ok false)
+  bind_refused t taken did = (did.0, λ n begin le. ap (λ (b : Bool). if b then step (within n rules) (fails IsVariable name) s else (step (within n rules) (λ t. Does (record t { locals = map.insert t.locals name field; status = bound_status rules.shell t.status })) s >>= body (within n rules) begin >>= bindings (within n rules) name (body (within n rules) begin) rest)) taken ∙ did.1 n begin le)
 
-  pub bind_stopped : (t : State) (o : Option Reason) → has_variable s name ≡ true → NotDone rules (λ r begin. step r (fails IsVariable name)) s t o → NotDone rules (λ r begin. bindings r name (body r begin) (field ∷ rest)) s t o
-  bind_stopped t (Some e) taken did = λ begin. ap (λ (b : Bool). if b then step rules (fails IsVariable name) s else (step rules (λ t. Does (record t { locals = map.insert t.locals name field })) s >>= body rules begin >>= bindings rules name (body rules begin) rest)) taken ∙ did begin
+  pub bind_stopped : (t : State) (o : Option Reason) → refuses rules.shell s name ≡ true → NotDone rules (λ r begin. step r (fails IsVariable name)) s t o → NotDone rules (λ r begin. bindings r name (body r begin) (field ∷ rest)) s t o
+  bind_stopped t (Some e) taken did = λ begin. ap (λ (b : Bool). if b then step rules (fails IsVariable name) s else (step rules (λ t. Does (record t { locals = map.insert t.locals name field; status = bound_status rules.shell t.status })) s >>= body rules begin >>= bindings rules name (body rules begin) rest)) taken ∙ did begin
   bind_stopped t None taken did = did
 
-  pub bind_done : (k : ℕ) → s.steps < rules.limits.steps → has_variable s name ≡ false → k ≡ suc s.steps → Did rules (λ r begin. bindings r name (body r begin) (field ∷ rest)) (λ bound r begin. if bound then (body r begin then bindings r name (body r begin) rest) else Goes) s (record s { locals = map.insert s.locals name field; steps = k }) (Ok true)
+  pub bind_done : (k : ℕ) → s.steps < rules.limits.steps → refuses rules.shell s name ≡ false → k ≡ suc s.steps → Did rules (λ r begin. bindings r name (body r begin) (field ∷ rest)) (λ bound r begin. if bound then (body r begin then bindings r name (body r begin) rest) else Goes) s (record s { locals = map.insert s.locals name field; status = bound_status rules.shell s.status; steps = k }) (Ok true)
   bind_done k lt free is =
-      let did = step_done rules (λ t. Does (record t { locals = map.insert t.locals name field })) s (record s { locals = map.insert s.locals name field }) k lt refl is in (
+      let did = step_done rules (λ t. Does (record t { locals = map.insert t.locals name field; status = bound_status rules.shell t.status })) s (record s { locals = map.insert s.locals name field; status = bound_status rules.shell s.status }) k lt refl is in (
         did.0,
         λ n begin le.
-            ap (λ (b : Bool). if b then step (within n rules) (fails IsVariable name) s else (step (within n rules) (λ t. Does (record t { locals = map.insert t.locals name field })) s >>= body (within n rules) begin >>= bindings (within n rules) name (body (within n rules) begin) rest)) free
+            ap (λ (b : Bool). if b then step (within n rules) (fails IsVariable name) s else (step (within n rules) (λ t. Does (record t { locals = map.insert t.locals name field; status = bound_status rules.shell t.status })) s >>= body (within n rules) begin >>= bindings (within n rules) name (body (within n rules) begin) rest)) free
             ∙ ap (λ (o : Out). o >>= body (within n rules) begin >>= bindings (within n rules) name (body (within n rules) begin) rest) (did.1 n le),
       )
 
 -- a start
-start-absent : (r : Rules) (levels : ℕ) (name : List ℕ) (s : State) → map.get s.held.now.env name ≡ None → start r levels name s ≡ step r (fails NotDefined name) s
+start-absent : (r : Rules) (levels : ℕ) (name : List ℕ) (s : State) → map.get s.held.now.env name ≡ None → start r levels (Variable name) s ≡ step r (fails NotDefined name) s
 unfolding start
 start-absent r zero name s e = ap (λ (o : Option (List ℕ)). elim o [ None ↦ step r (fails NotDefined name) s | Some text ↦ step r (λ t. Stops Depth) s ]) e
-start-absent r (suc levels) name s e = ap (λ (o : Option (List ℕ)). elim o [ None ↦ step r (fails NotDefined name) s | Some text ↦ entered r (script r (start r levels)) name (read text) s ]) e
+start-absent r (suc levels) name s e = ap (λ (o : Option (List ℕ)). elim o [ None ↦ step r (fails NotDefined name) s | Some text ↦ entered r (script r (start r levels)) name (read_in (bodies_of r.shell) text) s ]) e
 
-start-deep : (r : Rules) (name text : List ℕ) (s : State) → map.get s.held.now.env name ≡ Some text → start r 0 name s ≡ step r (λ t. Stops Depth) s
+start-deep : (r : Rules) (name text : List ℕ) (s : State) → map.get s.held.now.env name ≡ Some text → start r 0 (Variable name) s ≡ step r (λ t. Stops Depth) s
 unfolding start
 start-deep r name text s e = ap (λ (o : Option (List ℕ)). elim o [ None ↦ step r (fails NotDefined name) s | Some text ↦ step r (λ t. Stops Depth) s ]) e
 
-start-entered : (r : Rules) (levels : ℕ) (name text : List ℕ) (s : State) → map.get s.held.now.env name ≡ Some text → start r (suc levels) name s ≡ entered r (script r (start r levels)) name (read text) s
+start-entered : (r : Rules) (levels : ℕ) (name text : List ℕ) (s : State) → map.get s.held.now.env name ≡ Some text → start r (suc levels) (Variable name) s ≡ entered r (script r (start r levels)) name (read_in (bodies_of r.shell) text) s
 unfolding start
-start-entered r levels name text s e = ap (λ (o : Option (List ℕ)). elim o [ None ↦ step r (fails NotDefined name) s | Some text ↦ entered r (script r (start r levels)) name (read text) s ]) e
+start-entered r levels name text s e = ap (λ (o : Option (List ℕ)). elim o [ None ↦ step r (fails NotDefined name) s | Some text ↦ entered r (script r (start r levels)) name (read_in (bodies_of r.shell) text) s ]) e
 
-pub start_halts : (rules : Rules) (levels : ℕ) (name : List ℕ) (s : State) → rules.limits.steps ≤ s.steps → start rules levels name s ≡ Ends Steps None s
+pub start_halts : (rules : Rules) (levels : ℕ) (name : List ℕ) (s : State) → rules.limits.steps ≤ s.steps → start rules levels (Variable name) s ≡ Ends Steps None s
 start_halts rules levels name s le = by (map.get s.held.now.env name) levels refl
   where
     entered-halts : (run : Option Chains → State → Out) (o : Option (Option Chains)) → entered rules run name o s ≡ Ends Steps None s
     entered-halts run None = step_halts rules _ s le
-    entered-halts run (Some tree) = ap (λ (o : Out). o >>= (λ t. in_text name (run tree t))) (step_halts rules (λ t. Does (with_status 0 t)) s le)
+    entered-halts run (Some tree) = ap (λ (o : Out). o >>= (λ t. in_text rules.shell name (run tree t))) (step_halts rules (λ t. Does (with_status (started_status rules.shell tree t.status) t)) s le)
 
-    by : (o : Option (List ℕ)) (l : ℕ) → map.get s.held.now.env name ≡ o → start rules l name s ≡ Ends Steps None s
+    by : (o : Option (List ℕ)) (l : ℕ) → map.get s.held.now.env name ≡ o → start rules l (Variable name) s ≡ Ends Steps None s
     by None l e = start-absent rules l name s e ∙ step_halts rules _ s le
     by (Some text) zero e = start-deep rules name text s e ∙ step_halts rules _ s le
-    by (Some text) (suc l) e = start-entered rules l name text s e ∙ entered-halts (script rules (start rules l)) (read text)
+    by (Some text) (suc l) e = start-entered rules l name text s e ∙ entered-halts (script rules (start rules l)) (read_in (bodies_of rules.shell) text)
 
-pub start_deep : (rules : Rules) (levels : ℕ) (name text : List ℕ) (s : State) → s.steps < rules.limits.steps → levels ≡ 0 → map.get s.held.now.env name ≡ Some text → start rules levels name s ≡ Ends Depth None s
-start_deep rules levels name text s lt none e = ap (λ (l : ℕ). start rules l name s) none ∙ start-deep rules name text s e ∙ step_stopped rules (λ t. Stops Depth) s Depth lt refl
+pub start_deep : (rules : Rules) (levels : ℕ) (name text : List ℕ) (s : State) → s.steps < rules.limits.steps → levels ≡ 0 → map.get s.held.now.env name ≡ Some text → start rules levels (Variable name) s ≡ Ends Depth None s
+start_deep rules levels name text s lt none e = ap (λ (l : ℕ). start rules l (Variable name) s) none ∙ start-deep rules name text s e ∙ step_stopped rules (λ t. Stops Depth) s Depth lt refl
 
 -- a start that fails with a message
-pub start_failed : (rules : Rules) (message : Message) (levels : ℕ) (name : List ℕ) (s t : State) → ((r : Rules) → start r levels name s ≡ step r (fails message name) s) → t.status ≡ 1 → Did rules (λ r begin. step r (fails message name)) (λ (u : Unit {0}) r begin. Goes) s t (Ok tt) → Started rules levels name s t (Ok None)
-start_failed rules message levels name s t is one did = (did.0, ap (λ (n : ℕ). n == 0) one, λ n le. is (within n rules) ∙ did.1 n (start rules levels) le)
+pub start_failed : (rules : Rules) (message : Message) (levels : ℕ) (name : List ℕ) (s t : State) → ((r : Rules) → r.shell ≡ rules.shell → start r levels (Variable name) s ≡ step r (fails message name) s) → t.status ≡ 1 → Did rules (λ r begin. step r (fails message name)) (λ (u : Unit {0}) r begin. Goes) s t (Ok tt) → Started rules levels name s t (Ok None)
+start_failed rules message levels name s t is one did = (did.0, ap (λ (n : ℕ). n == 0) one, λ n le. is (within n rules) refl ∙ did.1 n (start rules levels) le)
 
-pub start_stopped : (rules : Rules) (message : Message) (levels : ℕ) (name : List ℕ) (s t : State) (o : Option Reason) → (has_variable s name ≡ true → 0 < levels) → ((r : Rules) → start r levels name s ≡ step r (fails message name) s) → NotDone rules (λ r begin. step r (fails message name)) s t o → NotStarted rules levels name s t o
-start_stopped rules message levels name s t (Some e) some is did = is rules ∙ did (start rules levels)
+pub start_stopped : (rules : Rules) (message : Message) (levels : ℕ) (name : List ℕ) (s t : State) (o : Option Reason) → (has_variable s name ≡ true → 0 < levels) → ((r : Rules) → r.shell ≡ rules.shell → start r levels (Variable name) s ≡ step r (fails message name) s) → NotDone rules (λ r begin. step r (fails message name)) s t o → NotStarted rules levels name s t o
+start_stopped rules message levels name s t (Some e) some is did = is rules refl ∙ did (start rules levels)
 start_stopped rules message levels name s t None some is did = (did, some)
 
 pub start_unstarted : (rules : Rules) (levels : ℕ) (name : List ℕ) (s : State) (e : Ending) → MayStep rules s.steps (Err e) → Started rules levels name s s (Err e)
 start_unstarted rules levels name s e may = subst (λ (x : Ending). NotStarted rules levels name s s (reason_of x)) (sym may.0) (start_halts rules levels name s may.1)
 
-pub is_absent : (levels : ℕ) (name : List ℕ) (s : State) → map.get s.held.now.env name ≡ None → (r : Rules) → start r levels name s ≡ step r (fails NotDefined name) s
-is_absent levels name s e r = start-absent r levels name s e
+pub is_absent : (shell : Shell) (levels : ℕ) (name : List ℕ) (s : State) → map.get s.held.now.env name ≡ None → (r : Rules) → r.shell ≡ shell → start r levels (Variable name) s ≡ step r (fails NotDefined name) s
+is_absent shell levels name s e r same = start-absent r levels name s e
 
-pub is_no_script : (levels : ℕ) (name text : List ℕ) (s : State) → (levels ≡ 0 → ⊥) → map.get s.held.now.env name ≡ Some text → read text ≡ None → (r : Rules) → start r levels name s ≡ step r (fails NoScript name) s
-is_no_script zero name text s some e none r = absurd (some refl)
-is_no_script (suc below) name text s some e none r = start-entered r below name text s e ∙ ap (λ (o : Option (Option Chains)). entered r (script r (start r below)) name o s) none
+pub is_no_script : (shell : Shell) (levels : ℕ) (name text : List ℕ) (s : State) → (levels ≡ 0 → ⊥) → map.get s.held.now.env name ≡ Some text → read_in (bodies_of shell) text ≡ None → (r : Rules) → r.shell ≡ shell → start r levels (Variable name) s ≡ step r (fails NoScript name) s
+is_no_script shell zero name text s some e none r same = absurd (some refl)
+is_no_script shell (suc below) name text s some e none r same = start-entered r below name text s e ∙ ap (λ (o : Option (Option Chains)). entered r (script r (start r below)) name o s) (ap (λ (b : Shell). read_in (bodies_of b) text) same ∙ none)
 
-pub start_done : (rules : Rules) (levels : ℕ) (name text : List ℕ) (s : State) (p : Parsed) (k : ℕ) → s.steps < rules.limits.steps → (levels ≡ 0 → ⊥) → map.get s.held.now.env name ≡ Some text → read text ≡ Some (tree_of p) → k ≡ suc s.steps → Started rules levels name s (record s { status = 0; steps = k }) (Ok (Some p))
+pub start_done : (rules : Rules) (levels : ℕ) (name text : List ℕ) (s : State) (p : Parsed) (k : ℕ) → s.steps < rules.limits.steps → (levels ≡ 0 → ⊥) → map.get s.held.now.env name ≡ Some text → read_in (bodies_of rules.shell) text ≡ Some (tree_of p) → k ≡ suc s.steps → Started rules levels name s (record s { status = started_status rules.shell (tree_of p) s.status; steps = k }) (Ok (Some p))
 start_done rules zero name text s p k lt some e reads is = absurd (some refl)
 start_done rules (suc below) name text s p k lt some e reads is =
-    let did = step_done rules (λ t. Does (with_status 0 t)) s (with_status 0 s) k lt refl is in (
+    let did = step_done rules (λ t. Does (with_status (started_status rules.shell (tree_of p) t.status) t)) s (with_status (started_status rules.shell (tree_of p) s.status) s) k lt refl is in (
       did.0,
       below,
       refl,
       λ n le.
           start-entered (within n rules) below name text s e
           ∙ ap (λ (o : Option (Option Chains)). entered (within n rules) (script (within n rules) (start (within n rules) below)) name o s) reads
-          ∙ ap (λ (o : Out). o >>= (λ t. in_text name (script (within n rules) (start (within n rules) below) (tree_of p) t))) (did.1 n le),
+          ∙ ap (λ (o : Out). o >>= (λ t. in_text rules.shell name (script (within n rules) (start (within n rules) below) (tree_of p) t))) (did.1 n le),
+    )
+
+-- a start of a text that answers a call
+answer-deep : (r : Rules) (words : List (List ℕ)) (text : List ℕ) (s : State) → start r 0 (Answer words text) s ≡ step r (λ t. Stops Depth) s
+unfolding start
+answer-deep r words text s = refl
+
+answer-started : (r : Rules) (levels : ℕ) (words : List (List ℕ)) (text : List ℕ) (s : State) → start r (suc levels) (Answer words text) s ≡ answered r (script r (start r levels)) words (read_in (bodies_of r.shell) text) s
+unfolding start
+answer-started r levels words text s = refl
+
+pub answer_halts : (rules : Rules) (levels : ℕ) (words : List (List ℕ)) (text : List ℕ) (s : State) → rules.limits.steps ≤ s.steps → start rules levels (Answer words text) s ≡ Ends Steps None s
+answer_halts rules levels words text s le = by levels
+  where
+    answered-halts : (run : Option Chains → State → Out) (o : Option (Option Chains)) → answered rules run words o s ≡ Ends Steps None s
+    answered-halts run None = step_halts rules _ s le
+    answered-halts run (Some tree) = ap (λ (o : Out). o >>= (λ t. in_answer (run tree t))) (step_halts rules (λ t. Does (record t { locals = with_words t.locals words; status = started_status rules.shell tree t.status })) s le)
+
+    by : (l : ℕ) → start rules l (Answer words text) s ≡ Ends Steps None s
+    by zero = answer-deep rules words text s ∙ step_halts rules _ s le
+    by (suc l) = answer-started rules l words text s ∙ answered-halts (script rules (start rules l)) (read_in (bodies_of rules.shell) text)
+
+pub answer_deep : (rules : Rules) (levels : ℕ) (words : List (List ℕ)) (text : List ℕ) (s : State) → s.steps < rules.limits.steps → levels ≡ 0 → start rules levels (Answer words text) s ≡ Ends Depth None s
+answer_deep rules levels words text s lt none = ap (λ (l : ℕ). start rules l (Answer words text) s) none ∙ answer-deep rules words text s ∙ step_stopped rules (λ t. Stops Depth) s Depth lt refl
+
+pub answer_unstarted : (rules : Rules) (levels : ℕ) (words : List (List ℕ)) (text : List ℕ) (s : State) (e : Ending) → MayStep rules s.steps (Err e) → Answered rules levels words text s s (Err e)
+answer_unstarted rules levels words text s e may = subst (λ (x : Ending). NotAnswered rules levels words text s s (reason_of x)) (sym may.0) (answer_halts rules levels words text s may.1)
+
+is_no_answer : (shell : Shell) (levels : ℕ) (words : List (List ℕ)) (text : List ℕ) (s : State) → (levels ≡ 0 → ⊥) → read_in (bodies_of shell) text ≡ None → (r : Rules) → r.shell ≡ shell → start r levels (Answer words text) s ≡ step r (fails NoScript (get_or words 0 [])) s
+is_no_answer shell zero words text s some none r same = absurd (some refl)
+is_no_answer shell (suc below) words text s some none r same = answer-started r below words text s ∙ ap (λ (o : Option (Option Chains)). answered r (script r (start r below)) words o s) (ap (λ (b : Shell). read_in (bodies_of b) text) same ∙ none)
+
+-- a text that is no script
+pub answer_failed : (rules : Rules) (levels : ℕ) (words : List (List ℕ)) (text name : List ℕ) (s t : State) → (levels ≡ 0 → ⊥) → read_in (bodies_of rules.shell) text ≡ None → name ≡ get_or words 0 [] → Did rules (λ r begin. step r (fails NoScript name)) (λ (u : Unit {0}) r begin. Goes) s t (Ok tt) → Answered rules levels words text s t (Ok None)
+answer_failed rules levels words text name s t some none is did =
+    (did.0, λ n le. is_no_answer rules.shell levels words text s some none (within n rules) refl ∙ ap (λ (m : List ℕ). step (within n rules) (fails NoScript m) s) (sym is) ∙ did.1 n (start rules levels) le)
+
+pub answer_stopped : (rules : Rules) (levels : ℕ) (words : List (List ℕ)) (text name : List ℕ) (s t : State) (o : Option Reason) → (levels ≡ 0 → ⊥) → read_in (bodies_of rules.shell) text ≡ None → name ≡ get_or words 0 [] → NotDone rules (λ r begin. step r (fails NoScript name)) s t o → NotAnswered rules levels words text s t o
+answer_stopped rules levels words text name s t (Some e) some none is did = is_no_answer rules.shell levels words text s some none rules refl ∙ ap (λ (m : List ℕ). step rules (fails NoScript m) s) (sym is) ∙ did (start rules levels)
+answer_stopped rules levels words text name s t None some none is did = did
+
+pub answer_done : (rules : Rules) (levels : ℕ) (words : List (List ℕ)) (text : List ℕ) (s : State) (p : Parsed) (k : ℕ) → s.steps < rules.limits.steps → (levels ≡ 0 → ⊥) → read_in (bodies_of rules.shell) text ≡ Some (tree_of p) → k ≡ suc s.steps → Answered rules levels words text s (record s { locals = with_words s.locals words; status = started_status rules.shell (tree_of p) s.status; steps = k }) (Ok (Some p))
+answer_done rules zero words text s p k lt some reads is = absurd (some refl)
+answer_done rules (suc below) words text s p k lt some reads is =
+    let does : State → Effect = λ t. Does (record t { locals = with_words t.locals words; status = started_status rules.shell (tree_of p) t.status }) in
+    let did = step_done rules does s (record s { locals = with_words s.locals words; status = started_status rules.shell (tree_of p) s.status }) k lt refl is in (
+      did.0,
+      below,
+      refl,
+      λ n le.
+          answer-started (within n rules) below words text s
+          ∙ ap (λ (o : Option (Option Chains)). answered (within n rules) (script (within n rules) (start (within n rules) below)) words o s) reads
+          ∙ ap (λ (o : Out). o >>= (λ t. in_answer (script (within n rules) (start (within n rules) below) (tree_of p) t))) (did.1 n le),
     )
 
 -- a step with another effect that evaluates to the same

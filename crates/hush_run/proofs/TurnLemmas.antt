@@ -11,8 +11,10 @@ use Rattle.hush_run.specs.declared.due.Due.TheVariants as due
 use Rattle.hush_syntax.specs.Nodes.{At, Subtree, OfChains, OfChain, OfCommand, chain_of, ChainAt, AreChains, AreLinks, IsChain, AreBranches, IsOtherwise}
 use Rattle.hush_syntax.specs.Grammar.{Command, If, While, Until, Branches, Elif, Else, Fi, Chain, First, Links, End, Link, Chains, Last, More, depth, depth_in_chain, depth_inside, depth_in_links, depth_in_branches}
 use Rattle.hush_syntax.specs.Reading.{bind}
-use Rattle.hush_run.specs.Meaning.{Rules, Begin, State, Out, Goes, ◌>>=◌, ◌then◌, with_status, if_ok, command, otherwise, chains}
+use Rattle.hush_run.specs.Meaning.{Rules, Begin, State, Out, Goes, ◌>>=◌, ◌then◌, with_status, in_list, leaves_chain, after_skip, if_ok, command, otherwise, chains}
 use Rattle.hush_run.specs.Resume.{chain_list, link_list, subtree_does, run_chains, run_links, chain_links, tagged, joined, links_in, room, branch_does}
+use Rattle.hush_commands.specs.declared.shell.Shell.{Shell}
+use Rattle.hush_commands.specs.Shells.{kept_status}
 use Rattle.hush_run.specs.Turns.{Turns}
 use Rattle.hush_run.proofs.Counts.{turns-again, chains-count}
 use Rattle.hush_run.proofs.Parts.{bind_goes, member_does}
@@ -38,38 +40,38 @@ chains_end at (j ∷ js) (Last c) (suc k) a le = drop-nil k
 chains_end at (j ∷ js) (More c cs) zero a le = absurd (omega (arith, le))
 chains_end at (j ∷ js) (More c cs) (suc k) a le = chains_end at js cs k a.1 (omega (arith, le))
 
-pub list_goes : (at : At) (node i : NodeId) (ids : List NodeId) (cs : Chains) (k status : ℕ) → at node ≡ Some (OfChains cs) → AreChains at ids cs → k < length ids → i ≡ get_or ids k i → Turns at (frame.List node k) status (record { due = due.Node i; behind = Some (frame.List node (k + 1)); status = status })
-list_goes at node i ids cs k status e a lt is =
+pub list_goes : (shell : Shell) (at : At) (node i : NodeId) (ids : List NodeId) (cs : Chains) (k status : ℕ) → at node ≡ Some (OfChains cs) → AreChains at ids cs → k < length ids → i ≡ get_or ids k i → Turns shell at (frame.List node k) status (record { due = due.Node i; behind = Some (frame.List node (k + 1)); status = status })
+list_goes shell at node i ids cs k status e a lt is =
     let r = at_chain at ids cs k i a lt is in
     let m = member_does (at i) r.0 r.1 in
     rw (e, add-one) (
       m.0,
       (tt, refl, λ scripts. refl, omega arith, omega (arith, r.3, m.1)),
-      λ rules begin counting s le.
+      λ rules same begin counting s le.
           ap (λ (xs : List Chain). run_chains rules begin xs (with_status status s)) r.2
-          ∙ ap (λ (o : Out). o >>= run_chains rules begin (drop (suc k) (chain_list cs))) (sym (m.2 rules begin (with_status status s))),
+          ∙ ap (λ (o : Out). in_list o >>= run_chains rules begin (drop (suc k) (chain_list cs))) (sym (m.2 rules begin (with_status status s))),
     )
 
-pub list_ends : (at : At) (node : NodeId) (ids : List NodeId) (cs : Chains) (k status : ℕ) → at node ≡ Some (OfChains cs) → AreChains at ids cs → length ids ≤ k → Turns at (frame.List node k) status (record { due = due.Over; behind = None; status = status })
-list_ends at node ids cs k status e a le =
-    rw e (tt, omega arith, λ rules begin counting s le'. ap (λ (xs : List Chain). run_chains rules begin xs (with_status status s)) (chains_end at ids cs k a le))
+pub list_ends : (shell : Shell) (at : At) (node : NodeId) (ids : List NodeId) (cs : Chains) (k status : ℕ) → at node ≡ Some (OfChains cs) → AreChains at ids cs → length ids ≤ k → Turns shell at (frame.List node k) status (record { due = due.Over; behind = None; status = status })
+list_ends shell at node ids cs k status e a le =
+    rw e (tt, omega arith, λ rules same begin counting s le'. ap (λ (xs : List Chain). run_chains rules begin xs (with_status status s)) (chains_end at ids cs k a le))
 
 -- loops
-pub while_again : (at : At) (node condition : NodeId) (c d : Chains) (status : ℕ) → at node ≡ Some (OfCommand (While c d)) → at condition ≡ Some (OfChains c) → Turns at (frame.Body node) status (record { due = due.Node condition; behind = Some (frame.Condition node status); status = status })
-while_again at node condition c d status e ec =
+pub while_again : (shell : Shell) (at : At) (node condition : NodeId) (c d : Chains) (status : ℕ) → at node ≡ Some (OfCommand (While c d)) → at condition ≡ Some (OfChains c) → Turns shell at (frame.Body node) status (record { due = due.Node condition; behind = Some (frame.Condition node status); status = status })
+while_again shell at node condition c d status e ec =
     rw (e, ec) (
       refl,
       (tt, refl, λ scripts. refl, omega arith, omega arith),
-      λ rules begin counting s le.
+      λ rules same begin counting s le.
           turns-again rules true (chains rules begin c) (chains rules begin d) status (chains-count rules begin counting c) (chains-count rules begin counting d) (with_status status s) le,
     )
 
-pub until_again : (at : At) (node condition : NodeId) (c d : Chains) (status : ℕ) → at node ≡ Some (OfCommand (Until c d)) → at condition ≡ Some (OfChains c) → Turns at (frame.Body node) status (record { due = due.Node condition; behind = Some (frame.Condition node status); status = status })
-until_again at node condition c d status e ec =
+pub until_again : (shell : Shell) (at : At) (node condition : NodeId) (c d : Chains) (status : ℕ) → at node ≡ Some (OfCommand (Until c d)) → at condition ≡ Some (OfChains c) → Turns shell at (frame.Body node) status (record { due = due.Node condition; behind = Some (frame.Condition node status); status = status })
+until_again shell at node condition c d status e ec =
     rw (e, ec) (
       refl,
       (tt, refl, λ scripts. refl, omega arith, omega arith),
-      λ rules begin counting s le.
+      λ rules same begin counting s le.
           turns-again rules false (chains rules begin c) (chains rules begin d) status (chains-count rules begin counting c) (chains-count rules begin counting d) (with_status status s) le,
     )
 
@@ -140,7 +142,7 @@ to_rest : (rules : Rules) (begin : Begin) (k status : ℕ) (whole rest : Branche
 to_rest rules begin k status whole rest d s does nz =
     ap (λ (g : State → Out). g (with_status status s)) does ∙ ap (λ (t : Bool). if t then chains rules begin d (with_status status s) else otherwise rules begin rest (with_status status s)) nz
 
-module _ (at : At) (node : NodeId) (bs : List branch.Branch) (last : Option NodeId) (c d : Chains) (b : Branches) (e : at node ≡ Some (OfCommand (If c d b))) (are : AreBranches at bs last (Elif c d b)) (k status : ℕ) where
+module _ (shell : Shell) (at : At) (node : NodeId) (bs : List branch.Branch) (last : Option NodeId) (c d : Chains) (b : Branches) (e : at node ≡ Some (OfCommand (If c d b))) (are : AreBranches at bs last (Elif c d b)) (k status : ℕ) where
   no_branch : (xs : List branch.Branch) (whole : Branches) (j : ℕ) → AreBranches at xs last whole → length xs ≤ j → (rules : Rules) (begin : Begin) (s : State) → branch_does rules begin j whole s ≡ Goes s
   no_branch [] (Elif c' d' b') zero a le rules begin s = none_here last a
     where
@@ -161,15 +163,15 @@ module _ (at : At) (node : NodeId) (bs : List branch.Branch) (last : Option Node
   no_branch (x ∷ xs) (Else d') j a le rules begin s = absurd a
   no_branch (x ∷ xs) Fi j a le rules begin s = absurd a
 
-  pub branches_end : length bs ≤ k → Turns at (frame.Branch node k) status (record { due = due.Over; behind = None; status = status })
-  branches_end le = rw e (tt, omega arith, λ rules begin counting s le'. no_branch bs (Elif c d b) k are le rules begin (with_status status s))
+  pub branches_end : length bs ≤ k → Turns shell at (frame.Branch node k) status (record { due = due.Over; behind = None; status = status })
+  branches_end le = rw e (tt, omega arith, λ rules same begin counting s le'. no_branch bs (Elif c d b) k are le rules begin (with_status status s))
 
-  pub branch_body : (x : branch.Branch) → k < length bs → x ≡ get_or bs k x → status ≡ 0 → Turns at (frame.Branch node k) status (record { due = due.Node x.body; behind = None; status = status })
+  pub branch_body : (x : branch.Branch) → k < length bs → x ≡ get_or bs k x → status ≡ 0 → Turns shell at (frame.Branch node k) status (record { due = due.Node x.body; behind = None; status = status })
   branch_body x lt is z =
       let r = at_branch at x bs last k (Elif c d b) are lt is in
-      rw (e, r.body, z) (refl, omega (arith, r.depth_d), λ rules begin counting s le. ap (λ (f : State → Out). f (with_status 0 s)) (r.does rules begin) ∙ sym (bind_goes _))
+      rw (e, r.body, z) (refl, omega (arith, r.depth_d), λ rules same begin counting s le. ap (λ (f : State → Out). f (with_status 0 s)) (r.does rules begin) ∙ sym (bind_goes _))
 
-  pub branch_next : (x y : branch.Branch) → k < length bs → x ≡ get_or bs k x → suc k < length bs → y ≡ get_or bs (suc k) y → (status == 0) ≡ false → Turns at (frame.Branch node k) status (record { due = due.Node y.condition; behind = Some (frame.Branch node (suc k)); status = status })
+  pub branch_next : (x y : branch.Branch) → k < length bs → x ≡ get_or bs k x → suc k < length bs → y ≡ get_or bs (suc k) y → (status == 0) ≡ false → Turns shell at (frame.Branch node k) status (record { due = due.Node y.condition; behind = Some (frame.Branch node (suc k)); status = status })
   branch_next x y lt is lt' is' nz =
       let r = at_branch at x bs last k (Elif c d b) are lt is in
       let n = next_is at (drop (suc k) bs) last r.rest y r.others (omega (arith, length-drop (suc k) bs, lt')) (is' ∙ ap (λ (i : ℕ). get_or bs i y) (let z : suc k ≡ suc k + 0 = omega arith in z) ∙ sym (get_or-drop (suc k) bs 0 y)) in
@@ -177,16 +179,16 @@ module _ (at : At) (node : NodeId) (bs : List branch.Branch) (last : Option Node
       rw (e, n.4) (
         refl,
         (tt, refl, λ scripts. refl, omega arith, omega (arith, r.depth_rest, deep)),
-        λ rules begin counting s le.
+        λ rules same begin counting s le.
             to_rest rules begin k status (Elif c d b) r.rest r.d s (r.does rules begin) nz
             ∙ ap (λ (z : Branches). otherwise rules begin z (with_status status s)) n.3
             ∙ ap (λ (g : State → Out). chains rules begin n.0 (with_status status s) >>= g) (sym (r.next rules begin n.0 n.1 n.2 n.3)),
       )
 
-  pub branch_next_at : (j : ℕ) → j ≡ suc k → (x y : branch.Branch) → k < length bs → x ≡ get_or bs k x → j < length bs → y ≡ get_or bs j y → (status == 0) ≡ false → Turns at (frame.Branch node k) status (record { due = due.Node y.condition; behind = Some (frame.Branch node j); status = status })
-  branch_next_at j h = subst (λ (i : ℕ). (x y : branch.Branch) → k < length bs → x ≡ get_or bs k x → i < length bs → y ≡ get_or bs i y → (status == 0) ≡ false → Turns at (frame.Branch node k) status (record { due = due.Node y.condition; behind = Some (frame.Branch node i); status = status })) (sym h) branch_next
+  pub branch_next_at : (j : ℕ) → j ≡ suc k → (x y : branch.Branch) → k < length bs → x ≡ get_or bs k x → j < length bs → y ≡ get_or bs j y → (status == 0) ≡ false → Turns shell at (frame.Branch node k) status (record { due = due.Node y.condition; behind = Some (frame.Branch node j); status = status })
+  branch_next_at j h = subst (λ (i : ℕ). (x y : branch.Branch) → k < length bs → x ≡ get_or bs k x → i < length bs → y ≡ get_or bs i y → (status == 0) ≡ false → Turns shell at (frame.Branch node k) status (record { due = due.Node y.condition; behind = Some (frame.Branch node i); status = status })) (sym h) branch_next
 
-  pub branch_else : (x : branch.Branch) (body : NodeId) → k < length bs → x ≡ get_or bs k x → length bs ≤ suc k → (status == 0) ≡ false → last ≡ Some body → Turns at (frame.Branch node k) status (record { due = due.Node body; behind = None; status = status })
+  pub branch_else : (x : branch.Branch) (body : NodeId) → k < length bs → x ≡ get_or bs k x → length bs ≤ suc k → (status == 0) ≡ false → last ≡ Some body → Turns shell at (frame.Branch node k) status (record { due = due.Node body; behind = None; status = status })
   branch_else x body lt is le nz l =
       let r = at_branch at x bs last k (Elif c d b) are lt is in
       let n = else_is at body r.rest (subst (λ (ys : List branch.Branch). AreBranches at ys (Some body) r.rest) (drop_of_length-le bs le) (subst (λ (o : Option NodeId). AreBranches at (drop (suc k) bs) o r.rest) l r.others)) in
@@ -194,22 +196,23 @@ module _ (at : At) (node : NodeId) (bs : List branch.Branch) (last : Option Node
       rw (e, n.2) (
         refl,
         omega (arith, r.depth_rest, deep),
-        λ rules begin counting s le'.
+        λ rules same begin counting s le'.
             to_rest rules begin k status (Elif c d b) r.rest r.d s (r.does rules begin) nz
             ∙ ap (λ (z : Branches). otherwise rules begin z (with_status status s)) n.1
             ∙ sym (bind_goes _),
       )
 
-  pub branch_fi : (x : branch.Branch) → k < length bs → x ≡ get_or bs k x → length bs ≤ suc k → (status == 0) ≡ false → last ≡ None → Turns at (frame.Branch node k) status (record { due = due.Over; behind = None; status = 0 })
+  pub branch_fi : (x : branch.Branch) → k < length bs → x ≡ get_or bs k x → length bs ≤ suc k → (status == 0) ≡ false → last ≡ None → Turns shell at (frame.Branch node k) status (record { due = due.Over; behind = None; status = kept_status shell status })
   branch_fi x lt is le nz l =
       let r = at_branch at x bs last k (Elif c d b) are lt is in
       let n = fi_is at r.rest (subst (λ (ys : List branch.Branch). AreBranches at ys None r.rest) (drop_of_length-le bs le) (subst (λ (o : Option NodeId). AreBranches at (drop (suc k) bs) o r.rest) l r.others)) in
       rw e (
         tt,
         omega arith,
-        λ rules begin counting s le'.
+        λ rules same begin counting s le'.
             to_rest rules begin k status (Elif c d b) r.rest r.d s (r.does rules begin) nz
-            ∙ ap (λ (z : Branches). otherwise rules begin z (with_status status s)) n,
+            ∙ ap (λ (z : Branches). otherwise rules begin z (with_status status s)) n
+            ∙ ap (λ (x : Shell). Goes (with_status (kept_status x status) s)) same,
       )
 
   pick : (xs : List branch.Branch) (j : ℕ) → j < length xs → (x : branch.Branch) × (x ≡ get_or xs j x)
@@ -217,13 +220,13 @@ module _ (at : At) (node : NodeId) (bs : List branch.Branch) (last : Option Node
   pick (x ∷ xs) zero lt = (x, refl)
   pick (x ∷ xs) (suc j) lt = pick xs j (omega (arith, lt))
 
-  pub branch_else_at : (body : NodeId) → k < length bs → length bs ≤ k + 1 → (status == 0) ≡ false → last ≡ Some body → Turns at (frame.Branch node k) status (record { due = due.Node body; behind = None; status = status })
+  pub branch_else_at : (body : NodeId) → k < length bs → length bs ≤ k + 1 → (status == 0) ≡ false → last ≡ Some body → Turns shell at (frame.Branch node k) status (record { due = due.Node body; behind = None; status = status })
   branch_else_at body lt le nz l = let p = pick bs k lt in branch_else p.0 body lt p.1 (omega (arith, le)) nz l
 
-  pub branch_fi_at : k < length bs → length bs ≤ k + 1 → (status == 0) ≡ false → last ≡ None → Turns at (frame.Branch node k) status (record { due = due.Over; behind = None; status = 0 })
+  pub branch_fi_at : k < length bs → length bs ≤ k + 1 → (status == 0) ≡ false → last ≡ None → Turns shell at (frame.Branch node k) status (record { due = due.Over; behind = None; status = kept_status shell status })
   branch_fi_at lt le nz l = let p = pick bs k lt in branch_fi p.0 lt p.1 (omega (arith, le)) nz l
 
-  pub branch_next_here : (y : branch.Branch) → k < length bs → k + 1 < length bs → y ≡ get_or bs (k + 1) y → (status == 0) ≡ false → Turns at (frame.Branch node k) status (record { due = due.Node y.condition; behind = Some (frame.Branch node (k + 1)); status = status })
+  pub branch_next_here : (y : branch.Branch) → k < length bs → k + 1 < length bs → y ≡ get_or bs (k + 1) y → (status == 0) ≡ false → Turns shell at (frame.Branch node k) status (record { due = due.Node y.condition; behind = Some (frame.Branch node (k + 1)); status = status })
   branch_next_here y lt lt' is nz = let p = pick bs k lt in branch_next_at (k + 1) (omega arith) p.0 y lt p.1 lt' is nz
 
 -- chains
@@ -250,27 +253,50 @@ at_chain_link at (x ∷ xs) (First c links) (suc k) l a lt is =
     let r = at_link at xs links k l a.2 (omega (arith, lt)) is in
     (r.1, r.3, r.4 ∙ ap (λ (p : Option Operator). (p, r.1) ∷ drop (suc k) (tagged (link_list links))) (sym r.2), omega (arith, r.5))
 
-pub chain_skips : (rules : Rules) (begin : Begin) (at : At) (node : NodeId) (ls : List link.Link) (ch : Chain) (k status : ℕ) (l : link.Link) (s : State) → at node ≡ Some (OfChain ch) → IsChain at ls ch → k < length ls → l ≡ get_or ls k l → joined l.operator status ≡ false → run_links rules begin (drop k (links_in (at node))) (with_status status s) ≡ run_links rules begin (drop (k + 1) (links_in (at node))) (with_status status s)
-chain_skips rules begin at node ls ch k status l s e a lt is isnt =
+-- after a command that isn't run
+skipped_to : (rules : Rules) (begin : Begin) (at : At) (node : NodeId) (ls : List link.Link) (ch : Chain) (k status : ℕ) (l : link.Link) (s : State) → at node ≡ Some (OfChain ch) → IsChain at ls ch → k < length ls → l ≡ get_or ls k l → joined l.operator status ≡ false → run_links rules begin (drop k (links_in (at node))) (with_status status s) ≡ after_skip rules.shell (run_links rules begin (drop (k + 1) (links_in (at node)))) (with_status status s)
+skipped_to rules begin at node ls ch k status l s e a lt is isnt =
     let r = at_chain_link at ls ch k l a lt is in
-    rw (e, add-one) (ap (λ (x : List (Option Operator × Command)). run_links rules begin x (with_status status s)) r.2 ∙ ap (λ (t : Bool). (if t then command rules begin r.0 (with_status status s) else Goes (with_status status s)) >>= run_links rules begin (drop (suc k) (chain_links ch))) isnt)
+    let rest = run_links rules begin (drop (suc k) (chain_links ch)) in
+    rw (e, add-one) (ap (λ (x : List (Option Operator × Command)). run_links rules begin x (with_status status s)) r.2 ∙ ap (λ (t : Bool). if t then (command rules begin r.0 (with_status status s) >>= rest) else after_skip rules.shell rest (with_status status s)) isnt)
 
-pub chain_goes : (at : At) (node : NodeId) (ls : List link.Link) (ch : Chain) (next k status : ℕ) (l : link.Link) → at node ≡ Some (OfChain ch) → IsChain at ls ch → k < length ls → l ≡ get_or ls k l → joined l.operator status ≡ true → ((rules : Rules) (begin : Begin) (s : State) → run_links rules begin (drop next (links_in (at node))) (with_status status s) ≡ run_links rules begin (drop k (links_in (at node))) (with_status status s)) → Turns at (frame.Chain node next) status (record { due = due.Node l.command; behind = Some (frame.Chain node (k + 1)); status = status })
-chain_goes at node ls ch next k status l e a lt is does skipped =
+pub chain_skips : (rules : Rules) (begin : Begin) (at : At) (node : NodeId) (ls : List link.Link) (ch : Chain) (k status : ℕ) (l : link.Link) (s : State) → at node ≡ Some (OfChain ch) → IsChain at ls ch → k < length ls → l ≡ get_or ls k l → joined l.operator status ≡ false → leaves_chain rules.shell ≡ false → run_links rules begin (drop k (links_in (at node))) (with_status status s) ≡ run_links rules begin (drop (k + 1) (links_in (at node))) (with_status status s)
+chain_skips rules begin at node ls ch k status l s e a lt is isnt stays =
+    skipped_to rules begin at node ls ch k status l s e a lt is isnt
+    ∙ ap (λ (b : Bool). if b then Goes (with_status status s) else run_links rules begin (drop (k + 1) (links_in (at node))) (with_status status s)) stays
+
+-- what a chain's frame has come to, past commands that weren't run
+abbrev pub Passed : Shell → At → NodeId → (next k status : ℕ) → Type 0
+Passed shell at node next k status =
+    (rules : Rules) → rules.shell ≡ shell → (begin : Begin) (s : State) →
+    run_links rules begin (drop next (links_in (at node))) (with_status status s) ≡ run_links rules begin (drop k (links_in (at node))) (with_status status s)
+
+pub chain_leaves : (shell : Shell) (at : At) (node : NodeId) (ls : List link.Link) (ch : Chain) (next k status : ℕ) (l : link.Link) → at node ≡ Some (OfChain ch) → IsChain at ls ch → k < length ls → l ≡ get_or ls k l → joined l.operator status ≡ false → leaves_chain shell ≡ true → Passed shell at node next k status → Turns shell at (frame.Chain node next) status (record { due = due.Over; behind = None; status = status })
+chain_leaves shell at node ls ch next k status l e a lt is isnt leaves passed = (
+  tt,
+  omega arith,
+  λ rules same begin counting s le.
+      passed rules same begin s
+      ∙ skipped_to rules begin at node ls ch k status l s e a lt is isnt
+      ∙ ap (λ (b : Bool). if b then Goes (with_status status s) else run_links rules begin (drop (k + 1) (links_in (at node))) (with_status status s)) (ap leaves_chain same ∙ leaves),
+)
+
+pub chain_goes : (shell : Shell) (at : At) (node : NodeId) (ls : List link.Link) (ch : Chain) (next k status : ℕ) (l : link.Link) → at node ≡ Some (OfChain ch) → IsChain at ls ch → k < length ls → l ≡ get_or ls k l → joined l.operator status ≡ true → Passed shell at node next k status → Turns shell at (frame.Chain node next) status (record { due = due.Node l.command; behind = Some (frame.Chain node (k + 1)); status = status })
+chain_goes shell at node ls ch next k status l e a lt is does passed =
     let r = at_chain_link at ls ch k l a lt is in
-    let same : (rules : Rules) (begin : Begin) (s : State) → run_links rules begin (drop next (links_in (at node))) (with_status status s) ≡ (command rules begin r.0 (with_status status s) >>= run_links rules begin (drop (suc k) (chain_links ch))) =
-    λ rules begin s. skipped rules begin s ∙ ap (λ (x : List (Option Operator × Command)). run_links rules begin x (with_status status s)) (ap (λ (o : Option Subtree). drop k (links_in o)) e ∙ r.2) ∙ ap (λ (t : Bool). (if t then command rules begin r.0 (with_status status s) else Goes (with_status status s)) >>= run_links rules begin (drop (suc k) (chain_links ch))) does in (
+    let arrives : (rules : Rules) → rules.shell ≡ shell → (begin : Begin) (s : State) → run_links rules begin (drop next (links_in (at node))) (with_status status s) ≡ (command rules begin r.0 (with_status status s) >>= run_links rules begin (drop (suc k) (chain_links ch))) =
+    λ rules same begin s. passed rules same begin s ∙ ap (λ (x : List (Option Operator × Command)). run_links rules begin x (with_status status s)) (ap (λ (o : Option Subtree). drop k (links_in o)) e ∙ r.2) ∙ ap (λ (t : Bool). if t then (command rules begin r.0 (with_status status s) >>= run_links rules begin (drop (suc k) (chain_links ch))) else after_skip rules.shell (run_links rules begin (drop (suc k) (chain_links ch))) (with_status status s)) does in (
       ap (λ (o : Option Subtree). is_some o) r.1,
       (tt, ap (λ (o : Option Subtree). is_some o) e, (λ scripts. refl), omega arith, omega (arith, ap room e, ap room r.1, r.3)),
-      λ rules begin counting s le.
-          same rules begin s
+      λ rules same begin counting s le.
+          arrives rules same begin s
           ∙ ap (λ (o : Option Subtree). subtree_does rules begin o (with_status status s) >>= run_links rules begin (drop (suc k) (chain_links ch))) (sym r.1)
           ∙ ap (λ (x : List (Option Operator × Command)). subtree_does rules begin (at l.command) (with_status status s) >>= run_links rules begin x) (sym (ap (λ (o : Option Subtree). drop (suc k) (links_in o)) e) ∙ ap (λ (j : ℕ). drop j (links_in (at node))) (sym (add-one k))),
     )
 
-pub chain_ends : (at : At) (node : NodeId) (ls : List link.Link) (ch : Chain) (next k status : ℕ) → at node ≡ Some (OfChain ch) → IsChain at ls ch → length ls ≤ k → ((rules : Rules) (begin : Begin) (s : State) → run_links rules begin (drop next (links_in (at node))) (with_status status s) ≡ run_links rules begin (drop k (links_in (at node))) (with_status status s)) → Turns at (frame.Chain node next) status (record { due = due.Over; behind = None; status = status })
-chain_ends at node ls ch next k status e a le skipped =
-    (tt, omega arith, λ rules begin counting s le'. skipped rules begin s ∙ ap (λ (x : List (Option Operator × Command)). run_links rules begin x (with_status status s)) (ap (λ (o : Option Subtree). drop k (links_in o)) e ∙ chain_links_end ls ch k a le))
+pub chain_ends : (shell : Shell) (at : At) (node : NodeId) (ls : List link.Link) (ch : Chain) (next k status : ℕ) → at node ≡ Some (OfChain ch) → IsChain at ls ch → length ls ≤ k → Passed shell at node next k status → Turns shell at (frame.Chain node next) status (record { due = due.Over; behind = None; status = status })
+chain_ends shell at node ls ch next k status e a le passed =
+    (tt, omega arith, λ rules same begin counting s le'. passed rules same begin s ∙ ap (λ (x : List (Option Operator × Command)). run_links rules begin x (with_status status s)) (ap (λ (o : Option Subtree). drop k (links_in o)) e ∙ chain_links_end ls ch k a le))
   where
     chain_links_end : (ls : List link.Link) (ch : Chain) (k : ℕ) → IsChain at ls ch → length ls ≤ k → drop k (chain_links ch) ≡ []
     chain_links_end [] (First c links) k a le = absurd a

@@ -1,5 +1,5 @@
 -- What is left of a run, by its frames. (How the code goes about it; what a run means is in Meaning.)
-use Rattle.std.specs.Prelude.{◌≡◌, ℕ, zero, suc, ◌+◌, ◌-◌, ◌*◌, ◌<◌, ◌≤◌, ◌==◌, Bool, true, false, if◌then◌else◌, List, [], ◌∷◌, map, drop, length, Option, Some, None, IsSome, get_or}
+use Rattle.std.specs.Prelude.{◌≡◌, ℕ, zero, suc, ◌+◌, ◌-◌, ◌*◌, ◌<◌, ◌≤◌, ◌==◌, Bool, true, false, if◌then◌else◌, List, [], ◌∷◌, map, drop, length, Option, Some, None, IsSome}
 use Rattle.std.specs.Option.{option_or}
 use Rattle.hush_syntax.specs.declared.nodes.NodeId.{NodeId}
 use Rattle.hush_syntax.specs.declared.nodes.Operator.{Operator}
@@ -8,8 +8,9 @@ use Rattle.hush_run.specs.declared.frames.Frame.TheVariants as frame
 use Rattle.hush_syntax.specs.Scripts.{Parsed, subtree_at}
 use Rattle.hush_syntax.specs.Nodes.{At, Subtree, OfChains, OfChain, OfCommand}
 use Rattle.hush_syntax.specs.Grammar.{Command, Simple, Assign, If, For, While, Until, Branches, Elif, Else, Fi, Chain, First, Links, End, Link, Chains, Last, More, depth, depth_in_chain, depth_inside}
+use Rattle.hush_commands.specs.declared.shell.Shell.{Shell}
 use Rattle.hush_run.specs.Counting.{Counting}
-use Rattle.hush_run.specs.Meaning.{Rules, Begin, State, Out, Goes, ◌>>=◌, ◌then◌, with_status, goes_on, turns, if_ok, in_turn, bindings, joins, command, otherwise, chain, chains, start, in_text}
+use Rattle.hush_run.specs.Meaning.{Rules, Begin, State, Out, Goes, ◌>>=◌, ◌then◌, with_status, goes_on, after_skip, loop_status, turns, if_ok, in_turn, bindings, joins, command, otherwise, chain, chains, start, in_list, in_text, in_answer, run_status}
 use Rattle.hush_run.specs.Stacks.{script_frames}
 
 abbrev pub subtree_does : Rules → Begin → Option Subtree → State → Out
@@ -29,7 +30,7 @@ link_list (Link o c ls) = (o, c) ∷ link_list ls
 
 abbrev pub run_chains : Rules → Begin → List Chain → State → Out
 run_chains rules begin [] = Goes
-run_chains rules begin (c ∷ cs) = chain rules begin c then run_chains rules begin cs
+run_chains rules begin (c ∷ cs) = λ s. in_list (chain rules begin c s) >>= run_chains rules begin cs
 
 abbrev pub tagged : List (Operator × Command) → List (Option Operator × Command)
 tagged ls = map (λ l. (Some l.0, l.1)) ls
@@ -44,15 +45,15 @@ joined (Some o) status = joins o (status == 0)
 
 abbrev pub run_links : Rules → Begin → List (Option Operator × Command) → State → Out
 run_links rules begin [] = Goes
-run_links rules begin (l ∷ ls) = (λ s. if joined l.0 s.status then command rules begin l.1 s else Goes s) then run_links rules begin ls
+run_links rules begin (l ∷ ls) = λ s. if joined l.0 s.status then (command rules begin l.1 s >>= run_links rules begin ls) else after_skip rules.shell (run_links rules begin ls) s
 
 -- what a loop does after its condition
 abbrev pub looks : Rules → Bool → (State → Out) → (State → Out) → ℕ → State → Out
-looks rules wanted c d last t = if goes_on wanted t then (d t >>= λ u. turns (suc rules.limits.steps) wanted c d u.status u) else Goes (with_status last t)
+looks rules wanted c d last t = if goes_on wanted t then (d t >>= λ u. turns rules.shell (suc rules.limits.steps) wanted c d u.status u) else Goes (with_status (loop_status rules.shell last t.status) t)
 
 -- and after its body
 abbrev pub looks_again : Rules → Bool → (State → Out) → (State → Out) → State → Out
-looks_again rules wanted c d u = turns (suc rules.limits.steps) wanted c d u.status u
+looks_again rules wanted c d u = turns rules.shell (suc rules.limits.steps) wanted c d u.status u
 
 -- after the condition of a branch
 abbrev pub branch_does : Rules → Begin → ℕ → Branches → State → Out
@@ -144,6 +145,11 @@ owners (frame.Body node) scripts = scripts
 owners (frame.Bindings node fields) scripts = scripts
 owners (frame.Started names) scripts = behind scripts
 
+-- the first of the names that `run` has begun with; none after a text that answers a call
+abbrev pub first_name : List (List ℕ) → Option (List ℕ)
+first_name [] = None
+first_name (name ∷ names) = Some name
+
 -- the variable whose text a frame comes after, if any
 abbrev pub variable_above : Frame → Option (List ℕ)
 variable_above (frame.List node next) = None
@@ -152,23 +158,48 @@ variable_above (frame.Branch node branch) = None
 variable_above (frame.Condition node last) = None
 variable_above (frame.Body node) = None
 variable_above (frame.Bindings node fields) = None
-variable_above (frame.Started names) = Some (get_or names 0 [])
+variable_above (frame.Started names) = first_name names
 
 -- the variable whose text runs above these frames, the innermost first
 abbrev pub place_of : List Frame → Option (List ℕ)
 place_of [] = None
 place_of (f ∷ fs) = option_or (variable_above f) (place_of fs)
 
-abbrev pub within_text : Option (List ℕ) → Out → Out
-within_text None o = o
-within_text (Some name) o = in_text name o
+-- what a text is when it ends above the frame of these names
+abbrev pub in_started : Shell → (names : List (List ℕ)) → Out → Out
+in_started shell [] o = in_answer o
+in_started shell (name ∷ names) o = in_text shell name o
+
+-- what a frame makes of what is above it
+abbrev pub enclosed : Shell → Frame → Out → Out
+enclosed shell (frame.List node next) o = in_list o
+enclosed shell (frame.Chain node next) o = o
+enclosed shell (frame.Branch node branch) o = o
+enclosed shell (frame.Condition node last) o = o
+enclosed shell (frame.Body node) o = o
+enclosed shell (frame.Bindings node fields) o = o
+enclosed shell (frame.Started names) o = in_started shell names o
+
+-- the status that it makes of that above it
+abbrev pub text_status : Shell → (names : List (List ℕ)) → ℕ → ℕ
+text_status shell [] status = status
+text_status shell (name ∷ names) status = run_status shell status
+
+abbrev pub passed_status : Shell → Frame → ℕ → ℕ
+passed_status shell (frame.List node next) status = status
+passed_status shell (frame.Chain node next) status = status
+passed_status shell (frame.Branch node branch) status = status
+passed_status shell (frame.Condition node last) status = status
+passed_status shell (frame.Body node) status = status
+passed_status shell (frame.Bindings node fields) status = status
+passed_status shell (frame.Started names) status = text_status shell names status
 
 -- what a part evaluates to, and then the frames, the innermost first
 abbrev pub resume : Rules → List Parsed → List Frame → Out → Out
 resume rules scripts [] o = o
 resume rules scripts (f ∷ fs) o =
     resume rules (owners f scripts) fs
-    (within_text (variable_above f) o >>= frame_does rules (begin_in rules (owners f scripts)) (at_in (owners f scripts)) f)
+    (enclosed rules.shell f o >>= frame_does rules (begin_in rules (owners f scripts)) (at_in (owners f scripts)) f)
 
 -- how many frames a part may need: three for each level, and for a list three, for a chain two, for a command one
 abbrev pub room : Option Subtree → ℕ
@@ -224,7 +255,7 @@ FirstPart at id (Some part) =
     IsSome (at part.1) × ((scripts : List Parsed) → owners part.0 scripts ≡ scripts) × IsFrame at part.0
     × (room (at part.1) < room (at id)) × (frame_room at part.0 ≤ room (at id)) ×
     ((rules : Rules) (begin : Begin) → Counting rules begin → (s : State) → s.steps ≤ rules.limits.steps →
-    subtree_does rules begin (at id) s ≡ subtree_does rules begin (at part.1) s >>= frame_does rules begin at part.0)
+    subtree_does rules begin (at id) s ≡ enclosed rules.shell part.0 (subtree_does rules begin (at part.1) s) >>= frame_does rules begin at part.0)
 
 -- going down from a node to a step in it leaves all as it is
 abbrev pub Leads : Parsed → List Frame → List Frame → NodeId → NodeId → Type 0

@@ -1,9 +1,12 @@
 -- What a run leaves, and what its outcome reports (docs/runs.md, "Meaning").
-use Rattle.std.specs.Prelude.{◌≡◌, ◌≤◌, ℕ, List, codes, Option, Some, None}
+use Rattle.std.specs.Prelude.{◌≡◌, ◌≤◌, ℕ, List, [], codes, Option, Some, None}
 use Rattle.env_session.specs.Session.{Held}
 use Rattle.hush_syntax.specs.Grammar.{Chains}
 use Rattle.run_limits.specs.Limits.{Bounds}
 use Rattle.hush_commands.specs.Stubs.{Statuses}
+use Rattle.hush_commands.specs.Hardware.{Hardware, hardware}
+use Rattle.hush_commands.specs.declared.shell.Shell.{Shell}
+use Rattle.hush_commands.specs.declared.shell.Shell.TheVariants.{Strict}
 use Rattle.hush_run.specs.declared.ending.Ending.{Ending}
 use Rattle.hush_run.specs.declared.ending.Ending.TheVariants as ending
 use Rattle.hush_run.specs.declared.outcome.Outcome.{Outcome}
@@ -11,8 +14,11 @@ use Rattle.hush_run.specs.Meaning.{Rules, Reason, State, meaning, place, within}
 use Rattle.hush_run.specs.Meaning.Reason.{Finished, Exited, Steps, Depth, Word, Output}
 
 -- what a run is given
+abbrev pub rules_in : Shell → Hardware → Bounds → Rules
+rules_in shell stand_ins limits = record { shell = shell; stand_ins = stand_ins; limits = limits }
+
 abbrev pub rules : Statuses → Bounds → Rules
-rules stand_ins limits = record { stand_ins = stand_ins; limits = limits }
+rules stand_ins limits = rules_in Strict (hardware [] stand_ins) limits
 
 -- the ending of the definition; no value if memory was refused
 abbrev pub reason_of : Ending → Option Reason

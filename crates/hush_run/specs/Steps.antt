@@ -9,20 +9,21 @@ use Rattle.hush_commands.specs.declared.expansion.ExpansionFault.TheVariants as 
 use Rattle.hush_commands.specs.declared.output.PrintFault.{PrintFault}
 use Rattle.hush_commands.specs.declared.output.PrintFault.TheVariants as print
 use Rattle.hush_commands.specs.Buffers.{Made, whole}
+use Rattle.hush_commands.specs.Hardware.{hardware}
 use Rattle.hush_commands.specs.Expansion.{expanded_value}
 use Rattle.hush_run.specs.declared.ending.Ending.{Ending}
 use Rattle.hush_run.specs.declared.ending.Ending.TheVariants as ending
 use Rattle.hush_run.specs.Runs.{reason_of}
 use Rattle.hush_run.specs.declared.progress.Progress.{Progress}
 use Rattle.hush_run.specs.declared.progress.Given.{Given}
-use Rattle.hush_run.specs.Meaning.{Rules, Reason, Begin, State, Out, Goes, Ends, known_in, has_variable, within, start, script, in_text}
+use Rattle.hush_run.specs.Meaning.{Rules, Reason, Begin, State, Out, Goes, Ends, known_in, has_variable, within, Variable, Answer, start, script, in_text, in_answer}
 
 -- what the code holds of a run
 abbrev pub state_of : Held → Progress → State
 state_of held p = record { held = held; locals = p.locals; status = p.status; printed = p.output; steps = p.steps }
 
 abbrev pub rules_of : Given → Rules
-rules_of given = record { stand_ins = given.stand_ins.now; limits = given.limits }
+rules_of given = record { shell = given.shell; stand_ins = hardware given.board.now given.stand_ins.now; limits = given.limits }
 
 -- one step was counted
 abbrev pub Counted : Rules → State → State → Type 0
@@ -68,18 +69,32 @@ value_of rules word s = option_map (λ v. v ∷ []) (expanded_value (known_in s)
 -- nothing was started: the run has ended so; or memory was refused, but to no start beyond the limit on the depth, which
 -- takes none
 abbrev pub NotStarted : Rules → (levels : ℕ) → (name : List ℕ) → State → State → Option Reason → Type 0
-NotStarted rules levels name old new (Some e) = start rules levels name old ≡ Ends e None new
+NotStarted rules levels name old new (Some e) = start rules levels (Variable name) old ≡ Ends e None new
 NotStarted rules levels name old new None = (new ≡ old) × (has_variable old name ≡ true → 0 < levels)
 
 -- a start that failed, or this script is to be run from here, one level deeper; or nothing was started
 abbrev pub Started : Rules → (levels : ℕ) → (name : List ℕ) → State → State → Result (Option Parsed) Ending → Type 0
 Started rules levels name old new (Ok None) =
     Counted rules old new × ((new.status == 0) ≡ false)
-    × ((n : ℕ) → suc old.steps ≤ n → start (within n rules) levels name old ≡ Goes new)
+    × ((n : ℕ) → suc old.steps ≤ n → start (within n rules) levels (Variable name) old ≡ Goes new)
 Started rules levels name old new (Ok (Some p)) =
     Counted rules old new × (below : ℕ) × (levels ≡ suc below) ×
-    ((n : ℕ) → suc old.steps ≤ n → start (within n rules) levels name old ≡ in_text name (script (within n rules) (start (within n rules) below) (tree_of p) new))
+    ((n : ℕ) → suc old.steps ≤ n → start (within n rules) levels (Variable name) old ≡ in_text rules.shell name (script (within n rules) (start (within n rules) below) (tree_of p) new))
 Started rules levels name old new (Err e) = NotStarted rules levels name old new (reason_of e)
+
+-- the start of a text that answers a call: no script, or this one is to be run from here, one level deeper; or it
+-- wasn't started
+abbrev pub NotAnswered : Rules → (levels : ℕ) → (words : List (List ℕ)) → (text : List ℕ) → State → State → Option Reason → Type 0
+NotAnswered rules levels words text old new (Some e) = start rules levels (Answer words text) old ≡ Ends e None new
+NotAnswered rules levels words text old new None = new ≡ old
+
+abbrev pub Answered : Rules → (levels : ℕ) → (words : List (List ℕ)) → (text : List ℕ) → State → State → Result (Option Parsed) Ending → Type 0
+Answered rules levels words text old new (Ok None) =
+    Counted rules old new × ((n : ℕ) → suc old.steps ≤ n → start (within n rules) levels (Answer words text) old ≡ Goes new)
+Answered rules levels words text old new (Ok (Some p)) =
+    Counted rules old new × (below : ℕ) × (levels ≡ suc below) ×
+    ((n : ℕ) → suc old.steps ≤ n → start (within n rules) levels (Answer words text) old ≡ in_answer (script (within n rules) (start (within n rules) below) (tree_of p) new))
+Answered rules levels words text old new (Err e) = NotAnswered rules levels words text old new (reason_of e)
 
 -- the unquoted plain bytes of a word
 abbrev pub plain_bytes : List Atom → List ℕ

@@ -6,14 +6,14 @@ ghost use Rattle.hush_run.specs.Rises.{IsEnd};
 ghost use Rattle.hush_run.specs.Steps.{state_of, rules_of};
 ghost use Rattle.hush_run.specs.declared.due.Due.TheVariants as due;
 
-use crate::descent::{descend, rise_up};
+use crate::descent::{descend, leave_text, rise_up};
 use crate::ending::Ending;
 use crate::frames::{Calls, Frame, Frames};
-use crate::node_step::node_step;
+use crate::node_step::{After, node_step};
 use crate::progress::{Given, Progress};
-use crate::steps::{bind_step, delete_step, start_step};
+use crate::steps::{answer_step, bind_step, delete_step, start_step};
 use env_session::Session;
-use hush_commands::FieldQueue;
+use hush_commands::{Bytes, FieldQueue};
 use hush_syntax::{Node, NodeId};
 
 /// What is due.
@@ -38,6 +38,11 @@ pub(crate) enum Due {
         failed: bool,
         names: FieldQueue,
     },
+    /// The start of the text that answers a call of these words.
+    Answer {
+        words: FieldQueue,
+        text: Bytes,
+    },
 }
 
 /// Does the next step: what is due then.
@@ -58,7 +63,7 @@ pub(crate) fn advance(
 {
     match due {
         Due::Over => {
-            let due = rise_up(calls, frames, &mut progress.status);
+            let due = rise_up(given.shell, calls, frames, &mut progress.status);
             step_due(given, session, progress, calls, frames, due)
         }
         due => step_due(given, session, progress, calls, frames, due),
@@ -96,6 +101,9 @@ fn step_due(
         } => delete_due(
             given, session, progress, calls, frames, force, failed, names,
         ),
+        Due::Answer { words, text } => {
+            answer_due(given, session, progress, calls, frames, words, text)
+        }
     }
 }
 
@@ -105,19 +113,23 @@ fn node_due(
     given: &Given<'_>,
     session: &mut Session,
     progress: &mut Progress,
-    calls: &Calls<'_>,
+    calls: &mut Calls<'_>,
     frames: &mut Frames,
     node: NodeId,
 ) -> Result<Due, Ending>
-    requires ready { IsReady (rules_of given.now) calls.now frames.old.frames frames.old.capacity (due.Node node) }
+    requires ready { IsReady (rules_of given.now) calls.old frames.old.frames frames.old.capacity (due.Node node) }
     requires steps { progress.old.steps ≤ given.now.limits.steps }
-    ensures { Advances (rules_of given.now) calls.now frames.old.frames (due.Node node)
-        (state_of session.old progress.old) calls.now frames.new.frames frames.new.capacity
+    ensures { Advances (rules_of given.now) calls.old frames.old.frames (due.Node node)
+        (state_of session.old progress.old) calls.new frames.new.frames frames.new.capacity
         (state_of session.new progress.new) result }
 {
     let script = calls.top();
     let step = descend(script, frames, node);
-    node_step(given, session, progress, script, step)
+    match node_step(given, session, progress, script, step) {
+        Ok(After::Goes(due)) => Ok(due),
+        Ok(After::Leaves(own)) => leave_text(calls, frames, &mut progress.status, own),
+        Err(ending) => Err(ending),
+    }
 }
 
 /// A binding of a `for`, and then its body.
@@ -181,6 +193,40 @@ fn start_due(
             let root = script.root();
             calls.push(script);
             frames.push(Frame::Started { names });
+            match root {
+                Some(root) => Ok(Due::Node(root)),
+                None => Ok(Due::Over),
+            }
+        }
+        Ok(None) => Ok(Due::Over),
+        Err(ending) => Err(ending),
+    }
+}
+
+/// The start of a text that answers a call, and then its script.
+fn answer_due(
+    given: &Given<'_>,
+    session: &Session,
+    progress: &mut Progress,
+    calls: &mut Calls<'_>,
+    frames: &mut Frames,
+    words: FieldQueue,
+    text: Bytes,
+) -> Result<Due, Ending>
+    requires depth { given.now.limits.depth ≤ most_depth }
+    requires ready { IsReady (rules_of given.now) calls.old frames.old.frames frames.old.capacity (due.Answer words text) }
+    requires steps { progress.old.steps ≤ given.now.limits.steps }
+    ensures { Advances (rules_of given.now) calls.old frames.old.frames (due.Answer words text)
+        (state_of session.now progress.old) calls.new frames.new.frames frames.new.capacity
+        (state_of session.now progress.new) result }
+{
+    match answer_step(given, progress, &words, text, levels_left(given, calls)) {
+        Ok(Some(script)) => {
+            let root = script.root();
+            calls.push(script);
+            frames.push(Frame::Started {
+                names: FieldQueue::none(given.alloc),
+            });
             match root {
                 Some(root) => Ok(Due::Node(root)),
                 None => Ok(Due::Over),

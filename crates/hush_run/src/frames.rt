@@ -55,7 +55,7 @@ pub enum Frame {
     },
     /// The names that `run` is still to start after a script that it started.
     Started {
-        /// The name of that script, and those names.
+        /// The name of that script, and those names; none after a text that answers a call.
         names: FieldQueue,
     },
 }

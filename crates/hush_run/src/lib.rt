@@ -1,7 +1,7 @@
 //! Dry runs of boot scripts: a script run over a session under limits, with hardware answered by stand-ins.
 //! docs/runs.md states the rules.
 //!
-//! To read in this order: ending, outcome; progress, frames, started_name, due; descent, turns; node_step, steps; laws.
+//! To read in this order: ending, outcome; progress, frames, started_name, due; descent, turns; node_step, values, steps; laws.
 #![tactic(auto)]
 
 mod descent;
@@ -15,9 +15,11 @@ mod progress;
 mod started_name;
 mod steps;
 mod turns;
+mod values;
 
 pub use ending::Ending;
-pub use hush_commands::{StubFault, Stubs};
-pub use outcome::{Outcome, run, run_with_place};
+pub use hush_commands::{Shell, StubFault, Stubs};
+pub use outcome::{Outcome, run, run_in, run_with_place};
 pub use run_limits::{Limits, MOST_DEPTH, MOST_OUTPUT, MOST_STEPS, MOST_WORD};
 pub use started_name::StartedName;
+pub use steps::bodies_of;

@@ -7,7 +7,7 @@ ghost use Rattle.hush_syntax.specs.Scripts.{subtree_at};
 ghost use Rattle.hush_run.specs.Meaning.{Rules, Begin, State, follows, bindings, chains};
 ghost use Rattle.hush_run.specs.Resume.{subtree_does, room, IsStep};
 ghost use Rattle.hush_run.specs.Steps.{state_of, rules_of, Did};
-ghost use Rattle.hush_run.specs.Turns.{due_does, due_room, IsDue};
+ghost use Rattle.hush_run.specs.Turns.{after_does, due_does, due_room, FitsAfter, IsDue};
 
 use crate::due::Due;
 use crate::ending::Ending;
@@ -17,7 +17,16 @@ use env_session::Session;
 use hush_commands::{FieldQueue, Follow};
 use hush_syntax::{Node, NodeId, Script};
 
-/// Does the step that a node is: what is due after it.
+/// What comes after a step of a script.
+#[derive(Drop)]
+pub(crate) enum After {
+    /// This is due.
+    Goes(Due),
+    /// An `exit` leaves its text with this status.
+    Leaves(u8),
+}
+
+/// Does the step that a node is: what comes after it.
 #[inline(always)]
 pub(crate) fn node_step(
     given: &Given<'_>,
@@ -25,29 +34,29 @@ pub(crate) fn node_step(
     progress: &mut Progress,
     script: &Script,
     node: NodeId,
-) -> Result<Due, Ending>
+) -> Result<After, Ending>
     requires { IsStep (subtree_at script.now node) }
     ensures step { Did (rules_of given.now) (λ rules begin. subtree_does rules begin (subtree_at script.now node))
-        (λ due rules begin. due_does rules begin (subtree_at script.now) due) (state_of session.old progress.old)
+        (λ after rules begin. after_does rules begin (subtree_at script.now) after) (state_of session.old progress.old)
         (state_of session.new progress.new) result }
-    ensures due { IfOk result (λ due. IsDue (subtree_at script.now) due × (due_room (subtree_at script.now) due ≤ room (subtree_at script.now node))) }
+    ensures fits { IfOk result (FitsAfter (subtree_at script.now) (room (subtree_at script.now node))) }
 {
     match script.node(node) {
         Node::Simple { words } => {
             match simple_step(given, session, progress, script.text(), words) {
-                Ok(follow) => Ok(due_behind(follow)),
+                Ok(follow) => Ok(after_simple(follow, progress.status)),
                 Err(ending) => Err(ending),
             }
         }
         Node::Assign { name, value } => {
             match assign_step(given, session, progress, script.text(), name, value) {
-                Ok(()) => Ok(Due::Over),
+                Ok(()) => Ok(After::Goes(Due::Over)),
                 Err(ending) => Err(ending),
             }
         }
         Node::For { words, .. } => {
             match head_step(given, session, progress, script.text(), words) {
-                Ok(fields) => Ok(due_binding(node, fields)),
+                Ok(fields) => Ok(After::Goes(due_binding(node, fields))),
                 Err(ending) => Err(ending),
             }
         }
@@ -59,32 +68,34 @@ pub(crate) fn node_step(
     }
 }
 
-/// What is due after a simple command.
+/// What comes after a simple command with this status.
 #[inline(always)]
-fn due_behind(follow: Follow) -> Due
-    ensures due { (at : At) → IsDue at result × (due_room at result ≤ 1) }
-    ensures same { (rules : Rules) (begin : Begin) (at : At) (s : State) → follows rules begin follow s ≡ due_does rules begin at result s }
+fn after_simple(follow: Follow, status: u8) -> After
+    ensures fits { (at : At) → FitsAfter at 1 result }
+    ensures same { (rules : Rules) (begin : Begin) (at : At) (s : State) → s.status ≡ status → follows rules begin follow s ≡ after_does rules begin at result s }
 {
     match follow {
-        Follow::Next | Follow::End => Due::Over,
+        Follow::Next | Follow::End => After::Goes(Due::Over),
+        Follow::Leaves => After::Leaves(status),
         Follow::Starts(names) => {
             if names.is_empty() {
-                Due::Over
+                After::Goes(Due::Over)
             } else {
-                Due::Start { names }
+                After::Goes(Due::Start { names })
             }
         }
         Follow::Deletes { force, names } => {
             if names.is_empty() {
-                Due::Over
+                After::Goes(Due::Over)
             } else {
-                Due::Delete {
+                After::Goes(Due::Delete {
                     force,
                     failed: false,
                     names,
-                }
+                })
             }
         }
+        Follow::Answers { words, text } => After::Goes(Due::Answer { words, text }),
     }
 }
 

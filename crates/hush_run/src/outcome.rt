@@ -4,7 +4,8 @@ ghost use Rattle.std.specs.Prelude.{◌≡◌, ◌≤◌};
 ghost use Rattle.hush_syntax.specs.Scripts.{tree_of};
 ghost use Rattle.run_limits.specs.Limits.{most_depth};
 ghost use Rattle.hush_run.specs.Advances.{Ran};
-ghost use Rattle.hush_run.specs.Runs.{rules, EndsIn, Runs, reason_of};
+ghost use Rattle.hush_commands.specs.Hardware.{hardware};
+ghost use Rattle.hush_run.specs.Runs.{rules, rules_in, EndsIn, Runs, reason_of};
 ghost use Rattle.hush_run.specs.Steps.{state_of, rules_of};
 
 use crate::due::{Due, advance};
@@ -13,7 +14,7 @@ use crate::frames::{Calls, Frames};
 use crate::progress::{Given, Progress};
 use crate::started_name::{StartedName, running_name};
 use env_session::Session;
-use hush_commands::Stubs;
+use hush_commands::{BoardRules, Shell, Stubs};
 use hush_syntax::Script;
 use run_limits::Limits;
 use std::alloc::Global;
@@ -62,9 +63,38 @@ pub fn run_with_place(
     ensures place { EndsIn (rules stand_ins.now limits.now) (tree_of script.now) session.old result.0
         result.1 }
 {
+    let board = BoardRules::none(alloc);
+    run_in(
+        Shell::Strict,
+        alloc,
+        session,
+        script,
+        stand_ins,
+        &board,
+        limits,
+    )
+}
+
+/// The same by the rules of a shell, and with what a board answers.
+pub fn run_in(
+    shell: Shell,
+    alloc: Global,
+    session: &mut Session,
+    script: &Script,
+    stand_ins: &Stubs,
+    board: &BoardRules,
+    limits: &Limits,
+) -> (Outcome, Option<StartedName>)
+    ensures runs { Runs (rules_in shell (hardware board.now stand_ins.now) limits.now) (tree_of script.now) session.old session.new
+        result.0 }
+    ensures place { EndsIn (rules_in shell (hardware board.now stand_ins.now) limits.now) (tree_of script.now) session.old result.0
+        result.1 }
+{
     let given = Given {
         alloc,
+        shell,
         stand_ins,
+        board,
         limits: *limits,
     };
     // Does nothing: it tells the prover that the depth is at most MOST_DEPTH.

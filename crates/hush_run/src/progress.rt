@@ -7,16 +7,18 @@ ghost use Rattle.hush_run.specs.Meaning.{Rules, Goes, step, fails, fields_of, fi
 
 use crate::ending::Ending;
 use env_session::Session;
-use hush_commands::{FieldBuffer, Locals, Message, Output, Scope, Stubs};
+use hush_commands::{BoardRules, FieldBuffer, Locals, Message, Output, Scope, Shell, Stubs};
 use hush_syntax::{Text, Word};
 use run_limits::Limits;
 use std::alloc::Global;
 
-/// What a run is given: what stands in for hardware, and its limits.
+/// What a run is given: whose rules it follows, what stands in for hardware, and its limits.
 #[derive(Clone, Copy)]
 pub(crate) struct Given<'a> {
     pub(crate) alloc: Global,
+    pub(crate) shell: Shell,
     pub(crate) stand_ins: &'a Stubs,
+    pub(crate) board: &'a BoardRules,
     pub(crate) limits: Limits,
 }
 

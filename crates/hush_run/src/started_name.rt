@@ -1,6 +1,6 @@
 //! The variable whose text runs.
 ghost use Rattle.std.specs.Prelude.{◌≡◌};
-ghost use Rattle.hush_run.specs.Resume.{place_of};
+ghost use Rattle.hush_run.specs.Resume.{place_of, variable_above};
 
 use crate::frames::{Frame, Frames};
 use hush_commands::FieldQueue;
@@ -37,9 +37,25 @@ pub(crate) fn running_name(frames: &mut Frames) -> Option<StartedName>
     ensures { result ≡ place_of frames.old.frames }
 {
     while let Some(frame) = frames.pop() {
-        if let Frame::Started { names } = frame {
-            return Some(StartedName { names });
+        if let Some(name) = name_above(frame) {
+            return Some(name);
         }
     }
     None
+}
+
+/// The variable whose text a frame comes after, if any.
+fn name_above(frame: Frame) -> Option<StartedName>
+    ensures { result ≡ variable_above frame }
+{
+    match frame {
+        Frame::Started { names } => {
+            if names.is_empty() {
+                None
+            } else {
+                Some(StartedName { names })
+            }
+        }
+        _ => None,
+    }
 }

@@ -1,16 +1,19 @@
 //! The steps of a run (docs/runs.md, "Steps"). Each counts one, or stops with nothing changed.
-ghost use Rattle.std.specs.Prelude.{◌≡◌, ◌++◌, ℕ, List, ◌∷◌, map, if◌then◌else◌, OnOk};
+ghost use Rattle.std.specs.Prelude.{◌≡◌, ◌++◌, ℕ, List, [], ◌∷◌, get_or, map, if◌then◌else◌, OnOk};
+ghost use Rattle.env_session.specs.Session.{Held};
 ghost use Rattle.hush_words.specs.Parts.{part_atoms, word_atoms};
 ghost use Rattle.hush_words.specs.Ranges.{Fits};
 ghost use Rattle.hush_syntax.specs.Trees.{name_in};
-ghost use Rattle.hush_run.specs.Meaning.{Goes, ◌then◌, simple, follows, fields_of, step, assigned, for, bindings, deletions};
-ghost use Rattle.hush_run.specs.Steps.{state_of, rules_of, Meant, Did, Started, plain_bytes};
+ghost use Rattle.hush_syntax.specs.Scripts.{tree_of};
+ghost use Rattle.hush_run.specs.Meaning.{State, Goes, ◌then◌, simple, follows, leave_of, have_value, fields_of, list_of, step, assigned, refuses, for, bindings, bound_status, started_status, deletions, bodies_of};
+ghost use Rattle.hush_run.specs.Steps.{state_of, rules_of, Meant, Did, Started, Answered, plain_bytes};
 
 use crate::ending::Ending;
 use crate::progress::{Given, Progress};
+use crate::values::have_value;
 use env_session::Session;
-use hush_commands::{FieldQueue, Follow, Message, carry_out, delete};
-use hush_syntax::{FaultKind, Part, Parts, Script, Text, Word};
+use hush_commands::{Bytes, FieldQueue, Follow, Message, Shell, carry_out, delete, kept_status};
+use hush_syntax::{Bodies, FaultKind, Part, Parts, Script, Text, Word};
 use std::alloc::AllocError;
 
 /// A simple command of these words: what comes after it.
@@ -23,7 +26,7 @@ pub(crate) fn simple_step(
     words: &[Word],
 ) -> Result<Follow, Ending>
     ensures { Did (rules_of given.now)
-        (λ rules begin s. simple rules begin (fields_of rules (map (word_atoms text.now) words.now) s) s)
+        (λ rules begin s. simple rules begin (have_value (map (word_atoms text.now) words.now)) (fields_of rules (map (word_atoms text.now) words.now) s) s)
         (λ follow rules begin. follows rules begin follow) (state_of session.old progress.old)
         (state_of session.new progress.new) result }
 {
@@ -31,7 +34,9 @@ pub(crate) fn simple_step(
     let carried = carry_out(
         given.alloc,
         session,
+        given.shell,
         given.stand_ins,
+        given.board,
         &progress.fields,
         progress.status,
         &mut progress.output,
@@ -40,7 +45,19 @@ pub(crate) fn simple_step(
     progress.steps += 1;
     match carried.1 {
         Follow::End => Err(Ending::Exited),
+        Follow::Leaves => Ok(leave_of(have_value(text, words))),
         follow => Ok(follow),
+    }
+}
+
+/// What follows an `exit` of a board: none that has a value among its words leaves its text.
+fn leave_of(has_value: bool) -> Follow
+    ensures { result ≡ leave_of has_value }
+{
+    if has_value {
+        Follow::Next
+    } else {
+        Follow::Leaves
     }
 }
 
@@ -59,7 +76,7 @@ pub(crate) fn assign_step(
 {
     progress.expand_value(given, session, text, value)?;
     read_name(text, name, &mut progress.name)?;
-    if session.vars().get(&progress.name).is_some() {
+    if refuses(given, session, &progress.name) {
         return progress.refuse_name();
     }
     let Some(value) = progress.fields.fields().next() else {
@@ -80,12 +97,13 @@ pub(crate) fn head_step(
     words: &[Word],
 ) -> Result<FieldQueue, Ending>
     ensures { (name : List ℕ) (body : Meant) → Did (rules_of given.now)
-        (λ rules begin s. for rules name (fields_of rules (map (word_atoms text.now) words.now) s) (body rules begin) s)
+        (λ rules begin s. for rules name (list_of rules (map (word_atoms text.now) words.now) s) (body rules begin) s)
         (λ fields rules begin. bindings rules name (body rules begin) fields) (state_of session.now progress.old)
         (state_of session.now progress.new) result }
 {
     progress.expand(given, session, text, words)?;
-    let fields = progress.fields.take(given.alloc);
+    let made = progress.fields.take(given.alloc);
+    let fields = made.list_by(given.alloc, given.shell)?;
     progress.steps += 1;
     if fields.is_empty() {
         progress.status = 0;
@@ -111,11 +129,12 @@ pub(crate) fn bind_step(
 {
     progress.may_step(given)?;
     read_name(text, name, &mut progress.name)?;
-    if session.vars().get(&progress.name).is_some() {
+    if refuses(given, session, &progress.name) {
         progress.refuse_name()?;
         return Ok(false);
     }
     progress.locals.set(given.alloc, &progress.name, field)?;
+    progress.status = bound_status(given.shell, progress.status);
     progress.steps += 1;
     Ok(true)
 }
@@ -159,9 +178,13 @@ pub(crate) fn start_step(
     if levels == 0 {
         return Err(Ending::Depth);
     }
-    match Script::parse(given.alloc, Vec::from_slice(given.alloc, value)?) {
+    match Script::parse_in(
+        given.alloc,
+        Vec::from_slice(given.alloc, value)?,
+        bodies_of(given.shell),
+    ) {
         Ok(script) => {
-            progress.status = 0;
+            progress.status = started_status(given.shell, &script, progress.status);
             progress.steps += 1;
             Ok(Some(script))
         }
@@ -172,6 +195,89 @@ pub(crate) fn start_step(
                 Ok(None)
             }
         },
+    }
+}
+
+/// Which bodies a script may have that a shell runs (docs/scripts.md, "Grammar").
+pub fn bodies_of(shell: Shell) -> Bodies
+    ensures { result ≡ bodies_of shell }
+{
+    match shell {
+        Shell::Strict => Bodies::Full,
+        Shell::Board => Bodies::MayBeEmpty,
+    }
+}
+
+/// The start of the text that answers a call of these words, when this many levels may still be opened: the script that
+/// is to be run, or `None` if it is no script.
+pub(crate) fn answer_step(
+    given: &Given<'_>,
+    progress: &mut Progress,
+    words: &FieldQueue,
+    text: Bytes,
+    levels: u32,
+) -> Result<Option<Script>, Ending>
+    ensures { (held : Held) → Answered (rules_of given.now) levels words.now text (state_of held progress.old) (state_of held progress.new) result }
+{
+    progress.may_step(given)?;
+    if levels == 0 {
+        return Err(Ending::Depth);
+    }
+    match Script::parse_in(given.alloc, text.into_vec(), bodies_of(given.shell)) {
+        Ok(script) => {
+            let locals = progress.locals.with_words(given.alloc, words.fields())?;
+            progress.locals = locals;
+            progress.status = started_status(given.shell, &script, progress.status);
+            progress.steps += 1;
+            Ok(Some(script))
+        }
+        Err(fault) => match fault.kind {
+            FaultKind::Memory => Err(Ending::Memory),
+            _ => {
+                progress.fail(Message::NoScript, called_in(words))?;
+                Ok(None)
+            }
+        },
+    }
+}
+
+/// The first of the words of a call.
+fn called_in(words: &FieldQueue) -> &[u8]
+    ensures { result.now ≡ get_or words.now 0 [] }
+{
+    match words.fields().next() {
+        Some(called) => called,
+        None => &[],
+    }
+}
+
+/// Whether an assignment to a name is refused.
+fn refuses(given: &Given<'_>, session: &Session, name: &[u8]) -> bool
+    ensures { (s : State) → s.held ≡ session.now → result ≡ refuses given.now.shell s name.now }
+{
+    match given.shell {
+        Shell::Strict => session.vars().get(name).is_some(),
+        Shell::Board => false,
+    }
+}
+
+/// The status after a binding of a `for`.
+fn bound_status(shell: Shell, status: u8) -> u8
+    ensures { result ≡ bound_status shell status }
+{
+    match shell {
+        Shell::Strict => status,
+        Shell::Board => 0,
+    }
+}
+
+/// The status at the start of a text.
+fn started_status(shell: Shell, script: &Script, status: u8) -> u8
+    ensures { result ≡ started_status shell (tree_of script.now) status }
+{
+    match script.root() {
+        Some(_root) => kept_status(shell, status),
+        None => 0,
     }
 }
 

@@ -10,6 +10,7 @@ use Rattle.hush_words.specs.declared.forms.Assignment.{Assignment}
 use Rattle.hush_words.specs.declared.parts.Word as part
 use Rattle.hush_words.specs.Tokens.{Token}
 use Rattle.hush_words.specs.Tokens.Token.{Word}
+use Rattle.hush_syntax.specs.declared.nodes.Bodies.{Bodies}
 use Rattle.hush_syntax.specs.declared.syntax_fault.SyntaxFault.{SyntaxFault}
 use Rattle.hush_syntax.specs.declared.keywords.Keyword.{Keyword}
 use Rattle.hush_syntax.specs.declared.stored.Block.{Block}
@@ -75,18 +76,18 @@ assign-built text ts old mid new a sides id e are grows waits p =
     p
 
 -- a command
-module _ (text : Written) (room : ℕ) (old new : Builder) (ts left : List Token) (r : Result NodeId SyntaxFault) where
-  pub by_plain : keyword_at ts ≡ None → Builds CommandAt text old new (plain ts) left r → Builds CommandAt text old new (command room ts) left r
-  by_plain e answers = subst (λ x. Builds CommandAt text old new x left r) (sym (command-plain room ts e)) answers
+module _ (text : Written) (bodies : Bodies) (room : ℕ) (old new : Builder) (ts left : List Token) (r : Result NodeId SyntaxFault) where
+  pub by_plain : keyword_at ts ≡ None → Builds CommandAt text old new (plain ts) left r → Builds CommandAt text old new (command bodies room ts) left r
+  by_plain e answers = subst (λ x. Builds CommandAt text old new x left r) (sym (command-plain bodies room ts e)) answers
 
-  pub by_form : (k : Keyword) (after : List Token) → (room ≡ 0 → ⊥) → keyword_at ts ≡ Some k → after ≡ behind ts → Builds CommandAt text old new (compound (command (room - 1)) k after) left r → Builds CommandAt text old new (command room ts) left r
+  pub by_form : (k : Keyword) (after : List Token) → (room ≡ 0 → ⊥) → keyword_at ts ≡ Some k → after ≡ behind ts → Builds CommandAt text old new (compound bodies (command bodies (room - 1)) k after) left r → Builds CommandAt text old new (command bodies room ts) left r
   by_form k after some e step answers =
       let whole : suc (room - 1) ≡ room = omega (arith, some) in
-      let found : command (suc (room - 1)) ts ≡ compound (command (room - 1)) k after = command-compound (room - 1) k ts e ∙ ap (compound (command (room - 1)) k) (sym step) in
-      subst (λ n. Builds CommandAt text old new (command n ts) left r) whole (subst (λ x. Builds CommandAt text old new x left r) (sym found) answers)
+      let found : command bodies (suc (room - 1)) ts ≡ compound bodies (command bodies (room - 1)) k after = command-compound bodies (room - 1) k ts e ∙ ap (compound bodies (command bodies (room - 1)) k) (sym step) in
+      subst (λ n. Builds CommandAt text old new (command bodies n ts) left r) whole (subst (λ x. Builds CommandAt text old new x left r) (sym found) answers)
 
-pub no_room : (room : ℕ) (k : Keyword) (ts : List Token) → room ≡ 0 → keyword_at ts ≡ Some k → command room ts ≡ None
-no_room room k ts none e = ap (λ n. command n ts) none ∙ command-none k ts e
+pub no_room : (bodies : Bodies) (room : ℕ) (k : Keyword) (ts : List Token) → room ≡ 0 → keyword_at ts ≡ Some k → command bodies room ts ≡ None
+no_room bodies room k ts none e = ap (λ n. command bodies n ts) none ∙ command-none bodies k ts e
 
 -- the sides of an assignment, by the name and not by whether it is one
 sides-told : (text : Written) (o : Option Assignment) (f : Option (List ℕ × List Atom)) → option_map (assignment_view text) o ≡ option_map (λ f. (Some f.0, f.1)) f → option_map (assigned_of text) o ≡ f

@@ -4,9 +4,10 @@ use Rattle.hush_words.specs.Words.{Atom, is_blank, ends_word, begins_name, is_in
 use Rattle.hush_words.specs.Words.Atom.{Plain}
 use Rattle.hush_words.specs.Reading.{dollar_at, inner_escape, inner_at, double_at, piece_at, passed_at, lexeme_at, tokens_of}
 use Rattle.hush_words.specs.Forms.{is_plain, name_of, assignment_of}
+use Rattle.hush_syntax.specs.declared.nodes.Bodies.TheVariants.{MayBeEmpty}
 use Rattle.hush_syntax.specs.Keywords.{keyword_of}
-use Rattle.hush_syntax.specs.Grammar.{Command, Simple, While, First, End, Chains, Last}
-use Rattle.hush_syntax.specs.Reading.{command, read}
+use Rattle.hush_syntax.specs.Grammar.{Command, Simple, If, Else, Fi, For, While, First, End, Chains, Last, nothing}
+use Rattle.hush_syntax.specs.Reading.{command, read_in, read}
 
 abbrev word : List ℕ → List Atom
 word text = map Plain text
@@ -48,3 +49,33 @@ bracket_row = refl
 carriage_row : read (codes "if a; then b; fi" ++ 13 ∷ 10 ∷ []) ≡ None
 unfolding read tokens_of lexeme_at passed_at piece_at is_bare ends_word is_special is_blank command keyword_of is_plain name_of assignment_of begins_name is_in_name
 carriage_row = refl
+
+-- the same where bodies may be empty
+empty_comment_row : read_in MayBeEmpty (codes "if a; then # b" ++ 10 ∷ codes "fi") ≡ Some (Some (alone (If (alone (Simple (word (codes "a") ∷ []))) nothing Fi)))
+unfolding read_in tokens_of lexeme_at passed_at piece_at is_bare ends_word is_special is_blank command keyword_of is_plain name_of assignment_of begins_name is_in_name
+empty_comment_row = refl
+
+-- nothing after `then`, or after `else`
+empty_then_row : read_in MayBeEmpty (codes "if a; then; else b; fi") ≡ Some (Some (alone (If (alone (Simple (word (codes "a") ∷ []))) nothing (Else (alone (Simple (word (codes "b") ∷ [])))))))
+unfolding read_in tokens_of lexeme_at passed_at piece_at is_bare ends_word is_special is_blank command keyword_of is_plain name_of assignment_of begins_name is_in_name
+empty_then_row = refl
+
+-- `else` and `fi` side by side
+empty_else_row : read_in MayBeEmpty (codes "if a; then b; else fi") ≡ Some (Some (alone (If (alone (Simple (word (codes "a") ∷ []))) (alone (Simple (word (codes "b") ∷ []))) (Else nothing))))
+unfolding read_in tokens_of lexeme_at passed_at piece_at is_bare ends_word is_special is_blank command keyword_of is_plain name_of assignment_of begins_name is_in_name
+empty_else_row = refl
+
+-- separators in a loop
+empty_while_row : read_in MayBeEmpty (codes "while a; do ; ; done") ≡ Some (Some (alone (While (alone (Simple (word (codes "a") ∷ []))) nothing)))
+unfolding read_in tokens_of lexeme_at passed_at piece_at is_bare ends_word is_special is_blank command keyword_of is_plain name_of assignment_of begins_name is_in_name
+empty_while_row = refl
+
+-- nothing in a loop
+empty_for_row : read_in MayBeEmpty (codes "for i in a; do done") ≡ Some (Some (alone (For (codes "i") (word (codes "a") ∷ []) nothing)))
+unfolding read_in tokens_of lexeme_at passed_at piece_at is_bare ends_word is_special is_blank command keyword_of is_plain name_of assignment_of begins_name is_in_name
+empty_for_row = refl
+
+-- a condition has a chain
+empty_condition_row : read_in MayBeEmpty (codes "if ; then a; fi") ≡ None
+unfolding read_in tokens_of lexeme_at passed_at piece_at is_bare ends_word is_special is_blank command keyword_of is_plain name_of assignment_of begins_name is_in_name
+empty_condition_row = refl

@@ -1,8 +1,10 @@
 -- What follows from the definitions of the grammar.
 use Rattle.std.specs.Prelude.{◌≡◌, ℕ, ◌≤◌, List, Option, Some, ◌↔◌}
 use Rattle.hush_words.specs.Tokens.{Token}
-use Rattle.hush_syntax.specs.Grammar.{Chains, SpellsScript, script_depth, nest_limit, SpellsText}
-use Rattle.hush_syntax.specs.Reading.{script_of, read}
+use Rattle.hush_syntax.specs.declared.nodes.Bodies.{Bodies}
+use Rattle.hush_syntax.specs.declared.nodes.Bodies.TheVariants.{Full}
+use Rattle.hush_syntax.specs.Grammar.{Chains, SpellsScript, script_depth, nest_limit, SpellsIn, SpellsText}
+use Rattle.hush_syntax.specs.Reading.{script_in, script_of, read_in, read}
 
 -- a text spells at most one tree
 abbrev pub OneTree : Type 0
@@ -12,8 +14,20 @@ OneTree = (text : List ℕ) (script other : Option Chains) → SpellsText script
 abbrev pub TreesAreRead : Type 0
 TreesAreRead =
     (tokens : List Token) (script : Option Chains) →
-    (script_of tokens ≡ Some script) ↔ (SpellsScript script tokens × (script_depth script ≤ nest_limit))
+    (script_of tokens ≡ Some script) ↔ (SpellsScript Full script tokens × (script_depth script ≤ nest_limit))
 
 -- the script that is read from a text is exactly the one that it spells
 abbrev pub ScriptsAreRead : Type 0
 ScriptsAreRead = (text : List ℕ) (script : Option Chains) → (read text ≡ Some script) ↔ SpellsText script text
+
+-- the same for either kind of bodies
+abbrev pub OneTreeIn : Bodies → Type 0
+OneTreeIn bodies = (text : List ℕ) (script other : Option Chains) → SpellsIn bodies script text → SpellsIn bodies other text → script ≡ other
+
+abbrev pub TreesAreReadIn : Bodies → Type 0
+TreesAreReadIn bodies =
+    (tokens : List Token) (script : Option Chains) →
+    (script_in bodies tokens ≡ Some script) ↔ (SpellsScript bodies script tokens × (script_depth script ≤ nest_limit))
+
+abbrev pub ScriptsAreReadIn : Bodies → Type 0
+ScriptsAreReadIn bodies = (text : List ℕ) (script : Option Chains) → (read_in bodies text ≡ Some script) ↔ SpellsIn bodies script text

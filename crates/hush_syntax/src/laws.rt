@@ -1,19 +1,34 @@
 //! What holds of the grammar for every text. The functions do nothing; their contracts are the laws.
 
-ghost use Rattle.hush_syntax.specs.Laws.{OneTree, ScriptsAreRead, TreesAreRead};
+ghost use Rattle.hush_syntax.specs.Laws.{OneTree, OneTreeIn, ScriptsAreRead, ScriptsAreReadIn, TreesAreRead, TreesAreReadIn};
 
+use crate::Bodies;
 use hush_words::laws::{assignment_is_told, name_is_told, plain_is_told, tokens_are_read};
 
 /// A text spells at most one tree.
 pub fn one_tree()
     ensures { OneTree }
 {
-    scripts_are_read();
+    one_tree_in(Bodies::Full);
+}
+
+/// A text spells at most one tree, with either kind of bodies.
+pub fn one_tree_in(bodies: Bodies)
+    ensures { OneTreeIn bodies }
+{
+    scripts_are_read_in(bodies);
 }
 
 /// The script that is read from a list of tokens is exactly the one that they spell.
 pub fn trees_are_read()
     ensures { TreesAreRead }
+{
+    trees_are_read_in(Bodies::Full);
+}
+
+/// The same with either kind of bodies.
+pub fn trees_are_read_in(bodies: Bodies)
+    ensures { TreesAreReadIn bodies }
 {
     plain_is_told();
     name_is_told();
@@ -24,6 +39,13 @@ pub fn trees_are_read()
 pub fn scripts_are_read()
     ensures { ScriptsAreRead }
 {
+    scripts_are_read_in(Bodies::Full);
+}
+
+/// The same with either kind of bodies.
+pub fn scripts_are_read_in(bodies: Bodies)
+    ensures { ScriptsAreReadIn bodies }
+{
     tokens_are_read();
-    trees_are_read();
+    trees_are_read_in(bodies);
 }

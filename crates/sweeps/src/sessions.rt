@@ -4,7 +4,7 @@ use crate::harness::{self, Call, Outcome, outcome_of, outcome_of_tool};
 use crate::lists;
 use crate::pages::{Page, sum_of_copies};
 use crate::variables::{FLAGS, VALUE};
-use env_session::{ImportEnding, Session, StartFault, Stored};
+use env_session::{ImportEnding, Session, Side, StartFault, Stored};
 use envcfg_core::{TextEntry, parse_import};
 use envimg_core::{Geometry, Layout, crc32};
 use envvars_core::{Refusal, Vars};
@@ -34,6 +34,8 @@ enum Tool {
 enum Act {
     Write(&'static [u8], Option<&'static [u8]>),
     Save,
+    /// A save after a save, which takes no memory over a single image.
+    SaveAgain,
     /// A mark, which takes no memory.
     Mark,
     /// An undo of everything.
@@ -48,10 +50,11 @@ const IMPORTED: &[u8] = b"a=1\nn=5\n|.flags=n:d\na=1\nn=5\n|.flags=n:d\na=1\nb=1
 
 const RESTORED: &[u8] = b"a=1\nn=5\n|n=5\n||n=x\n|b=1\nn=x\n|.flags=n:d\nb=1\nn=x\n";
 
-const ROWS: [(&str, Act); 21] = [
+const ROWS: [(&str, Act); 22] = [
     ("Session::write", Act::Write(b"b", VALUE)),
     ("Session::write of no value", Act::Write(b"a", None)),
     ("Session::save", Act::Save),
+    ("Session::save after it", Act::SaveAgain),
     ("first mark", Act::Mark),
     ("Session::write of .flags", Act::Write(b".flags", FLAGS)),
     ("second save", Act::Save),
@@ -128,6 +131,10 @@ impl Call for Course {
                 Err(refusal) => outcome_of(false, refusal == Refusal::Memory),
             },
             Act::Save => outcome_of(self.session.save().is_ok(), true),
+            Act::SaveAgain => {
+                let has_second = self.session.copy(Side::Second).is_some();
+                outcome_of(self.session.save().is_ok(), has_second)
+            }
             Act::Mark => outcome_of(self.session.mark().is_ok(), false),
             Act::Undo => self.undo(),
             Act::Tool(tool, texts) => self.in_part(alloc, tool, texts),

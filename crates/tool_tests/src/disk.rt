@@ -44,6 +44,7 @@ pub(crate) fn disk_with(
         calls: 0,
         fails,
         kind: io::ErrorKind::PermissionDenied,
+        is_held: false,
         events: Vec::new(alloc),
     }))
 }
@@ -102,8 +103,10 @@ pub(crate) struct Contents {
     pub(crate) fails: usize,
     /// Of which kind its error is.
     pub(crate) kind: io::ErrorKind,
-    /// What happened to locks and bytes, a letter each: `s` and `a` for a lock that is shared or held alone, `u` where it is
-    /// let go, `r` for a read and `w` for a write.
+    /// Whether another program has a lock on the next file for a second.
+    pub(crate) is_held: bool,
+    /// What happened to locks and bytes, a letter each: `s` and `a` for a lock that is shared or held alone, and after it the
+    /// first letter of the path, `u` where it is let go, `r` for a read and `w` for a write.
     pub(crate) events: Vec<u8>,
 }
 

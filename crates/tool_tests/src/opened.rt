@@ -1,7 +1,7 @@
 //! The calls of files that the program makes, over files in memory. Those that it never makes are refused.
 
 use crate::disk::Contents;
-use fw_tools::{Hold, System};
+use fw_tools::{Attempt, Hold, System};
 use std::alloc::{Allocator, Global};
 use std::cell::RefCell;
 use std::fs::{Metadata, OpenFile, OpenOptions};
@@ -146,18 +146,35 @@ impl Alloc for Disk<'_> {
 }
 
 impl System for Disk<'_> {
-    fn lock(&self, file: &Opened<'_>, hold: Hold) -> bool {
+    fn try_lock(&self, file: &Opened<'_>, hold: Hold) -> Attempt {
         let Ok(mut contents) = self.contents.try_borrow_mut() else {
-            return false;
+            return Attempt::Failed;
         };
+        if contents.is_held {
+            contents.is_held = false;
+            return Attempt::Held;
+        }
         let Ok(mut locked) = file.locked.try_borrow_mut() else {
-            return false;
+            return Attempt::Failed;
         };
         *locked = true;
-        contents.happened(match hold {
+        let letter = match contents.files.get(file.index) {
+            Some((path, _bytes)) => *path.as_bytes().first().unwrap_or(&b' '),
+            None => b' ',
+        };
+        let event = match hold {
             Hold::Shared => b's',
             Hold::Alone => b'a',
-        })
+        };
+        if contents.happened(event) && contents.happened(letter) {
+            Attempt::Locked
+        } else {
+            Attempt::Failed
+        }
+    }
+
+    fn lock(&self, file: &Opened<'_>, hold: Hold) -> bool {
+        self.try_lock(file, hold) == Attempt::Locked
     }
 }
 

@@ -24,11 +24,11 @@ const KINDS: [(ErrorKind, &str); 8] = [
 /// again; and what can't be done where one of them fails.
 const CALLS: [(usize, usize, &str); 6] = [
     (0, 3, "read config"),
-    (4, 8, "read first"),
-    (8, 12, "read second"),
-    (12, 15, "read text"),
-    (15, 19, "write first"),
-    (19, 28, "write second"),
+    (8, 12, "read first"),
+    (12, 16, "read second"),
+    (16, 19, "read text"),
+    (19, 23, "write first"),
+    (23, 32, "write second"),
 ];
 
 #[test]

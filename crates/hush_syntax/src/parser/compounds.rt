@@ -30,7 +30,7 @@ impl<'s> Parser<'s> {
     ) -> Result<NodeId, SyntaxFault>
         requires at { IsAt self.text.now tokens.old }
         requires fault { HasFaultOf self.text.now fault }
-        ensures built { Parses CommandAt self.entry.text.now (compound (command room) keyword) builder.old builder.new tokens.old tokens.new result }
+        ensures built { Parses CommandAt self.entry.text.now (compound self.entry.bodies (command self.entry.bodies room) keyword) builder.old builder.new tokens.old tokens.new result }
         ensures whole { OnOk result (SameEnd self.entry.text.now tokens.old tokens.new) }
         ensures at { Keeps self.entry.text.now tokens.new result }
     {
@@ -66,13 +66,13 @@ impl<'s> Parser<'s> {
     ) -> Result<(NodeId, NodeId), SyntaxFault>
         requires at { IsAt self.text.now tokens.old }
         ensures built { (form : Chains → Chains → Command) → Parses (LoopAt form) self.entry.text.now
-            (loop_parts (command room) form) builder.old builder.new tokens.old tokens.new result }
+            (loop_parts self.entry.bodies (command self.entry.bodies room) form) builder.old builder.new tokens.old tokens.new result }
         ensures whole { OnOk result (SameEnd self.entry.text.now tokens.old tokens.new) }
         ensures at { Keeps self.entry.text.now tokens.new result }
     {
         let condition = self.list(tokens, builder, room)?;
         tokens.expect(self.text, Keyword::Do.text())?;
-        let body = self.list(tokens, builder, room)?;
+        let body = self.inner(tokens, builder, room)?;
         tokens.expect(self.text, Keyword::Done.text())?;
         Ok((condition, body))
     }
@@ -86,7 +86,7 @@ impl<'s> Parser<'s> {
         room: u32,
     ) -> Result<NodeId, SyntaxFault>
         requires at { IsAt self.text.now tokens.old }
-        ensures built { Parses CommandAt self.entry.text.now (compound (command room) Keyword.For) builder.old builder.new tokens.old tokens.new result }
+        ensures built { Parses CommandAt self.entry.text.now (compound self.entry.bodies (command self.entry.bodies room) Keyword.For) builder.old builder.new tokens.old tokens.new result }
         ensures whole { OnOk result (SameEnd self.entry.text.now tokens.old tokens.new) }
         ensures at { Keeps self.entry.text.now tokens.new result }
     {
@@ -95,7 +95,7 @@ impl<'s> Parser<'s> {
         let words = builder.take_named(name, self.text, tokens)?;
         tokens.separators(self.text)?;
         tokens.expect(self.text, Keyword::Do.text())?;
-        let body = self.list(tokens, builder, room)?;
+        let body = self.inner(tokens, builder, room)?;
         tokens.expect(self.text, Keyword::Done.text())?;
         let node = builder.put(Stored::For { words, body })?;
         Ok(node)
@@ -110,7 +110,7 @@ impl<'s> Parser<'s> {
         room: u32,
     ) -> Result<NodeId, SyntaxFault>
         requires at { IsAt self.text.now tokens.old }
-        ensures built { Parses CommandAt self.entry.text.now (compound (command room) Keyword.If) builder.old builder.new tokens.old tokens.new result }
+        ensures built { Parses CommandAt self.entry.text.now (compound self.entry.bodies (command self.entry.bodies room) Keyword.If) builder.old builder.new tokens.old tokens.new result }
         ensures whole { OnOk result (SameEnd self.entry.text.now tokens.old tokens.new) }
         ensures at { Keeps self.entry.text.now tokens.new result }
     {
@@ -137,13 +137,13 @@ impl<'s> Parser<'s> {
         room: u32,
     ) -> Result<Branch, SyntaxFault>
         requires at { IsAt self.text.now tokens.old }
-        ensures built { Parses BranchAt self.entry.text.now (branch (command room)) builder.old builder.new tokens.old tokens.new result }
+        ensures built { Parses BranchAt self.entry.text.now (branch self.entry.bodies (command self.entry.bodies room)) builder.old builder.new tokens.old tokens.new result }
         ensures whole { OnOk result (SameEnd self.entry.text.now tokens.old tokens.new) }
         ensures at { Keeps self.entry.text.now tokens.new result }
     {
         let condition = self.list(tokens, builder, room)?;
         tokens.expect(self.text, Keyword::Then.text())?;
-        let body = self.list(tokens, builder, room)?;
+        let body = self.inner(tokens, builder, room)?;
         Ok(Branch { condition, body })
     }
 
@@ -156,7 +156,7 @@ impl<'s> Parser<'s> {
         room: u32,
     ) -> Result<Option<NodeId>, SyntaxFault>
         requires at { IsAt self.text.now tokens.old }
-        ensures built { Parses OtherwiseAt self.entry.text.now (otherwise (command room)) builder.old builder.new tokens.old tokens.new result }
+        ensures built { Parses OtherwiseAt self.entry.text.now (otherwise self.entry.bodies (command self.entry.bodies room)) builder.old builder.new tokens.old tokens.new result }
         ensures whole { OnOk result (SameEnd self.entry.text.now tokens.old tokens.new) }
         ensures at { Keeps self.entry.text.now tokens.new result }
     {
@@ -165,7 +165,7 @@ impl<'s> Parser<'s> {
             return Ok(None);
         }
         tokens.advance(self.text);
-        let body = self.list(tokens, builder, room)?;
+        let body = self.inner(tokens, builder, room)?;
         tokens.expect(self.text, Keyword::Fi.text())?;
         Ok(Some(body))
     }

@@ -9,10 +9,10 @@ use Rattle.fw_arguments.proofs.call.with_image.Goals as goal
 
 pub returns-in-Ok : goal.returns-in-Ok
 returns-in-Ok c =
-    with_image_is c.args.order c.args.name.now (rows_of (found_of c.args.found.now)) c.args.image _ _ _ _ _ (job_view c.in-Ok.job)
-    c.first_or.ensures c.defaults_of.ensures c.lock_of.ensures
+    with_image_is c.args.order c.args.name.now (rows_of (found_of c.args.found.now)) c.args.image _ _ _ _ _ _ (job_view c.in-Ok.job)
+    c.first_or.ensures c.defaults_of.ensures c.locks_of.ensures
     (c.either_order.ensures ∙ ap (either_order c.args.order) (c.chosen_order.ensures ∙ order_by_rows c.args.found.now)) c.is_client.ensures
-    c.in-Ok.ensures
+    c.is_given.ensures c.in-Ok.ensures
 
 pub returns-in-Err : goal.returns-in-Err
 returns-in-Err c =

@@ -1,14 +1,10 @@
-use Rattle.std.proofs.Common.{Ok, ap, ◌∙◌}
+use Rattle.std.proofs.Common.{ap, ◌∙◌}
 use Rattle.clap.specs.Words.{found_of, rows_of}
-use Rattle.fw_arguments.specs.DryRuns.{and_then, run_within}
-use Rattle.fw_arguments.specs.WordFaults.{fault_text}
-use Rattle.fw_arguments.proofs.DryRunLemmas.{dry_run_wrong}
+use Rattle.fw_arguments.specs.DryRuns.{and_then, dry_run_by}
 use Rattle.fw_arguments.proofs.dry_runs.read_dry_run.Goals as goal
 
 pub returns-in-Ok : goal.returns-in-Ok
-returns-in-Ok c =
-    ap (λ run. Ok run) c.dry_run_within.ensures
-    ∙ ap (λ l. and_then l (λ limits. Ok (run_within (rows_of (found_of c.args.found.now)) limits))) c.in-Ok.ensures
+returns-in-Ok c = c.dry_run_by.ensures ∙ ap (λ s. and_then s (dry_run_by (rows_of (found_of c.args.found.now)))) c.in-Ok.ensures
 
 pub returns-in-Err : goal.returns-in-Err
-returns-in-Err c = dry_run_wrong (rows_of (found_of c.args.found.now)) (fault_text c.in-Err.fault) c.in-Err.ensures
+returns-in-Err c = ap (λ s. and_then s (dry_run_by (rows_of (found_of c.args.found.now)))) c.in-Err.ensures

@@ -1,10 +1,10 @@
 use Rattle.std.proofs.Common.{ap, ◌∙◌}
 use Rattle.clap.specs.Words.{found_of, rows_of}
-use Rattle.fw_arguments.specs.DryRuns.{and_then, script_within}
+use Rattle.fw_arguments.specs.DryRuns.{and_then, script_run_by}
 use Rattle.fw_arguments.proofs.dry_runs.read_script_run.Goals as goal
 
 pub returns-in-Ok : goal.returns-in-Ok
-returns-in-Ok c = c.with_limits.ensures ∙ ap (λ l. and_then l (script_within (rows_of (found_of c.args.found.now)))) c.in-Ok.ensures
+returns-in-Ok c = c.script_run_by.ensures ∙ ap (λ s. and_then s (script_run_by (rows_of (found_of c.args.found.now)))) c.in-Ok.ensures
 
 pub returns-in-Err : goal.returns-in-Err
-returns-in-Err c = ap (λ l. and_then l (script_within (rows_of (found_of c.args.found.now)))) c.in-Err.ensures
+returns-in-Err c = ap (λ s. and_then s (script_run_by (rows_of (found_of c.args.found.now)))) c.in-Err.ensures

@@ -7,10 +7,10 @@ use Rattle.fw_arguments.proofs.dry_runs.with_limits.Goals as goal
 
 pub returns-in-Ok : goal.returns-in-Ok
 returns-in-Ok c =
-    script_is (rows_of (found_of c.args.found.now)) _ c.args.limits _ (script_view c.in-Ok.script) c.in-Ok.ensures
+    script_is c.args.shell (rows_of (found_of c.args.found.now)) _ c.args.limits _ (script_view c.in-Ok.script) c.in-Ok.ensures
     c.dry_run_within.ensures c.values.ensures
 
 pub returns-in-Err : goal.returns-in-Err
 returns-in-Err c =
     let rows = rows_of (found_of c.args.found.now) in
-    ap (λ s. and_then s (λ script. Ok (record { dry = run_within rows c.args.limits; boots = all_values (codes "boots") rows; script = script }))) c.in-Err.ensures
+    ap (λ s. and_then s (λ script. Ok (record { dry = run_within c.args.shell rows c.args.limits; boots = all_values (codes "boots") rows; script = script }))) c.in-Err.ensures

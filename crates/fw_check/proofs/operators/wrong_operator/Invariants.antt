@@ -6,4 +6,4 @@ use Rattle.fw_check.specs.Operators.{ATerm}
 use Rattle.fw_check.proofs.operators.wrong_operator.Given as goal
 
 abbrev pub invariant-loop-word : goal.invariant-loop-word
-invariant-loop-word l = fold (after_field l.text) (expected_view l.expected) (drop l.word-index l.words) ≡ fold (after_field l.text) ATerm l.words
+invariant-loop-word l = fold (after_field l.shell l.text) (expected_view l.expected) (drop l.word-index l.words) ≡ fold (after_field l.shell l.text) ATerm l.words

@@ -1,17 +1,22 @@
-use Rattle.fw_check.specs.Looking.{known_in, stubs_in}
-use Rattle.hush_syntax.specs.Scripts.{source_of}
-use Rattle.std.proofs.Common.{◌∙◌}
+use Rattle.fw_check.specs.Looking.{known_in, rules_in}
+use Rattle.hush_syntax.specs.Grammar.{SpellsIn}
+use Rattle.hush_syntax.specs.Reading.{read_in}
+use Rattle.hush_syntax.specs.Scripts.{source_of, tree_of}
+use Rattle.std.proofs.Common.{◌≡◌, None, subst, ◌∙◌}
 use Rattle.fw_check.proofs.VisitLemmas.{read-script, read-fault}
 use Rattle.fw_check.proofs.script_check.check_reading.Goals as goal
+
+pub check_parsed-requires : goal.check_parsed-requires
+check_parsed-requires c = subst (λ b. SpellsIn b (tree_of c.in-Ok.script) (source_of c.in-Ok.script)) c.bodies_of.ensures c.in-Ok.ensures.spelled
 
 pub returns-in-Ok : goal.returns-in-Ok
 returns-in-Ok c =
     let l = c.args.lookups.now in
-    read-script (known_in l) (stubs_in l) c.check_parsed.result (source_of c.in-Ok.script) c.args.text.now c.args.found.now c.check_parsed.new.found
+    read-script (known_in l) (rules_in l) c.check_parsed.result (source_of c.in-Ok.script) c.args.text.now c.args.found.now c.check_parsed.new.found
     (c.in-Ok.ensures.kept ∙ c.in_ok-source.ensures.items) c.check_parsed.ensures
 
 pub returns-in-Err : goal.returns-in-Err
 returns-in-Err c =
     let l = c.args.lookups.now in
-    read-fault (known_in l) (stubs_in l) c.add_fault.result c.in_ok-source.source.items c.args.text.now c.in-Err.fault c.args.found.now c.add_fault.new.found
-    c.in_ok-source.ensures.items c.in-Err.ensures.unread c.in-Err.ensures.fits c.add_fault.ensures
+    read-fault (known_in l) (rules_in l) c.add_fault.result c.in_ok-source.source.items c.args.text.now c.in-Err.fault c.args.found.now c.add_fault.new.found
+    c.in_ok-source.ensures.items (λ z. subst (λ b. read_in b c.in_ok-source.source.items ≡ None) c.bodies_of.ensures (c.in-Err.ensures.unread z)) c.in-Err.ensures.fits c.add_fault.ensures

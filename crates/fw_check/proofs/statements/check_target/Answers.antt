@@ -18,7 +18,7 @@ returns c =
     let named = sym (ap (option_map (λ v. v.items)) c.in-Some.is) in
     let told = c.is_undefined.ensures ∙ ap (is_undefined known) c.deref.ensures.value in
     elim c.if-is_undefined.branch [
-      | then-is_undefined+in_ok-add w ↦ target-yes known count literal name named old new c.is_undefined.result told w.if-is_undefined.true
+      | then-is_undefined+in_ok-add w ↦ target-yes c.args.lookups.now.shell known count literal name named old new c.is_undefined.result told w.if-is_undefined.true
           (w.findings-is ∙ w.in_ok-add.ensures ∙ ap (λ n. found_more old (error_at count (undefined_sentence n) ∷ [])) w.deref-then-is_undefined.ensures.value)
-      | else-is_undefined w ↦ target-no known count literal name named old new c.is_undefined.result told w.if-is_undefined.false w.findings-is
+      | else-is_undefined w ↦ target-no c.args.lookups.now.shell known count literal name named old new c.is_undefined.result told w.if-is_undefined.false w.findings-is
     ]

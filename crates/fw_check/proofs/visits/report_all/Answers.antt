@@ -1,7 +1,7 @@
 use Rattle.std.proofs.Common.{◌+◌, ◌∷◌, ap, drop, map, subst, sym, ◌∙◌}
 use Rattle.std.proofs.lemmas.List.{drop_more}
 use Rattle.fw_check.specs.Checking.{Reports, value_in}
-use Rattle.fw_check.specs.Looking.{known_in, stubs_in}
+use Rattle.fw_check.specs.Looking.{known_in, rules_in}
 use Rattle.fw_check.specs.Reports.{GoesOn}
 use Rattle.fw_check.proofs.VisitLemmas.{report-first}
 use Rattle.fw_check.proofs.visits.report_all.Goals as goal
@@ -10,15 +10,15 @@ pub loop-name-preserved : goal.loop-name-preserved
 loop-name-preserved c =
     let env = c.args.vars.now.env in
     let known = known_in c.args.lookups.now in
-    let stubs = stubs_in c.args.lookups.now in
+    let given = rules_in c.args.lookups.now in
     let names = c.args.names.now in
     let i = c.loop-name.name-index in
     let x = c.name-item.result in
     let before = c.loop-name.so_far in
     let after = c.in_ok-so_far.so_far in
     let cut = drop_more names i x c.loop-name-test.true ∙ ap (λ v. v ∷ drop (i + 1) names) (sym c.name-item.is) in
-    let called = subst (λ n. GoesOn known stubs n c.value.result.now before after) c.deref.ensures.value c.in_ok-so_far.ensures in
-    let checked = subst (λ v. GoesOn known stubs x.items v before after) (c.value.ensures ∙ ap (value_in env) c.deref-in-loop-name.ensures.value) called in
+    let called = subst (λ n. GoesOn known given n c.value.result.now before after) c.deref.ensures.value c.in_ok-so_far.ensures in
+    let checked = subst (λ v. GoesOn known given x.items v before after) (c.value.ensures ∙ ap (value_in env) c.deref-in-loop-name.ensures.value) called in
     λ final rest. c.loop-name.invariant final
-    (subst (λ vs. Reports env known stubs (map (λ n. n.items) vs) before final) (sym cut)
-    (report-first known stubs env x.items (map (λ n. n.items) (drop (i + 1) names)) before after final checked rest))
+    (subst (λ vs. Reports env known given (map (λ n. n.items) vs) before final) (sym cut)
+    (report-first known given env x.items (map (λ n. n.items) (drop (i + 1) names)) before after final checked rest))

@@ -1,7 +1,7 @@
 use Rattle.std.proofs.Common.{◌≡◌, ◌+◌, [], map, drop, get_or, sym, ap, subst, ◌∙◌, refl, true, Some, None}
 use Rattle.env_session.specs.Requests.{refusal_in}
-use Rattle.fw_engines.specs.Changes.{Changes}
-use Rattle.fw_engines.specs.Restoration.{LacksMemoryToForce, forced_effect, refused_in_line, text_in_line, write_view}
+use Rattle.fw_engines.specs.Changes.{Changes, text_in_line}
+use Rattle.fw_engines.specs.Restoration.{LacksMemoryToForce, forced_effect, refused_in_line, write_view}
 use Rattle.fw_engines.specs.Tool.{PrintsText}
 use Rattle.fw_engines.specs.declared.restoration.ForcedWrite.{ForcedWrite}
 use Rattle.fw_engines.proofs.ChangeLemmas.{drop_none, ran_out, text_ends}

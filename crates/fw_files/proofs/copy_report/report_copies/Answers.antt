@@ -1,9 +1,10 @@
-use Rattle.std.proofs.Common.{◌≡◌, inr, subst, ◌∙◌}
-use Rattle.std.specs.Prelude.{Ok}
+use Rattle.std.proofs.Common.{◌≡◌, inl, inr, refl, ap, subst, ◌∙◌}
+use Rattle.std.specs.Prelude.{Ok, unwrap_or}
 use Rattle.envcfg_core.specs.Config.{config_of, config_view}
 use Rattle.fw_files.specs.Said.{Says}
 use Rattle.fw_files.proofs.CopyReportLemmas.{surveyed}
 use Rattle.fw_files.proofs.FileLemmas.{of_value}
+use Rattle.fw_files.proofs.SaidLemmas.{waited_from}
 use Rattle.fw_files.proofs.copy_report.report_copies.Goals as goal
 
 pub returns : goal.returns
@@ -11,6 +12,5 @@ returns g c =
     let text = c.as_slice-bytes.result.now in
     let reads = of_value (λ config. config_of text ≡ Ok (config_view config)) c.config_from.result c.in_ok-config.config c.in_ok-config.ensures.value c.config_from.ensures in
     let is = surveyed c.args.order c.args.path.now text c.in_ok-config.config c.in_ok-source.source c.survey_in-survey.result reads c.in_ok-source.ensures.0 c.survey_in-survey.ensures in
-    let same = c.in_ok-source.ensures.1 ∙ c.in_ok-config.ensures.said ∙ c.in_ok-text.ensures.said in
-    let said = subst (λ e. Says c.status-end.result.fault e (g.E.Write.contents c.report.new.errors)) same c.report.ensures.said in
-    inr (c.survey_in-survey.result, is, (c.status-end.result, c.status-end.ensures, said, c.report.ensures.status))
+    let waited = waited_from _ _ _ (c.in_ok-config.ensures.said ∙ c.in_ok-text.ensures.said) c.in_ok-source.ensures.1 in
+    inr (_, waited, (c.survey_in-survey.result, is, (c.status-end.result, c.status-end.ensures, c.report.ensures.said, c.report.ensures.status)))

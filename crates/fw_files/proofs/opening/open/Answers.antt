@@ -1,9 +1,6 @@
-use Rattle.fw_files.proofs.SaidLemmas.{front_said, line_said, said_then}
-use Rattle.fw_files.proofs.OpeningLemmas.{accepted_is}
+use Rattle.fw_arguments.specs.Calls.{defaults_view}
+use Rattle.fw_files.proofs.OpeningLemmas.{unplain_taken}
 use Rattle.fw_files.proofs.opening.open.Goals as goal
 
-pub returns-in-Ok : goal.returns-in-Ok
-returns-in-Ok g c = accepted_is c.accept.result c.args.source.now _ _ _ _ c.in-Ok.ensures c.accept.ensures
-
-pub returns-in-Err : goal.returns-in-Err
-returns-in-Err g c = said_then _ _ _ (front_said _ _ _ c.warn.ensures) (line_said _ _ _ c.say_fault.ensures)
+pub returns-else-asked : goal.returns-else-asked
+returns-else-asked g c = unplain_taken c.open_with.result c.args.source.now (defaults_view c.args.asked.now) c.args.spares _ _ c.if-asked.false c.open_with.ensures

@@ -1,5 +1,5 @@
 use Rattle.std.proofs.Common.{◌-◌}
-use Rattle.hush_run.specs.Runs.{rules}
+use Rattle.env_requests.specs.Views.{rules_of}
 use Rattle.fw_session.specs.NamedSessions.{unnamed}
 use Rattle.fw_session.specs.Talks.{Reading}
 use Rattle.fw_session.specs.Ends.{input_limit}
@@ -7,7 +7,7 @@ use Rattle.fw_session.proofs.talk.answer_all.Given as goal
 
 abbrev pub invariant-loop-read : goal.invariant-loop-read
 invariant-loop-read g l =
-    Reading (rules l.stand_ins l.limits) (unnamed l.fn.session) (g.R.Read.remaining l.initial.input) (g.R.Read.remaining l.input) (g.W.Write.contents l.initial.output) (g.W.Write.contents l.output) l.read l.talk
+    Reading (rules_of l.rules) (unnamed l.fn.session) (g.R.Read.remaining l.initial.input) (g.R.Read.remaining l.input) (g.W.Write.contents l.initial.output) (g.W.Write.contents l.output) l.read l.talk
 
 abbrev pub decreases-loop-read : goal.decreases-loop-read
 decreases-loop-read g l = input_limit - l.read

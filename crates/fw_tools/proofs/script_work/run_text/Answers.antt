@@ -1,4 +1,5 @@
-use Rattle.std.proofs.Common.{inr, subst}
+use Rattle.std.proofs.Common.{◌≡◌, Some, inr, subst}
+use Rattle.hush_syntax.specs.Reading.{read_in}
 use Rattle.hush_syntax.specs.Scripts.{tree_of}
 use Rattle.fw_engines.specs.Streams.{Writers}
 use Rattle.fw_arguments.specs.DryRuns.{script_run_view}
@@ -11,7 +12,7 @@ returns-in-Some g c =
     let new : Writers = record { output = g.W.Write.contents c.run_script.new.output; errors = g.E.Write.contents c.run_script.new.errors } in
     inr (
       tree,
-      c.in-Some.ensures.0,
+      subst (λ b. read_in b c.args.text.now ≡ Some tree) c.bodies_of-bodies.ensures c.in-Some.ensures.0,
       subst (λ e. RunsTree (script_run_view c.args.asked.now) c.args.stand_ins.now tree c.args.opened (record { output = g.W.Write.contents c.args.output.now; errors = e }) new c.run_script.result)
           c.in-Some.ensures.1 c.run_script.ensures,
     )

@@ -10,4 +10,4 @@ returns-in_err-stand_ins g c = inl (refl, ((refl, c.in_err-stand_ins.ensures.sai
 pub returns : goal.returns
 returns g c =
     tried_over (dry_run_view c.args.run.now) c.args.opened _ c.read_stand_ins.result c.in_ok-stand_ins.stand_ins _ _ _ c.in_ok-stand_ins.ensures.value c.read_stand_ins.ensures c.in_ok-stand_ins.ensures.said
-    (c.session-end.result.ending, c.session-end.result.read, c.session-end.result.written, _, c.session-end.ensures.ends.1, c.leave.ensures)
+    (c.answer-end.result.ending, c.answer-end.result.read, c.answer-end.result.written, _, c.answer-end.ensures.1, c.leave.ensures)

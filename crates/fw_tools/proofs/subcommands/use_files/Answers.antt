@@ -1,12 +1,22 @@
-use Rattle.std.proofs.Common.{refl}
-use Rattle.fw_arguments.specs.Calls.{call_view, defaults_view}
-use Rattle.fw_tools.proofs.SubcommandLemmas.{opened_session, opens_so, uses_after}
+use Rattle.std.proofs.Common.{ap, inl, refl, subst}
+use Rattle.std.specs.Prelude.{unwrap_or}
+use Rattle.fw_arguments.specs.Calls.{call_view, spares}
+use Rattle.fw_files.specs.Misread.{Spares}
+use Rattle.fw_files.specs.Source.{second_bytes}
+use Rattle.fw_files.proofs.SaidLemmas.{said_then, waited_said}
+use Rattle.fw_tools.proofs.SubcommandLemmas.{opened_session, opens_so}
 use Rattle.fw_tools.proofs.subcommands.use_files.Goals as goal
+
+pub returns-in_err-session : goal.returns-in_err-session
+returns-in_err-session g c =
+    inl (refl, ((refl, said_then _ _ _ (waited_said _ _ c.in_ok-source.ensures.1) c.in_err-session.ensures), ap (λ o. unwrap_or o 1) c.from_residual-in_err-session.ensures))
 
 pub returns : goal.returns
 returns g c =
     let call = call_view c.args.call.now in
-    let asked = defaults_view c.found_defaults-defaults.result in
-    let opening = opens_so call.image call.order c.in_ok-source.source asked c.in_ok-session.session c.in_ok-source.ensures.0 c.in_ok-session.ensures.0 in
-    uses_after call _ _ _ _ _ _ _ c.in_ok-source.ensures.1 refl
-    (opened_session call asked _ c.in_ok-session.session _ _ _ c.found_defaults-defaults.ensures opening c.in_ok-session.ensures.1 c.work.ensures)
+    let source = c.in_ok-source.source in
+    let session = c.in_ok-session.session in
+    let opened = c.in_ok-session.ensures in
+    let spared = subst (λ s. Spares session.now.current s source.geometry source.first.bytes.items (second_bytes source.second)) c.spares.ensures opened.2.spared in
+    let opening = opens_so call.image call.order (spares call) source opened.0 session c.in_ok-source.ensures.0 opened.2.opens spared in
+    opened_session call opened.0 _ _ session _ _ _ c.in_ok-source.ensures.1 opened.1 opening opened.2.accepted c.work.ensures

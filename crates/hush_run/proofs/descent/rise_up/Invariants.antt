@@ -5,7 +5,7 @@ use Rattle.hush_run.proofs.descent.rise_up.Given as goal
 
 abbrev pub invariant-loop-frame : goal.invariant-loop-frame
 invariant-loop-frame l = record {
-  leaves : IsLeft l.initial.calls l.initial.frames.frames l.initial.status l.calls l.frames.frames l.status due.Over;
+  leaves : IsLeft l.shell l.initial.calls l.initial.frames.frames l.initial.status l.calls l.frames.frames l.status due.Over;
   capacity : l.frames.capacity ≡ l.initial.frames.capacity;
 }
 

@@ -1,11 +1,11 @@
-use Rattle.std.proofs.Common.{rules as allowed, ◌≡◌, ◌+◌, List, ℕ, subst, sym, ap, ◌∙◌, Err, Ok, add-one, true, false}
+use Rattle.std.proofs.Common.{rules as allowed, ◌≡◌, ◌+◌, List, ℕ, subst, sym, ap, ◌∙◌, Err, Ok, add-one, true, false, refl}
 use Rattle.std.specs.FinMap as locals
 use Rattle.envimg_core.specs.Environment.{Environment}
 use Rattle.hush_words.specs.Parts.{word_atoms}
 use Rattle.hush_syntax.specs.Trees.{name_in}
 use Rattle.hush_commands.specs.declared.messages.Message.TheVariants.{IsVariable}
 use Rattle.hush_commands.specs.Expansion.{expanded_value}
-use Rattle.hush_run.specs.Meaning.{Rules, State, Goes, Does, step, assigned, fails, known_in, has_variable}
+use Rattle.hush_run.specs.Meaning.{Rules, State, Goes, Does, step, assigned, fails, known_in, refuses}
 use Rattle.hush_run.specs.Steps.{Did, FieldsAre, state_of, rules_of, value_of}
 use Rattle.hush_run.proofs.StepLemmas.{no_fields, step_halts, step_done, value_large, value_made, assign_refused, assign_done, as_step}
 use Rattle.hush_run.proofs.steps.assign_step.Goals as goal
@@ -28,8 +28,8 @@ returns-in_err-read_name c = let same = c.in_ok-expand_value.ensures.same c.args
 pub returns-in_err-set : goal.returns-in_err-set
 returns-in_err-set c = let same = c.in_ok-expand_value.ensures.same c.args.session.now in search (allowed, same)
 
-pub returns-then-is_some : goal.returns-then-is_some
-returns-then-is_some c =
+pub returns-then-refuses : goal.returns-then-refuses
+returns-then-refuses c =
     let r = rules_of c.args.given.now in
     let name = name_in c.args.text.now c.args.name in
     let word = word_atoms c.args.text.now c.args.value in
@@ -37,7 +37,7 @@ returns-then-is_some c =
     let back : t ≡ state_of c.args.session.now c.args.progress.now = c.in_ok-expand_value.ensures.same c.args.session.now in
     let are = subst (λ (u : State). FieldsAre r (value_of r word u) u c.expand_value.new.self.fields (Ok tt)) (sym back) c.in_ok-expand_value.ensures.fields in
     let made = value_made (expanded_value (known_in t) r.limits.word word) c.expand_value.new.self.fields are.1 in
-    let taken : has_variable t c.read_name.new.name.items ≡ true = search allowed in
+    let taken : refuses r.shell t c.read_name.new.name.items ≡ true = ap (refuses r.shell t) (sym c.deref.ensures.value) ∙ sym (c.if-refuses.ensures t refl) in
     subst (λ (u : State). Did r (λ (q : Rules) begin. step q (assigned q name word)) (λ (x : Unit {0}) q begin. Goes) u (state_of c.args.session.now c.refuse_name.new.self) c.refuse_name.result) back
     (as_step r (assigned r name word) (fails IsVariable c.read_name.new.name.items) t (state_of c.args.session.now c.refuse_name.new.self) c.refuse_name.result
     (ap (λ (n : List ℕ). assigned r n word t) (sym c.in_ok-read_name.ensures) ∙ assign_refused r c.read_name.new.name.items word t made.0 made.1 taken)
@@ -53,7 +53,7 @@ returns c =
     let are = subst (λ (u : State). FieldsAre r (value_of r word u) u c.expand_value.new.self.fields (Ok tt)) (sym back) c.in_ok-expand_value.ensures.fields in
     let made = value_made (expanded_value (known_in t) r.limits.word word) c.expand_value.new.self.fields are.1 in
     let value : c.in-Some.value.now ≡ made.0 = search (allowed, made.2) in
-    let free : has_variable t c.read_name.new.name.items ≡ false = search allowed in
+    let free : refuses r.shell t c.read_name.new.name.items ≡ false = ap (refuses r.shell t) (sym c.deref.ensures.value) ∙ sym (c.if-refuses.ensures t refl) in
     let put : c.set.new.self ≡ locals.insert t.locals c.read_name.new.name.items c.in-Some.value.now = search allowed in
     let does : assigned r name word t ≡ Does (record t { locals = c.set.new.self; status = 0 }) =
     ap (λ (n : List ℕ). assigned r n word t) (sym c.in_ok-read_name.ensures)

@@ -1,8 +1,9 @@
-use Rattle.std.proofs.Common.{rules as allowed, ◌≡◌, ◌+◌, map, subst, sym, Err, Ok, add-one, ◌∙◌}
+use Rattle.std.proofs.Common.{rules as allowed, ◌≡◌, ◌+◌, map, subst, sym, ap, Err, Ok, add-one, ◌∙◌}
 use Rattle.hush_words.specs.Parts.{word_atoms}
-use Rattle.hush_run.specs.Meaning.{Rules, State, for, bindings, fields_of}
+use Rattle.hush_commands.specs.Shells.{list_by}
+use Rattle.hush_run.specs.Meaning.{Rules, State, for, bindings, fields_of, list_of}
 use Rattle.hush_run.specs.Steps.{Did, FieldsAre, state_of, rules_of}
-use Rattle.hush_run.proofs.StepLemmas.{made_fields, no_fields, for_halts, for_large, head_empty, head_some}
+use Rattle.hush_run.proofs.StepLemmas.{made_fields, no_fields, for_halts, for_large, listed, unlisted, head_empty, head_some}
 use Rattle.hush_run.proofs.steps.head_step.Goals as goal
 
 pub returns-in_err-expand : goal.returns-in_err-expand
@@ -11,10 +12,13 @@ returns-in_err-expand c =
     let words = map (word_atoms c.args.text.now) c.args.words.now in
     let s = state_of c.args.session.now c.args.progress.now in
     let same : c.from_residual.result ≡ Err c.in_err-expand.field-0.0 = search allowed in
-    rw same (λ name body. subst (λ (t : State). Did r (λ (q : Rules) begin u. for q name (fields_of q words u) (body q begin) u) (λ fields q begin. bindings q name (body q begin) fields) s t (Err c.in_err-expand.field-0.0)) (sym (c.in_err-expand.ensures.same c.args.session.now))
-    (no_fields r (λ q begin u. for q name (fields_of q words u) (body q begin) u) (λ fields q begin. bindings q name (body q begin) fields) (fields_of r words s) s c.expand.new.self.fields c.in_err-expand.field-0.0 c.in_err-expand.ensures.fields
-    (λ begin le. for_halts r name (fields_of r words s) (body r begin) s le)
-    (λ begin lt e. for_large r name (fields_of r words s) (body r begin) s lt e)))
+    rw same (λ name body. subst (λ (t : State). Did r (λ (q : Rules) begin u. for q name (list_of q words u) (body q begin) u) (λ fields q begin. bindings q name (body q begin) fields) s t (Err c.in_err-expand.field-0.0)) (sym (c.in_err-expand.ensures.same c.args.session.now))
+    (no_fields r (λ q begin u. for q name (list_of q words u) (body q begin) u) (λ fields q begin. bindings q name (body q begin) fields) (fields_of r words s) s c.expand.new.self.fields c.in_err-expand.field-0.0 c.in_err-expand.ensures.fields
+    (λ begin le. for_halts r name (list_of r words s) (body r begin) s le)
+    (λ begin lt e. for_large r name (list_of r words s) (body r begin) s lt (unlisted r words s e))))
+
+pub returns-in_err-fields : goal.returns-in_err-fields
+returns-in_err-fields c = let same = c.in_ok-expand.ensures.same c.args.session.now in search (allowed, same)
 
 pub returns-then-is_empty : goal.returns-then-is_empty
 returns-then-is_empty c =
@@ -24,8 +28,9 @@ returns-then-is_empty c =
     let back : t ≡ state_of c.args.session.now c.args.progress.now = c.in_ok-expand.ensures.same c.args.session.now in
     let are = subst (λ (u : State). FieldsAre r (fields_of r words u) u c.expand.new.self.fields (Ok tt)) (sym back) c.in_ok-expand.ensures.fields in
     let new : State = record t { status = 0; steps = c.expand.new.self.steps + 1 } in
-    rw c.take-fields.ensures.fields (λ name body. subst (λ (u : State). Did r (λ (q : Rules) begin v. for q name (fields_of q words v) (body q begin) v) (λ fields q begin. bindings q name (body q begin) fields) u new (Ok c.expand.new.self.fields.done)) back
-    (head_empty r words name body t c.expand.new.self.fields.done (c.expand.new.self.steps + 1) are.0 (made_fields (fields_of r words t) c.expand.new.self.fields are.1) (add-one _) (rw c.take-fields.ensures.fields at (sym c.is_empty.ensures ∙ c.if-is_empty.true))))
+    let list : c.in_ok-fields.fields ≡ list_by r.shell c.expand.new.self.fields.done = c.in_ok-fields.ensures ∙ ap (list_by r.shell) c.take-made.ensures.fields in
+    rw list (λ name body. subst (λ (u : State). Did r (λ (q : Rules) begin v. for q name (list_of q words v) (body q begin) v) (λ fields q begin. bindings q name (body q begin) fields) u new (Ok (list_by r.shell c.expand.new.self.fields.done))) back
+    (head_empty r words name body t (list_by r.shell c.expand.new.self.fields.done) (c.expand.new.self.steps + 1) are.0 (listed r words t c.expand.new.self.fields.done (made_fields (fields_of r words t) c.expand.new.self.fields are.1)) (add-one _) (rw list at (sym c.is_empty.ensures ∙ c.if-is_empty.true))))
 
 pub returns : goal.returns
 returns c =
@@ -35,5 +40,6 @@ returns c =
     let back : t ≡ state_of c.args.session.now c.args.progress.now = c.in_ok-expand.ensures.same c.args.session.now in
     let are = subst (λ (u : State). FieldsAre r (fields_of r words u) u c.expand.new.self.fields (Ok tt)) (sym back) c.in_ok-expand.ensures.fields in
     let new : State = record t { steps = c.expand.new.self.steps + 1 } in
-    rw c.take-fields.ensures.fields (λ name body. subst (λ (u : State). Did r (λ (q : Rules) begin v. for q name (fields_of q words v) (body q begin) v) (λ fields q begin. bindings q name (body q begin) fields) u new (Ok c.expand.new.self.fields.done)) back
-    (head_some r words name body t c.expand.new.self.fields.done (c.expand.new.self.steps + 1) are.0 (made_fields (fields_of r words t) c.expand.new.self.fields are.1) (add-one _) (rw c.take-fields.ensures.fields at (sym c.is_empty.ensures ∙ c.if-is_empty.false))))
+    let list : c.in_ok-fields.fields ≡ list_by r.shell c.expand.new.self.fields.done = c.in_ok-fields.ensures ∙ ap (list_by r.shell) c.take-made.ensures.fields in
+    rw list (λ name body. subst (λ (u : State). Did r (λ (q : Rules) begin v. for q name (list_of q words v) (body q begin) v) (λ fields q begin. bindings q name (body q begin) fields) u new (Ok (list_by r.shell c.expand.new.self.fields.done))) back
+    (head_some r words name body t (list_by r.shell c.expand.new.self.fields.done) (c.expand.new.self.steps + 1) are.0 (listed r words t c.expand.new.self.fields.done (made_fields (fields_of r words t) c.expand.new.self.fields are.1)) (add-one _) (rw list at (sym c.is_empty.ensures ∙ c.if-is_empty.false))))

@@ -9,9 +9,9 @@ use Rattle.hush_run.proofs.turns.body_turn.Goals as goal
 pub returns-in-While : goal.returns-in-While
 returns-in-While c =
     let h = rw c.in-While.is at c.node.ensures in
-    subst (λ (t : Turn). Turns (subtree_at c.args.script.now) (frame.Body c.args.node) c.args.status t) (sym c.goes_to.ensures) (while_again (subtree_at c.args.script.now) c.args.node c.in-While.condition h.0 h.1 c.args.status h.2 h.3)
+    λ shell. subst (λ (t : Turn). Turns shell (subtree_at c.args.script.now) (frame.Body c.args.node) c.args.status t) (sym c.goes_to.ensures) (while_again shell (subtree_at c.args.script.now) c.args.node c.in-While.condition h.0 h.1 c.args.status h.2 h.3)
 
 pub returns-in-Until : goal.returns-in-Until
 returns-in-Until c =
     let h = rw c.in-Until.is at c.node.ensures in
-    subst (λ (t : Turn). Turns (subtree_at c.args.script.now) (frame.Body c.args.node) c.args.status t) (sym c.goes_to-in-Until.ensures) (until_again (subtree_at c.args.script.now) c.args.node c.in-Until.condition h.0 h.1 c.args.status h.2 h.3)
+    λ shell. subst (λ (t : Turn). Turns shell (subtree_at c.args.script.now) (frame.Body c.args.node) c.args.status t) (sym c.goes_to-in-Until.ensures) (until_again shell (subtree_at c.args.script.now) c.args.node c.in-Until.condition h.0 h.1 c.args.status h.2 h.3)

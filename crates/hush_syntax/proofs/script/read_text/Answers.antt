@@ -7,7 +7,7 @@ use Rattle.hush_syntax.proofs.Places.{nul-first, tokens-first, word-not-memory, 
 use Rattle.hush_syntax.proofs.script.read_text.Goals as goal
 
 pub returns-in-Some-clause-built : goal.returns-in-Some-clause-built
-returns-in-Some-clause-built c = refuses_always c.from.result.kind (read_stopped c.args.text.now.source (nul-read c.args.text.now.source c.in-Some.ensures.found))
+returns-in-Some-clause-built c = refuses_always c.from.result.kind (read_stopped c.args.bodies c.args.text.now.source (nul-read c.args.text.now.source c.in-Some.ensures.found))
 
 pub returns-in-Some-clause-fits : goal.returns-in-Some-clause-fits
 returns-in-Some-clause-fits c = λ known. nul-first c.args.text.now.source c.in-Some.nul c.from.result c.in-Some.ensures.found c.in-Some.ensures.first c.from.ensures

@@ -1,0 +1,94 @@
+-- Which command a word names (docs/runs.md, "Boards").
+use Rattle.std.specs.Prelude.{ℕ, ◌==◌, ◌||◌, ◌&&◌, nat_le, not, Bool, false, if◌then◌else◌, List, [], ◌∷◌, length, take, fold, map, is_some, Option, Some, None, unwrap_or}
+use Rattle.std.specs.List.{before_first}
+use Rattle.std.specs.Str.{bytes_eq}
+use Rattle.std.specs.FinMap as names
+use Rattle.hush_commands.specs.declared.board_rules.PatternWord.{PatternWord}
+use Rattle.hush_commands.specs.declared.board_rules.Rule.{Rule}
+use Rattle.hush_commands.specs.declared.shell.Shell.{Shell}
+use Rattle.hush_commands.specs.declared.shell.Shell.TheVariants.{Strict, Board}
+use Rattle.hush_commands.specs.Builtins.{builtin_of, builtins, name_of}
+use Rattle.hush_commands.specs.Stubs.{Statuses, status_of_name}
+use Rattle.hush_commands.specs.Hardware.{Hardware}
+
+-- a board reads a name up to its first `.`: what is after it is a width
+abbrev pub is_dot : ℕ → Bool
+is_dot b = b == 46
+
+abbrev pub without_width : List ℕ → List ℕ
+without_width name = before_first is_dot name
+
+abbrev pub begins_with : (word name : List ℕ) → Bool
+begins_with word name = bytes_eq word (take (length word) name)
+
+-- of the names that begin with a word the first, and whether there are others
+pub record FoundNames : Type 0 where
+  pub first : Option (List ℕ)
+  pub several : Bool
+
+abbrev pub found_names : Option (List ℕ) → Bool → FoundNames
+found_names first several = record { first = first; several = several }
+
+abbrev pub another : Option (List ℕ) → (several : Bool) → (name : List ℕ) → FoundNames
+another None several name = found_names (Some name) several
+another (Some first) several name = found_names (Some first) (several || not (bytes_eq first name))
+
+unfoldable pub with_name : (word : List ℕ) → FoundNames → (name : List ℕ) → FoundNames
+with_name word so_far name = if begins_with word name then another so_far.first so_far.several name else so_far
+
+abbrev pub with_names : (word : List ℕ) → FoundNames → List (List ℕ) → FoundNames
+with_names word so_far names = fold (with_name word) so_far names
+
+abbrev pub only_name : FoundNames → Option (List ℕ)
+only_name so_far = if so_far.several then None else so_far.first
+
+-- the name of the calls that a rule answers: the first word of its pattern
+abbrev pub pattern_name : List PatternWord → Option (List ℕ)
+pattern_name [] = None
+pattern_name (word ∷ words) = if word.begins then None else Some word.text
+
+abbrev pub is_name : (name : List ℕ) → Option (List ℕ) → Bool
+is_name name None = false
+is_name name (Some own) = bytes_eq name own
+
+abbrev pub is_ruled : List Rule → (name : List ℕ) → Bool
+is_ruled [] name = false
+is_ruled (rule ∷ rules) name = is_name name (pattern_name rule.pattern) || is_ruled rules name
+
+abbrev pub with_own : (word : List ℕ) → FoundNames → Option (List ℕ) → FoundNames
+with_own word so_far None = so_far
+with_own word so_far (Some name) = with_name word so_far name
+
+abbrev pub with_rules : (word : List ℕ) → FoundNames → List Rule → FoundNames
+with_rules word so_far [] = so_far
+with_rules word so_far (rule ∷ rules) = with_rules word (with_own word so_far (pattern_name rule.pattern)) rules
+
+abbrev pub stub_names : Statuses → List (List ℕ)
+stub_names stubs = map (λ entry. entry.0) (names.entries stubs)
+
+abbrev pub is_known : Hardware → List ℕ → Bool
+is_known h name = is_some (builtin_of name) || (is_ruled h.rules name || is_some (status_of_name h.stubs name))
+
+-- the names that begin with a word: of builtins, rules and stand-ins
+abbrev pub found_in : Hardware → (word : List ℕ) → FoundNames
+found_in h word = with_names word (with_rules word (with_names word (found_names None false) (map name_of builtins)) h.rules) (stub_names h.stubs)
+
+-- a name that is known comes first, as it is or without its width, and then the only one that begins so
+abbrev pub whole_name : Hardware → (word : List ℕ) → List ℕ
+whole_name h word =
+    if is_known h word then word
+    else if is_known h (without_width word) then without_width word
+    else unwrap_or (only_name (found_in h (without_width word))) word
+
+abbrev pub name_by : Shell → Hardware → (word : List ℕ) → List ℕ
+name_by Strict h word = word
+name_by Board h word = whole_name h word
+
+-- a word after `env` is the name of one of its commands; on a board it may be its first bytes, so many that no other of
+-- U-Boot's begins so (default, delete, edit, exists, export, import, print, run, save, set), and have a width
+abbrev pub is_front : (least : ℕ) → (name word : List ℕ) → Bool
+is_front least name word = nat_le least (length word) && begins_with word name
+
+abbrev pub stands_for : Shell → (least : ℕ) → (name word : List ℕ) → Bool
+stands_for Strict least name word = bytes_eq name word
+stands_for Board least name word = is_front least name (without_width word)

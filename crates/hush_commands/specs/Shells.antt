@@ -1,0 +1,32 @@
+-- Where the shells differ in a simple command and in the list of a `for` (docs/runs.md, "Boards").
+use Rattle.std.specs.Prelude.{ℕ, Bool, false, List}
+use Rattle.std.specs.List.{flat_map}
+use Rattle.hush_calc.specs.Test.{test_of}
+use Rattle.hush_calc.specs.Board.{board_test_of}
+use Rattle.hush_commands.specs.Hardware.{Hardware, is_there}
+use Rattle.hush_commands.specs.Expansion.{fields, substituted}
+use Rattle.hush_commands.specs.declared.shell.Shell.{Shell}
+use Rattle.hush_commands.specs.declared.shell.Shell.TheVariants.{Strict, Board}
+
+-- the status that is left where nothing is run: no branch of an `if`, no field of a command
+abbrev pub kept_status : Shell → ℕ → ℕ
+kept_status Strict status = 0
+kept_status Board status = status
+
+-- the status of an `exit` without one
+abbrev pub exit_status : Shell → ℕ → ℕ
+exit_status Strict status = status
+exit_status Board status = 0
+
+-- the command `test`; a board's `-e` asks what stands in for hardware
+abbrev pub test_by : Shell → Hardware → List (List ℕ) → Bool
+test_by Strict h words = test_of words
+test_by Board h words = board_test_of (is_there h) words
+
+-- the list of a `for`: a board cuts its fields once more, also those that were quoted, and drops the empty ones
+abbrev pub cut_fields : List (List ℕ) → List (List ℕ)
+cut_fields words = flat_map (λ word. fields (substituted false word)) words
+
+abbrev pub list_by : Shell → List (List ℕ) → List (List ℕ)
+list_by Strict words = words
+list_by Board words = cut_fields words

@@ -1,5 +1,0 @@
-use Rattle.hush_syntax.proofs.Told.{one_script}
-use Rattle.hush_syntax.proofs.laws.one_tree.Goals as goal
-
-pub returns : goal.returns
-returns c = one_script c.scripts_are_read.ensures
