@@ -10,7 +10,7 @@ import sys
 import tempfile
 from collections import Counter
 
-from differential import running
+from differential import lock_folder, running
 from differential.running import Runner
 
 SHOWN = 5
@@ -20,7 +20,7 @@ TOLD = re.compile(
     rb"|^(?:fwenv: .*|## Error: bad image): (\w+)(?: in line \d+)?\n"
     rb"|^fwenv: run ended as (\w+)|^fwenv: .*:\d+:\d+: (\w+): "
     rb"|^[^\n]*:\d+:\d+: error: [^\n]* \((\w+)\)$|(variable that is|nothing defines|no builtin|this shell has|carriage return|be assigned|no variable)"
-    rb"|(no room|bad name|type check|not defined|Can't \w+|too short|overlap|cannot read|no such file|no good copy)",
+    rb"|(no room|bad name|type check|not defined|Can't \w+|too short|overlap|cannot read|no such file|no good copy|is written)",
     re.M,
 )
 
@@ -85,7 +85,7 @@ def main():
     passed, failed, texts, names = 0, 0, [], Counter()
     with tempfile.TemporaryDirectory(dir=folder_for(name, preloads)) as folder:
         worker = Worker(os.path.abspath(program), os.path.abspath(preloads), folder)
-        with multiprocessing.get_context("fork").Pool() as pool:
+        with multiprocessing.get_context("fork").Pool(initializer=lock_folder.have_own) as pool:
             for found in pool.imap_unordered(compare_chunk, range(len(chunks))):
                 passed, failed, texts = passed + found[0], failed + found[1], texts + found[2]
                 names.update(found[3])

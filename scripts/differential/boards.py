@@ -7,6 +7,7 @@ from model.image import ERASED, Geometry
 from model.program import WARNING, Answer
 
 CONFIG = b"fw.config"
+STRICT = [b"--shell", b"strict"]
 DEVICE = b"device"
 BEFORE, BETWEEN, AFTER = b"XXX", b"YY", b"ZZZZ"
 # Two copies of 10 bytes, of which the first is current; the second after a save, and after one without variables; one that was never
@@ -32,6 +33,12 @@ def calls(text):
 def arguments(tool, *words, order="little"):
     big_endian = [b"--big-endian"] if order == "big" else []
     return [tool, b"-c", CONFIG, *big_endian, *words]
+
+
+def in_each_shell(words):
+    """The words of a call by the board's shell, which is the usual one of `run` and `check`, and by the strict one; or only as they are if
+    they name a shell."""
+    return [words] if any(word.startswith(b"--shell") for word in words) else [words, [*STRICT, *words]]
 
 
 def unwritten(name, form, given, output, *words, files=(), errors=b"", **rest):

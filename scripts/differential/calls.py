@@ -49,12 +49,15 @@ RUNS = [
 GIVEN_STAND_INS = [*STAND_INS, *[b"mmc\nusb 1\n"] * 4, b"[\nmmc\nf() 1\n"]
 BOOTS = [b"mmc", b"mmc", b"usb", b"mmcinfo", b"echo", b"", b"\xc3\xa9"]
 SIZES = [b"0x4000", b"1000", b"0X100", b"200", b"80", b"0d", b"8", b"100001", b"4k"]
+# (a board's shell is compared with boards, and by rows)
+SHELLS = [*[b"board", b"strict"] * 10, b"Strict"]
 DRY, WHOLE = (b"session", b"run"), (b"session", b"run", b"check")
+WRITING = (b"setenv", b"import", b"restore", *DRY)
 CHECKED = [b"r", b"s", b"t", *STARTED, *NAMES]
 OFTEN = {
     **{name: 0.003 for name in ("too short", "overlap", "cannot read", "no such file", "no room", "bad name", "type check", "not defined")},
     **{name: 0.0002 for name in ("Can't create", "Can't delete", "Can't overwrite", "EmptyName", "Undone")},
-    **{name: 0.001 for name in ("Exited", "Finished", "Quote", "Missing", "Unexpected", "Substitution", "no good copy")},
+    **{name: 0.001 for name in ("Exited", "Finished", "Quote", "Missing", "Unexpected", "Substitution", "no good copy", "is written")},
     **{name: 0.003 for name in ("variable that is", "nothing defines", "no builtin", "carriage return", "be assigned", "no variable")},
     "this shell has": 0.002,
     "status 0": 0.3,
@@ -135,6 +138,8 @@ class Calls:
             options.append(self.option(b"--default", self.text(b"default", self.entries_text())))
         if tool not in (b"status", b"check") and self.chance(25):
             options.append([b"--need-copy"])
+        if tool in WRITING and self.chance(10):
+            options.append([b"--overwrite"])
         return options
 
     def script(self):
@@ -163,6 +168,7 @@ class Calls:
         options += [[b"--write"]] * self.chance(5 if is_whole else 60)
         if tool == b"session":
             return options, []
+        options.append(self.option(b"--shell", self.numbers.choice(SHELLS)))
         if not any(option[0].startswith(b"--steps") for option in options):
             options.append([b"--steps=200"])
         given, words = self.given_script()
@@ -177,7 +183,7 @@ class Calls:
 
     def scripts_text(self):
         """An environment of scripts, as a text for import."""
-        found = variables(self.numbers)
+        found = variables(self.numbers, self.chance(50))
         for name in STARTED:
             if self.chance(60):
                 found[name] = self.board_script().replace(b"\0", b"")
@@ -185,7 +191,7 @@ class Calls:
 
     def checked(self, is_whole):
         """The options and the names of a check: of a text, of copies, or, as if that were a text, of one script."""
-        options = []
+        options = [self.option(b"--shell", self.numbers.choice(SHELLS))]
         if self.chance(60):
             options.append(self.option(b"--stubs", self.text(b"stand-ins", self.numbers.choice(GIVEN_STAND_INS))))
         if is_whole and self.chance(40):
@@ -221,7 +227,7 @@ class Calls:
         own, words = self.own(tool, is_whole)
         options = self.shared(tool, words, is_whole) + own
         front = []
-        if self.order == "big":
+        if self.order == "big" and not self.chance(5):
             (front if self.chance(30) else options).append([b"--big-endian"])
         self.numbers.shuffle(options)
         cut = self.numbers.randint(0, len(options))

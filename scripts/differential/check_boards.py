@@ -3,9 +3,9 @@ each script that is followed once a mistake is planted in it, at its place. Over
 
 import re
 
-from differential.boards import text_of
+from differential.boards import STRICT, text_of
 from differential.check_lines import (
-    lacked_test, lines, no_script, not_assigned, not_called, not_defined, not_run, place, returned, row, with_stand_ins,
+    lacked_test, lines, no_script, not_assigned, not_called, not_defined, not_run, on_board, place, returned, row, with_stand_ins,
 )  # fmt: skip
 from differential.rows import TOP, examples
 from differential.rows import boards as rows_of_boards
@@ -117,7 +117,9 @@ def slipped(name, variables, stubs, script, slip):
 def as_they_are():
     for name, variables, stubs in boards():
         files = {b"env": text_of(variables), b"stand-ins": stubs}
-        yield row(name, [b"--env", b"env", *with_stand_ins([b"script"])], files, lines(FOUND.get(name, []), "script"))
+        words, found = [b"--env", b"env", *with_stand_ins([b"script"])], FOUND.get(name, [])
+        yield row(name, words, files, lines(on_board(found), "script"))
+        yield row(name, [*STRICT, *words], files, lines(found, "script"))
     broken = TOP / "examples/booting/broken.txt"
     files = {b"env": broken.read_bytes(), b"stand-ins": (broken.parent / "stand-ins.txt").read_bytes()}
     yield row("a broken environment", [b"--env", b"env", *with_stand_ins()], files, lines([not_called("1:14", "laod")], "mmcboot"))

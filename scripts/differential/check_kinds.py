@@ -1,11 +1,12 @@
 """What `fwenv check` finds in a script, by hand: each kind, with what is near to it. Each row is a script and the lines about it,
 over an environment and alone, with stand-ins and without."""
 
+from differential.boards import STRICT
 from differential.check_lines import (
-    lacked, lacked_test, lines, no_functions, no_operator, no_script, not_assigned, not_called, not_defined, not_run, of_file, over, place,
-    returned, row, several, with_stand_ins, without,
+    lacked, lacked_test, lines, no_functions, no_operator, no_operator_of_board, no_script, not_assigned, not_called, not_defined, not_run,
+    of_file, on_board, over, place, returned, row, several, with_stand_ins, without,
 )  # fmt: skip
-from differential.script_faults import NEAR_SCRIPTS, NO_SCRIPTS, NO_STAND_INS, NULS
+from differential.script_faults import EMPTY_BODIES, NEAR_SCRIPTS, NO_SCRIPTS, NO_STAND_INS, NULS
 
 # Scripts over these variables, and what is found. The variable that holds the script is `s`
 VARIABLES = {b"a": b"1", b"ok": b"echo fine", b"two words": b"true", b"it's": b"true", b"run": b"true", b"\xc3\xa9": b"true", b"x": b"none"}
@@ -129,7 +130,7 @@ CALLED = [
     (b"if then", [no_script("1:4", "Unexpected")]),
     (b"laod; 'x", [no_script("1:7", "Quote")]),
 ]
-# Words of `test` that aren't operators, with and without stand-ins and variables
+# Words of `test` that aren't operators by the strict shell, with and without stand-ins and variables
 OPERATORS = [
     (b"test -e mmc 0:1 file", [no_operator("1:6", "-e")]),
     (b"test -e", [no_operator("1:6", "-e")]),
@@ -161,6 +162,35 @@ OPERATORS = [
     (b'test $e x; test "-$e" x; test a $o b; test a -e$x b; test $a; test $? -eq 0', []),
     (b"echo test -e x; test2 -e x; Test -e x; $test -e x; env test -e x; t=-e", None),
     (b"test a = b # -e", []),
+]
+# The same by the board's shell
+BOARD_OPERATORS = [
+    (b"test -e mmc 0:1 file; test ! -e usb 0 x; test -e mmc 0 a -a -e mmc 0 b", []),
+    (b"if test -e mmc 0:1 ${x}; then true; elif test -n a -a -e $x $x $x; then true; fi", []),
+    (b"test -e mmc 0:1 file == b", [no_operator_of_board("1:22", "==")]),
+    (b"true; test -f x -a -d y", [no_operator_of_board("1:12", "-f")]),
+    (b"test ! -d x; test ! ! -d x", several(no_operator_of_board, "1:8 -d 1:23 -d")),
+    (b'test "$x" == b', [no_operator_of_board("1:11", "==")]),
+    (b"test -n $x -a $x == b; test ! $x =~ b", several(no_operator_of_board, "1:18 == 1:34 =~")),
+    (b"test a =! b; test a => b; test a ~ b", several(no_operator_of_board, "1:8 =! 1:21 => 1:34 ~")),
+    (b"test a <> b; test a -nt b; test a -Eq b", several(no_operator_of_board, "1:8 <> 1:21 -nt 1:35 -Eq")),
+    (b"if test -z a -o -x x; then true; fi", [no_operator_of_board("1:17", "-x")]),
+    (b"while test a = b -a c == d; do true; done", [no_operator_of_board("1:23", "==")]),
+    (b"test a = b -x c", [no_operator_of_board("1:12", "-x")]),
+    (b"test -n a -x", [no_operator_of_board("1:11", "-x")]),
+    (b"test -f == x", [no_operator_of_board("1:9", "==")]),
+    (b'test -f "$x" y', [no_operator_of_board("1:6", "-f")]),
+    (b"test = y; test a = b = c", several(no_operator_of_board, "1:6 = 1:22 =")),
+    (b"test -n a; test -z ''; test a = b; test a != b; test a < b; test a > b", []),
+    (b"test 1 -eq 2; test 1 -ne 2; test 1 -lt 2; test 1 -le 2; test 1 -gt 2; test 1 -ge 2", []),
+    (b"test a = b -a c != d -o ! -n e -a ! ! f < g", []),
+    # what a board reads, and the strict shell doesn't
+    (b"test -n a -n b; test a = b c = d; test -a -n x; test -n a -o; test ! = x; test -a = x; test ! -a a = b", []),
+    (b"test a = -e; test -n -e; test -z ==; test a = ==; test ! -n -e", []),
+    (b"test == != x; test = = =; test -f -eq 1; test -n = x", []),
+    (b"test; test a; test a b; test a = b c; test -n; test -e; test -e x; test a b -e", []),
+    (b'test $e x; test "-$e" x; test a $o b; test a -e$x b; test $a; test $? -eq 0; test ! $x', None),
+    (b"test $x -a $o b", [no_operator_of_board("1:9", "-a")]),
 ]
 # Carriage returns, with and without stand-ins and variables
 RETURNS = [
@@ -301,41 +331,53 @@ MIXED_FOUND = [
 ]  # fmt: skip
 
 
-def each_way(script, found):
-    """A script whose findings are the same over an environment and alone, with and without stand-ins."""
+def each_way(script, found, words=()):
+    """A script whose findings are the same over an environment and alone, with and without stand-ins; by the words' shell."""
     files = {b"stand-ins": STAND_INS}
-    yield over({b"a": b"1", b"s": script}, [b"s"], lines(found, "s"))
-    yield of_file(script, [], lines(found, "a:1 b"))
-    yield of_file(script, with_stand_ins(), lines(found, "a:1 b"), files)
-    yield row("a check of standard input", [b"-f", b"-"], {}, lines(found, "-"), given=script)
+    yield over({b"a": b"1", b"s": script}, [b"s", *words], lines(found, "s"))
+    yield of_file(script, [*words], lines(found, "a:1 b"))
+    yield of_file(script, with_stand_ins(words), lines(found, "a:1 b"), files)
+    yield row("a check of standard input", [*words, b"-f", b"-"], {}, lines(found, "-"), given=script)
 
 
 def every_way(script, found, stand_ins=STAND_INS):
     """A script of whose findings some need stand-ins, and some an environment."""
     files = {b"stand-ins": stand_ins}
-    for words, seen in ((with_stand_ins(), found), ([], without(found, "stand-in"))):
-        yield over(VARIABLES | {b"s": script}, [b"s", *words], lines(seen, "s"), files)
-        yield of_file(script, words, lines(without(seen, "`run ", "be assigned", "nothing defines"), "a:1 b"), files)
+    for shell, told in ([], on_board(found)), (STRICT, found):
+        for words, seen in ((with_stand_ins(shell), told), (shell, without(told, "stand-in"))):
+            yield over(VARIABLES | {b"s": script}, [b"s", *words], lines(seen, "s"), files)
+            yield of_file(script, words, lines(without(seen, "`run ", "assigned", "nothing defines"), "a:1 b"), files)
 
 
 def no_scripts():
     for script, line, column, kind in NO_SCRIPTS:
         at = script.find(b"\r")
         found = [] if at < 0 else [returned(place(script, at))]
-        yield from each_way(script, [*found, no_script(f"{line}:{column}", kind)])
+        yield from each_way(script, [*found, no_script(f"{line}:{column}", kind)], STRICT)
+        if script not in EMPTY_BODIES:
+            yield from each_way(script, [*found, no_script(f"{line}:{column}", kind)])
+    for script in EMPTY_BODIES:
+        yield of_file(script, [], b"")
+        yield over({b"a": b"1", b"s": script}, [b"s"], b"")
     for script, _ in NEAR_SCRIPTS:
         yield from each_way(script, [])
     for script, line, column in NULS:
         yield of_file(script, [], lines([no_script(f"{line}:{column}", "Nul")], "a:1 b"))
-    for script, found in RETURNS + [each for each in OPERATORS if each[1] is not None]:
+    for script, found in RETURNS + [each for each in BOARD_OPERATORS if each[1] is not None]:
         yield from each_way(script, found)
+    for script, found in RETURNS + [each for each in OPERATORS if each[1] is not None]:
+        yield from each_way(script, found, STRICT)
+    for script in (script for script, found in BOARD_OPERATORS if found is None):
+        yield of_file(script, [], b"")
     for script in (script for script, found in OPERATORS if found is None):
         yield of_file(script, [], b"")
+        yield of_file(script, STRICT, b"")
 
 
 def starts():
     for script, found in [*STARTS, *((script, []) for script in FORESEEN), *ASSIGNED]:
-        yield over(VARIABLES | {b"s": script}, [b"s"], lines(found, "s"))
+        yield over(VARIABLES | {b"s": script}, [b"s"], lines(on_board(found), "s"))
+        yield over(VARIABLES | {b"s": script}, [b"s", *STRICT], lines(found, "s"))
         yield of_file(script, [], b"")
         if not found:
             yield over(VARIABLES | {b"s": script}, [b"s", b"ok", b"a"], b"")

@@ -14,7 +14,9 @@ def finding(said):
 not_run = finding("error: `run {}` names a variable that is not defined")
 not_called = finding("error: no builtin and no stand-in is called `{}`")
 no_operator = finding("error: `test` has no operator `{}` here, and is false")
+no_operator_of_board = finding("error: `test` has no operator `{}` here")
 not_assigned = finding("warning: `{}` is an environment variable, so it can not be assigned")
+hidden = finding("warning: `{}` is an environment variable, which hides what is assigned")
 not_typed = finding("error: the value does not have the type that .flags gives it")
 returned = finding("warning: a carriage return stands in the script")
 not_defined = finding("warning: `${{{}}}` names a variable that nothing defines")
@@ -53,6 +55,11 @@ def lines(found, name=None):
 def without(found, *said):
     """What is found, except for what has one of these texts."""
     return [each for each in found if not any(text in each for text in said)]
+
+
+def on_board(found):
+    """What the board's shell finds where the strict one finds this, if `-e` is the only word of `test` among it."""
+    return [each.replace("so it can not be assigned", "which hides what is assigned") for each in without(found, "operator `-e`")]
 
 
 def place(text, at):

@@ -2,16 +2,16 @@
 call and the lines that it prints; with an error among them the status is 1. Nothing is written."""
 
 from differential import check_kinds
-from differential.boards import CONFIG, arguments, board, calls, text_of
+from differential.boards import CONFIG, STRICT, arguments, board, calls, text_of
 from differential.check_kinds import STAND_INS
 from differential.check_lines import (
-    cut_off, lacked, lines, no_script, no_variable, not_assigned, not_called, not_defined, not_run, not_typed, returned, row,
-    with_stand_ins,
+    cut_off, hidden, lacked, lines, no_script, no_variable, not_assigned, not_called, not_defined, not_run, not_typed, on_board, returned,
+    row, with_stand_ins,
 )  # fmt: skip
 from differential.running import Case
 from differential.script_rows import NO_ENVIRONMENTS, NO_SIZES, absent, longer
 from differential.tool_rows import FIRST, PAIR, SECOND
-from model.arguments import ENV_AND, FILE_AND, NO_SIZE, SIZE_ALONE
+from model.arguments import ENV_AND, FILE_AND, NO_SHELL, NO_SIZE, SIZE_ALONE
 from model.dry_run import LONGEST
 from model.image import Geometry
 from model.program import WARNING, Answer
@@ -119,14 +119,15 @@ TYPED = [
 # What is printed of arguments of `check` that are wrong, and such arguments; nothing is read
 WRONG = {
     FILE_AND: (
-        "-f script a / a -f - / -f script '' / -c absent -f script / -f script --default absent / -f=script --env=absent / "
+        "-f script --shell x a / -f script a / a -f - / -f script '' / -c absent -f script / -f script --default absent / -f=script --env=absent / "
         "-f script --size x / -f script --size 4000 --env absent -c absent a"
     ),
     ENV_AND % b"-c <FILE>": "--env absent -c absent / --default=absent --size=x --env absent -c=absent",
     ENV_AND % b"--default <FILE>": "a --default=absent --env absent",
     SIZE_ALONE: "--size 4000 / --size x -c absent a",
-    NO_SIZE % b"x": "--env absent --size=x a",
-    None: "-f / -f a -f a / -e true / --write / --boots booti / --steps 1 / --stubs / --stubs=a --stubs=a / --env=a --env=a / -n a / -x",
+    NO_SIZE % b"x": "--env absent --size=x a / --env absent --size=x --shell=x",
+    NO_SHELL % b"x": "--shell x / --shell=x -f absent / -c absent --shell=x a",
+    None: "--shell / --shell=board --shell=board / -f / -f a -f a / -e true / --write / --boots booti / --steps 1 / --stubs / --stubs=a --stubs=a / --env=a --env=a / -n a / -x",
 }
 # Files that aren't there, in the order in which they are used
 ORDER = [
@@ -145,7 +146,8 @@ ORDER = [
 
 def followed():
     for text, names, found in FOLLOWED + GIVEN + FORESEEN + TYPED:
-        yield row("scripts that are followed", [b"--env", b"env", *names], {b"env": text}, lines(found))
+        yield row("scripts that are followed", [b"--env", b"env", *names], {b"env": text}, lines(on_board(found)))
+        yield row("scripts that are followed", [*STRICT, b"--env", b"env", *names], {b"env": text}, lines(found))
     many = b"".join(b"v%d=run v%d v%d\n" % (at, at + 1, at * 7 % 500) for at in range(500))
     yield row("a long way", [b"--env", b"env", b"v0"], {b"env": many}, lines([not_run("v499:1:5", "v500")]), seconds=1)
 
@@ -167,7 +169,8 @@ def limits():
             yield row("many lines", with_stand_ins([b"-f", b"s"]), dict(files), cut_off(start + found), seconds=1)
     for rest, flags, status in ((b"", b"s", 0), (b"run none\n", b"s", 1), (b"", b"d", 1)):
         files = {b"env": text_of({b"a": b"1", b"n": b"x", b"s": b"a=1\n" * 2_000 + rest, b".flags": b"n:" + flags})}
-        yield row("many warnings", [b"--env", b"env", b"s"], files, many(not_assigned, 2_000), status=status, seconds=1)
+        yield row("many warnings", [b"--env", b"env", b"s"], files, many(hidden, 2_000), status=status, seconds=1)
+        yield row("many warnings", [*STRICT, b"--env", b"env", b"s"], files, many(not_assigned, 2_000), status=status, seconds=1)
     in_one_word = cut_off([lines([not_defined("1:6", name)], "s") for name in "nm" * 750])
     for script, output, status in (
         (b"echo $n\n" * 1_500, many(not_defined, 1_500, 6, "n"), 0),
@@ -187,7 +190,7 @@ def opened():
     single = Geometry(1, 64)
     stored = board(single, [single.image(0, b"bootcmd=run n\0p=run m\0")]) | {b"text": b"bootcmd=run q; p=1\np=run r\n", b"stand-ins": STAND_INS}
     blank = board(single, [b"\xff" * 64]) | {b"text": stored[b"text"], b"stand-ins": STAND_INS}
-    found, usual = lines([not_run("bootcmd:1:5", "n")]), lines([not_run("bootcmd:1:5", "q"), not_assigned("bootcmd:1:8", "p")])
+    found, usual = lines([not_run("bootcmd:1:5", "n")]), lines([not_run("bootcmd:1:5", "q"), hidden("bootcmd:1:8", "p")])
     yield row("copies", arguments(b"check")[1:], stored, found)
     yield row("a name in copies", arguments(b"check", b"p")[1:], stored, lines([not_run("p:1:5", "m")]))
     yield row("stand-ins over copies", arguments(b"check", *with_stand_ins())[1:], stored, found)
@@ -197,6 +200,8 @@ def opened():
     yield row("no good copy", arguments(b"check")[1:], blank, b"", WARNING)
     yield row("no good copy, and a name", arguments(b"check", b"p")[1:], blank, lines([no_variable("p")]), WARNING)
     yield row("a default text", arguments(b"check", b"--default", b"text")[1:], blank, usual, WARNING)
+    strict = lines([not_run("bootcmd:1:5", "q"), not_assigned("bootcmd:1:8", "p")])
+    yield row("a default text", arguments(b"check", *STRICT, b"--default", b"text")[1:], blank, strict, WARNING)
     yield row("a fault after the warning", arguments(b"check", b"--stubs", b"absent")[1:], blank, b"", WARNING + absent(b"absent"))
     big = Geometry(2, 64, "big")
     typed = board(single, [single.image(0, b".flags=n:d,o:d\0n=x\0o=1\0")])

@@ -31,8 +31,13 @@ OVER_GOOD_COPIES = [
     (b"fw_printenv", [b"--no-header", b"q", b"a"], 1, b"b\n", b'## Error: "q" not defined\n'),
     (b"fw_printenv", [b"-n"], 1, b"", NO_NAMES),
     (b"fw_printenv", [b"-f", b"text"], 0, b"a=b\n", b"", SECOND, b"p=1\n"),
-    (b"fw_printenv", [b"--defenv", b"absent"], 1, b"", b"fwenv: cannot read absent: no such file\n"),
-    (b"fw_printenv", [b"--defenv", b"/"], 1, b"", b"fwenv: cannot read /: it is a directory\n"),
+    (b"fw_printenv", [b"--defenv", b"absent"], 0, b"a=b\n", b""),
+    (b"fw_printenv", [b"--defenv", b"/"], 0, b"a=b\n", b""),
+    (b"fw_printenv", [b"-f", b"text"], 0, b"a=b\n", b"", SECOND, b"=x\n"),
+    (b"fw_setenv", [b"-f", b"absent", b"a"], 0, b"", b"", EMPTIED),
+    (b"fw_setenv", [b"-f", b"text", b"a"], 0, b"", b"", EMPTIED, b"p=%s\n" % (b"0" * 99)),
+    (b"fw_setenv", [b"--overwrite", b"a"], 0, b"", b"", EMPTIED),
+    (b"fw_printenv", [b"--overwrite"], 1, b"", None),
     (b"fw_setenv", [b"-s", b"absent"], 1, b"", b"fwenv: cannot read absent: no such file\n"),
     (b"fw_setenv", [b"a"], 0, b"", b"", EMPTIED),
     (b"fw_setenv", [b"a", b""], 0, b"", b"", EMPTIED),
@@ -46,11 +51,22 @@ OVER_GOOD_COPIES = [
     (b"fw_setenv", [], 1, b"", NO_NAME % (b"--script", b"fw_setenv")),
     (b"fw_setenv", [b"-s", b"text", b"a"], 1, b"", NAME_AND_SCRIPT % (b"--script", b"fw_setenv"), SECOND, b"a c\n"),
     (b"fw_printenv", [b"-a", b"key"], 1, b"", None),
+    (b"fw_printenv", [b"-m", b"name"], 1, b"", None),
+    # the last of an option counts
+    (b"fw_printenv", [b"-n", b"-n", b"a"], 0, b"b\n", b""),
+    (b"fw_printenv", [b"a", b"--config", CONFIG, b"a"], 0, b"a=b\na=b\n", b""),
+    (b"fw_printenv", [b"--config=absent"], 1, b"", b"fwenv: cannot read absent: no such file\n"),
+    (b"fw_printenv", [b"-c", b"absent", b"-c", CONFIG, b"-l", b"absent", b"-l", b""], 0, b"a=b\n", b""),
+    (b"fw_setenv", [b"-s", b"absent", b"--script", b"text"], 0, b"", b"", EMPTIED, b"a\n"),
 ]
 # The same if no copy is good; the first copy afterwards
 OVER_BLANK_COPIES = [
     (b"fw_printenv", [], 1, b"", NO_COPIES),
     (b"fw_setenv", [b"a", b"b"], 1, b"", NO_COPIES),
+    (b"fw_setenv", [b"--overwrite", b"a", b"b"], 1, b"", NO_COPIES),
+    (b"fw_printenv", [b"-f", b"absent"], 1, b"", WARNING + b"fwenv: cannot read absent: no such file\n"),
+    (b"fw_printenv", [b"-f", b"/"], 1, b"", WARNING + b"fwenv: cannot read /: it is a directory\n"),
+    (b"fw_setenv", [b"-f", b"text", b"a", b"b"], 1, b"", WARNING + b"fwenv: text: EmptyName in line 1\n", BLANK, b"=x\n"),
     (b"fw_printenv", [b"-f", b"text"], 0, b"p=\\\n", WARNING, BLANK, b"p=\\\n"),
     (b"fw_setenv", [b"-f", b"text", b"a", b"b"], 0, b"", WARNING, PAIR.image(1, b"a=b\0"), b"# nothing\n"),
     (b"fw_setenv", [b"-f", b"text", b"a", b"b"], 0, b"", WARNING, PAIR.image(1, b"a=b\0"), b"a=b\n"),
@@ -137,18 +153,24 @@ def link_of(runner, name):
 
 
 def usual_environment():
+    rows = [
+        ([BLANK, BLANK], "p=\\\n", (0, b"p=\\\n", WARNING)),
+        ([BLANK, BLANK], "=x\n", (1, b"", WARNING + b"fwenv: /etc/u-boot-initial-env: EmptyName in line 1\n")),
+        ([FIRST, SECOND], "=x\n", (0, b"a=b\n", b"")),
+    ]
     if CAN_MOUNT:
-        yield Case("the usual default environment", [], check=with_usual_environment, is_modelled=False)
+        for each in rows:
+            yield Case("the usual default environment", [], check=functools.partial(with_usual_environment, *each), is_modelled=False)
 
 
-def with_usual_environment(runner):
+def with_usual_environment(copies, text, wanted, runner):
     """Without `-f` it is that of /etc, over which a folder is mounted that only this call sees."""
-    files = board(PAIR, [BLANK, BLANK])
+    files = board(PAIR, copies)
     runner.put(files)
     script = 'mount -t tmpfs tmpfs /etc && printf %s "$0" > /etc/u-boot-initial-env && exec "$@"'
-    words = ["unshare", "-m", "sh", "-c", script, "p=\\\n", link_of(runner, b"fw_printenv"), b"-c", CONFIG, b"-l", b""]
+    words = ["unshare", "-m", "sh", "-c", script, text, link_of(runner, b"fw_printenv"), b"-c", CONFIG, b"-l", b""]
     found = subprocess.run(words, capture_output=True)
-    is_right = (found.returncode, found.stdout, found.stderr, runner.left()) == (0, b"p=\\\n", WARNING, files)
+    is_right = (found.returncode, found.stdout, found.stderr) == wanted and runner.left() == files
     return None if is_right else f"the usual default environment: {found}"
 
 

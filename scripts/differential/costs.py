@@ -1,6 +1,6 @@
 """Inputs made to be expensive, and those that are as long as they may be, each in bounded time and memory."""
 
-from differential.boards import lines_of
+from differential.boards import STRICT, lines_of
 from differential.check_lines import cut_off
 from differential.running import Case
 from model.image import ERASED, LARGEST, Geometry, entries
@@ -138,7 +138,7 @@ def checks():
     whole = [b"--env", b"env", b"--size=100000"]
     text = b"a=1\nbootcmd=" + b"a=;\\\n" * 150_000 + b"\n"
     found = [b"bootcmd:%d:1: warning: `a` is an environment variable, so it can not be assigned\n" % line for line in range(1, 150_001)]
-    yield check("150,000 assignments that are refused", whole, {b"env": text}, found)
+    yield check("150,000 assignments that are refused", [*STRICT, *whole], {b"env": text}, found)
     text = b"bootcmd=run v00000\n" + b"".join(b"v%05d=run v%05d\n" % (at, at + 1) for at in range(50_000))
     found = [b"v49999:1:5: error: `run v50000` names a variable that is not defined\n"]
     yield check("50,000 scripts, each of which starts the next", whole, {b"env": text}, found)

@@ -6,7 +6,7 @@ import subprocess
 from dataclasses import replace
 
 from differential import running
-from differential.boards import CONFIG, DEVICE, arguments, board, calls
+from differential.boards import CONFIG, DEVICE, STRICT, arguments, board, calls
 from differential.damage import prefixes
 from differential.running import Case, Cut
 from differential.streams import WRONG_OPTION
@@ -20,6 +20,12 @@ NEVER_WRITTEN = board(FORM, [ERASED * FORM.size] * 2)
 ONE = Geometry(1, 9).image(0, b"a=b\0")
 TOO_MUCH = b"x" * 40
 SESSION = b".mark p\nsetenv a 3\n.save\necho x\n.what"
+# Over a single image that was never written: the input of a session, what is printed, and how much of it if the input fails after so
+# many bytes
+SMALL = Geometry(1, 16)
+TYPED = b'setenv a 1; echo $a\n.save\nsetenv a 2\n.undo\n.print\n.x\necho "\n'
+ANSWERED = b"1\n[Finished 0 2]\nSaved copy 1\n[Finished 0 1]\n[Undone]\n[Unknown]\n[Syntax]\n"
+FAILING = [(25, 0), (26, 30), (60, 64)]
 STAND_INS = b"mmc 1\nusb\n#\nmmcinfo 12\nfastboot_devices 3\n"
 ASKED = b"mmc\nusb\nmmcinfo\nfastboot_device\nfastboot_devices\nsetenv b $?\n.save\n"
 
@@ -85,7 +91,7 @@ READING = [
     (b"image", Case("a whole file", [b"status", b"image"], FILES | {b"image": FORM.image(7, b"a=b\0")})),
     (b"text", call([b"setenv", b"--default", b"text", b"c", b"3"], {b"text": b"a=1\nb=2\n"}, over=NEVER_WRITTEN)),
     (b"text", call([b"session", b"--write", b"--stubs", b"text"], {b"text": STAND_INS}, ASKED)),
-    (b"text", call([b"run", b"--write", b"-f", b"text"], {b"text": b"setenv a $m; saveenv\nsaveenv; echo 'b\nc'\nfalse || exit 0\n"})),
+    (b"text", call([b"run", *STRICT, b"--write", b"-f", b"text"], {b"text": b"setenv a $m; saveenv\nsaveenv; echo 'b\nc'\nfalse || exit 0\n"})),
     (b"text", whole_environment([b"-e", b"run a || printenv"])),
     (b"text", whole_check([b"q", b"a"])),
     (b"text", script_check(b"mmc 1; mmc2\nif true; then a\r\nfi")),
@@ -168,6 +174,20 @@ def sessions():
     yield from output_cut(case, case.answer(), counted=False)
 
 
+def small_sessions():
+    """Of 60 bytes of input and 73 of output; a block that isn't read to its end isn't run."""
+    files = board(SMALL, [ERASED * 16])
+    case = Case("a session", arguments(b"session", b"--write"), files, TYPED)
+    for place in places(len(ANSWERED), "fail", "none"):
+        wanted = Answer(1, ANSWERED[: place[0]], WARNING + CANNOT_WRITE_OUTPUT, files)
+        yield cut_case(case, 1, "write", place, wanted, counted=False)
+    yield from taken_whole(case, 1, len(ANSWERED), Answer(0, ANSWERED, WARNING, files), calls=6)
+    for after, count in FAILING:
+        for step in (0, 1):
+            wanted = Answer(1, ANSWERED[:count], WARNING + CANNOT_READ_INPUT, files)
+            yield cut_case(replace(case, given=TYPED[:after]), 0, "read", (after, step, "fail"), wanted)
+
+
 def printed():
     for case in PRINTING:
         yield from output_cut(case, case.answer())
@@ -244,16 +264,18 @@ def script_read():
 
 
 def saves_of_a_run():
-    """The copy that was current at the start is written after the other, which is checked to be whole."""
-    case = call([b"run", b"--write", b"-e", b"saveenv; saveenv"])
-    second, first = [FORM.image(flag, b"#q=1\0a=one 2\0m=x\ny\0") for flag in (8, 9)]
-    for place in places(FORM.size, "fail", "none"):
-        cut_second = [STORED[0], second[: place[0]] + STORED[1][place[0] :]]
-        cut_first = [first[: place[0]] + STORED[0][place[0] :], second]
-        for opening, copies in ((1, cut_second), (2, cut_first)):
-            wanted = Answer(1, case.answer().output, CANNOT_WRITE % DEVICE, board(FORM, copies))
-            yield cut_case(case, DEVICE, "write", place, wanted, opening)
-    yield replace(case, cut=Cut(DEVICE, "write", step=1), wanted=case.answer())
+    """The copy that was current at the start is written after the other, which is checked to be whole, also if it isn't current at the
+    end."""
+    for script, flags in ((b"saveenv; saveenv", (8, 9)), (b"saveenv; saveenv; saveenv", (10, 9))):
+        case = call([b"run", b"--write", b"-e", script])
+        second, first = [FORM.image(flag, b"#q=1\0a=one 2\0m=x\ny\0") for flag in flags]
+        for place in places(FORM.size, "fail", "none"):
+            cut_second = [STORED[0], second[: place[0]] + STORED[1][place[0] :]]
+            cut_first = [first[: place[0]] + STORED[0][place[0] :], second]
+            for opening, copies in ((1, cut_second), (2, cut_first)):
+                wanted = Answer(1, case.answer().output, CANNOT_WRITE % DEVICE, board(FORM, copies))
+                yield cut_case(case, DEVICE, "write", place, wanted, opening)
+        yield replace(case, cut=Cut(DEVICE, "write", step=1), wanted=case.answer())
 
 
 def saves_of_both():
@@ -275,4 +297,4 @@ def chunks():
     each = [functools.partial(errors_cut, case) for case in SAYING] + [functools.partial(both_cut, case) for case in ON_BOTH]
     for name, case in READING:
         each += [functools.partial(read_failing, name, case), functools.partial(read_ending, name, case)]
-    return each + [helps, sessions, printed, image_read, copies_read, saves, saves_of_both, script_read, saves_of_a_run]
+    return each + [helps, sessions, small_sessions, printed, image_read, copies_read, saves, saves_of_both, script_read, saves_of_a_run]

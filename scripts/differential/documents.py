@@ -63,6 +63,15 @@ def calculations():
             yield unwritten("docs/test-and-setexpr.md", USUAL, given, wanted)
 
 
+def tests():
+    for words, *answers in rows_under("test-and-setexpr.md", "Words after `test`", "Board", "Strict"):
+        for each in texts_in(words):
+            for shell, answer in zip((b"board", b"strict"), answers):
+                given = b"if test %s; then echo true; else echo false; fi\n" % each.encode()
+                output = re.match(r"\w+", answer)[0].encode() + b"\n[Finished 0 2]\n"
+                yield unwritten("docs/test-and-setexpr.md", USUAL, given, output, b"--shell", shell)
+
+
 def stand_in_files():
     for text, answer in rows_under("runs.md", "Stand-in file (", "What it is"):
         for each in texts_in(text):
@@ -89,4 +98,4 @@ def shown():
 
 
 def chunks():
-    return [dry_runs, runs, calculations, stand_in_files, shown]
+    return [dry_runs, runs, calculations, tests, stand_in_files, shown]

@@ -2,13 +2,14 @@
 at every byte of the device afterwards."""
 
 import contextlib
+import fcntl
 import functools
 import os
 import shutil
 import subprocess
 import threading
 
-from differential.boards import EMPTIED, FIRST
+from differential.boards import EMPTIED, FIRST, SECOND
 from differential.running import Case
 from differential.streams import MILLION, at, device, over_copies, read_by, row
 from model.program import CANNOT_READ, CANNOT_WRITE, CANNOT_WRITE_OUTPUT, CHANGED, DENIED, NO_SPACE, NO_SUCH_FILE, Answer, explained
@@ -17,6 +18,11 @@ from model.program import CANNOT_READ, CANNOT_WRITE, CANNOT_WRITE_OUTPUT, CHANGE
 ABSENT, SHORT = CANNOT_READ % b"absent", b"fwenv: device is too short\n"
 CONFIGURED = [
     ("an empty configuration", b"", b"fwenv: fw.config: NoCopy\n"),
+    ("a configuration in YAML", b"uboot:\n  size : 0x4000\n  devices: \r\n    - path : device\n", b"fwenv: fw.config is YAML: fwenv reads lines of DEVICE OFFSET SIZE\n"),
+    ("a colon in another place", b"# one:\n: 0x4000\n", b"fwenv: fw.config: NoCopy\n"),
+    ("a colon that ends no line", b"a: 0x4000\n", b"fwenv: fw.config: NoCopy\n"),
+    ("a copy beside a colon", b"uboot:\ndevice 7 a\ndevice 20 a\n", b""),
+    ("a UBI volume", b"/dev/ubi0:env 0 a\n", b"fwenv: /dev/ubi0:env is a UBI volume by its name: fwenv reads files and block devices\n"),
     ("a size that no image has", b"# one\ndevice 0 7\n", b"fwenv: fw.config: Size in line 2\n"),
     ("sizes that differ", b"device 7 a\ndevice 20 b\n", b"fwenv: fw.config: Unequal\n"),
     ("places that share one byte", b"device 7 a\ndevice 16 a\n", b"fwenv: fw.config: Overlap\n"),
@@ -204,6 +210,32 @@ def other_writers():
         yield Case("four writers at once", [], check=functools.partial(written_at_once, turn), is_modelled=False)
 
 
+def locks():
+    for words in (PRINTENV, SETENV):
+        yield Case("the device of the first copy is locked", [], check=functools.partial(under_locks, words), is_modelled=False)
+
+
+def under_locks(words, runner):
+    """Another program's lock on the device of the second copy doesn't matter, and one on that of the first is waited for."""
+    runner.put({b"first": FIRST, b"second": SECOND, b"fw.config": b"first 0 a\nsecond 0 a\n"})
+    for name, is_waited_for in ((b"second", False), (b"first", True)):
+        with open(name, "rb") as held:
+            fcntl.flock(held, fcntl.LOCK_EX)
+            process = subprocess.Popen([runner.program, *words], stdout=subprocess.DEVNULL)
+            has_ended = ended_within(process, 0.5 if is_waited_for else 20)
+        status = process.wait() if ended_within(process, 20) else process.kill()
+        if has_ended == is_waited_for or status != 0:
+            return f"a lock on the device of the {name.decode()} copy: ended {has_ended}, status {status}"
+    runner.left()
+    return None
+
+
+def ended_within(process, seconds):
+    with contextlib.suppress(subprocess.TimeoutExpired):
+        process.wait(seconds)
+    return process.returncode is not None
+
+
 def written_at_once(turn, runner):
     """Four programs of 25 names each, one after the other, at the same time: every name is there afterwards."""
     runner.put({b"device": bytes(8192), b"fw.config": b"device 0 1000\ndevice 0x1000 1000\n"})
@@ -257,4 +289,4 @@ def on_full_system(runner):
 
 
 def chunks():
-    return [faults, without_rights, outputs, links, cut_devices, other_writers, full]
+    return [faults, without_rights, outputs, links, cut_devices, other_writers, locks, full]

@@ -171,7 +171,7 @@ def changed(name, step, reason, after, config=None, gone=None):
         (IMPORT, b"fwenv", cannot),
         ([*SETENV, b"--default", b"../pipe"], b"fwenv", cannot),
         ([b"restore", *IMPORT[1:]], b"fwenv", because),
-        ([*SETENV[1:], b"-l", b"", b"-f", b"../pipe"], b"fw_setenv", because),
+        ([*SETENV[1:-1], b"-l", b"", b"-s", b"../pipe"], b"fw_setenv", because),
     ):
         status, errors = (0, b"") if reason is None else (1, errors)
         case = row(name, words, b"", status, b"", errors, through_pipe(step, b"a=\n"), files)
@@ -183,6 +183,9 @@ def changed(name, step, reason, after, config=None, gone=None):
 def changes():
     for name, step, reason, after in CHANGES:
         yield from changed(f"a device that {name}", step, reason, after)
+    current = over_copies(second=SAVED)
+    after = current[b"device"][:21] + b"x" + current[b"device"][22:]
+    yield from changed("a device whose second copy, which is current, was written by another", write_at(21, b"x"), CHANGED, after, current)
     yield from changed("a device that is gone", replaced(), NO_SUCH_FILE, None, gone=b"device")
     grown = {b"fw.config": b"device -26 a\ndevice -13 a\n"}
     # (its copies, which count from its end, are elsewhere then, even if they are the same there)

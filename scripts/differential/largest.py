@@ -6,6 +6,7 @@ import functools
 from differential.boards import arguments, board, unwritten
 from differential.running import Case
 from model.image import ERASED, LARGEST, Geometry
+from model.program import Answer
 
 TEXT = 2**24
 SINGLE, REDUNDANT = Geometry(1, LARGEST), Geometry(2, LARGEST)
@@ -94,11 +95,20 @@ def tools():
     for words in ([b"printenv"], [b"export"]):
         yield over(REDUNDANT, MANY, words)
     yield over(REDUNDANT, MANY, [b"setenv", b"-s", b"text"], {b"text": lines(range(COUNT), b" ", b"")})
+    yield over(SINGLE, MANY, [b"restore", b"text"], {b"text": lines(range(COUNT), b"=", b"1")})
     words = [b"x" * ARGUMENT] * 8
     rest = REDUNDANT.room - 4 - len(b" ".join(words)) - 1
     for last in (rest, rest + 1):
         yield over(REDUNDANT, b"", [b"setenv", b"a", *words, b"y" * last])
     yield over(REDUNDANT, b"a=" + LONGEST[:-1] + b"\0", [b"printenv", b"-n", b"a"])
+
+
+def started():
+    """A variable of some 100,000 bytes that is started."""
+    for value in (b"#" + b"x" * 99_991 + b"\necho a", b"true;" * 19_999 + b"echo a"):
+        case = over(SINGLE, b"v=" + value + b"\0", [b"session"], given=b"run v\n")
+        case.wanted = Answer(0, b"a\n[Finished 0 %d]\n" % (3 + value.count(b"true")), b"", case.files)
+        yield case
 
 
 def orders():
@@ -158,4 +168,4 @@ def one(rows, at):
 
 def chunks():
     """Each row is a chunk, since it takes long."""
-    return [functools.partial(one, rows, at) for rows in (texts, images, changes, tools, orders, scripts) for at in range(len(list(rows())))]
+    return [functools.partial(one, rows, at) for rows in (texts, images, changes, tools, started, orders, scripts) for at in range(len(list(rows())))]

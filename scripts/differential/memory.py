@@ -6,7 +6,7 @@ import functools
 import re
 from dataclasses import replace
 
-from differential.boards import BLANK, arguments, calls
+from differential.boards import BLANK, arguments, board, calls
 from differential.running import Case
 from differential.streams import ONE_VARIABLE, SESSION, WRONG_OPTION, over_copies
 from model.arguments import read_arguments
@@ -78,9 +78,28 @@ SESSIONS = [
     ("every dot line", DOT_LINES, [*LIMITS, b"--steps=1000"]),
     ("a block of 500 commands", COMMANDS, [*LIMITS, b"--steps=1000"]),
 ]
+# Sessions over one copy that was never written, which are undone and done again: the size of the copy, the default text, the input, and
+# the most steps
+COUNTED = b"setenv n 0; while true; do setexpr n $n + 1; done\n"
+AGAIN = [
+    (4096, b"", b"setenv .flags k:so; setenv k 1; setenv k 2; setenv -f k 3; env delete k\n", 1000),
+    (4096, b"", b'x="1 2"; for i in a${x}b "${x}" ""; do echo "[$i]"; done\n', 1000),
+    (4096, b"", COUNTED, 10),
+    (4096, b"", b"setenv a 'echo 1; false'; setenv b 'echo 2'; run a b; echo $?; run z\n", 1000),
+    (17, b"a=xxxxx\nb=1\n", b"setenv a 1; setenv b xxxxx\n", 1000),
+    (16, b"a=1\n", b"setenv a\n.save\n", 1000),
+    (16, b"", b'setenv a 1; echo $a\n.save\nsetenv a 2\n.undo\n.print\n.x\necho "\n', 1000),
+]
+# The same, with what follows: a save that is undone, perhaps in vain, and written; marks of which some may be left
+DELETED = b"setenv a\n.mark p\nsetenv b\n.mark q\nsetenv c\n"
+ONCE = [
+    (16, b"a=1\n", b"setenv a\n.save\n.undo\n", 1000),
+    (64, b"a=1\nb=2\nc=3\n", DELETED + b".undo\n.print\n.undo\n.print\n", 1000),
+    (64, b"a=1\nb=2\nc=3\n", DELETED + b".undo\n.undo q\n.print\n.undo p\n.print\n.undo\n.print\n", 1000),
+]
 # Scripts that are run over two copies, and over only the text `text`: the arguments, and perhaps standard input
 SAVED = b"for i in $a x; do echo $i; done\nsetenv a c; saveenv && run a || echo $?; mmc; saveenv; a_stand_in_of_a_long_name 1 2; false\n"
-BOOTS = [b"--stubs", b"stand-ins", b"--boots", b"a_stand_in_of_a_long_name", b"--boots", b"none"]
+BOOTS = [b"--stubs", b"stand-ins", b"--boots", b"a_stand_in_of_a_long_name"]
 WHOLE = [b"run", b"--env", b"text"]
 WHOLE_TEXT = b"""# names and quotes
 a=echo a; run it's
@@ -157,10 +176,15 @@ def tools():
     for (tool, *rest), text in TOOLS:
         yield refusing(Case(f"{tool.decode()} {rest} without memory", arguments(tool, *rest), over_copies() | {b"text": text}))
     yield refusing(Case("status of a file without memory", [b"status", b"device"], over_copies()))
+    files = {b"device": ERASED * 4096, b"fw.config": b"device 0 1000\n", b"text": b".flags=a:d\na=x\nb=1\n"}
+    yield refusing(Case("an import of a type without memory", arguments(b"import", b"text"), files), WARNING)
     for tool in (b"printenv", b"export", b"status"):
         yield refusing(Case(f"{tool.decode()} of 2,500 variables without memory", arguments(tool), OVER_MANY))
     files = over_copies(BLANK, BLANK) | {b"default": b"p=1\n"}
     yield refusing(Case("a default environment without memory", arguments(b"printenv", b"--default", b"default"), files), WARNING)
+    big = Geometry(2, 16, "big")
+    files = board(big, [big.image(7, b"a=b\0"), big.image(8, b"a=c\0")])
+    yield refusing(Case("copies that are good otherwise without memory", arguments(b"setenv", b"a", b"b"), files), WARNING)
 
 
 class Sessions:
@@ -247,6 +271,12 @@ def one_session(row):
     yield session(name, words, files, given)
 
 
+def small_session(size, text, given, steps):
+    files = {b"device": ERASED * size, b"fw.config": b"device 0 %x\n" % size, b"default": text}
+    limits = [b"--steps=%d" % steps, b"--depth=4", b"--word=256", b"--output=4096"]
+    yield session(given, arguments(b"session", b"--write", b"--default", b"default", *limits), files, given)
+
+
 def over_pair():
     """All is undone in the end, so that no copy is written; and a save that is written back."""
     files = over_copies() | {b"stand-ins": b"mmc 3\na_stand_in_of_a_long_name 4\n"}
@@ -292,4 +322,6 @@ def checks():
 
 
 def chunks():
-    return [without_files, tools, over_pair, runs, checks, *(functools.partial(one_session, row) for row in SESSIONS)]
+    again = [(size, text, given + b".print\n.undo\n.print\n.undo\n.print\n" + given + b".print\n", steps) for size, text, given, steps in AGAIN]
+    small = [functools.partial(small_session, *row) for row in again + ONCE]
+    return [without_files, tools, over_pair, runs, checks, *(functools.partial(one_session, row) for row in SESSIONS), *small]

@@ -1,4 +1,4 @@
-"""Boot scripts at random: cases with every form and every command, under limits that are often too small."""
+"""Boot scripts at random for both shells: cases with every form and every command, under limits that are often too small."""
 
 from differential.setups import Setup
 
@@ -16,10 +16,11 @@ OPERATORS = [b"=", b"!=", b"<", b">", b"-eq", b"-ne", b"-lt", b"-le", b"-gt", b"
 
 
 class Writer:
-    """Writes a script's text."""
+    """Writes a script's text. For a board's shell it may have empty bodies, and beginnings of names with something behind a dot."""
 
-    def __init__(self, random):
+    def __init__(self, random, is_board=False):
         self.random = random
+        self.is_board = is_board
         self.room = random.randint(1, 14)  # how many commands there still may be
 
     def chance(self, per_cent):
@@ -163,17 +164,30 @@ class Writer:
                 return self.any([b"while ", b"until "]) + condition + self.body(nesting + 1)
         if kind < 42:
             return self.assignment()
-        return self.joined(self.simple())
+        return self.joined(self.renamed(self.simple()))
+
+    def renamed(self, words):
+        """The words of a command, whose name on a board may be shortened or have something behind a dot."""
+        if not self.is_board or self.chance(90):
+            return words
+        name = words[0][: self.random.randint(1, len(words[0]) + 3)] + self.any([b"", b".b", b".x.y"])
+        return [name, *words[1:]]
+
+    def inside(self, nesting):
+        """A body, which on a board may be empty."""
+        if self.is_board and self.chance(12):
+            return self.any([b"", b"; ", b"# nothing\n", b"\n;"])
+        return self.list(nesting)
 
     def body(self, nesting):
-        return b"do " + self.list(nesting) + b"done"
+        return b"do " + self.inside(nesting) + b"done"
 
     def branches(self, nesting):
-        text = b"if " + self.list(nesting) + b"then " + self.list(nesting)
+        text = b"if " + self.list(nesting) + b"then " + self.inside(nesting)
         while self.chance(25):
-            text += b"elif " + self.list(nesting) + b"then" + self.any([b" ", b"\n"]) + self.list(nesting)
+            text += b"elif " + self.list(nesting) + b"then" + self.any([b" ", b"\n"]) + self.inside(nesting)
         if self.chance(45):
-            text += b"else " + self.list(nesting)
+            text += b"else " + self.inside(nesting)
         return text + b"fi"
 
     def chain(self, nesting):
@@ -222,10 +236,10 @@ def limits(random):
     return one((0, 20), 150, 35), one((0, 2), 6, 55), one((2, 24), 400, 22), one((0, 40), 4000, 22)
 
 
-def variables(random):
+def variables(random, is_board):
     """Variables, scripts among them."""
     found = {}
-    writer = Writer(random)
+    writer = Writer(random, is_board)
     for name in SCRIPTS:
         if random.randrange(100) < 70:
             script = writer.script_of(4)
@@ -240,8 +254,9 @@ def variables(random):
 
 
 def setup(random):
-    """A script with its setup."""
-    writer = Writer(random)
+    """A script with its setup, half of them for a board's shell."""
+    is_board = random.randrange(2) == 0
+    writer = Writer(random, is_board)
     text = writer.script()
     if random.randrange(100) < 1:
         text = writer.deep(text)
@@ -250,7 +265,8 @@ def setup(random):
     defaults = {random.choice([b"a", b"b", *NAMES]): random.choice(VALUES) for _ in range(random.randint(0, 3))}
     stand_ins = random.choice(BAD_STAND_IN_FILES) if random.randrange(100) < 2 else random.choice(STAND_IN_FILES)
     size = random.choice([random.randint(40, 400), 500])
-    made = Setup(text, limits(random), variables(random), defaults, stand_ins, random.randint(1, 2), size)
+    shell = b"board" if is_board else b"strict"
+    made = Setup(text, limits(random), variables(random, is_board), defaults, stand_ins, random.randint(1, 2), size, shell)
     while made.environment() is None:
         made.size += 60
         if made.size > 1500:

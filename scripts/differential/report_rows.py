@@ -71,6 +71,13 @@ SINGLES = [
     (turned(FIRST), b"checksum is wrong", NONE),
     (BIG_PAIR.image(3, ONE), b"checksum is wrong, good as a copy with a flag with --big-endian", NONE),
 ]
+# An area that a single image holds whole, how many variables it has, and how many of its bytes they use
+USED = [
+    (b"\0\0\0\0", 0, 1),
+    (b"a=1\0a=2\0b\0c=\0\0", 1, 5),
+    (b"a=1\0b=xxxxx\0\0", 2, 13),
+    (b".flags=p:sc\0p=1\0\0" + bytes(43), 2, 17),
+]
 # A device, its one line of configuration, and what is reported of the copy
 LARGE, LARGE_PAIR = Geometry(1, 8192), Geometry(2, 65536, "big")
 SIZES = [
@@ -94,6 +101,7 @@ SKIPPED = [
     (b"".join(PLACES) + b"\n#device 0 20", []),
     (b"nothing\n" + PLACES[0] + b"device 0\n" + PLACES[1] + b"device 0 20\n", [1, 3, 5]),
     (PLACES[0] + b"device 08 20\n # c\n" + PLACES[1], [2, 3]),
+    (b"".join(PLACES) + b"device 0 7\n", [3]),
 ]
 # A whole file, what is reported of it, and the lines that follow
 FILES = [
@@ -160,6 +168,10 @@ def singles():
     for image, said, rest in SINGLES:
         text = b"single image device at 0x3, 32 bytes: " + said + b"\n" + rest
         yield row("a single image", arguments(b"status"), board(SINGLE, [image]), int(rest == NONE), text)
+    for area, count, used in USED:
+        form = Geometry(1, 4 + len(area))
+        text = b"single image device at 0x3, %d bytes: good\nvariables    %d, %d of %d bytes used\n" % (form.size, count, used, form.room)
+        yield row("bytes that are used", arguments(b"status"), board(form, [form.image(0, area)]), 0, text)
     for device, place, said in SIZES:
         files = {DEVICE: device, CONFIG: b"device " + place + b"\n"}
         yield row("another size", arguments(b"status"), files, 1, b"single image device " + said + b"\n" + NONE)

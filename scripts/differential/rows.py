@@ -5,6 +5,7 @@
     defaults    the default environment: NAME=VALUE
     variables   likewise, written before the first script
     stand-ins   the stand-in file (of a board none, else mmc / usb 1)
+    shell       board or strict (strict)
     limits      on steps, depth, word and output (of a board 100000 8 4096 65536, else 1000 4 256 4096)
     $           a script, and + a further line of it
     >           what it prints, and [ENDING STATUS STEPS]; steps that nobody counted by hand are the model's. Behind it `saves` if
@@ -80,6 +81,8 @@ def with_setting(setup, word, lines):
     if word == "copies":
         copies, size = map(int, lines[0].split())
         return replace(setup, copies=copies, size=size)
+    if word == "shell":
+        return replace(setup, shell=lines[0])
     if word == "limits":
         return replace(setup, limits=tuple(map(int, lines[0].split())))
     if word == "stand-ins":

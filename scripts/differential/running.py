@@ -11,7 +11,8 @@ from model.program import Program
 # The seconds of a processor within which a small case is answered, and how often it is tried that takes longer; the seconds
 # after which a run is ended.
 SECONDS, TRIES, WAITED = 0.25, 4, 120
-
+# An emulator's time says nothing of the program's (scripts/arm.py sets this)
+IS_EMULATED = "EMULATED" in os.environ
 
 PROGRAM = ""
 
@@ -180,7 +181,7 @@ class Runner:
             found = self.run(case)
             if not (case.accepts(found) if case.accepts else found.is_as(wanted)) or not self.is_moved(case):
                 return told(case, found, wanted)
-            if found.seconds <= case.seconds:
+            if found.seconds <= case.seconds or IS_EMULATED:
                 return None
         return f"{case.name}: {found.seconds} seconds of a processor\n  {shown(case.arguments)}"
 

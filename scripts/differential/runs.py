@@ -1,5 +1,5 @@
-"""Scripts at random, and those of scripts/runs: worked rows and boot scripts of boards compared with what is written
-there by hand, and with each limit on steps from 0 up to their own count compared with the model."""
+"""Scripts at random, by both shells, and those of scripts/runs: worked rows and boot scripts of boards compared with what is
+written there by hand, and with each limit on steps from 0 up to their own count compared with the model."""
 
 import functools
 from dataclasses import replace
@@ -39,16 +39,20 @@ def wanted(row):
     return Answer(0, row.text + left.lines(), b"" if made.variables else WARNING, files)
 
 
-def rows_of(path):
+def rows_of(path, with_limits):
     for number, row in enumerate(rows(path), 1):
         name = f"{row.name}, script {number}"
         case = case_of(name, row.setup)
         case.wanted = wanted(row)
         yield case
-        for steps in range(row.steps + 1):
+        for steps in range(row.steps + 1) if with_limits else ():
             yield case_of(f"{name}, at most {steps} steps", replace(row.setup, limits=(steps, *row.setup.limits[1:])))
 
 
-def chunks(count, seed):
-    files = [functools.partial(rows_of, path) for folder in (BOARDS, ROWS) for path in sorted(folder.iterdir())]
+def chunks(count, seed, with_limits=1):
+    """So many scripts at random, and the worked rows, perhaps without the limits on steps."""
+    if not count:
+        # (how often an ending comes is asked of scripts at random)
+        OFTEN.clear()
+    files = [functools.partial(rows_of, path, with_limits) for folder in (BOARDS, ROWS) for path in sorted(folder.iterdir())]
     return files + at_random(count, functools.partial(random_run, seed))

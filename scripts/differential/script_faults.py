@@ -7,14 +7,18 @@ FAULTS = {
     "Quote": [
         (b"echo 'a", 1, 6), (b'a=1; echo b"c', 1, 12), (b'echo "$a', 1, 6), (b"'", 1, 1), (b"echo 'a\nb\n", 1, 6),
         (b"echo a\n\n  echo 'b", 3, 8), (b"\n'", 2, 1), (b"\xc3\xa9 \t'", 1, 5), (b"echo a\r\n'", 2, 1), (b"echo a\\\n  'b", 2, 3),
-        (b"echo 'a\nb' 'c", 2, 4), (b'"a\\"', 1, 1), (b'if a; then "', 1, 12), (b'a=1 "b', 1, 5),
+        (b'echo "a', 1, 6), (b"echo 'a\nb' 'c", 2, 4), (b'"a\\"', 1, 1), (b'if a; then "', 1, 12), (b'a=1 "b', 1, 5),
     ],
-    "Backslash": [(b"echo a\\", 1, 7), (b"\\", 1, 1), (b"if \\", 1, 4)],
+    "Backslash": [(b"echo \\", 1, 6), (b"echo a\\", 1, 7), (b"\\", 1, 1), (b"if \\", 1, 4)],
     "Substitution": [
-        (b"echo ${x:-y}", 1, 6), (b"echo a$1", 1, 7), (b'echo "\n$(b)"', 2, 1), (b"a ${}", 1, 3), (b"a; ${x", 1, 4), (b'a "b ${c', 1, 6),
+        (b"echo ${x:-y}", 1, 6), (b"echo ${a:-b}", 1, 6), (b"echo $1", 1, 6),
+        (b"echo a$1", 1, 7), (b'echo "\n$(b)"', 2, 1), (b"a ${}", 1, 3), (b"a; ${x", 1, 4), (b'a "b ${c', 1, 6),
         *[(b"$" + byte, 1, 1) for byte in (b"#", b"@", b"*", b"$", b"!", b"-", b"(a)")],
     ],
-    "Operator": [(b"true & false", 1, 6), (b"true|false", 1, 5), (b"true &&& false", 1, 8), (b"a &", 1, 3), (b"&\\\n&", 1, 1)],
+    "Operator": [
+        (b"echo a & echo b", 1, 8), (b"a | b", 1, 3), (b"true & false", 1, 6), (b"true|false", 1, 5), (b"true &&& false", 1, 8), (b"a &", 1, 3),
+        (b"&\\\n&", 1, 1),
+    ],
     "Unexpected": [
         (b"fi", 1, 1), (b"if true; then fi", 1, 15), (b"true\n&& true", 2, 1), (b"for 1 in a; do true; done", 1, 5), (b'fi "', 1, 1),
         (b"then", 1, 1), (b"do a; done", 1, 1), (b"a; done", 1, 4), (b"if a; then b; fi; fi", 1, 19), (b"if a; then b; fi c", 1, 18),
@@ -24,10 +28,11 @@ FAULTS = {
         (b"for i a; do b; done", 1, 7), (b"for i 'in' a; do b; done", 1, 7), (b"for 'i' in a; do b; done", 1, 5),
         (b"for i in a; b; done", 1, 13), (b"for i in a do b; done", 1, 18), (b"for i in a && b; do c; done", 1, 12), (b"&& a", 1, 1),
         (b"|| a", 1, 1), (b"a && && b", 1, 6), (b"a; && b", 1, 4), (b"if true then a; fi", 1, 17), (b"a && ;", 1, 6), (b"for ; in", 1, 5),
-        (b"if a; then # nothing\nfi", 2, 1),
+        (b"if a; then # nothing\nfi", 2, 1), (b"if true then echo a; fi", 1, 22), (b"for 1 in a; do b; done", 1, 5),
     ],
     "Missing": [
-        (b"if true; then echo", 1, 19), (b"while true\ndo echo\n", 3, 1), (b"true &&", 1, 8), (b"a &&\n", 2, 1),
+        (b"if true; then echo", 1, 19), (b"if true; then echo a", 1, 21), (b"a &&", 1, 5),
+        (b"while true\ndo echo\n", 3, 1), (b"true &&", 1, 8), (b"a &&\n", 2, 1),
         (b"if a; then b; fi ||", 1, 20), (b"while a; do b; done && # c", 1, 27), (b"if", 1, 3), (b"if a; then b; else", 1, 19),
         (b"until a; do b", 1, 14), (b"for i", 1, 6), (b"for i in a", 1, 11), (b"for i in a;", 1, 12), (b"if " * 64, 1, 193), (b"for", 1, 4),
     ],
@@ -35,9 +40,11 @@ FAULTS = {
         (b"if " * 65, 1, 193), (b"for i in a; do " * 65, 1, 961), (b"while true; do " * 65 + b"true" + b"; done" * 65, 1, 961),
         (b"until " * 65, 1, 385),
     ],
-    "Assignment": [(b"x=1 echo", 1, 5), (b"x; a= then", 1, 7), (b"if a=1 b; then c; fi", 1, 8), (b"true\n\tx=1 \\\n  y=2", 3, 3)],
+    "Assignment": [(b"a=1 echo b", 1, 5), (b"x=1 echo", 1, 5), (b"x; a= then", 1, 7), (b"if a=1 b; then c; fi", 1, 8), (b"true\n\tx=1 \\\n  y=2", 3, 3)],
 }  # fmt: skip
 NO_SCRIPTS = [(*each, kind) for kind, texts in FAULTS.items() for each in texts]
+# What is one by the board's shell alone: bodies are empty. The messages of `a`, how many steps are taken, and the status
+EMPTY_BODIES = {b"if true; then fi": (0, 1, 0), b"while a; do done": (1, 1, 1), b"if a; then # nothing\nfi": (1, 1, 1)}
 # What is a script, although it is close to one of those
 NEAR_SCRIPTS = [
     (b"echo 'a'", b"a\n"),

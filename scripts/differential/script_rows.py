@@ -3,13 +3,13 @@ to be good. Each row is a call, what it prints, and what it leaves."""
 
 import re
 
-from differential.boards import BLANK, CONFIG, EMPTIED, FIRST, PAIR, SAVED, SECOND, arguments, board, calls
+from differential.boards import BLANK, CONFIG, EMPTIED, FIRST, PAIR, SAVED, SECOND, STRICT, arguments, board, calls, in_each_shell
 from differential.running import Case
-from differential.script_faults import NEAR_SCRIPTS, NO_SCRIPTS, NO_STAND_INS, NULS, refused
-from model.arguments import ENV_AND, NO_NUMBER, NO_SCRIPT, NO_SIZE, SEVERAL_SCRIPTS, SIZE_ALONE
+from differential.script_faults import EMPTY_BODIES, NEAR_SCRIPTS, NO_SCRIPTS, NO_STAND_INS, NULS, refused
+from model.arguments import ENV_AND, NO_NUMBER, NO_SCRIPT, NO_SHELL, NO_SIZE, SEVERAL_SCRIPTS, SIZE_ALONE
 from model.dry_run import LONGEST
 from model.image import LARGEST, Geometry
-from model.program import LOOK_AT, NO_GOOD_COPY, WARNING, Answer
+from model.program import LOOK_AT, NO_GOOD_COPY, NOT_A_STAND_IN, WARNING, Answer
 from model.report import FAULTS
 from model.script import UNKNOWN
 from model.variables import NOT_DEFINED
@@ -52,11 +52,11 @@ $a=echo dollar
 x"\\y=echo more
 -x=echo dash
 """
-# Names that are started, the text, and what is reported, if the status isn't 0
+# Names that are started, the text, and what is reported, if the status isn't 0; the same in each shell, unless one is named
 NAMES = [
     ([b"ok"], b"fine\n", b""),
     ([b"bad"], b"", finished(1, 5)),
-    ([b"leaves"], b"", exited(3, 3)),
+    ([*STRICT, b"leaves"], b"", exited(3, 3)),
     ([b"quits"], b"a\n", b""),
     ([b"two words"], b"blank\n", b""),
     ([b"two", b"words"], NOT_DEFINED % b"two", finished(1, 2)),
@@ -77,9 +77,11 @@ NAMES = [
     ([b"ok", b"bad"], b"fine\n", finished(1, 7)),
     ([b"absent", b"ok"], NOT_DEFINED % b"absent", finished(1, 2)),
     ([b"ok", b"absent"], b"fine\n" + NOT_DEFINED % b"absent", finished(1, 4)),
-    ([b"leaves", b"ok"], b"", exited(3, 3)),
-    ([b"quits", b"bad"], b"a\n", b""),
-    ([b"loop"], b"", stopped(b"Depth", 17, b"loop")),
+    ([*STRICT, b"leaves", b"ok"], b"", exited(3, 3)),
+    ([*STRICT, b"quits", b"bad"], b"a\n", b""),
+    ([*STRICT, b"loop"], b"", stopped(b"Depth", 17, b"loop")),
+    ([b"--shell=board", b"--depth=8", b"loop"], b"", stopped(b"Depth", 17, b"loop")),
+    ([b"--shell=board", b"loop"], b"", stopped(b"Depth", 33, b"loop")),
     ([b"--depth", b"0", b"ok"], b"", stopped(b"Depth", 1)),
     ([b"--depth", b"1", b"ok"], b"fine\n", b""),
     ([b"--depth", b"1", b"loop"], b"", stopped(b"Depth", 3, b"loop")),
@@ -89,7 +91,7 @@ NAMES = [
     ([b"ok", b"bad", b"--steps", b"3"], b"fine\n", stopped(b"Steps", 3)),
     ([b"x\"\\y", b"--output", b"3"], b"", stopped(b"Output", 2, b"x\"\\y")),
 ]
-# A script among the arguments, the text, and what is reported, if the status isn't 0
+# A script among the arguments, the text, and what is reported, if the status isn't 0; likewise
 NESTED = b"setenv d 'run e; echo 1'; setenv e 'echo 2'; run d"
 SCRIPTS = [
     (b"", b"", b""),
@@ -105,15 +107,15 @@ SCRIPTS = [
     (b"false", b"", finished(1, 1)),
     (b"usb", UNKNOWN % b"usb", finished(1, 1)),
     (b"setenv a=b c", b'## Error: bad name or value for "a=b"\n', finished(1, 1)),
-    (b"if false; then echo a; fi", b"", b""),
+    (b"if false; then echo a; fi", b"", b"", *STRICT),
     (b"run bad", b"", finished(1, 5)),
     (b"exit", b"", b""),
     (b"exit 0; false", b"", b""),
-    (b"false; exit", b"", exited(1, 2)),
+    (b"false; exit", b"", exited(1, 2), *STRICT),
     (b"false; exit 0", b"", b""),
     (b"exit 255", b"", exited(255, 1)),
     (b"exit 256", b"## Error: wrong use of 'exit'\n", finished(1, 1)),
-    (b"echo a; run quits; false", b"a\na\n", b""),
+    (b"echo a; run quits; false", b"a\na\n", b"", *STRICT),
     (b"while true; do true; done", b"", stopped(b"Steps", 100_000)),
     (b"echo a; echo b", b"", stopped(b"Steps", 0), b"--steps=0"),
     (b"echo a; echo b", b"a\n", stopped(b"Steps", 1), b"--steps=1"),
@@ -134,6 +136,24 @@ SCRIPTS = [
     (b"run ok; echo b", b"fine\n", stopped(b"Steps", 3), b"--steps=3"),
     (b"setenv d 'echo $x$x'; x=1234567; run d", b"", stopped(b"Word", 4, b"d"), b"--word=10"),
 ]
+# The same by the board's shell, which is the usual one: what a board prints, and its status
+BOARD_SCRIPTS = [
+    (b"if false; then echo a; fi", b"", finished(1, 1)),
+    (b"if false; then echo a; elif usb; then echo b; fi; echo $?", UNKNOWN % b"usb" + b"1\n", b""),
+    (b"while false; do echo a; done", b"", finished(1, 1)),
+    (b"false; until true; do echo a; done", b"", b""),
+    (b"false; ${none}; echo $?", b"1\n", b""),
+    (b"false && echo a || echo b; echo c", b"c\n", b""),
+    (b"true || echo a && echo b", b"", b""),
+    (b"a=2; echo $? $a", b"0 1\n", b""),
+    (b"l='x y'; for i in 'a b'\"${l}\"q ''; do echo $i; done", b"a\nbx\nyq\n", b""),
+    (b"false; for i in a b; do echo $?; false; done", b"0\n0\n", finished(1, 8)),
+    (b"setenv d 'echo $?'; false; run d", b"1\n", b""),
+    (b"test ${none} -eq 1 && echo a", b"a\n", b""),
+    (b"test -e mmc 0:1 file || echo a", b"a\n", b""),
+    (b"if true; then; else echo a; fi; echo $?", b"0\n", b""),
+    (b"if false; then # nothing\nfi", b"", finished(1, 1)),
+]
 # Options, a script, and the text, if the stand-ins are these; what is reported, if the status isn't 0
 STAND_INS = b"booti\nmmc\nusb 1\n"
 BOOTS = [
@@ -148,11 +168,10 @@ BOOTS = [
     ([b"--boots", b"mmc", b"--boots", b"booti"], b"booti; echo a", b"+ booti\n", b""),
     ([b"--boots", b"mmc", b"--boots", b"booti"], b"mmc; echo a", b"+ mmc\n", b""),
     ([b"--boots", b"booti", b"--boots", b"booti"], b"mmc; booti; echo a", b"+ mmc\n+ booti\n", b""),
-    ([b"--boots", b"boot", b"--boots", b"booti1"], b"booti; false", b"+ booti\n", finished(1, 2)),
-    ([b"--boots", b"reset"], b"reset; echo a", UNKNOWN % b"reset" + b"a\n", b""),
-    ([b"--boots", b"reset"], b"reset", UNKNOWN % b"reset", finished(1, 1)),
-    ([b"--boots", b"true", b"--boots", b"echo"], b"true; echo a; false", b"a\n", finished(1, 3)),
-    ([b"--boots", b""], b"mmc; false", b"+ mmc\n", finished(1, 2)),
+    ([b"--boots", b"boot", b"--boots", b"booti1"], b"booti; false", b"", NOT_A_STAND_IN % b"boot"),
+    ([b"--boots", b"booti", b"--boots", b"reset"], b"reset; echo a", b"", NOT_A_STAND_IN % b"reset"),
+    ([b"--boots", b"true"], b"true", b"", NOT_A_STAND_IN % b"true"),
+    ([b"--boots", b""], b"mmc; false", b"", NOT_A_STAND_IN % b""),
     ([b"--boots", b"booti", b"--steps", b"0"], b"booti", b"", stopped(b"Steps", 0)),
     ([b"--boots", b"booti", b"--steps", b"1"], b"booti; true", b"+ booti\n", b""),
     ([b"--boots", b"booti", b"--output", b"7"], b"booti", b"", stopped(b"Output", 0)),
@@ -207,6 +226,9 @@ WRONG_WORDS = {
     NO_NUMBER % (b"17", b"--depth", 16): "run --depth=17 --output=x ok",
     NO_NUMBER % (b"65537", b"--word", 65_536): "run --word=65537 ok",
     NO_NUMBER % (b"-1", b"--output", 16_777_216): "run --output=-1 ok",
+    NO_SHELL % b"x": "run --shell x ok / run --shell=x --steps=x --env absent / session --shell=x",
+    NO_SHELL % b"Board": "run --shell Board",
+    NO_SHELL % b"": "run --shell= ok / session --shell ''",
 }  # fmt: skip
 NO_SIZES = [
     b"", b"x", b"0", b"7", b"0x7", b"100001", b"0x100001", b"-8", b"+10", b" 10", b"10 ", b"0x", b"0x 10", b"1_0", b"4k", b"0x0x10", b"1" * 23,
@@ -255,10 +277,11 @@ NEED_COPY = calls(
 )
 WRONG, NOT_ENDED = FAULTS["BadCrc"], FAULTS["Unterminated"]
 SINGLE, LONG_LIST = Geometry(1, 10), PAIR.image(7, b"a=bcd")
+TURNED, GOOD_OTHERWISE = Geometry(2, 10, "big").image(7, b"a=b\0"), b"fwenv: nothing is written: the first copy is good with --big-endian\n"
 BAD_COPIES = [
     (PAIR, [BLANK, BLANK], WRONG + b" in the first copy, " + WRONG + b" in the second"),
     (PAIR, [LONG_LIST, bytes(10)], NOT_ENDED + b" in the first copy, " + WRONG + b" in the second"),
-    (PAIR, [Geometry(2, 10, "big").image(7, b"a=b\0"), LONG_LIST], WRONG + b" in the first copy, " + NOT_ENDED + b" in the second"),
+    (PAIR, [TURNED, LONG_LIST], WRONG + b" in the first copy, " + NOT_ENDED + b" in the second"),
     (SINGLE, [BLANK], WRONG),
     (SINGLE, [SINGLE.image(0, b"a=bcde")], NOT_ENDED),
 ]
@@ -299,14 +322,19 @@ def over_text(name, words, output, errors, files=(), **rest):
 
 
 def names():
-    for words, output, errors in NAMES:
-        yield over_text("names of scripts", words, output, errors)
+    for each, output, errors in NAMES:
+        for words in in_each_shell(each):
+            yield over_text("names of scripts", words, output, errors)
 
 
 def scripts():
-    for script, output, errors, *words in SCRIPTS:
-        yield over_text("a script among the words", [*words, b"-e", script], output, errors, seconds=1)
-        yield over_text("a script in a file", [b"-f", b"script", *words], output, errors, {b"script": script}, seconds=1)
+    for script, output, errors, *each in SCRIPTS:
+        for words in in_each_shell(each):
+            yield over_text("a script among the words", [*words, b"-e", script], output, errors, seconds=1)
+            yield over_text("a script in a file", [b"-f", b"script", *words], output, errors, {b"script": script}, seconds=1)
+    for script, output, errors in BOARD_SCRIPTS:
+        yield over_text("a script as on a board", [b"-e", script], output, errors)
+        yield over_text("a script as on a board, which is named", [b"--shell=board", b"-f", b"script"], output, errors, {b"script": script})
     yield over_text("a script behind an option's letter", [b"-eecho a"], b"a\n", b"")
     yield over_text("a script behind an equals sign", [b"-e=-x"], UNKNOWN % b"-x", finished(1, 1))
     yield over_text("standard input that isn't asked for", [b"-e", b"echo a"], b"a\n", b"", given=b"echo b\n")
@@ -314,11 +342,15 @@ def scripts():
 
 def no_scripts():
     for script, *place in NO_SCRIPTS:
-        yield over_text("no script among the words", [b"-e", script], b"", refused(b"-e", *place))
-        yield over_text("no script in a file", [b"-f", b"a:1 b"], b"", refused(b"a:1 b", *place), {b"a:1 b": script})
-        yield over_text("no script on standard input", [b"-f", b"-"], b"", refused(b"-", *place), given=script)
+        for words in [STRICT] if script in EMPTY_BODIES else in_each_shell([]):
+            yield over_text("no script among the words", [*words, b"-e", script], b"", refused(b"-e", *place))
+            yield over_text("no script in a file", [b"-f", b"a:1 b", *words], b"", refused(b"a:1 b", *place), {b"a:1 b": script})
+            yield over_text("no script on standard input", [*words, b"-f", b"-"], b"", refused(b"-", *place), given=script)
+    for script, (said, steps, status) in EMPTY_BODIES.items():
+        yield over_text("an empty body", [b"-e", script], UNKNOWN % b"a" * said, finished(status, steps) * status)
     for script, output in NEAR_SCRIPTS:
-        yield over_text("nearly no script", [b"-e", script], output, b"")
+        for words in in_each_shell([]):
+            yield over_text("nearly no script", [*words, b"-e", script], output, b"")
     for script, *place in NULS:
         errors = refused(b"script", *place, "Nul")
         yield over_text("a byte 0", [b"-f", b"script"], b"", errors, {b"script": script})
@@ -342,11 +374,10 @@ def script_files():
 
 def booted():
     files = {b"stand-ins": STAND_INS}
-    for words, script, output, errors in BOOTS:
-        words = [*words, b"--stubs", b"stand-ins", b"-e", script]
-        yield over_text("a stand-in that boots", words, output, errors, files)
-    words = [b"--boots", b"booti", b"-e", b"booti; echo a"]
-    yield over_text("no stand-ins", words, UNKNOWN % b"booti" + b"a\n", b"")
+    for options, script, output, errors in BOOTS:
+        for words in in_each_shell([*options, b"--stubs", b"stand-ins", b"-e", script]):
+            yield over_text("a stand-in that boots", words, output, errors, files)
+    yield over_text("no stand-ins", [b"-e", b"booti; echo a"], UNKNOWN % b"booti" + b"a\n", b"")
     words = [b"--boots", b"booti", b"--stubs", b"stand-ins", b"boot", b"bad"]
     yield over_text("a script that boots", words, b"+ usb\n+ mmc dev 0\n+ booti 1\n", b"", files)
     for text, errors in NO_STAND_INS:
@@ -354,9 +385,10 @@ def booted():
 
 
 def saves():
-    for words, output, errors, *left in SAVES:
+    for options, output, errors, *left in SAVES:
         files = board(PAIR, [FIRST, SECOND]) | {b"stand-ins": STAND_INS}
-        yield row("a save of a script", arguments(b"run", *words), files, output, errors, board(PAIR, left))
+        for words in in_each_shell(options):
+            yield row("a save of a script", arguments(b"run", *words), files, output, errors, board(PAIR, left))
     newer = PAIR.image(8, b"a=c\0")
     left = board(PAIR, [PAIR.image(9, b"a=c\0"), newer])
     words = arguments(b"run", b"-e", b"saveenv", b"--write")
@@ -421,7 +453,8 @@ def no_good_copy():
     for form, copies, said in BAD_COPIES:
         files = board(form, copies) | {b"text": b"p=1\n"}
         for words in NEED_COPY:
-            errors = NO_GOOD_COPY + said + LOOK_AT
+            writes = words[0] in (b"setenv", b"import", b"restore") or b"--write" in words
+            errors = GOOD_OTHERWISE if writes and copies[0] == TURNED else NO_GOOD_COPY + said + LOOK_AT
             yield row("no good copy", arguments(*words, b"--need-copy"), files, b"", errors, given=b".save\n.print\n")
     files = board(SINGLE, [SINGLE.image(0, b"a=b\0")])
     errors = NO_GOOD_COPY + WRONG + LOOK_AT

@@ -3,7 +3,7 @@ one of a session is saved, so that its copy is seen. One that is cut is run alon
 
 import functools
 
-from differential.boards import arguments, board, text_of
+from differential.boards import STRICT, arguments, board, text_of
 from differential.damage import at_random, prefixes, mutant, numbers_of
 from differential.running import Case
 from differential.texts import DEFAULTS, FORM, NEVER_WRITTEN
@@ -12,7 +12,7 @@ TOGETHER = 8
 FILES = board(FORM, NEVER_WRITTEN) | {b"default": text_of(DEFAULTS), b"stand-ins": b"mmc 0\nusb 1\n"}
 LIMITS = [b"--steps=100", b"--depth=3", b"--word=64", b"--output=256"]
 OPTIONS = [b"--default", b"default", b"--stubs", b"stand-ins", b"--write", *LIMITS]
-WORDS, RUN = arguments(b"session", *OPTIONS), arguments(b"run", *OPTIONS, b"-f", b"script")
+WORDS, RUN = arguments(b"session", *OPTIONS), arguments(b"run", *STRICT, *OPTIONS, b"-f", b"script")
 SCRIPTS = [
     b'a=1; for i in a${x}b "${x}" ""; do echo "[$i]"; done\n',
     b"if test $n -gt 0; then run s\nelif false; then exit 3\nelse echo $?; fi && echo ok || echo no\n",

@@ -106,6 +106,7 @@ STAND_INS = [
     (b"\n \t\n\r\nmmc 1\r", b"mmc || echo $?\n", b"+ mmc\n1\n[Finished 0 2]\n", b""),
     (b"mmc\r\r\n", b"mmc\r\nmmc\n", b"+ mmc\r\nUnknown command 'mmc' - try 'help'\n[Finished 1 2]\n", b""),
     (b"x 256\n", b"echo a\n", b"", b"fwenv: stand-ins: Line in line 1\n"),
+    (b"exit 0\n", b"echo a\n", b"", b"fwenv: stand-ins: Builtin in line 1\n"),
     (b"mmc\n\necho 0\n", b"echo a\n", b"", b"fwenv: stand-ins: Builtin in line 3\n"),
     (b"x\nx\n", b"echo a\n", b"", b"fwenv: stand-ins: Twice in line 2\n"),
     (b"\0" * (2**24 + 1), b"echo a\n", b"", b"fwenv: cannot read stand-ins\n"),
@@ -127,6 +128,8 @@ FLAGS = [
     ("little", (254, 255), b".save\n.save\n", b"Saved copy 1\nSaved copy 2\n", (0, 1)),
     ("little", (255, 0), b".save\n.undo\n", b"Saved copy 1\n[Undone]\n", (255, 0)),
     ("little", (None, None), b".save\n.save\n", b"Saved copy 1\nSaved copy 2\n", (1, 2)),
+    ("little", (None, None), b".save\n.save\n.undo\n", b"Saved copy 1\nSaved copy 2\n[Undone]\n", (None, None)),
+    ("little", (None, None), b".save\n.save\n.undo\n.save\n", b"Saved copy 1\nSaved copy 2\n[Undone]\nSaved copy 1\n", (1, None)),
     ("big", (255, 0), b".save\n", b"Saved copy 1\n", (1, 0)),
     ("big", (None, None), b".save\n", b"Saved copy 1\n", (1, None)),
 ]
@@ -153,7 +156,15 @@ UNDONE = [
     (8, b"", b"setenv a b; echo $?\n.undo\n.print\n", b'## Error: no room for "a"\n1\n[Finished 0 2]\n[Undone]\n'),
     (64, b"", b"setenv n 0; while true; do setexpr n $n + 1; done\n.undo\n.print\n", b"[Steps 0 10]\n[Undone]\n"),
     (64, b"", b"setenv a 'exit 3; echo x'; run a; echo y\n.undo\n.print\n", b"[Exited 3 4]\n[Undone]\n"),
+    (16, b"a=1\n", b"setenv a\n.save\n.undo\n.print\n", b"[Finished 0 1]\nSaved copy 1\n[Undone]\na=1\n"),
+    # (after it `k` has no access and no type)
+    (
+        4096, b"", b"setenv .flags k:so; setenv k 1; setenv k 2; setenv -f k 3; env delete k\n.undo\n.print\nsetenv k 1; setenv k x; env delete k\n",
+        b'## Error: Can\'t overwrite "k"\n## Error: Can\'t delete "k"\n[Finished 1 6]\n[Undone]\n[Finished 0 4]\n',
+    ),
 ]  # fmt: skip
+# The last of 1,001 items of `.flags` for one name decides
+ITEMS = b"a:d," * 1000 + b"a:b"
 
 
 def over_small_board(name, given, output, *words, **rest):
@@ -166,6 +177,8 @@ def answered():
         yield over_small_board(*row)
     text = {b"default": b"p=1\n"}
     yield over_small_board("a default text", b".print\n", b"p=1\n", b"--default", b"default", files=text)
+    given, output = b"setenv .flags %s; setenv a T; setenv a 2\n.print\n", b'## Error: type check failure for "a"\n[Finished 1 3]\n.flags=%s\na=T\n'
+    yield unwritten("1,001 items for one name", Geometry(1, 8192), given % ITEMS, output % ITEMS)
 
 
 def stood_in():
@@ -204,7 +217,7 @@ def written():
 
 def undone():
     for size, text, given, output in UNDONE:
-        words = [b"--default", b"default", b"--steps", b"10"]
+        words = [b"--write", b"--default", b"default", b"--steps", b"10"]
         yield unwritten("an undo", Geometry(1, size), given, output, *words, files={b"default": text})
 
 

@@ -2,19 +2,21 @@
 
 from dataclasses import dataclass, field, replace
 
-from differential.boards import arguments, board, text_of
+from differential.boards import STRICT, arguments, board, text_of
 from model.arguments import LIMITS
 from model.grammar import parse
 from model.image import ERASED, Geometry
 from model.script import run
 from model.session import Session
+from model.shells import SHELLS
 from model.texts import stand_ins
 from model.variables import Environment
 
 
 @dataclass
 class Setup:
-    """The limits are those on steps, depth, word and output. The variables are written over the default ones."""
+    """The limits are those on steps, depth, word and output, the shell is "strict" or "board". The variables are written over the
+    default ones."""
 
     script: bytes
     limits: tuple
@@ -23,6 +25,7 @@ class Setup:
     stand_ins: bytes = b""
     copies: int = 1
     size: int = 4096
+    shell: bytes = b"strict"
 
     @property
     def geometry(self):
@@ -50,9 +53,10 @@ class Setup:
 
     def words(self):
         limits = [b"%s=%d" % (option.encode(), limit) for option, limit in zip(LIMITS, self.limits)]
-        return arguments(b"session", b"--default", b"default", b"--stubs", b"stand-ins", b"--write", *limits)
+        return arguments(b"session", b"--shell", self.shell, b"--default", b"default", b"--stubs", b"stand-ins", b"--write", *limits)
 
     def outcome(self):
         """The outcome of the model's run."""
         session = Session(self.geometry, self.stored(), replace(self, variables={}).environment().values)
-        return run(session, parse(self.script), stand_ins(self.stand_ins), self.limits)
+        shell = SHELLS[self.shell]
+        return run(session, parse(self.script, shell), stand_ins(self.stand_ins), self.limits, shell=shell)

@@ -127,15 +127,29 @@ def images():
     yield row("a little-endian image read as big-endian", [b"--big-endian"], ONE_VARIABLE, 1, b"", b"## Error: bad image: BadCrc\n")
 
 
-def helps():
-    """The help of each subcommand shows how it is called, with an example, and `-h` and `help` print the same."""
-    texts = {}
-    for word in (b"printenv", b"setenv", b"import", b"export", b"restore", b"status", b"run", b"check", b"session"):
+# With what the help of each subcommand begins
+HELPS = {
+    b"printenv": b"Prints variables, a line NAME=VALUE each\n",
+    b"setenv": b"Sets or deletes a variable, or several by a script, and saves\n",
+    b"import": b"Sets the variables of a text, and saves\n",
+    b"export": b"Prints every variable as a text that import reads\n",
+    b"restore": b"Makes the variables those of a text and no others, read-only ones too, and saves\n",
+    b"status": b"Says what each copy is good for, and which is current; writes nothing\n",
+    b"run": b"Runs a script and prints its text; the status is 0 if it ended well, and nothing is written without --write\n",
+    b"check": b"Looks for faults in boot scripts and runs nothing; the status is 1 if there is an error\n",
+    b"session": b"Tries boot scripts: runs the blocks and dot lines of standard input, and writes nothing without --write\n",
+}
 
-        def is_help(found, word=word):
+
+def helps():
+    """The help of each subcommand says what it does and how it is called, with an example, and `-h` and `help` print the same."""
+    texts = {}
+    for word, begins in HELPS.items():
+
+        def is_help(found, word=word, begins=begins):
             texts[word] = found.output
             usage = re.search(rb"^Usage: fwenv %s " % word, found.output, re.M) and re.search(rb"^Example:$", found.output, re.M)
-            return bool(usage) and (found.status, found.errors) == (0, b"")
+            return bool(usage) and found.output.startswith(begins + b"\n") and (found.status, found.errors) == (0, b"")
 
         def is_same(found, word=word):
             return (found.status, found.output, found.errors) == (0, texts[word], b"")
@@ -155,8 +169,10 @@ def sessions():
     yield session("standard input closed", b"", 1, b"", CANNOT_READ_INPUT, at(0, None))
     yield session("a folder as standard input", b"", 1, b"", CANNOT_READ_INPUT, at(0, "/"))
     yield session("an input that is cut off", b"", 1, b"Saved copy 2\na\n[Finished 0 1]\n[Unknown]\n", CANNOT_READ_INPUT, cut_off)
-    for name, text, output in (("newlines", "", b"Saved copy 2\n"), ("dot lines", ".print", dots)):
-        around = functools.partial(piped, f"echo .save; exec yes '{text}'")
+    for name, begin, text, output in (
+        ("nothing but newlines", "", "", b""), ("newlines", "echo .save; ", "", b"Saved copy 2\n"), ("dot lines", "echo .save; ", ".print", dots)
+    ):  # fmt: skip
+        around = functools.partial(piped, f"{begin}exec yes '{text}'")
         yield session(f"an input of {name} that never ends", b"", 1, output, TOO_LONG, around)
     yield session("a session on a full disk", b".save\n", 1, b"", CANNOT_WRITE_OUTPUT, full)
     case = session("nothing more is read after a fault", b".save\n.x\n", 1, b"", CANNOT_WRITE_OUTPUT, full)
@@ -168,6 +184,7 @@ def sessions():
     yield session("standard error closed", b"setenv a c\n", 0, b"[Finished 0 1]\n", b"", at(2, None))
 
 
+LONG = b"x" * 2000
 # What a person types in a session, and the answers, each of which is one write: a block is answered when a dot line or the end follows
 TYPED = [
     (b".x\n", b"[Unknown]\n"),
@@ -188,9 +205,13 @@ TYPED = [
     (b".save\n", b"Saved copy 2\n"),
     (b"echo \"c\n", b"[Syntax]\n"),
     (b".mark\n", b"[Unknown]\n"),
+    (b"for i in 1 2 3 4 5; do echo " + LONG + b"; done\n", (LONG + b"\n") * 5 + b"[Finished 0 11]\n"),
+    (b".x\n", b"[Unknown]\n"),
+    (b"setenv c %s; setenv d %s; setenv e %s\n" % (LONG, LONG, LONG), b"[Finished 0 3]\n"),
+    (b".print\n", b"a=b\nc=%s\nd=%s\ne=%s\n" % (LONG, LONG, LONG)),
     (b"setenv c 1", b"[Finished 0 1]\n"),
 ]
-TYPED_OVER = Geometry(2, 64)
+TYPED_OVER = Geometry(2, 8192)
 
 
 def typed_over(second):

@@ -2,12 +2,16 @@
 
 from differential import text_rows
 from differential.boards import BLANK, CONFIG, EMPTIED, FIRST, PAIR, SAVED, SECOND, arguments, board
+from differential.damage import turned
 from differential.running import Case
 from model.arguments import NAME_AND_SCRIPT, NO_NAME, NO_SUBCOMMAND, VERSION
 from model.image import ERASED, Geometry, entries
 from model.program import WARNING, Answer
 
 NO_ROOM_A = b'## Error: no room for "a"\n'
+NO_ROOM = b'## Error: no room for "%s" in line %d\n'
+TEN_REFUSED = b"".join(NO_ROOM % (b"q", line) for line in range(1, 11)) + b"## Error: 10 entries refused\n"
+NO_ENTRY = b"## Error: the text has no entry, and nothing is restored\n"
 # Arguments, status, output, errors; the second copy afterwards (SECOND), and a text in the file `text`
 OVER_GOOD_COPIES = [
     ([b"printenv"], 0, b"a=b\n", b""),
@@ -27,19 +31,25 @@ OVER_GOOD_COPIES = [
     ([b"setenv", b"-s", b"text"], 0, b"", b"", SAVED, b"# nothing\n"),
     ([b"setenv", b"-s", b"text"], 0, b"", b"", EMPTIED, b"a c\na\n"),
     ([b"setenv", b"-s", b"text"], 1, b"", b'## Error: no room for "b"\n', SECOND, b"a c\nb c\na d\n"),
+    ([b"setenv", b"-s", b"text"], 0, b"", b"", PAIR.image(8, b"c=1\0"), b"a\nc 1\n"),
+    ([b"setenv", b"-s", b"text"], 1, b"", b'## Error: no room for "c"\n', SECOND, b"a\nc 12\n"),
     ([b"setenv", b"-s", b"text"], 1, b"", b"fwenv: text: EmptyName in line 2\n", SECOND, b"a c\n=b\n"),
     ([b"setenv", b"-s", b"absent"], 1, b"", b"fwenv: cannot read absent\n"),
     ([b"import", b"text"], 1, b"", b"fwenv: cannot read text\n", SECOND, b"\n" * 16_777_217),
     ([b"restore", b"text"], 1, b"", b"fwenv: cannot read text: it is longer than 16777216 bytes\n", SECOND, b"\n" * 16_777_217),
     ([b"import", b"text"], 0, b"", b"", SAVED, b"# nothing\na=b\n"),
     ([b"import", b"text"], 0, b"", b"", SAVED, b"q\na=b\n"),
-    ([b"import", b"text"], 1, b"", b"## Error: 2 entries refused\n", EMPTIED, b"a=bc\nq=1\na=\n"),
-    ([b"import", b"text"], 1, b"", b"## Error: 10 entries refused\n", EMPTIED, b"q=1\n" * 10 + b"a=\n"),
+    ([b"import", b"text"], 1, b"", NO_ROOM % (b"c", 1) + b"## Error: 1 entries refused\n", SAVED, b"c=1\n"),
+    ([b"import", b"text"], 0, b"", b"", PAIR.image(8, b"c=1\0"), b"a\nc=1\n"),
+    ([b"import", b"text"], 1, b"", NO_ROOM % (b"a", 1) + NO_ROOM % (b"q", 2) + b"## Error: 2 entries refused\n", EMPTIED, b"a=bc\nq=1\na=\n"),
+    ([b"import", b"text"], 1, b"", TEN_REFUSED, EMPTIED, b"q=1\n" * 10 + b"a=\n"),
     ([b"import", b"text"], 1, b"", b"fwenv: text: EmptyName in line 3\n", SECOND, b"a=b\n\n=c\n"),
     ([b"import", b"text"], 1, b"", b"fwenv: text: Nul\n", SECOND, b"a=b\0\n"),
     ([b"restore", b"text"], 0, b"", b"", PAIR.image(8, b"q=1\0"), b"q=1\n"),
     ([b"restore", b"text"], 1, b"", b'## Error: no room for "q" in line 2\n', SECOND, b"a=b\nq=1\n"),
     ([b"restore", b"absent"], 1, b"", b"fwenv: cannot read absent: no such file\n"),
+    ([b"restore", b"text"], 1, b"", NO_ENTRY, SECOND, b""),
+    ([b"restore", b"text"], 1, b"", NO_ENTRY, SECOND, b"# nothing\n\n"),
 ]
 # The same if no copy is good; the warning comes first, and it is the first copy that is written
 OVER_BLANK_COPIES = [
@@ -54,6 +64,40 @@ OVER_BLANK_COPIES = [
     ([b"restore", b"--default", b"absent", b"text"], 1, b"", b"fwenv: cannot read absent: no such file\n", BLANK, b"q=1\n"),
     ([b"restore", b"--default", b"text", b"text"], 0, b"", b"", PAIR.image(1, b"q=1\0"), b"q=1\n"),
 ]
+
+
+def single(size, area):
+    return Geometry(1, size).image(0, area)
+
+
+NO_VARIABLES, ONE_VARIABLE = bytes.fromhex("1CDF442100000000"), bytes.fromhex("D296622B613D620000")
+# The same area of 14 bytes as it was stored, with names that come again or have no value, and as it is saved
+STORED, SAVED_ANEW = single(18, b"a=1\0a=2\0b\0c=\0\0"), single(18, b"a=2\0")
+# An image on standard input, and what is printed
+SHOWN = [
+    (NO_VARIABLES, 0, b"", b""),
+    (STORED, 0, b"a=2\n", b""),
+    *((image, 1, b"", b"## Error: bad image: BadCrc\n") for image in turned(ONE_VARIABLE)),
+]
+DEFAULTS = [b"printenv", b"--default", b"text"]
+# A single image: arguments, status, output, errors, the image afterwards if it is another, and a text
+OVER_ONE_COPY = [
+    (NO_VARIABLES, [b"setenv", b"a", b"b"], 1, b"", NO_ROOM_A),
+    (single(9, b"\0"), [b"setenv", b"a", b"b"], 0, b"", b"", ONE_VARIABLE),
+    (single(68, b"\0"), [b"setenv", b"a", b"1", b"2"], 0, b"", b"", single(68, b"a=1 2\0")),
+    (STORED, [b"printenv"], 0, b"a=2\n", b""),
+    (STORED, [b"setenv", b"q"], 0, b"", b"", SAVED_ANEW),
+    (single(64, b"#k=1\0a=2\0"), [b"export"], 1, b"a=2\n", b'## Error: can\'t export "#k"\n'),
+    (ERASED * 64, DEFAULTS, 0, b".flags=p:sc\np=1\n", b"", None, b".flags=p:sc\np=1\n"),
+    (ERASED * 21, DEFAULTS, 0, b".flags=p:sc\np=1\n", b"", None, b".flags=p:sc\np=1\n"),
+    (ERASED * 20, DEFAULTS, 1, b"", b"fwenv: text: Full in line 2\n", None, b".flags=p:sc\np=1\n"),
+    (ERASED * 64, DEFAULTS, 1, b"", b"fwenv: text: BadType in line 2\n", None, b".flags=a:d\na=x\n"),
+    (
+        ERASED * 4096, [b"import", b"text"], 1, b"",
+        b'## Error: type check failure for "a" in line 2\n## Error: 1 entries refused\n',
+        single(4096, b".flags=a:d\0b=1\0"), b".flags=a:d\na=x\nb=1\n",
+    ),
+]  # fmt: skip
 # A single image of 64 bytes whose variables have types and accesses: arguments, status, output, errors, and what is changed
 SINGLE = Geometry(1, 64)
 TYPED = {b".flags": b"n:d,r:sr", b"a": b"1", b"m": b"x\\\ny"}
@@ -69,7 +113,8 @@ NO_ROOM_B = b'## Error: no room for "b" in line 3\n'
 RESTORED = [
     (b"a=2\nb=3\n", 0, b"", {b"a": b"2", b"b": b"3"}),
     (b".flags=n:d,r:sr\nr=1\nn=7\n", 0, b"", {b".flags": b"n:d,r:sr", b"r": b"1", b"n": b"7"}),
-    (b"# nothing\n", 0, b"", {}),
+    (b"# nothing\n", 1, NO_ENTRY, None),
+    (b"a=\n", 0, b"", {}),
     (b"a=1\nb=2\na=\n", 0, b"", {b"b": b"2"}),
     (b"n=x\n.flags=n:d\n", 0, b"", {b"n": b"x", b".flags": b"n:d"}),
     (b"a=1\n\nb=%s\nc=2\n" % (b"0" * 60), 1, NO_ROOM_B, None),
@@ -103,6 +148,17 @@ def over_pairs():
         yield over_pair([BLANK, BLANK], 0, WARNING, *row)
 
 
+def over_one_copy():
+    for image, status, output, errors in SHOWN:
+        yield Case("an image", [], given=image, wanted=Answer(status, output, errors, {}))
+    for image, words, status, output, errors, *more in OVER_ONE_COPY:
+        left, text = [*more, None, None][:2]
+        form, files = Geometry(1, len(image)), {} if text is None else {b"text": text}
+        warning = WARNING if image == ERASED * form.size else b""
+        wanted = Answer(status, output, warning + errors, board(form, [left or image]) | files)
+        yield Case("a tool over one copy", arguments(*words), board(form, [image]) | files, wanted=wanted)
+
+
 def over_types():
     for (tool, *rest), status, output, errors, changes in OVER_TYPES:
         after = SINGLE.image(0, entries(TYPED | changes))
@@ -110,7 +166,8 @@ def over_types():
         yield Case("types", arguments(tool, *rest), board(SINGLE, [SINGLE.image(0, entries(TYPED))]), wanted=wanted)
     text, before, after = b".flags=a:d\na=x\nb=1\n", {b"a": b"1"}, {b".flags": b"a:d", b"a": b"1", b"b": b"1"}
     files, left = ({b"text": text} | board(SINGLE, [SINGLE.image(0, entries(each))]) for each in (before, after))
-    wanted = Answer(1, b"", b"## Error: 1 entries refused\n", left)
+    refused = b'## Error: type check failure for "a" in line 2\n## Error: 1 entries refused\n'
+    wanted = Answer(1, b"", refused, left)
     yield Case("a type that an import gives", arguments(b"import", b"text"), files, wanted=wanted)
     image = SINGLE.image(0, entries({b"#q": b"1", b"m": b"x\ny"}))
     wanted = Answer(1, b"m=x\\\ny\n", b'## Error: can\'t export "#q"\n', board(SINGLE, [image]))
@@ -145,4 +202,4 @@ def words():
 
 
 def chunks():
-    return [over_pairs, over_types, restores, in_big_endian, words, *text_rows.chunks()]
+    return [over_pairs, over_one_copy, over_types, restores, in_big_endian, words, *text_rows.chunks()]

@@ -7,6 +7,7 @@ once; everything is bytes. The tests compare the built program with it (scripts/
     words         words and tokens of a script           docs/scripts.md
     grammar       the tree of a script                   docs/scripts.md
     calculations  test and setexpr                       docs/test-and-setexpr.md
+    shells        the rules in which shells differ       docs/runs.md
     script        what a script does                     docs/runs.md
     session       copies, saves, marks and undo          docs/undo.md
     dry_run       blocks and dot lines                   docs/dry-runs.md

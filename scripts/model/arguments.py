@@ -7,30 +7,33 @@ import re
 from dataclasses import dataclass, field
 
 from model.image import LARGEST
+from model.shells import SHELLS
 from model.texts import SIZE
 
 # The flags of each subcommand, which may be before it too, and the options of all that open an environment
 FLAGS, OPENING_FLAGS, OPENING_VALUES = {"--big-endian"}, {"--need-copy"}, {"-c", "--default"}
+# Those of what writes copies
+WRITING_FLAGS = OPENING_FLAGS | {"--overwrite"}
 WHOLE_VALUES = {"--stubs", "--env", "--size"}
-DRY_VALUES = WHOLE_VALUES | {"--steps", "--depth", "--word", "--output"}
+DRY_VALUES = WHOLE_VALUES | {"--shell", "--steps", "--depth", "--word", "--output"}
 # Of each subcommand: its flags, its options with a value, and how many other arguments it takes
 FORMS = {
     "printenv": (OPENING_FLAGS | {"-n"}, OPENING_VALUES, (0, None)),
-    "setenv": (OPENING_FLAGS, OPENING_VALUES | {"-s"}, (0, None)),
-    "import": (OPENING_FLAGS, OPENING_VALUES, (1, 1)),
+    "setenv": (WRITING_FLAGS, OPENING_VALUES | {"-s"}, (0, None)),
+    "import": (WRITING_FLAGS, OPENING_VALUES, (1, 1)),
     "export": (OPENING_FLAGS, OPENING_VALUES, (0, 0)),
-    "restore": (OPENING_FLAGS, OPENING_VALUES, (1, 1)),
+    "restore": (WRITING_FLAGS, OPENING_VALUES, (1, 1)),
     "status": (set(), {"-c"}, (0, 1)),
-    "session": (OPENING_FLAGS | {"--write"}, OPENING_VALUES | DRY_VALUES, (0, 0)),
-    "run": (OPENING_FLAGS | {"--write"}, OPENING_VALUES | DRY_VALUES | {"--boots", "-e", "-f"}, (0, None)),
-    "check": (set(), OPENING_VALUES | WHOLE_VALUES | {"-f"}, (0, None)),
+    "session": (WRITING_FLAGS | {"--write"}, OPENING_VALUES | DRY_VALUES, (0, 0)),
+    "run": (WRITING_FLAGS | {"--write"}, OPENING_VALUES | DRY_VALUES | {"--boots", "-e", "-f"}, (0, None)),
+    "check": (set(), OPENING_VALUES | WHOLE_VALUES | {"-f", "--shell"}, (0, None)),
 }
 # Options that may be given more than once
 REPEATED = {"--boots"}
-# The limits of a dry run: the usual one, and the largest
+# The limits of a dry run: the usual one, None for that of the shell, and the largest
 LIMITS = {
     "--steps": (100_000, 1_000_000),
-    "--depth": (8, 16),
+    "--depth": (None, 16),
     "--word": (4096, 65_536),
     "--output": (1_048_576, 16_777_216),
 }
@@ -53,6 +56,11 @@ NO_NUMBER = b"""error: invalid value '%s' for '%s <N>': not a number from 0 to %
 
 For more information, try '--help'.
 """
+NO_SHELL = b"""error: invalid value '%s' for '--shell <SHELL>'
+  [possible values: board, strict]
+
+For more information, try '--help'.
+"""
 NO_SIZE = b"""error: invalid value '%s' for '--size <N>': not the size of an image in hexadecimal, 0x8 to 0x100000
 
 For more information, try '--help'.
@@ -65,6 +73,10 @@ For more information, try '--help'.
 # What only a board has, in the order in which it is reported
 NOT_WITH_ENV = {"-c": b"-c <FILE>", "--default": b"--default <FILE>", "--need-copy": b"--need-copy", "--write": b"--write"}
 SIZE_ALONE = b"""error: the argument '--size <N>' is only for '--env <FILE>'
+
+For more information, try '--help'.
+"""
+OVERWRITE_ALONE = b"""error: the argument '--overwrite' is only for '--write'
 
 For more information, try '--help'.
 """
@@ -123,11 +135,18 @@ class Call:
     def order(self):
         return "big" if "--big-endian" in self.options else "little"
 
+    def shell(self):
+        """Whose rules count: a session's are the strict shell's unless another is named."""
+        name = self.options.get("--shell", b"strict" if self.tool == "session" else b"board")
+        if name not in SHELLS:
+            raise Wrong(NO_SHELL % name)
+        return SHELLS[name]
+
     def limits(self):
         """The limits on steps, depth, word and output; the first that isn't a number within its limit is a fault."""
-        found = []
+        shell, found = self.shell(), []
         for option, (usual, most) in LIMITS.items():
-            text = self.options.get(option, b"%d" % usual)
+            text = self.options.get(option, b"%d" % (shell.depth if usual is None else usual))
             if not re.fullmatch(rb"[0-9]+", text) or int(text) > most:
                 raise Wrong(NO_NUMBER % (text, option.encode(), most))
             found.append(int(text))
@@ -144,15 +163,26 @@ class Call:
         if self.words or self.options.keys() & {"-c", "--default", "--env", "--size"}:
             raise Wrong(FILE_AND)
 
+    def refuse_overwrite_alone(self):
+        """A dry run that doesn't write has nothing to write over."""
+        if self.tool in ("session", "run") and "--overwrite" in self.options and "--write" not in self.options:
+            raise Wrong(OVERWRITE_ALONE)
+
+    def writes(self):
+        """Whether copies may be written."""
+        return self.tool in ("setenv", "import", "restore") or "--write" in self.options
+
     def size_in_memory(self):
         """The size of the image under an environment that is only a text; None if the copies are a board's."""
         if "--env" not in self.options:
             if "--size" in self.options:
                 raise Wrong(SIZE_ALONE)
+            self.refuse_overwrite_alone()
             return None
         for option, shown in NOT_WITH_ENV.items():
             if option in self.options:
                 raise Wrong(ENV_AND % shown)
+        self.refuse_overwrite_alone()
         text = self.options.get("--size", USUAL_SIZE)
         size = SIZE.fullmatch(text)
         if not size or not 8 <= int(size[1], 16) <= LARGEST:

@@ -86,6 +86,40 @@ def test(words):
     return value
 
 
+# How a board reads a test: at which of the words that are left an operator is looked for, the operator, and how many words it
+# takes. The first line that fits counts.
+AT_FRONT = [(0, b"!", 1), (0, b"-o", 1), (0, b"-a", 1), (0, b"-z", 2), (0, b"-n", 2), (0, b"-e", 4)]
+READ = [(1, operator, 3) for operator in COMPARISONS] + AT_FRONT
+JOINTS = {None: lambda s, t: t, b"-a": lambda s, t: s and t, b"-o": lambda s, t: s or t}
+
+
+def value_read(words, there):
+    """What the words of an operator are worth that is no `!` and no joint."""
+    if words[0] in (b"-z", b"-n") and len(words) == 2:
+        return (words[1] == b"") == (words[0] == b"-z")
+    return there(words[1:]) if len(words) == 4 else COMPARISONS[words[1]](words[0], words[2])
+
+
+def board_test(words, there):
+    """Whether a board takes the words for true; `there` says whether `-e` finds the file of its three words."""
+    if len(words) < 2:
+        return False
+    value, negated, joint, before = False, False, None, False
+    while words:
+        _, operator, size = next((line for line in READ if words[line[0] : line[0] + 1] == [line[1]]), (0, None, 1))
+        if operator is None or len(words) < size:
+            return True
+        taken, words = words[:size], words[size:]
+        if operator == b"!":
+            negated = not negated
+        elif operator in JOINTS:
+            joint, before = operator, value
+        else:
+            value = JOINTS[joint](before, value_read(taken, there) != negated)
+            negated, joint = False, None
+    return value
+
+
 OPERATORS = {
     b"&": lambda a, b: a & b,
     b"|": lambda a, b: a | b,

@@ -9,6 +9,7 @@ from dataclasses import dataclass
 from model.calculations import COMPARISONS
 from model.grammar import parse
 from model.script_run import SENTENCES, line_and_column
+from model.shells import STRICT
 from model.texts import BUILTINS
 from model.variables import PLAIN, TYPES, attributes
 from model.words import Fault
@@ -22,8 +23,10 @@ NO_SCRIPT = b"%s (%s)"
 CARRIAGE_RETURN = b"a carriage return stands in the script"
 NO_TARGET = b"`run %s` names a variable that is not defined"
 NO_COMMAND = b"no builtin and no stand-in is called `%s`"
-NO_OPERATOR = b"`test` has no operator `%s` here, and is false"
-NOT_ASSIGNED = b"`%s` is an environment variable, so it can not be assigned"
+NO_OPERATOR = b"`test` has no operator `%s` here"
+IS_VARIABLE = b"`%s` is an environment variable, "
+# What the strict shell makes of both, and a board of the second
+IS_FALSE, NOT_ASSIGNED, HIDES = b", and is false", b"so it can not be assigned", b"which hides what is assigned"
 NOT_GIVEN = b"`${%s}` names a variable that nothing defines"
 # What other shells have and this one doesn't
 LACKED = {
@@ -57,9 +60,10 @@ class Finding:
 
 @dataclass
 class Known:
-    """The values of the environment, or None if only one script is checked; the stand-ins, or None if there is no file of
+    """The shell; the values of the environment, or None if only one script is checked; the stand-ins, or None if there is no file of
     them; the names that a substitution may have; and those that `run` may."""
 
+    shell: object = STRICT
     values: dict = None
     stand_ins: dict = None
     defined: set = frozenset()
@@ -124,7 +128,7 @@ def literal(word):
 
 def called(command):
     """The name of a simple command, if it is literal."""
-    return literal(command[1][0]) if command[0] == "simple" else None
+    return literal(command[1][0]) if command[0] == "simple" and command[1] else None
 
 
 def targets(command):
@@ -225,7 +229,7 @@ def refused_assignment(command, known):
     """An assignment, or the head of a `for`, that the environment refuses."""
     if command[0] not in ("assign", "for") or known.values is None or command[1] not in known.values:
         return []
-    return [Finding(command[-1], WARNING, NOT_ASSIGNED % command[1])]
+    return [Finding(command[-1], WARNING, IS_VARIABLE % command[1] + (HIDES if known.shell.hides else NOT_ASSIGNED))]
 
 
 def written(word):
@@ -254,12 +258,31 @@ def no_operator(words):
     return None
 
 
-def unknown_operator(command, _known):
-    """A `test` that is false whatever it is to compare."""
+def no_operator_of_board(words):
+    """The same as a board reads the words: a term may follow any other, and `-e` has three words."""
+    rest = list(words)
+    while rest:
+        first, second = literal(rest[0]), rest[1] if rest[1:] else None
+        if first in (b"!", b"-a", b"-o"):
+            if second is not None and literal(second) in COMPARISONS:
+                rest = rest[3:]
+            else:
+                rest = rest[1:]
+        elif first in (b"-n", b"-z", b"-e"):
+            rest = rest[4 if first == b"-e" else 2 :]
+        elif second is None or literal(second) not in COMPARISONS:
+            return written(second) or written(rest[0])
+        else:
+            rest = rest[3:]
+    return None
+
+
+def unknown_operator(command, known):
+    """A word of `test` in the place of an operator; by the strict shell it is false then."""
     if called(command) != b"test":
         return []
-    word = no_operator(command[1][1:])
-    return [] if word is None else [Finding(word.place, ERROR, NO_OPERATOR % literal(word))]
+    word = (no_operator if known.shell is STRICT else no_operator_of_board)(command[1][1:])
+    return [] if word is None else [Finding(word.place, ERROR, NO_OPERATOR % literal(word) + IS_FALSE * (known.shell is STRICT))]
 
 
 def undefined_substitution(command, known):
@@ -276,34 +299,34 @@ KINDS = (lacked_command, unknown_command, unknown_operator, undefined_target, re
 # Scripts
 
 
-def tree_of(text):
+def tree_of(text, shell):
     """The tree of a script, or the fault by which a text isn't one."""
     try:
-        return parse(text), None
+        return parse(text, shell), None
     except Fault as fault:
         return None, fault
 
 
 def findings(text, known):
     found = carriage_return(text)
-    tree, fault = tree_of(text)
+    tree, fault = tree_of(text, known.shell)
     if fault:
         return found + no_script(fault)
     return found + [each for command in commands(tree) for kind in KINDS for each in kind(command, known)]
 
 
-def of_script(name, text, stand_ins):
+def of_script(shell, name, text, stand_ins):
     """One script of a file."""
     report = Report()
-    report.add(name, text, findings(text, Known(None, stand_ins)))
+    report.add(name, text, findings(text, Known(shell, None, stand_ins)))
     return report
 
 
-def visited(values, names):
+def visited(shell, values, names):
     """The variables that are checked, each once: those that are named, and after them those that each of them starts."""
     found = list(dict.fromkeys(name for name in names if name in values))
     for name in found:
-        tree, _ = tree_of(values[name])
+        tree, _ = tree_of(values[name], shell)
         for command in commands(tree or []):
             for _, target in targets(command):
                 if target in values and target not in found:
@@ -311,9 +334,9 @@ def visited(values, names):
     return found
 
 
-def names_by(kind, scripts, values):
+def names_by(kind, shell, scripts, values):
     """The names that are given or foreseen by the commands of these variables; what isn't a script has none."""
-    return {name for script in scripts for command in commands(tree_of(values[script])[0] or []) for name in kind(command)}
+    return {name for script in scripts for command in commands(tree_of(values[script], shell)[0] or []) for name in kind(command)}
 
 
 def not_typed(values):
@@ -322,15 +345,15 @@ def not_typed(values):
     return [name for name, value in sorted(values.items()) if not TYPES[given.get(name, PLAIN)[0]].fullmatch(value)]
 
 
-def of_environment(values, stand_ins, names):
+def of_environment(shell, values, stand_ins, names):
     """The scripts that are named, and those that they start; then the types of all variables."""
     report = Report()
     for name in names:
         if name not in values:
             report.add_line(NOT_DEFINED % name, True)
-    scripts = visited(values, names or STARTED)
-    defined = values.keys() | names_by(given, scripts, values) | SET_BY_UBOOT
-    known = Known(values, stand_ins, defined, values.keys() | names_by(foreseen, scripts, values))
+    scripts = visited(shell, values, names or STARTED)
+    defined = values.keys() | names_by(given, shell, scripts, values) | SET_BY_UBOOT
+    known = Known(shell, values, stand_ins, defined, values.keys() | names_by(foreseen, shell, scripts, values))
     for name in scripts:
         report.add(name, values[name], findings(values[name], known))
     for name in not_typed(values):

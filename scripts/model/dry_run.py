@@ -4,6 +4,7 @@ import re
 
 from model.grammar import parse
 from model.script import run
+from model.shells import STRICT
 from model.words import Fault
 
 NAMED = re.compile(rb"\.(mark|undo)[ \t]+([^ \t]{1,32})")
@@ -28,9 +29,10 @@ def items_of(text, is_whole):
 
 
 class DryRun:
-    """A dry run over a session; `names` are those of its marks."""
+    """A dry run over a session by a shell; `names` are those of its marks."""
 
-    def __init__(self, session, stand_ins, limits):
+    def __init__(self, session, stand_ins, limits, shell=STRICT):
+        self.shell = shell
         self.session = session
         self.stand_ins = stand_ins
         self.limits = limits
@@ -45,10 +47,10 @@ class DryRun:
         if item[:1] == b".":
             return self.obey(item.removesuffix(b"\n").rstrip(b" \t\r"))
         try:
-            tree = parse(item)
+            tree = parse(item, self.shell)
         except Fault:
             return b"[Syntax]\n"
-        outcome = run(self.session, tree, self.stand_ins, self.limits)
+        outcome = run(self.session, tree, self.stand_ins, self.limits, shell=self.shell)
         return outcome.text + b"[%s %d %d]\n" % (outcome.ending.encode(), outcome.status, outcome.steps)
 
     def obey(self, line):

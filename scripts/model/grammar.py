@@ -7,15 +7,20 @@ of the name.
 
 import functools
 
+from model.shells import STRICT
 from model.words import NAME, Fault, Lexer, Word
 
 RESERVED = {b"if", b"then", b"elif", b"else", b"fi", b"for", b"while", b"until", b"do", b"done"}
+ENDS = RESERVED - {b"if", b"for", b"while", b"until"}
 NESTING = 64
 
 
 class Parser:
-    def __init__(self, text):
+    """The parser of a text for a shell. A body without a command is a simple command without words."""
+
+    def __init__(self, text, shell):
         self.lexer = Lexer(text)
+        self.shell = shell
         self.token = None
         self.nesting = 0
 
@@ -67,10 +72,17 @@ class Parser:
             chains.append(self.chain())
             if self.separators() == 0:
                 self.refuse()
-            if self.keyword() in RESERVED - {b"if", b"for", b"while", b"until"}:
+            if self.keyword() in ENDS:
                 return chains
             if self.peek().kind == "end":
                 self.refuse()
+
+    def body(self):
+        """A list, which a shell may take without a command."""
+        self.separators()
+        if self.shell.has_empty_bodies and self.keyword() in ENDS:
+            return [[(None, ("simple", []))]]
+        return self.inner()
 
     def chain(self):
         links = [(None, self.command())]
@@ -120,7 +132,7 @@ class Parser:
         else:
             condition = self.inner()
             self.expect(b"do")
-            body = self.inner()
+            body = self.body()
             self.expect(b"done")
             command = (keyword.decode(), condition, body)
         self.nesting -= 1
@@ -132,13 +144,13 @@ class Parser:
         while True:
             condition = self.inner()
             self.expect(b"then")
-            branches.append((condition, self.inner()))
+            branches.append((condition, self.body()))
             if self.keyword() != b"elif":
                 break
             self.take()
         if self.keyword() == b"else":
             self.take()
-            otherwise = self.inner()
+            otherwise = self.body()
         self.expect(b"fi")
         return ("if", branches, otherwise)
 
@@ -152,11 +164,11 @@ class Parser:
         if self.separators() == 0:
             self.refuse()
         self.expect(b"do")
-        body = self.inner()
+        body = self.body()
         self.expect(b"done")
         return ("for", name, words, body, place)
 
 
 @functools.lru_cache(maxsize=10_000)
-def parse(text):
-    return Parser(text).script()
+def parse(text, shell=STRICT):
+    return Parser(text, shell).script()

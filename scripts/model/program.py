@@ -27,6 +27,12 @@ CHANGED = b"another program changed it"
 # The subcommands that report it
 EXPLAINING = {"status", "run", "check", "restore"}
 TOO_SHORT = b"fwenv: %s is too short\n"
+IS_YAML = b"fwenv: %s is YAML: fwenv reads lines of DEVICE OFFSET SIZE\n"
+IS_UBI_VOLUME = b"fwenv: %s is a UBI volume by its name: fwenv reads files and block devices\n"
+NOT_A_STAND_IN = b"""error: invalid value '%s' for '--boots <NAME>': no stand-in has this name
+
+For more information, try '--help'.
+"""
 OVERLAP = b"fwenv: copies overlap\n"
 NO_GOOD_COPY = b"fwenv: no good copy: "
 LOOK_AT = b"; look at the size and the number of lines in the configuration, and at the byte order (--big-endian)\n"
@@ -36,12 +42,24 @@ BAD_IMAGE = b"## Error: bad image: %s\n"
 ONE_NAME = b"## Error: -n takes exactly one name\n"
 REFUSED_LINE = b"%s in line %d\n"
 REFUSED_ENTRIES = b"## Error: %d entries refused\n"
+NO_ENTRY = b"## Error: the text has no entry, and nothing is restored\n"
+OTHER_DATA = b"Warning: the %s copy is written over data that is no environment\n"
 NO_EXPORT = b'## Error: can\'t export "%s"\n'
+
+
+def waiting_for(path):
+    """The line about a lock that is waited for."""
+    return b"fwenv: waiting for %s, which another program has locked\n" % path
 
 
 def explained(line, reason):
     """The line with the reason at its end, if there is one."""
     return line.removesuffix(b"\n") + b": " + reason + b"\n" if reason else line
+
+
+def refused_line(refusal, name, line):
+    """The text of a refusal with the line of its entry."""
+    return REFUSED_LINE % ((REFUSALS[refusal] % name).removesuffix(b"\n"), line)
 
 
 @dataclass
@@ -122,11 +140,15 @@ class Program:
         try:
             return parse(text)
         except TextFault as fault:
+            if fault.text == b"NoCopy" and texts.is_yaml(text):
+                raise Ended(IS_YAML % path)
             raise Ended(REFUSED_TEXT % (path, fault.text))
 
     def device(self, place, size):
         """Where a copy begins, and the bytes of its device from there on."""
         device = self.files.get(place.device)
+        if device is None and place.device.startswith(b"/dev/ubi") and b":" in place.device:
+            raise Ended(IS_UBI_VOLUME % place.device)
         if device is None:
             raise self.unreadable(place.device, NO_SUCH_FILE)
         start = place.start(size, len(device))
@@ -150,7 +172,7 @@ class Program:
         configuration = self.parsed(call.options.get("-c", CONFIG), texts.configuration)
         self.places, size = configuration.places, configuration.size
         read = [self.device(place, size) for place in self.places]
-        self.starts = [start for start, _ in read]
+        self.starts, self.read = [start for start, _ in read], [rest[:size] for _, rest in read]
         if len(read) == 2 and self.places[0].device == self.places[1].device and abs(self.starts[0] - self.starts[1]) < size:
             raise Ended(OVERLAP)
         return configuration.geometry(call.order()), read
@@ -163,16 +185,26 @@ class Program:
             return erased(geometry, self.defaults(call, geometry))
         geometry, read = self.found(call)
         copies = [rest[: geometry.size] for _, rest in read]
-        if geometry.choice(copies)[0] is None:
-            if "--need-copy" in call.options and "--default" not in call.options:
-                raise Ended(NO_GOOD_COPY + report.faults(geometry, copies) + LOOK_AT)
-            self.errors += WARNING
-        return Session(geometry, copies, self.defaults(call, geometry))
+        if geometry.choice(copies)[0] is not None:
+            return Session(geometry, copies, self.defaults(call, geometry))
+        try:
+            defaults = self.defaults(call, geometry)
+        except Ended as fault:
+            raise Ended(WARNING + fault.args[0])
+        line = report.misread(geometry, read) if call.writes() and "--overwrite" not in call.options else None
+        if line:
+            raise Ended(line)
+        if "--need-copy" in call.options and "--default" not in call.options:
+            raise Ended(NO_GOOD_COPY + report.faults(geometry, copies) + LOOK_AT)
+        self.errors += WARNING
+        return Session(geometry, copies, defaults)
 
     def write_back(self, session):
-        """The copies go where they came from; what is around them stays."""
-        for place, start, copy in zip(self.places, self.starts, session.copies):
+        """The copies go where they came from; what is around them stays. A warning comes before one that goes over other data."""
+        for at, (place, start, copy) in enumerate(zip(self.places, self.starts, session.copies)):
             device = self.files[place.device]
+            if copy != device[start : start + len(copy)] and report.is_misplaced(session.geometry, self.read, at):
+                self.errors += OTHER_DATA % (b"first", b"second")[at]
             self.files[place.device] = device[:start] + copy + device[start + len(copy) :]
 
     # The subcommands
@@ -218,18 +250,23 @@ class Program:
     def call_import(self, call):
         session = self.opened(call)
         entries = self.parsed(call.words[0], texts.import_entries)
-        refused = sum(session.environment.write(name, value, False) is not None for _, name, value in entries)
+        refusals = [(session.environment.write(name, value, False), name, line) for line, name, value in entries]
+        lines = [refused_line(*each) for each in refusals if each[0]]
+        if lines:
+            self.say(b"".join(lines) + REFUSED_ENTRIES % len(lines))
         self.saved(session)
-        return self.say(REFUSED_ENTRIES % refused) if refused else 0
+        return int(bool(lines))
 
     def call_restore(self, call):
         session = self.opened(call)
         entries = self.parsed(call.words[0], texts.import_entries)
+        if not entries:
+            return self.say(NO_ENTRY)
         session.environment = Environment(session.geometry.room, (), session.environment.defaults)
         for line, name, value in sorted(entries, key=lambda entry: entry[1] == b".flags"):
             refusal = session.environment.write(name, value, True)
             if refusal:
-                return self.say(REFUSED_LINE % ((REFUSALS[refusal] % name).removesuffix(b"\n"), line))
+                return self.say(refused_line(refusal, name, line))
         return self.saved(session)
 
     def call_status(self, call):
@@ -265,16 +302,19 @@ class Program:
 
     def call_run(self, call):
         call.size_in_memory()
-        limits = call.limits()
+        limits, shell = call.limits(), call.shell()
         call.refuse_scripts()
         session = self.opened(call)
         stand_ins = self.stand_ins(call)
+        for name in call.options.get("--boots", ()):
+            if name not in stand_ins:
+                raise Ended(NOT_A_STAND_IN % name)
         name, text = self.script(call)
         try:
-            tree = parse(text)
+            tree = parse(text, shell)
         except Fault as fault:
             raise Ended(script_run.fault_line(name, text, fault))
-        outcome = run(session, tree, stand_ins, limits, call.options.get("--boots", ()))
+        outcome = run(session, tree, stand_ins, limits, call.options.get("--boots", ()), shell)
         self.output = outcome.text
         if not script_run.is_well(outcome):
             return self.say(script_run.ended(outcome))
@@ -287,20 +327,21 @@ class Program:
         if is_file:
             call.refuse_beside_file()
         call.size_in_memory()
+        shell = call.shell()
         values = None if is_file else self.opened(call).environment.values
         stand_ins = self.stand_ins(call) if "--stubs" in call.options else None
         if is_file:
-            found = check.of_script(*self.script(call), stand_ins)
+            found = check.of_script(shell, *self.script(call), stand_ins)
         else:
-            found = check.of_environment(values, stand_ins, call.words)
+            found = check.of_environment(shell, values, stand_ins, call.words)
         self.output = found.printed()
         return found.status()
 
     def call_session(self, call):
         call.size_in_memory()
-        limits = call.limits()
+        limits, shell = call.limits(), call.shell()
         session = self.opened(call)
-        self.output = DryRun(session, self.stand_ins(call), limits).answer(self.given, not self.fails)
+        self.output = DryRun(session, self.stand_ins(call), limits, shell).answer(self.given, not self.fails)
         if len(self.given) > LONGEST:
             raise Ended(TOO_LONG)
         if self.fails:

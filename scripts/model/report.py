@@ -46,6 +46,24 @@ def hint(found, copies, size, order):
     return b""
 
 
+def misread(geometry, read):
+    """The line that refuses to write over copies, none of which is good: one of them is good in another way, by a hint."""
+    for which, (_, found) in zip((b"first", b"second"), read):
+        _, _, words = hint(found, geometry.copies, geometry.size, geometry.order).partition(b", ")
+        if words.startswith(b"good"):
+            return b"fwenv: nothing is written: the %s copy is %s\n" % (which, words)
+    return None
+
+
+def is_misplaced(geometry, copies, at):
+    """Whether this one of two copies, of which the other is good, may not be a copy: it isn't good, nor erased, and begins with no entry."""
+    copy, *others = copies[at], *copies[:at], *copies[at + 1 :]
+    is_beside = any(geometry.read(other)[0] == "Good" for other in others)
+    is_erased = not copy.strip(b"\xff") or not copy.strip(b"\0")
+    is_entry = re.match(rb"[ -<>-~]+=", copy[geometry.head :])
+    return is_beside and geometry.read(copy)[0] != "Good" and not is_erased and not is_entry
+
+
 def variables_line(geometry, copy):
     variables = geometry.read(copy)[1]
     used = sum(len(name) + len(value) + 2 for name, value in variables.items()) + 1

@@ -2,8 +2,9 @@
 
 from dataclasses import dataclass
 
-from model.calculations import setexpr, status_of_digits, test
+from model.calculations import setexpr, status_of_digits
 from model.grammar import parse
+from model.shells import STRICT
 from model.texts import BUILTINS
 from model.variables import NOT_DEFINED, REFUSALS
 from model.words import Fault
@@ -13,6 +14,10 @@ SPLITS = b" \t\n"
 
 class Stop(Exception):
     """The run ends here."""
+
+
+class Leave(Exception):
+    """The text ends here that `run` started."""
 
 
 IS_VARIABLE = b'## Error: "%s" is an environment variable\n'
@@ -33,6 +38,11 @@ class Outcome:
     place: bytes | None = None  # the variable in whose text that was
 
 
+def is_substituted(parts):
+    """Whether a word has a substitution."""
+    return any(part[0] in ("name", "status") for part in parts)
+
+
 def option_of(words, option):
     """Whether the words begin with an option, and those after it."""
     given = words[:1] == [option]
@@ -40,9 +50,10 @@ def option_of(words, option):
 
 
 class Run:
-    """A run of a script over a session."""
+    """A run of a script over a session, by one of the shells."""
 
-    def __init__(self, session, stand_ins, limits, boots=frozenset()):
+    def __init__(self, session, stand_ins, limits, boots=frozenset(), shell=STRICT):
+        self.shell = shell
         self.session = session
         self.environment = session.environment
         self.stand_ins = stand_ins
@@ -52,6 +63,7 @@ class Run:
         self.status = 0
         self.steps = 0
         self.running = []  # the variables whose texts run, the innermost last
+        self.nesting = 0  # how many compound commands of the innermost text are open
         self.text = b""
 
     def begin(self):
@@ -113,9 +125,14 @@ class Run:
             for operator, command in chain:
                 if operator is None or (operator == "and") == (self.status == 0):
                     self.command(command)
+                elif self.shell.leaves_chain:
+                    break
 
     def command(self, command):
+        is_compound = command[0] not in ("simple", "assign")
+        self.nesting += is_compound
         getattr(self, "command_" + command[0])(*command[1:])
+        self.nesting -= is_compound
 
     def command_if(self, branches, otherwise):
         for condition, body in branches:
@@ -126,7 +143,7 @@ class Run:
         if otherwise is not None:
             self.chains(otherwise)
         else:
-            self.status = 0
+            self.status = self.shell.kept(self.status)
 
     def command_while(self, condition, body, wanted=True):
         last = 0
@@ -136,32 +153,36 @@ class Run:
                 break
             self.chains(body)
             last = self.status
-        self.status = last
+        self.status = self.shell.of_loop(last, self.status)
 
     def command_until(self, condition, body):
         self.command_while(condition, body, False)
 
     def command_for(self, name, words, body, _place):
         self.begin()
-        fields = self.expanded(words)
+        fields = self.shell.listed(self.expanded(words))
         self.done(self.status)
         if not fields:
             self.status = 0
         for each in fields:
             self.begin()
-            if name in self.environment.values:
-                self.done(1, IS_VARIABLE % name)
+            if self.is_refused(name):
                 return
-            self.done(self.status)
+            self.done(self.shell.of_binding(self.status))
             self.locals[name] = each
             self.chains(body)
+
+    def is_refused(self, name):
+        """Whether a name can't be assigned, which then is told."""
+        if self.shell.hides or name not in self.environment.values:
+            return False
+        self.done(1, IS_VARIABLE % name)
+        return True
 
     def command_assign(self, name, parts, _place):
         self.begin()
         value = self.expanded_value(parts)
-        if name in self.environment.values:
-            self.done(1, IS_VARIABLE % name)
-        else:
+        if not self.is_refused(name):
             self.done(0)
             self.locals[name] = value
 
@@ -171,21 +192,23 @@ class Run:
         self.begin()
         fields = self.expanded(words)
         if not fields:
-            self.done(0)
+            self.done(self.shell.kept(self.status))
             return
+        self.is_substituted = any(map(is_substituted, words))
         name, rest = fields[0], fields[1:]
-        if name == b"env":
-            second = rest[0] if rest else None
+        called = self.shell.called(name, self.stand_ins)
+        if called == b"env":
+            second = self.shell.subcommand(rest[0]) if rest else None
             names = {b"set": "setenv", b"print": "printenv", b"save": "saveenv", b"run": "run", b"delete": "delete", b"exists": "exists"}
             if second not in names:
-                self.wrong_use(name)
+                self.wrong_use(called)
             else:
-                getattr(self, names[second])(name, rest[1:])
-        elif name in BUILTINS:
-            getattr(self, name.partition(b".")[0].decode())(name, rest)
-        elif name in self.stand_ins:
-            self.done(self.stand_ins[name], b"+" + b"".join(b" " + each for each in fields) + b"\n")
-            if name in self.boots and self.status == 0:
+                getattr(self, names[second])(called, rest[1:])
+        elif called in BUILTINS:
+            getattr(self, called.partition(b".")[0].decode())(called, rest)
+        elif called in self.stand_ins:
+            self.done(self.stand_ins[called], b"+" + b"".join(b" " + each for each in fields) + b"\n")
+            if called in self.boots and self.status == 0:
                 raise Stop("Exited")
         else:
             self.done(1, UNKNOWN % name)
@@ -206,15 +229,20 @@ class Run:
             self.done(0, b" ".join(words) + b"\n")
 
     def test(self, _name, words):
-        self.done(0 if test(words) else 1)
+        self.done(0 if self.shell.test(words, lambda _: False) else 1)
 
     def exit(self, name, words):
-        status = self.status if not words else status_of_digits(words[0])
+        status = status_of_digits(words[0]) if words else self.shell.of_bare_exit(self.status)
         if len(words) > 1 or status is None:
             self.wrong_use(name)
-        else:
+        elif not self.shell.leaves_text:
             self.done(status)
             raise Stop("Exited")
+        elif self.is_substituted:
+            self.done(status)
+        else:
+            self.done(0 if self.nesting else status)
+            raise Leave
 
     def written(self, name, value, force):
         """A write as a step: its refusal's message, or the write."""
@@ -305,22 +333,34 @@ class Run:
         if len(self.running) == self.max_depth:
             raise Stop("Depth")
         try:
-            tree = parse(self.environment.values[name])
+            tree = parse(self.environment.values[name], self.shell)
         except Fault:
             self.done(1, NO_SCRIPT % name)
             return
-        self.done(0)
+        self.done(self.shell.of_start(self.status, bool(tree)))
         self.running.append(name)
-        self.chains(tree)
+        self.text_of(tree)
         self.running.pop()
 
+    def text_of(self, tree):
+        """Runs a text that was started; an `exit` may leave it."""
+        nesting, self.nesting = self.nesting, 0
+        try:
+            self.chains(tree)
+            self.status = self.shell.of_text(self.status)
+        except Leave:
+            pass
+        self.nesting = nesting
 
-def run(session, tree, stand_ins, limits, boots=frozenset()):
+
+def run(session, tree, stand_ins, limits, boots=frozenset(), shell=STRICT):
     """Runs a tree, and answers its outcome. A stand-in of `boots` ends the run if its status is 0."""
-    made = Run(session, stand_ins, limits, boots)
+    made = Run(session, stand_ins, limits, boots, shell)
     ending = "Finished"
     try:
         made.chains(tree)
     except Stop as stop:
         ending = stop.args[0]
+    except Leave:
+        ending = "Exited"
     return Outcome(ending, made.status, made.steps, made.text, made.running[-1] if made.running else None)

@@ -82,6 +82,11 @@ def accepted_lines(text):
     return found
 
 
+def is_yaml(text):
+    """Whether a configuration in which no line is accepted is YAML."""
+    return any(line.rstrip(b" \t\n\f\r").endswith(b":") and not line.startswith(b"#") for line in text.split(b"\n"))
+
+
 def configuration(text):
     found = accepted_lines(text)
     for place, size in found:

@@ -1,25 +1,28 @@
-"""A board emulated by qemu, which starts U-Boot, and its console.
+"""Boards that start U-Boot, and their consoles: one emulated by qemu, and U-Boot's own sandbox, which is a process.
 
-The board's flash is a file of 64 MiB, which begins with U-Boot's environment; its memory is a file too. A console that doesn't
-answer within twenty seconds is a fault, reported with what it printed last. The board's process ends with the block that started
-it, and with this program, however that ends.
+The emulated board's flash is a file of 64 MiB, which begins with U-Boot's environment; its memory is a file too. A console that
+doesn't answer within a minute is a fault, reported with what it printed last. A board's process ends with the block that
+started it, and with this program, however that ends.
 """
 
 import mmap
 import os
+import re
 import selectors
+import shutil
 import struct
 import subprocess
 import time
 from pathlib import Path
 
 EMULATOR = "qemu-system-aarch64"
-FIRMWARE = Path("/usr/lib/u-boot/qemu_arm64/u-boot.bin")
+# U-Boot of Debian's package u-boot-qemu, and that of a newer Debian (scripts/uboot/newer)
+FIRMWARES = [Path("/usr/lib/u-boot/qemu_arm64/u-boot.bin"), Path("/usr/local/lib/u-boot-newer/qemu_arm64/u-boot.bin")]
 FLASH_ADDRESS = 0x4000000
 FLASH_SIZE = 0x4000000
 ENVIRONMENT_SIZE = 0x40000
 MEMORY_SIZE = 0x8000000
-PATIENCE = 20
+PATIENCE = 60
 PROMPT = b"\n=> "
 MORE = b"\n> "
 AUTOBOOT = b"autoboot:  2 "
@@ -27,6 +30,15 @@ AUTOMATIC = (b"fdtcontroladdr", b"stderr", b"stdin", b"stdout")
 INTERRUPT = b"\x03"
 # Starts a command that is killed when the process $0 ends, or doesn't start it if that has ended already.
 GUARD = ("setpriv", "--pdeathsig", "KILL", "sh", "-c", '[ "$PPID" = "$0" ] && exec "$@"')
+
+
+def firmwares():
+    """The file of each release of U-Boot that is here and can be emulated, "older" or "newer"."""
+    found = {}
+    for path in filter(Path.exists, FIRMWARES if shutil.which(EMULATOR) else []):
+        year = int(re.search(rb"U-Boot (20\d\d)\.", path.read_bytes())[1])
+        found.setdefault("older" if year < 2024 else "newer", path)
+    return found
 
 
 class Silent(Exception):
@@ -37,27 +49,21 @@ def sectors(size):
     return struct.pack("<256Q", *(FLASH_ADDRESS + size * number for number in range(256)))
 
 
-class Board:
-    """`flash` is a file that begins with a stored environment; it is extended to the size of the flash."""
+class Console:
+    """A process that starts U-Boot, with a prompt at its standard input and output."""
 
-    def __init__(self, flash):
-        self.flash = Path(flash)
-        self.memory = self.flash.with_suffix(".memory")
-        for file, size in ((self.flash, FLASH_SIZE), (self.memory, MEMORY_SIZE)):
-            file.touch()
-            os.truncate(file, size)
-        options = "-machine virt,memory-backend=memory -cpu cortex-a57 -display none -nic none -monitor none"
-        console = "-chardev stdio,id=console,signal=off -serial chardev:console"
-        memory = f"memory-backend-file,id=memory,size={MEMORY_SIZE},share=on,mem-path={self.memory}"
-        drive = f"if=pflash,index=1,format=raw,file={self.flash}"
-        machine = [*options.split(), *console.split(), "-m", f"{MEMORY_SIZE >> 20}", "-object", memory, "-drive", drive]
+    def __init__(self, command, folder=None):
+        keys, self.keyboard = os.pipe()
+        os.set_blocking(keys, False)  # the sandbox looks whether a key was pressed by reading
         self.process = subprocess.Popen(
-            [*GUARD, str(os.getpid()), EMULATOR, *machine, "-bios", FIRMWARE],
-            stdin=subprocess.PIPE,
+            [*GUARD, str(os.getpid()), *command],
+            cwd=folder,
+            stdin=keys,
             stdout=subprocess.PIPE,
             stderr=subprocess.STDOUT,
             bufsize=0,
         )
+        os.close(keys)
         os.set_blocking(self.process.stdout.fileno(), False)
         self.selector = selectors.DefaultSelector()
         self.selector.register(self.process.stdout, selectors.EVENT_READ)
@@ -66,19 +72,24 @@ class Board:
     def __enter__(self):
         try:
             self.greeting = self.boot()
-            self.mend_flash()
+            self.begin()
         except BaseException:
             self.__exit__()
             raise
         return self
 
+    def begin(self):
+        """What is to be done before the first line."""
+
     def __exit__(self, *_):
         self.process.kill()
         self.process.wait()
         self.selector.close()
-        self.process.stdin.close()
+        os.close(self.keyboard)
         self.process.stdout.close()
-        self.memory.unlink()
+
+    def press(self, keys):
+        os.write(self.keyboard, keys)
 
     def wait_for(self, *ends):
         """What the console prints up to one of these texts, after which it waits."""
@@ -97,7 +108,7 @@ class Board:
         """What is printed up to the prompt."""
         printed = self.wait_for(AUTOBOOT, PROMPT)
         if printed.endswith(AUTOBOOT):
-            self.process.stdin.write(b" ")
+            self.press(b" ")
             printed += self.wait_for(PROMPT)
         return printed.replace(b"\r\n", b"\n")
 
@@ -106,7 +117,7 @@ class Board:
 
         The prompt is recognised by the newline before it, so what a script prints has to end with one.
         """
-        self.process.stdin.write(line + b"\r")
+        self.press(line + b"\r")
         printed = self.wait_for(PROMPT, MORE)
         end = PROMPT if printed.endswith(PROMPT) else MORE
         printed = printed.removeprefix(line).removesuffix(end[1:])
@@ -121,7 +132,7 @@ class Board:
 
     def interrupt(self):
         """Leaves a script that isn't whole."""
-        self.process.stdin.write(INTERRUPT)
+        self.press(INTERRUPT)
         self.wait_for(PROMPT)
 
     def status(self):
@@ -147,6 +158,30 @@ class Board:
         """All variables but those that U-Boot adds when it starts."""
         return {name: value for name, value in self.variables().items() if name not in AUTOMATIC}
 
+
+class Board(Console):
+    """`flash` is a file that begins with a stored environment; it is extended to the size of the flash."""
+
+    def __init__(self, flash, firmware):
+        self.flash = Path(flash)
+        self.memory = self.flash.with_suffix(".memory")
+        for file, size in ((self.flash, FLASH_SIZE), (self.memory, MEMORY_SIZE)):
+            file.touch()
+            os.truncate(file, size)
+        options = "-machine virt,memory-backend=memory -cpu cortex-a57 -display none -nic none -monitor none"
+        console = "-chardev stdio,id=console,signal=off -serial chardev:console"
+        memory = f"memory-backend-file,id=memory,size={MEMORY_SIZE},share=on,mem-path={self.memory}"
+        drive = f"if=pflash,index=1,format=raw,file={self.flash}"
+        machine = [*options.split(), *console.split(), "-m", f"{MEMORY_SIZE >> 20}", "-object", memory, "-drive", drive]
+        super().__init__([EMULATOR, *machine, "-bios", firmware])
+
+    def begin(self):
+        self.mend_flash()
+
+    def __exit__(self, *_):
+        super().__exit__()
+        self.memory.unlink()
+
     def mend_flash(self):
         """Makes `saveenv` work over the flash that Debian 12's qemu emulates.
 
@@ -163,3 +198,10 @@ class Board:
         """The image that is stored in the flash."""
         with open(self.flash, "rb") as flash:
             return flash.read(ENVIRONMENT_SIZE)
+
+
+class Sandbox(Console):
+    """U-Boot built as a program of this machine (`make sandbox_defconfig`), over its default environment."""
+
+    def __init__(self, program, folder):
+        super().__init__([program], folder)

@@ -8,8 +8,7 @@ before it have saved, and an undo goes back to what was saved then. What `saveen
 import re
 from dataclasses import dataclass
 
-from board import Board
-from dry_run import ANSWER, Copy, answer_of
+from dry_run import ANSWER, answer_of
 from differential.rows import boards, examples
 from model.texts import stand_ins
 
@@ -75,7 +74,7 @@ def on_board(case, copy):
             stored = marks[name] if name else opening
         else:
             copy.image.write_bytes(stored)
-            with Board(copy.image) as board:
+            with copy.board() as board:
                 answer = SAVED.sub(b"Saved copy 1\n", typed(board, case.for_board(step)))
                 left = board.own_variables()
                 stored = board.stored()
@@ -97,9 +96,9 @@ def in_dry_run(case, copy):
         yield answer_of(match[1], match[2]), left
 
 
-def answers_of(case, program, folder):
+def answers_of(case, pair):
     """What both answer to all blocks, and the lines of their variables that the other one lacks."""
-    copy = Copy(program, folder / f"{case.name.replace('/', '-')}.flash")
+    copy = pair.copy(case.name)
     board, dry_run = [], []
     for (one, one_left), (other, other_left) in zip(on_board(case, copy), in_dry_run(case, copy), strict=True):
         one_lines, other_lines = one_left.splitlines(), other_left.splitlines()

@@ -1,12 +1,16 @@
-"""Compares fwenv with U-Boot itself: scripts in a dry run and at its prompt, and stored environments both ways.
+"""Compares fwenv with U-Boot itself: scripts in a dry run by a board's shell and at its prompt, and stored environments both ways.
 
     compare.py PROGRAM                compares; the last line is 'N passed, M failed'
     compare.py PROGRAM --only TEXT    only the rows, scripts and environments whose name has this text
+    compare.py PROGRAM --random N     only N scripts at random, by another seed than usual
     compare.py --classes              only the classes of docs/differences.md and those that the rows name
+    compare.py --releases             which releases of U-Boot can be compared with
 
-U-Boot is that of Debian's package u-boot-qemu; qemu-system-aarch64 has to be installed.
+U-Boot is that of Debian's package u-boot-qemu and, if `scripts/uboot/newer` was run, a newer one; qemu-system-aarch64 has to be
+installed. A name ends with the release.
 """
 
+import functools
 import os
 import re
 import subprocess
@@ -15,21 +19,24 @@ import tempfile
 from concurrent.futures import ThreadPoolExecutor
 from pathlib import Path
 
-from board import Board, Silent
+from at_prompt import faults_of_random
+from board import Silent, firmwares
 from cases import answers_of, cases, typed
 from counted import check, end
-from dry_run import ANSWER, TOP, Copy, answer_of
+from dry_run import ANSWER, TOP, Pair, answer_of
 from images import COUNT, MANY, answers_to_many, answers_to_row, faults_of_environment
 from rows import Row, fault_of, read_rows
 
 HERE = Path(__file__).resolve().parent
 FAULTS = (Silent, ValueError, OSError, subprocess.SubprocessError)
 DOCUMENT = TOP / "docs" / "differences.md"
+# Scripts and tests at random with each release
+SCRIPTS, TESTS, CHUNK, SEED = 1000, 500, 100, 2025
 
 
-def typed_on_one_board(rows, flash):
+def typed_on_one_board(rows, copy):
     """The default environment, and then the answers of rows, up to one to which the console doesn't answer."""
-    with Board(flash) as board:
+    with copy.board() as board:
         yield board.variables()
         for row in rows:
             try:
@@ -40,12 +47,12 @@ def typed_on_one_board(rows, flash):
                 return
 
 
-def with_default_environment(rows, program, folder):
+def with_default_environment(rows, pair):
     """The answers of rows without variables: one boot and one session for all of them."""
-    copy = Copy(program, folder / "rows.flash")
+    copy = pair.copy("rows")
     found = []
     while len(found) < len(rows):
-        default, *more = typed_on_one_board(rows[len(found) :], copy.image)
+        default, *more = typed_on_one_board(rows[len(found) :], copy)
         found += more
     text = b"".join(b"\n".join(row.script) + b"\n.undo\n" for row in rows)
     output = copy.session(text, default=default)
@@ -53,13 +60,13 @@ def with_default_environment(rows, program, folder):
     return list(zip(found, dry, strict=True))
 
 
-def with_variables(row, program, folder):
+def with_variables(row, pair):
     """The answers of a row with variables: a boot and a session of its own."""
-    copy = Copy(program, folder / f"{row.place.replace(' ', '-')}.flash")
+    copy = pair.copy(row.place)
     copy.store(row.variables)
     script = b"\n".join(row.script)
     match = ANSWER.fullmatch(copy.session(script + b"\n"))
-    with Board(copy.image) as board:
+    with copy.board() as board:
         return typed(board, script), answer_of(match[1], match[2])
 
 
@@ -68,14 +75,15 @@ def take(name, fault):
     check(name, fault is None, fault)
 
 
-def take_row(row, answers):
+def take_row(row, release, answers):
     """Takes a comparison, whose two answers `answers` gives or has a fault in their place."""
+    name = f"{row.name} ({release})"
     try:
         board, dry_run = answers()
     except FAULTS as fault:
-        take(row.name, f"{type(fault).__name__}: {fault}")
+        take(name, f"{type(fault).__name__}: {fault}")
     else:
-        take(row.name, fault_of(row, board, dry_run))
+        take(name, fault_of(row, release, board, dry_run))
 
 
 def documented_classes():
@@ -95,47 +103,74 @@ def compare_classes(rows):
             take(name, None)
 
 
-def work_on_scripts(rows, program, folder):
+def work_on_scripts(rows, pair):
     """The comparisons of scripts: rows, each with what gives its two answers."""
     known = {row.case: row for row in rows if row.case}
     for row in rows:
         if row.variables:
-            yield row, lambda row=row: with_variables(row, program, folder)
+            yield row, functools.partial(with_variables, row, pair)
     for case in cases():
-        row = known.pop(case.name, Row(case.name))
-        yield row, lambda case=case: answers_of(case, program, folder)
+        yield known.pop(case.name, Row(case.name)), functools.partial(answers_of, case, pair)
     for row in known.values():
         yield row, lambda row=row: (b"no case has this name", row.case.encode())
 
 
-def work_on_images(rows, program, folder):
+def work_on_images(rows, pair):
     for row in rows:
         if row.area is not None:
-            yield row, lambda row=row: answers_to_row(row, program, folder)
-    yield MANY, lambda: answers_to_many(program, folder)
+            yield row, functools.partial(answers_to_row, row, pair)
+    yield MANY, functools.partial(answers_to_many, pair)
     for number in range(COUNT):
-        yield Row(f"environment {number}"), lambda number=number: (faults_of_environment(number, program, folder), b"")
+        yield Row(f"environment {number}"), lambda number=number: (faults_of_environment(number, pair), b"")
 
 
-def compare(rows, only, program, folder, pool):
+def work_at_random(pair, seed, scripts, tests):
+    """The comparisons of scripts and of tests at random, in chunks: each has names with faults."""
+    for kind, count in (("script", scripts), ("test", tests)):
+        for first in range(0, count, CHUNK):
+            yield functools.partial(faults_of_random, kind, seed, range(first, min(first + CHUNK, count)), pair)
+
+
+def compare(rows, only, pair, pool):
     """Runs the comparisons that have the text `only` in their names, several at once."""
     plain = [row for row in rows if row.script and not row.variables and only in row.name]
-    plain_answers = pool.submit(with_default_environment, plain, program, folder)
-    work = [*work_on_scripts(rows, program, folder), *work_on_images(rows, program, folder)]
+    plain_answers = pool.submit(with_default_environment, plain, pair)
+    work = [*work_on_scripts(rows, pair), *work_on_images(rows, pair)]
     work = [(row, pool.submit(answers)) for row, answers in work if only in row.name]
+    at_random = [] if only else [pool.submit(faults) for faults in work_at_random(pair, SEED, SCRIPTS, TESTS)]
     for index, row in enumerate(plain):
-        take_row(row, lambda: plain_answers.result()[index])
+        take_row(row, pair.release, lambda: plain_answers.result()[index])
     for row, answers in work:
-        take_row(row, answers.result)
+        take_row(row, pair.release, answers.result)
+    take_random(at_random)
+
+
+def take_random(found):
+    for faults in found:
+        try:
+            answers = faults.result()
+        except FAULTS as fault:
+            answers = [("scripts at random", f"{type(fault).__name__}: {fault}")]
+        for name, fault in answers:
+            take(name, fault)
 
 
 def main(arguments):
+    if "--releases" in arguments:
+        return print(*firmwares())
     rows = [row for path in sorted(HERE.glob("*.rows")) for row in read_rows(path)]
-    only = arguments[arguments.index("--only") + 1] if "--only" in arguments else ""
-    compare_classes([*rows, MANY])
+    value_of = dict(zip(arguments, arguments[1:]))
+    if "--random" not in arguments:
+        compare_classes([*rows, MANY])
     if "--classes" not in arguments:
         with tempfile.TemporaryDirectory() as folder, ThreadPoolExecutor(os.cpu_count()) as pool:
-            compare(rows, only, arguments[0], Path(folder), pool)
+            for release, firmware in firmwares().items():
+                pair = Pair(arguments[0], release, firmware, Path(folder))
+                if "--random" in arguments:
+                    count = int(value_of["--random"])
+                    take_random([pool.submit(faults) for faults in work_at_random(pair, os.getpid(), count, count // 2)])
+                else:
+                    compare(rows, value_of.get("--only", ""), pair, pool)
     end()
 
 

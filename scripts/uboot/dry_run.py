@@ -3,9 +3,10 @@
 import re
 import subprocess
 import sys
+from dataclasses import dataclass
 from pathlib import Path
 
-from board import ENVIRONMENT_SIZE
+from board import ENVIRONMENT_SIZE, Board
 
 TOP = Path(__file__).resolve().parents[2]
 sys.path.insert(0, str(TOP / "scripts"))
@@ -14,16 +15,32 @@ from differential.boards import text_of  # noqa: E402
 ANSWER = re.compile(rb"(.*?)\[(Syntax|Memory|[A-Z][a-z]+ \d+ \d+)\]\n", re.DOTALL)
 
 
-class Copy:
-    """A single stored copy in a file, and the program over it."""
+@dataclass
+class Pair:
+    """What is compared: the program and a board with a release of U-Boot, whose files are in a folder."""
 
-    def __init__(self, program, image):
-        self.program = program
-        self.image = Path(image)
+    program: str
+    release: str
+    firmware: Path
+    folder: Path
+
+    def copy(self, name):
+        return Copy(self, self.folder / f"{name}-{self.release}.flash".replace(" ", "-").replace("/", "-"))
+
+
+class Copy:
+    """A single stored copy in a file, with the program and the board over it."""
+
+    def __init__(self, pair, image):
+        self.program, self.firmware = pair.program, pair.firmware
+        self.image = image
         self.config = self.image.with_suffix(".config")
         self.config.write_text(f"{self.image} 0 {ENVIRONMENT_SIZE:#x}\n")
         self.text = self.image.with_suffix(".text")
         self.stubs = self.image.with_suffix(".stubs")
+
+    def board(self):
+        return Board(self.image, self.firmware)
 
     def run(self, subcommand, *words, **streams):
         command = [self.program, subcommand, "-c", self.config, *words]
@@ -38,9 +55,9 @@ class Copy:
             raise ValueError(f"fwenv import: status {done.returncode}, {done.stderr!r}")
 
     def session(self, text, stubs=b"", default=None):
-        """What a session prints."""
+        """What a session of a board's shell prints."""
         self.stubs.write_bytes(stubs)
-        words = ["--stubs", self.stubs]
+        words = ["--shell", "board", "--stubs", self.stubs]
         if default is not None:
             self.image.write_bytes(bytes(ENVIRONMENT_SIZE))
             self.text.write_bytes(text_of(default))

@@ -10,10 +10,9 @@ import re
 import struct
 import zlib
 
-from board import ENVIRONMENT_SIZE, Board
-from dry_run import Copy
+from board import ENVIRONMENT_SIZE
 from differential.boards import lines_of
-from rows import Row
+from rows import Difference, Row
 
 COUNT = 20
 SEED = 2023
@@ -61,7 +60,7 @@ def faults_of_refusal(copy):
     shown = copy.run("printenv")
     if shown.stdout or b"Bad CRC" not in shown.stderr:
         yield f"fwenv takes it: {shown.stdout[:200]!r}, {shown.stderr!r}"
-    with Board(copy.image) as board:
+    with copy.board() as board:
         if b"bad CRC, using default environment" not in board.greeting:
             yield f"the board takes it: {board.greeting!r}"
 
@@ -71,12 +70,12 @@ def first_difference(one, other):
     return f"{len(names)} differ, first {names[0]!r}: {one.get(names[0])!r}, {other.get(names[0])!r}" if names else "none"
 
 
-def both_ways(number, program, folder):
+def both_ways(number, pair):
     """Faults of an environment on its way to the board and back."""
     numbers = random.Random(f"{SEED} {number}")
     with_backslashes = number % 2 == 1
     variables = environment(numbers, VARIABLES[number % len(VARIABLES)], with_backslashes)
-    copy = Copy(program, folder / f"image-{number}.flash")
+    copy = pair.copy(f"image-{number}")
     copy.store(variables)
     image = copy.image.read_bytes()
     expected = {name: loaded(value) for name, value in variables.items()}
@@ -86,7 +85,7 @@ def both_ways(number, program, folder):
     for fault in faults_of_refusal(copy):
         yield f"with a bit turned: {fault}"
     copy.image.write_bytes(image)
-    with Board(copy.image) as board:
+    with copy.board() as board:
         found = board.own_variables()
         if found != expected:
             yield f"to the board: {first_difference(found, expected)}"
@@ -100,8 +99,8 @@ def both_ways(number, program, folder):
         yield f"back from the board: {shown.stdout!r}, {shown.stderr!r}, {left!r}"
 
 
-def faults_of_environment(number, program, folder):
-    return "; ".join(both_ways(number, program, folder)).encode()
+def faults_of_environment(number, pair):
+    return "; ".join(both_ways(number, pair)).encode()
 
 
 def image_of(area, fill=b"\0"):
@@ -109,26 +108,25 @@ def image_of(area, fill=b"\0"):
     return struct.pack("<I", zlib.crc32(area)) + area
 
 
-def answers_to_image(image, program, path):
+def answers_to_image(image, copy):
     """The variables that the board and fwenv find in an image, as lines, or that they use the default environment."""
-    copy = Copy(program, path)
     copy.image.write_bytes(image)
     shown = copy.run("printenv")
     dry_run = DEFAULT if b"using default environment" in shown.stderr else shown.stdout.rstrip(b"\n")
-    with Board(copy.image) as board:
+    with copy.board() as board:
         is_default = b"using default environment" in board.greeting
         return DEFAULT if is_default else lines_of(board.own_variables()).rstrip(b"\n"), dry_run
 
 
-def answers_to_row(row, program, folder):
+def answers_to_row(row, pair):
     area = row.area.decode().encode("latin-1").decode("unicode_escape").encode("latin-1")
-    return answers_to_image(image_of(area, row.fill or b"\0"), program, folder / f"{row.place.replace(' ', '-')}.flash")
+    return answers_to_image(image_of(area, row.fill or b"\0"), pair.copy(row.place))
 
 
-def answers_to_many(program, folder):
+def answers_to_many(pair):
     """How many of 600 variables the board and fwenv find."""
     image = image_of(b"".join(b"v%03d=%d\0" % (number, number) for number in range(600)))
-    return tuple(b"[%d]" % len(found.splitlines()) for found in answers_to_image(image, program, folder / "many.flash"))
+    return tuple(b"[%d]" % len(found.splitlines()) for found in answers_to_image(image, pair.copy("many")))
 
 
-MANY = Row("an image of 600 variables", classes=["many-variables"], board=[b"[5..]"], dry_run=[b"[600]"])
+MANY = Row("an image of 600 variables", differences=[Difference("", ["many-variables"], [b"[5..]"], [b"[600]"])])
