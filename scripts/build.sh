@@ -1,8 +1,10 @@
-# What scripts/fwenv and scripts/install share; they read it with `source`, with top set to the repository.
-# Sets program, the built program's path, and static_program, that of the one that link_static makes.
+# What scripts/fwenv, scripts/build and scripts/install share; they read it with `source`, with top set to the repository.
+# Sets program, the path of the program that is proved, static_program, that of the one that link_static makes of it, and trial_program,
+# that of the one that make_trial compiles.
 # shellcheck shell=bash
 program=$top/crates/fwenv/out/fwenv
 static_program=$top/crates/fwenv/out/fwenv-static
+trial_program=$top/crates/fwenv/out/trial/fwenv
 
 # crates_of_program: the crates of this repository that the program uses, each after those below it, in $crates.
 crates_of_program() {
@@ -25,17 +27,33 @@ add_crate() {
     crates+=("$1")
 }
 
-# is_current: whether the program is there and no source of its crates is newer.
+# is_current PROGRAM: whether a program is there and no source of its crates is newer.
 is_current() {
     local crate sources=("$top/crates.txt" "$top/HANDLES") folder
-    [ -x "$program" ] || return 1
+    [ -x "$1" ] || return 1
     crates_of_program
     for crate in "${crates[@]}"; do
         for folder in src specs proofs; do
             if [ -d "$top/crates/$crate/$folder" ]; then sources+=("$top/crates/$crate/$folder"); fi
         done
     done
-    [ -z "$(find "${sources[@]}" -newer "$program" -print -quit)" ]
+    [ -z "$(find "${sources[@]}" -newer "$1" -print -quit)" ]
+}
+
+# has_toolchain: whether the toolchain is there; says so if it isn't.
+has_toolchain() {
+    command -v rt >/dev/null || ! echo "the toolchain's command rt is not on PATH" >&2
+}
+
+# make_trial: compiles the program without proving it. Of two at once the second waits, and runs what the first has made.
+make_trial() {
+    has_toolchain && mkdir -p "${trial_program%/*}" || return 1
+    (
+        flock 9
+        is_current "$trial_program" && exit
+        echo 'fwenv: compiling a trial build of these sources, which takes a minute or two' >&2
+        python3 -B "$top/scripts/unproved.py" "$top" "$trial_program" 9>&-
+    ) 9>"$trial_program.lock"
 }
 
 # say LINE: a line on standard error, on a terminal in the place of the one that tells the progress.
@@ -105,7 +123,7 @@ make_program() {
         # a program that an earlier run kept comes without its object file, which link_static needs: one of another source is built
         echo '// built once more' >>"$1/crates/fwenv/src/main.rt" && prove "$1" || return 1
     fi
-    cp "$made.o" "$program.o.$$" && cp "$made" "$program.$$" && touch -r "$1/HANDLES" "$program.$$" &&
+    cp "$made.o" "$program.o.$$" && cp "$made" "$program.$$" && touch -r "$1/HANDLES" "$program.$$" && rm -f "$static_program" &&
         mv "$program.o.$$" "$program.o" && mv "$program.$$" "$program"
 }
 
@@ -113,8 +131,8 @@ make_program() {
 # of Ctrl-C; rt ends all that it has started.
 end_build() {
     if [ -n "$prover" ]; then
-        kill "$prover"
-        wait "$prover"
+        kill "$prover" || true
+        wait "$prover" || true
     fi
     rm -rf "$room" "$program.o.$$" "$program.$$"
 } 2>/dev/null
@@ -122,10 +140,7 @@ end_build() {
 # build: proves the program's crates and builds the program, both in a folder of its own that holds these crates alone.
 build() {
     local room prover='' status=1 log=$top/crates/fwenv/out/build.log
-    if ! command -v rt >/dev/null; then
-        echo "the toolchain's command rt is not on PATH" >&2
-        return 1
-    fi
+    has_toolchain || return 1
     echo 'fwenv is missing or older than its sources: proving and building it takes up to half an hour the first time' >&2
     room=$(mktemp -d "${TMPDIR:-/var/tmp}/fwenv-build.XXXXXX") || return 1
     trap 'end_build; exit 130' INT TERM HUP
@@ -142,9 +157,9 @@ build() {
 
 # link_static: links the built program once more, in one piece with the C library, as $static_program: it runs on any Linux of this
 # processor and starts sooner; with code and read-only data in one segment it touches fewer pages. It fails if there is no C library to
-# link like that.
+# link like that, or no object file, as for a program that the gate took from an earlier run.
 link_static() {
     local kit made=$static_program.$$
     if [ "$static_program" -nt "$program" ]; then return; fi
-    kit=$(dirname "$(rt doc)") && "${CC:-cc}" -static -Wl,-z,noseparate-code -o "$made" "$program.o" "$kit"/c/lib{libc,os}_c.a && mv "$made" "$static_program"
+    [ -e "$program.o" ] && kit=$(dirname "$(rt doc)") && "${CC:-cc}" -static -Wl,-z,noseparate-code -o "$made" "$program.o" "$kit"/c/lib{libc,os}_c.a && mv "$made" "$static_program"
 } 2>/dev/null
