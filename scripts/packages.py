@@ -2,42 +2,49 @@
 
 What needs a tool that isn't installed is reported as not tried. The last line is 'N passed, M failed'."""
 
+import fcntl
 import filecmp
 import os
 import pathlib
 import pty
 import re
 import select
-import shutil
-import subprocess
+import struct
 import sys
 import time
+import zlib
 
 from counted import check, end
+from packaged import Root, has, run, same
 
 TOP = pathlib.Path(__file__).resolve().parent.parent
 IMAGE = b"\xd2\x96\x62\x2ba=b\0\0"
-
-def same(name, found, wanted):
-    check(name, found == wanted, f"{found!r} and not {wanted!r}")
-
-
-def run(*words, given=b"", **more):
-    return subprocess.run([*map(str, words)], input=given, capture_output=True, **more)
-
-
-def has(tool):
-    if shutil.which(tool):
-        return True
-    print(f"NOT TRIED: what needs {tool}: it is not installed")
-    return False
+# Names that a shell would do something with, as bash and zsh quote them and as fish offers them; the last may not be taken for an option
+HOSTILE = [
+    ("$(touch made)", r"\$\(touch\ made\)"),
+    ("$(touch${IFS}made)", r"\$\(touch\$\{IFS\}made\)"),
+    ("`touch made`", r"\`touch\ made\`"),
+    (";touch made", r"\;touch\ made"),
+    ("&touch made&", r"\&touch\ made\&"),
+    ("two words", r"two\ words"),
+    ("it's", r"it\'s"),
+    ('a "quote"', r"a\ \"quote\""),
+    ("*", r"\*"),
+    ("~", r"\~"),
+    ("$HOME", r"\$HOME"),
+]
+AS_OPTIONS = ["-n", "--help", "-c copy"]
+# What scripts/package says without a cross compiler
+NONE_FOR_ARM = (
+    b"scripts/package: nothing is made for 64-bit ARM: it needs aarch64-linux-gnu-gcc (Debian: gcc-aarch64-linux-gnu libc6-dev-arm64-cross)\n"
+)
 
 
 def made(folder):
-    """The packages in a folder, by the kind of each."""
+    """The packages in a folder, and whether it was said that there are none for 64-bit ARM."""
     found = run(TOP / "scripts/package", folder)
     check("scripts/package", found.returncode == 0, found.stderr[-500:])
-    return [pathlib.Path(line) for line in found.stdout.decode().splitlines()]
+    return [pathlib.Path(line) for line in found.stdout.decode().splitlines()], found.stderr == NONE_FOR_ARM
 
 
 def unpacked(package, folder):
@@ -46,12 +53,13 @@ def unpacked(package, folder):
 
 
 def packages(folder):
-    first, again = made(folder / "first"), made(folder / "again")
+    (first, is_none), (again, _) = made(folder / "first"), made(folder / "again")
+    for_arm = [] if is_none else ["fwenv_N_arm64.deb", "fwenv-N-aarch64-linux.tar.gz"]
     same("the packages", [re.sub(r"\d+\.\d+\.\d+", "N", it.name) for it in first],
-         ["fwenv_N_amd64.deb", "fwenv-fw-tools_N_all.deb", "fwenv-N-x86_64-linux.tar.gz"])
+         ["fwenv_N_amd64.deb", "fwenv-fw-tools_N_all.deb", "fwenv-N-x86_64-linux.tar.gz", *for_arm])
     for one, other in zip(first, again):
         check(f"{one.name} made again", filecmp.cmp(one, other, shallow=False), "other bytes")
-    program, links, archive = first
+    program, links, archive = first[:3]
     root = unpacked(program, folder / "root")
     same("the program unpacked", run(root / "usr/bin/fwenv", given=IMAGE).stdout, b"a=b\n")
     unpacked(links, root)
@@ -59,7 +67,7 @@ def packages(folder):
     same("the program of the archive", run(folder / archive.name.removesuffix(".tar.gz") / "bin/fwenv", given=IMAGE).stdout, b"a=b\n")
     installed(program, links, folder)
     if has("lintian"):
-        found = run("lintian", "--fail-on", "error", program, links)
+        found = run("lintian", "--fail-on", "error", *(it for it in first if it.suffix == ".deb"))
         check("lintian", found.returncode == 0, found.stdout[-800:])
 
 
@@ -72,29 +80,31 @@ def older(package, folder):
     return f"{folder}.deb"
 
 
+def with_need(folder, need):
+    """A package that has nothing and depends on this."""
+    (folder / "DEBIAN").mkdir(parents=True)
+    lines = ("Package: client", "Version: 1", "Architecture: all", "Maintainer: nobody <nobody@localhost>", f"Depends: {need}", "Description: a client")
+    (folder / "DEBIAN/control").write_text("".join(f"{line}\n" for line in lines))
+    run("dpkg-deb", "--root-owner-group", "--build", folder, f"{folder}.deb", check=True)
+    return f"{folder}.deb"
+
+
 def installed(program, links, folder):
     """Installs the packages over an older one below a folder, and removes them."""
     if not has("dpkg"):
         return
-    root = folder / "installed"
-    for each in ("info", "updates"):
-        (root / "var/lib/dpkg" / each).mkdir(parents=True)
-    for each in ("status", "available"):
-        (root / "var/lib/dpkg" / each).touch()
-    # (the C library, on which the program's package depends, isn't there)
-    dpkg = ("dpkg", f"--root={root}", "--force-not-root", "--force-bad-path", "--force-depends", f"--log={folder}/dpkg.log")
+    there, root = Root(folder / "installed"), folder / "installed"
     for package in (older(program, folder / "old"), program, links):
-        found = run(*dpkg, "-i", package)
-        check("dpkg -i", found.returncode == 0, found.stderr)
+        there.dpkg("-i", package)
+    # a package that needs a version of libubootenv-tool finds it
+    there.dpkg("-i", with_need(folder / "client", "libubootenv-tool (>= 0.3.2)"), forced=())
     version = re.search(r"fwenv_(.*)_", program.name)[1]
-    versions = run("dpkg-query", f"--root={root}", "-W", "-f=${Package} ${Version}\n").stdout.decode()
-    same("the versions after an upgrade", versions, f"fwenv {version}\nfwenv-fw-tools {version}\n")
+    same("the versions after an upgrade", there.versions("fwenv", "fwenv-fw-tools"), f"fwenv {version}\nfwenv-fw-tools {version}\n")
     same("the program installed", run(root / "usr/bin/fwenv", given=IMAGE).stdout, b"a=b\n")
     for name in ("fw_printenv", "fw_setenv"):
         found = run(root / "usr/bin" / name, "-V").stdout.decode()
         same(f"{name} installed", found, f"{name} {version}\n")
-    found = run(*dpkg, "--purge", "fwenv-fw-tools", "fwenv")
-    check("dpkg --purge", found.returncode == 0, found.stderr)
+    there.dpkg("--purge", "client", "fwenv-fw-tools", "fwenv", forced=())
     left = [str(it) for it in (root / "usr").rglob("*")] if (root / "usr").exists() else []
     same("what is left once they are removed", left, [])
 
@@ -159,17 +169,17 @@ def page_options(page):
 
 
 def completed_by_bash(folder, board, line):
-    """What bash offers for a line whose last word is being typed, and whether it was to offer files."""
+    """What bash offers for a line whose last word is being typed, quotes and all, and whether it was to offer files."""
     name = line.split()[0]
     program = f"""source {folder}/{name}; COMP_WORDS=({line}); COMP_CWORD=$((${{#COMP_WORDS[@]}} - 1))
     compopt() {{ echo "$@" >&2; }}; read -r _ _ _ _ call _ < <(complete -p {name}); "$call"; printf '%s\\n' "${{COMPREPLY[@]}}" """
     found = run("bash", "-c", program, cwd=board)
-    return set(found.stdout.decode().split()), found.stderr.endswith(b"-o default\n")
+    return set(found.stdout.decode().splitlines()) - {""}, found.stderr.endswith(b"-o default\n")
 
 
 def completed_by_fish(folder, board, line):
     script = folder / f"{line.split()[0]}.fish"
-    found = run("fish", "--no-config", "-c", f"source {script}; complete -C '{line}'", cwd=board)
+    found = run("fish", "--no-config", "-c", f"source {script}; complete -C $argv[1]", line, cwd=board)
     return {it.split("\t")[0] for it in found.stdout.decode().splitlines()}
 
 
@@ -203,6 +213,29 @@ def completed_by_zsh(folder, board, line):
     return found[-1].decode() if found else repr(said)
 
 
+def hostile_names(root, board):
+    """Names of variables that a shell would do something with: each is offered as it is or quoted, nothing is run, and none that begins
+    like an option is offered."""
+    text = b"".join(f"{name}=1\0".encode() for name in [*AS_OPTIONS, *(name for name, _ in HOSTILE)])
+    image = text.ljust(0x1000 - 4, b"\0")
+    (board / "hostile").write_bytes(struct.pack("<I", zlib.crc32(image)) + image)
+    (board / "of-hostile").write_text("hostile 0 1000\n")
+    calls = ("fwenv printenv -c of-hostile", "fwenv setenv -c of-hostile", "fw_printenv -c of-hostile -l .", "fw_setenv -c of-hostile -l .")
+    names, before = {name for name, _ in HOSTILE}, {it.name for it in board.iterdir()}
+    for call in calls:
+        offered = completed_by_bash(root / "share/bash-completion/completions", board, f"{call} ''")
+        same(f"bash: {call}, of hostile names", offered, ({quoted for _, quoted in HOSTILE}, False))
+        if has("fish"):
+            offered = completed_by_fish(root / "share/fish/vendor_completions.d", board, f"{call} ")
+            same(f"fish: {call}, of hostile names", offered & (names | set(AS_OPTIONS)), names)
+        for typed, name in (("\\$\\(touch\\$", "$(touch${IFS}made)"), ("\\`", "`touch made`"), ("two", "two words")) if has("zsh") else ():
+            found = completed_by_zsh(root / "share/zsh/site-functions", board, f"{call} {typed}").strip()
+            same(f"zsh: {call} {typed}", found, f"{call} {dict(HOSTILE)[name]}")
+    offered = completed_by_bash(root / "share/bash-completion/completions", board, f"{calls[0]} '{HOSTILE[0][1][:-1]}'")
+    same("bash: the rest of a quoted name", offered, ({HOSTILE[0][1]}, False))
+    same("files that completion of hostile names makes", {it.name for it in board.iterdir()} - before - {"fw_printenv.lock"}, set())
+
+
 def completions(folder):
     root, board = folder / "root/usr", folder / "board"
     board.mkdir()
@@ -221,7 +254,9 @@ def completions(folder):
         ("fwenv run --env text boot", {"bootcmd", "bootdelay"}),
         ("fwenv session --si", {"--size"}),
         ("fwenv che", {"check"}),
-        ("fwenv check --", {"--default", "--big-endian", "--stubs", "--env", "--size", "--help"}),
+        ("fwenv check --", {"--default", "--big-endian", "--shell", "--stubs", "--env", "--size", "--help"}),
+        ("fwenv run --shell b", {"board"}),
+        ("fwenv session --shell ", {"board", "strict"}),
         ("fwenv check --env text boot", {"bootcmd", "bootdelay"}),
         ("fwenv check -c of-copy boot", names),
         ("fwenv import --n", {"--need-copy"}),
@@ -248,6 +283,13 @@ def completions(folder):
         same(f"bash: {line}", completed_by_bash(folder, board, line), (wanted, False))
     for line in with_files:
         same(f"bash: files for {line}", completed_by_bash(folder, board, line), (set(), True))
+    hostile_names(root, board)
+    # a lock that is held ends the completion of names after a second
+    with open(board / "copy") as held:
+        fcntl.flock(held, fcntl.LOCK_EX)
+        begun = time.monotonic()
+        same("bash: names in a locked copy", completed_by_bash(folder, board, "fwenv printenv -c of-copy boot"), (set(), False))
+        check("names in a locked copy aren't waited for", time.monotonic() - begun < 5)
     if has("fish"):
         folder = root / "share/fish/vendor_completions.d"
         for line, wanted in [*rows, *((line, {"text"}) for line in with_files)]:
@@ -260,6 +302,7 @@ def completions(folder):
             ("fwenv printenv -c of-copy bootc", "md"),
             ("fwenv setenv -c of\\ copy bootd", "elay"),
             ("fwenv check --stu", "bs"),
+            ("fwenv check --shell st", "rict"),
             ("fwenv check --env text bootc", "md"),
             ("fwenv check -f te", "xt"),
             ("fw_printenv --noh", "eader"),

@@ -12,7 +12,7 @@ function __fw_printenv_names
                 set -a call $tokens[$at]
         end
     end
-    fw_printenv $call 2>/dev/null | string replace -rf '^([^=]*)=.*' '$1'
+    timeout 1 fw_printenv $call 2>/dev/null | string replace -rf '^([^=-][^=]*)=.*' '$1'
 end
 
 for name in fw_printenv fw_setenv
@@ -26,3 +26,4 @@ for name in fw_printenv fw_setenv
 end
 complete -c fw_printenv -s n -l noheader -l no-header -d 'Print the values alone'
 complete -c fw_setenv -s s -l script -rF -d 'Script of names and values'
+complete -c fw_setenv -l overwrite -d 'Write even if a copy is good in another way'

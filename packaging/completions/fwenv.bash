@@ -1,9 +1,10 @@
 # Completion of fwenv's command line for bash: commands, options, files, and the names of variables after printenv, setenv, run and check.
 # shellcheck shell=bash
 
-# The names of the variables in the configuration, or the text, that the command line names.
+# Offers the names of the variables in the configuration, or the text, that the command line names. They are what a dump has: none is
+# expanded, each is quoted, and one that begins like an option is none.
 _fwenv_names() {
-    local at words=(printenv) text=()
+    local at words=(printenv) text=() name quoted
     for ((at = 1; at < COMP_CWORD; at++)); do
         case ${COMP_WORDS[at]} in
             -c) words+=(-c "${COMP_WORDS[at + 1]}") ;;
@@ -12,14 +13,17 @@ _fwenv_names() {
         esac
     done
     if [ ${#text[@]} != 0 ]; then words=(run "${text[@]}" -e printenv); fi
-    "${COMP_WORDS[0]}" "${words[@]}" 2>/dev/null | sed -n 's/^\([^=]*\)=.*/\1/p'
+    while IFS= read -r name; do
+        printf -v quoted %q "$name"
+        if [[ $name == "$word"* || $quoted == "$word"* ]]; then COMPREPLY+=("$quoted"); fi
+    done < <(timeout 1 "${COMP_WORDS[0]}" "${words[@]}" 2>/dev/null | sed -n 's/^\([^=-][^=]*\)=.*/\1/p')
 }
 
 _fwenv() {
     local word=${COMP_WORDS[COMP_CWORD]} before=${COMP_WORDS[COMP_CWORD - 1]} command='' at
     local commands='printenv setenv import export restore status run check session help'
     local options='-c --default --need-copy --big-endian -h --help'
-    local dry_run=' --write --stubs --steps --depth --word --output --env --size'
+    local dry_run=' --write --overwrite --shell --stubs --steps --depth --word --output --env --size'
     for ((at = 1; at < COMP_CWORD; at++)); do
         case " $commands " in *" ${COMP_WORDS[at]} "*)
             command=${COMP_WORDS[at]}
@@ -34,22 +38,25 @@ _fwenv() {
             compopt -o default
             return
             ;;
+        --shell)
+            mapfile -t COMPREPLY < <(compgen -W 'board strict' -- "$word")
+            return
+            ;;
         --steps | --depth | --word | --output | --size | --boots | -e) return ;;
     esac
     case $command in
         '') options="$commands --big-endian -h --help -V --version" ;;
         printenv) options+=' -n' ;;
-        setenv) options+=' -s' ;;
+        setenv) options+=' -s --overwrite' ;;
+        import | restore) options+=' --overwrite' ;;
         status) options='-c --big-endian -h --help' ;;
         run) options+="$dry_run --boots -e -f" ;;
-        check) options='-c --default --big-endian -h --help --stubs --env --size -f' ;;
+        check) options='-c --default --big-endian -h --help --shell --stubs --env --size -f' ;;
         session) options+=$dry_run ;;
         help) options=$commands ;;
     esac
     case $command:$word in
-        printenv:[^-]* | printenv: | setenv:[^-]* | setenv: | run:[^-]* | run: | check:[^-]* | check:)
-            mapfile -t COMPREPLY < <(compgen -W "$(_fwenv_names)" -- "$word")
-            ;;
+        printenv:[^-]* | printenv: | setenv:[^-]* | setenv: | run:[^-]* | run: | check:[^-]* | check:) _fwenv_names ;;
         import:[^-]* | import: | restore:[^-]* | restore: | status:[^-]* | status:) compopt -o default ;;
         *) mapfile -t COMPREPLY < <(compgen -W "$options" -- "$word") ;;
     esac

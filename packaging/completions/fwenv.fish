@@ -16,7 +16,7 @@ function __fwenv_names
             set -a call --size $tokens[(math $at + 1)]
         end
     end
-    fwenv $call 2>/dev/null | string replace -rf '^([^=]*)=.*' '$1'
+    timeout 1 fwenv $call 2>/dev/null | string replace -rf '^([^=-][^=]*)=.*' '$1'
 end
 
 set -l commands printenv setenv import export restore status run check session help
@@ -42,6 +42,8 @@ complete -c fwenv -n "__fish_seen_subcommand_from printenv setenv run check" -a 
 complete -c fwenv -n "__fish_seen_subcommand_from setenv" -s s -rF -d 'Script of names and values'
 complete -c fwenv -n "__fish_seen_subcommand_from import restore status" -F
 complete -c fwenv -n "__fish_seen_subcommand_from run session" -l write -d 'Write back the copies that changed'
+complete -c fwenv -n "__fish_seen_subcommand_from run check session" -l shell -xa 'board strict' -d 'Whose rules count'
+complete -c fwenv -n "__fish_seen_subcommand_from setenv import restore run session" -l overwrite -d 'Write even if a copy is good in another way'
 complete -c fwenv -n "__fish_seen_subcommand_from run check session" -l stubs -rF -d 'Stand-ins'
 complete -c fwenv -n "__fish_seen_subcommand_from run session" -l steps -x -d 'Steps of a script'
 complete -c fwenv -n "__fish_seen_subcommand_from run session" -l depth -x -d 'Starts inside one another'
