@@ -34,6 +34,8 @@ HOSTILE = [
     ("$HOME", r"\$HOME"),
 ]
 AS_OPTIONS = ["-n", "--help", "-c copy"]
+# What may write copies: only these have --overwrite, which the page has among the options of all
+WRITING = {f"fwenv {name}" for name in ("setenv", "import", "restore", "run", "session")}
 # What scripts/package says without a cross compiler
 NONE_FOR_ARM = (
     b"scripts/package: nothing is made for 64-bit ARM: it needs aarch64-linux-gnu-gcc (Debian: gcc-aarch64-linux-gnu libc6-dev-arm64-cross)\n"
@@ -135,6 +137,7 @@ def pages(folder):
         helped = options_of_help(run(folder / "root/usr/bin/fwenv", *words, "--help").stdout.decode())
         own = {"--big-endian"} | listed[""] - {"-c", "--default", "--need-copy"} if name == "fwenv" else common | listed[name]
         own -= {"fwenv status": {"--default", "--need-copy"}, "fwenv check": {"--need-copy"}}.get(name, set())
+        own -= set() if name in WRITING else {"--overwrite"}
         same(f"the options of {name}, in its page and in its help", sorted(own), sorted(helped))
 
 
@@ -170,8 +173,8 @@ def page_options(page):
 
 def completed_by_bash(folder, board, line):
     """What bash offers for a line whose last word is being typed, quotes and all, and whether it was to offer files."""
-    name = line.split()[0]
-    program = f"""source {folder}/{name}; COMP_WORDS=({line}); COMP_CWORD=$((${{#COMP_WORDS[@]}} - 1))
+    name, words = line.split()[0], f"{line}''" if line.endswith(" ") else line
+    program = f"""source {folder}/{name}; COMP_WORDS=({words}); COMP_CWORD=$((${{#COMP_WORDS[@]}} - 1))
     compopt() {{ echo "$@" >&2; }}; read -r _ _ _ _ call _ < <(complete -p {name}); "$call"; printf '%s\\n' "${{COMPREPLY[@]}}" """
     found = run("bash", "-c", program, cwd=board)
     return set(found.stdout.decode().splitlines()) - {""}, found.stderr.endswith(b"-o default\n")
