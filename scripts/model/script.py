@@ -1,5 +1,6 @@
 """What a script does: a plain recursive evaluator over its tree (docs/runs.md)."""
 
+import re
 from dataclasses import dataclass
 
 from model.calculations import setexpr, status_of_digits
@@ -118,6 +119,12 @@ class Run:
         items = self.items(parts)
         return bytes(item[1] if isinstance(item, tuple) else item for item in items if item is not None)
 
+    def listed(self, words):
+        """What a `for` is bound to."""
+        if not self.shell.cuts_lists:
+            return self.expanded(words)
+        return [piece for parts in words for piece in re.split(rb"[ \n]", self.expanded_value(parts)) if piece]
+
     # The tree
 
     def chains(self, chains):
@@ -160,7 +167,7 @@ class Run:
 
     def command_for(self, name, words, body, _place):
         self.begin()
-        fields = self.shell.listed(self.expanded(words))
+        fields = self.listed(words)
         self.done(self.status)
         if not fields:
             self.status = 0

@@ -1,7 +1,5 @@
 """The two shells of a run, by what they make of a script (docs/runs.md, "Boards")."""
 
-import re
-
 from model.calculations import board_test, test
 from model.texts import BUILTINS
 
@@ -24,6 +22,7 @@ class Strict:
     leaves_chain = False  # whether a skipped command skips the rest of its chain
     leaves_text = False  # whether an `exit` leaves only the text that `run` started
     hides = False  # whether a name of the environment may be assigned, and is hidden by it
+    cuts_lists = False  # whether the words of a `for` are cut by their bytes, quoted or not
 
     def kept(self, _status):
         """What an `if` without a branch that runs, or a command without fields, leaves."""
@@ -48,10 +47,6 @@ class Strict:
         """The status of an `exit` without one."""
         return status
 
-    def listed(self, fields):
-        """What a `for` is bound to, for the fields of its list."""
-        return fields
-
     def test(self, words, _there):
         return test(words)
 
@@ -72,6 +67,7 @@ class Board(Strict):
     leaves_chain = True
     leaves_text = True
     hides = True
+    cuts_lists = True
 
     def kept(self, status):
         return status
@@ -90,9 +86,6 @@ class Board(Strict):
 
     def of_bare_exit(self, _status):
         return 0
-
-    def listed(self, fields):
-        return [piece for each in fields for piece in re.split(rb"[ \t\n]", each) if piece]
 
     def test(self, words, there):
         return board_test(words, there)

@@ -4,14 +4,14 @@ use Rattle.std.specs.Prelude.{if◌then◌else◌}
 use Rattle.std.proofs.lemmas.Bool.{false_from_ne_true, eqb-true}
 use Rattle.std.proofs.lemmas.Grind.{flat_map-append, fold-append}
 use Rattle.std.proofs.lemmas.List.{map-append, take_rest}
-use Rattle.memchr.specs.Find.{IsFirstByte, is_byte3}
+use Rattle.memchr.specs.Find.{IsFirstByte}
 use Rattle.hush_words.specs.Words.Atom.{Plain, Quoted}
 use Rattle.hush_words.specs.Parts.{part_atoms, span_bytes}
 use Rattle.hush_words.specs.declared.parts.Span.{Span}
 use Rattle.hush_words.specs.declared.parts.Part.{Part}
 use Rattle.hush_words.specs.declared.parts.Part.TheVariants as part
-use Rattle.hush_commands.specs.Expansion.{Known, value_in, atom_items, Item, Byte, Split, Mark, splits, substituted, items_of, item_bytes, bytes_of, onto_first, cut, is_there, fields, size}
-use Rattle.hush_commands.specs.Buffers.{Made, whole, opened, closed, with_bytes, ended, with_items, joined, kept, AddsItems, AddsPart, CutsAtBlank, with_item}
+use Rattle.hush_commands.specs.Expansion.{Known, value_in, atom_items, Item, Byte, Split, Mark, splits, substituted, cut_items, items_of, item_bytes, bytes_of, onto_first, cut, is_there, fields, size}
+use Rattle.hush_commands.specs.Buffers.{Made, whole, opened, closed, with_bytes, ended, with_items, joined, kept, AddsItems, AddsPart, CutsAt, with_item}
 use Rattle.std.specs.Prelude.{Ok, Err, Result, decimal}
 use Rattle.hush_words.specs.Words.{Atom}
 use Rattle.hush_commands.specs.declared.expansion.ExpansionFault.{ExpansionFault}
@@ -55,14 +55,17 @@ unfolding fields with_open
 fields_made done is = behind done None is
 
 -- and if they aren't cut, one field
-uncut_on : (f : List ℕ) (is : List Item) → with_items (making [] (Some f)) (map joined is) ≡ making [] (Some (f ++ bytes_of is))
-uncut_on f [] = ap (λ (x : List ℕ). making [] (Some x)) (sym (append-nil f))
-uncut_on f (Byte b ∷ is) = uncut_on (f ++ b ∷ []) is ∙ ap (λ (x : List ℕ). making [] (Some x)) (append_assoc f (b ∷ []) (bytes_of is))
-uncut_on f (Split b ∷ is) = uncut_on (f ++ b ∷ []) is ∙ ap (λ (x : List ℕ). making [] (Some x)) (append_assoc f (b ∷ []) (bytes_of is))
-uncut_on f (Mark ∷ is) = uncut_on (f ++ []) is ∙ ap (λ (x : List ℕ). making [] (Some (x ++ bytes_of is))) (append-nil f)
+uncut_on : (done : List (List ℕ)) (f : List ℕ) (is : List Item) → with_items (making done (Some f)) (map joined is) ≡ making done (Some (f ++ bytes_of is))
+uncut_on done f [] = ap (λ (x : List ℕ). making done (Some x)) (sym (append-nil f))
+uncut_on done f (Byte b ∷ is) = uncut_on done (f ++ b ∷ []) is ∙ ap (λ (x : List ℕ). making done (Some x)) (append_assoc f (b ∷ []) (bytes_of is))
+uncut_on done f (Split b ∷ is) = uncut_on done (f ++ b ∷ []) is ∙ ap (λ (x : List ℕ). making done (Some x)) (append_assoc f (b ∷ []) (bytes_of is))
+uncut_on done f (Mark ∷ is) = uncut_on done (f ++ []) is ∙ ap (λ (x : List ℕ). making done (Some (x ++ bytes_of is))) (append-nil f)
+
+pub whole_made : (done : List (List ℕ)) (is : List Item) → ended (with_items (with_bytes (whole done) []) (kept true is)) ≡ whole (done ++ bytes_of is ∷ [])
+whole_made done is = ap ended (uncut_on done [] is)
 
 pub value_made : (is : List Item) → ended (with_items (with_bytes (whole []) []) (kept true is)) ≡ whole (bytes_of is ∷ [])
-value_made is = ap ended (uncut_on [] is)
+value_made is = whole_made [] is
 
 -- how many items aren't marks
 pub size-append : (xs ys : List Item) → size (xs ++ ys) ≡ size xs + size ys
@@ -135,40 +138,40 @@ pub kept-substituted : (uncut quoted : Bool) (bs : List ℕ) → kept uncut (sub
 kept-substituted false quoted bs = append-nil (substituted quoted bs)
 kept-substituted true quoted bs = ap (map joined) (append-nil (substituted quoted bs)) ∙ joined-substituted quoted bs
 
--- a text that is cut: up to its first blank, and after it
-split-at : (xs : List ℕ) (at : ℕ) → at < length xs → ((j : ℕ) → j < at → splits (get_or xs j 0) ≡ false) → splits (get_or xs at 0) ≡ true → substituted false xs ≡ map Byte (take at xs) ++ Split (get_or xs at 0) ∷ substituted false (drop (at + 1) xs)
-split-at [] at h before here = absurd (omega arith)
-split-at (x ∷ xs) zero h before here = rw here refl
-split-at (x ∷ xs) (suc n) h before here =
-    let no : splits x ≡ false = before 0 (omega arith) in
+-- a text that is cut: up to the first byte that it is cut at, and after it
+split-at : (cuts : ℕ → Bool) (xs : List ℕ) (at : ℕ) → at < length xs → ((j : ℕ) → j < at → cuts (get_or xs j 0) ≡ false) → cuts (get_or xs at 0) ≡ true → cut_items cuts xs ≡ map Byte (take at xs) ++ Split (get_or xs at 0) ∷ cut_items cuts (drop (at + 1) xs)
+split-at cuts [] at h before here = absurd (omega arith)
+split-at cuts (x ∷ xs) zero h before here = rw here refl
+split-at cuts (x ∷ xs) (suc n) h before here =
+    let no : cuts x ≡ false = before 0 (omega arith) in
     let e : suc n + 1 ≡ suc (n + 1) = omega arith in
-    rw (no, e) (ap (λ (ys : List Item). Byte x ∷ ys) (split-at xs n (omega arith) (λ j k. before (suc j) (omega arith)) here))
+    rw (no, e) (ap (λ (ys : List Item). Byte x ∷ ys) (split-at cuts xs n (omega arith) (λ j k. before (suc j) (omega arith)) here))
 
-no-split : (xs : List ℕ) → ((j : ℕ) → j < length xs → splits (get_or xs j 0) ≡ false) → substituted false xs ≡ map Byte xs
-no-split [] none = refl
-no-split (x ∷ xs) none =
-    let no : splits x ≡ false = none 0 (omega arith) in
-    rw no (ap (λ (ys : List Item). Byte x ∷ ys) (no-split xs (λ j k. none (suc j) (omega arith))))
+no-split : (cuts : ℕ → Bool) (xs : List ℕ) → ((j : ℕ) → j < length xs → cuts (get_or xs j 0) ≡ false) → cut_items cuts xs ≡ map Byte xs
+no-split cuts [] none = refl
+no-split cuts (x ∷ xs) none =
+    let no : cuts x ≡ false = none 0 (omega arith) in
+    rw no (ap (λ (ys : List Item). Byte x ∷ ys) (no-split cuts xs (λ j k. none (suc j) (omega arith))))
 
-pub cuts-at : (xs : List ℕ) (at : ℕ) → IsFirstByte (is_byte3 32 9 10) xs (Some at) → CutsAtBlank xs (take at xs) (take (length xs - (at + 1)) (drop (at + 1) xs))
-cuts-at xs at found =
+pub cuts-at : (cuts : ℕ → Bool) (xs : List ℕ) (at : ℕ) → IsFirstByte cuts xs (Some at) → CutsAt cuts xs (take at xs) (take (length xs - (at + 1)) (drop (at + 1) xs))
+cuts-at cuts xs at found =
     let below = found.0 in
     let back = take_rest xs (at + 1) in
     record {
       blank = get_or xs at 0;
-      items = split-at xs at below.high (λ j h. false_from_ne_true _ (below.before j (omega arith) h)) found.1 ∙ ap (λ (ys : List ℕ). map Byte (take at xs) ++ Split (get_or xs at 0) ∷ substituted false ys) (sym back);
+      items = split-at cuts xs at below.high (λ j h. false_from_ne_true _ (below.before j (omega arith) h)) found.1 ∙ ap (λ (ys : List ℕ). map Byte (take at xs) ++ Split (get_or xs at 0) ∷ cut_items cuts ys) (sym back);
       shorter = omega (arith, below.high, ap (λ (ys : List ℕ). length ys) back, length-drop (at + 1) xs);
     }
 
-pub cuts-none : (xs : List ℕ) → IsFirstByte (is_byte3 32 9 10) xs None → substituted false xs ≡ map Byte xs
-cuts-none xs none = no-split xs (λ j h. false_from_ne_true _ (none j (omega arith) h))
+pub cuts-none : (cuts : ℕ → Bool) (xs : List ℕ) → IsFirstByte cuts xs None → cut_items cuts xs ≡ map Byte xs
+cuts-none cuts xs none = no-split cuts xs (λ j h. false_from_ne_true _ (none j (omega arith) h))
 
 -- what is cut off is done, and the rest is left
-pub cut-behind : (m now after : Made) (text front back : List ℕ) → CutsAtBlank text front back → now ≡ with_items m (map Byte front) → after ≡ ended now → with_items after (substituted false back) ≡ with_items m (substituted false text)
-cut-behind m now after text front back cuts e f =
-    ap (λ (n : Made). with_items n (substituted false back)) (f ∙ ap ended e)
-    ∙ sym (fold-append with_item m (map Byte front) (Split cuts.blank ∷ substituted false back))
-    ∙ ap (with_items m) (sym cuts.items)
+pub cut-behind : (cuts : ℕ → Bool) (m now after : Made) (text front back : List ℕ) → CutsAt cuts text front back → now ≡ with_items m (map Byte front) → after ≡ ended now → with_items after (cut_items cuts back) ≡ with_items m (cut_items cuts text)
+cut-behind cuts m now after text front back is e f =
+    ap (λ (n : Made). with_items n (cut_items cuts back)) (f ∙ ap ended e)
+    ∙ sym (fold-append with_item m (map Byte front) (Split is.blank ∷ cut_items cuts back))
+    ∙ ap (with_items m) (sym is.items)
 
 -- a text that is added, and the limit
 pub bytes-over : (bs : List ℕ) (left : ℕ) → left < length bs → left < size (map Byte bs)

@@ -14,9 +14,12 @@ use Rattle.hush_words.specs.Parts.{Written, word_atoms}
 use Rattle.hush_words.specs.declared.parts.Word.{Word as Range}
 use Rattle.hush_commands.specs.declared.expansion.ExpansionFault.{ExpansionFault}
 use Rattle.hush_commands.specs.declared.expansion.ExpansionFault.TheVariants.{Word, Memory}
-use Rattle.hush_commands.specs.Expansion.{Known, items_of, size, fields, fits, word_fields, expanded, expanded_value}
+use Rattle.hush_commands.specs.Expansion.{Known, items_of, size, fields, fits, word_fields, bytes_of, expanded, expanded_whole, expanded_value}
 use Rattle.hush_commands.specs.Buffers.{Made, whole, ended, with_bytes, with_items, kept, AddsItems, Expands}
-use Rattle.hush_commands.proofs.ItemLemmas.{fields_made, value_made, size-kept}
+use Rattle.hush_commands.proofs.ItemLemmas.{fields_made, whole_made, value_made, size-kept}
+
+abbrev whole_bytes : Known → List Atom → List ℕ
+whole_bytes known word = bytes_of (items_of known word)
 
 -- whether a word is within the limit
 within : (uncut : Bool) (known : Known) (limit : ℕ) (word : List Atom) (rest : ℕ) (a b : Made) → AddsItems (kept uncut (items_of known word)) limit a b (Ok rest) → fits known limit word ≡ true
@@ -45,9 +48,9 @@ made-more known limit done word rest a b c e h f =
     ∙ ap (λ (xs : List (List ℕ)). whole (before ++ xs)) (sym (append-nil (fields is)))
     ∙ ap whole (sym (flat_map-append (word_fields known) done (word ∷ [])))
 
-pub small-more : (known : Known) (limit : ℕ) (done : List (List Atom)) (word : List Atom) (rest : ℕ) (a b : Made) → list_all (fits known limit) done ≡ true → AddsItems (kept false (items_of known word)) limit a b (Ok rest) → list_all (fits known limit) (done ++ word ∷ []) ≡ true
-small-more known limit done word rest a b e h =
-    list_all-append (fits known limit) done (word ∷ []) ∙ ap (λ (x : Bool). x && list_all (fits known limit) (word ∷ [])) e ∙ ap (λ (x : Bool). x && true) (within false known limit word rest a b h)
+pub small-more : (uncut : Bool) (known : Known) (limit : ℕ) (done : List (List Atom)) (word : List Atom) (rest : ℕ) (a b : Made) → list_all (fits known limit) done ≡ true → AddsItems (kept uncut (items_of known word)) limit a b (Ok rest) → list_all (fits known limit) (done ++ word ∷ []) ≡ true
+small-more uncut known limit done word rest a b e h =
+    list_all-append (fits known limit) done (word ∷ []) ∙ ap (λ (x : Bool). x && list_all (fits known limit) (word ∷ [])) e ∙ ap (λ (x : Bool). x && true) (within uncut known limit word rest a b h)
 
 -- a word that is too large
 all-false : (known : Known) (limit : ℕ) (done : List (List Atom)) (word : List Atom) (more : List (List Atom)) → fits known limit word ≡ false → list_all (fits known limit) (done ++ word ∷ more) ≡ false
@@ -55,12 +58,15 @@ all-false known limit [] word more e = rw e refl
 all-false known limit (w ∷ done) word more e =
     elim (fits known limit w) as (λ b. (b && list_all (fits known limit) (done ++ word ∷ more)) ≡ false) [ true ↦ all-false known limit done word more e | false ↦ refl ]
 
-pub none-fits : (known : Known) (limit : ℕ) (text : Written) (ws : List Range) (i : ℕ) (d : Range) → i < length ws → fits known limit (word_atoms text (get_or ws i d)) ≡ false → expanded known limit (map (word_atoms text) ws) ≡ None
-none-fits known limit text ws i d h e =
+none-fit : (known : Known) (limit : ℕ) (text : Written) (ws : List Range) (i : ℕ) (d : Range) → i < length ws → fits known limit (word_atoms text (get_or ws i d)) ≡ false → list_all (fits known limit) (map (word_atoms text) ws) ≡ false
+none-fit known limit text ws i d h e =
     let split = sym (take-append-drop i ws) ∙ ap (λ (xs : List Range). take i ws ++ xs) (drop-cons ws i d h) in
-    cond-false _ _ _ (ap (λ (xs : List Range). list_all (fits known limit) (map (word_atoms text) xs)) split
+    ap (λ (xs : List Range). list_all (fits known limit) (map (word_atoms text) xs)) split
     ∙ ap (list_all (fits known limit)) (map-append (word_atoms text) (take i ws) (get_or ws i d ∷ drop (suc i) ws))
-    ∙ all-false known limit (map (word_atoms text) (take i ws)) (word_atoms text (get_or ws i d)) (map (word_atoms text) (drop (suc i) ws)) e)
+    ∙ all-false known limit (map (word_atoms text) (take i ws)) (word_atoms text (get_or ws i d)) (map (word_atoms text) (drop (suc i) ws)) e
+
+pub none-fits : (known : Known) (limit : ℕ) (text : Written) (ws : List Range) (i : ℕ) (d : Range) → i < length ws → fits known limit (word_atoms text (get_or ws i d)) ≡ false → expanded known limit (map (word_atoms text) ws) ≡ None
+none-fits known limit text ws i d h e = cond-false _ _ _ (none-fit known limit text ws i d h e)
 
 pub all-fit : (known : Known) (limit : ℕ) (words : List (List Atom)) (a : Made) → a ≡ whole (flat_map (word_fields known) words) → list_all (fits known limit) words ≡ true → option_map whole (expanded known limit words) ≡ Some a
 all-fit known limit words a e h = ap (option_map whole) (cond-true _ _ _ h) ∙ ap (λ (m : Made). let o : Option Made = Some m in o) (sym e)
@@ -82,6 +88,22 @@ no-value known limit word e = ap (λ (o : Option (List ℕ)). option_map alone o
 pub word-refused : (known : Known) (limit : ℕ) (text : Written) (ws : List Range) (i : ℕ) (d : Range) (a b : Made) (f : ExpansionFault) → i < length ws → AddsItems (kept false (items_of known (word_atoms text (get_or ws i d)))) limit a b (Err f) → Expands (expanded known limit (map (word_atoms text) ws)) b (Err f)
 word-refused known limit text ws i d a b Word h refused = none-fits known limit text ws i d h (too_large false known limit (word_atoms text (get_or ws i d)) a b refused)
 word-refused known limit text ws i d a b Memory h refused = tt
+
+-- the same of words that aren't cut
+pub whole-more : (known : Known) (limit : ℕ) (done : List (List Atom)) (word : List Atom) (rest : ℕ) (a b c e : Made) → a ≡ whole (map (whole_bytes known) done) → b ≡ with_bytes a [] → AddsItems (kept true (items_of known word)) limit b c (Ok rest) → e ≡ ended c → e ≡ whole (map (whole_bytes known) (done ++ word ∷ []))
+whole-more known limit done word rest a b c e is begun h f =
+    let items = items_of known word in
+    f ∙ ap ended (h.1 ∙ ap (λ (m : Made). with_items m (kept true items)) (begun ∙ ap (λ (m : Made). with_bytes m []) is))
+    ∙ whole_made (map (whole_bytes known) done) items
+    ∙ ap whole (sym (map-append (whole_bytes known) done (word ∷ [])))
+
+pub whole-refused : (known : Known) (limit : ℕ) (text : Written) (ws : List Range) (i : ℕ) (d : Range) (a b : Made) (f : ExpansionFault) → i < length ws → AddsItems (kept true (items_of known (word_atoms text (get_or ws i d)))) limit a b (Err f) → Expands (expanded_whole known limit (map (word_atoms text) ws)) b (Err f)
+whole-refused known limit text ws i d a b Word h refused =
+    cond-false _ _ _ (none-fit known limit text ws i d h (too_large true known limit (word_atoms text (get_or ws i d)) a b refused))
+whole-refused known limit text ws i d a b Memory h refused = tt
+
+pub all-whole : (known : Known) (limit : ℕ) (words : List (List Atom)) (a : Made) → a ≡ whole (map (whole_bytes known) words) → list_all (fits known limit) words ≡ true → option_map whole (expanded_whole known limit words) ≡ Some a
+all-whole known limit words a e h = ap (option_map whole) (cond-true _ _ _ h) ∙ ap (λ (m : Made). let o : Option Made = Some m in o) (sym e)
 
 pub value-refused : (known : Known) (limit : ℕ) (word : List Atom) (a b : Made) (f : ExpansionFault) → AddsItems (kept true (items_of known word)) limit a b (Err f) → Expands (option_map (λ v. v ∷ []) (expanded_value known limit word)) b (Err f)
 value-refused known limit word a b Word refused = no-value known limit word (too_large true known limit word a b refused)

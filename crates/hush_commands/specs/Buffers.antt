@@ -1,7 +1,7 @@
 -- Fields as they are made, item by item, in one buffer.
 use Rattle.std.specs.Prelude.{◌≡◌, ℕ, ◌+◌, ◌<◌, ◌≤◌, Bool, true, false, List, [], ◌∷◌, ◌++◌, drop, length, map, option_map, fold, sum, Option, Some, None, Result, Ok, Err}
 use Rattle.hush_calc.specs.Fields.{pieces}
-use Rattle.hush_commands.specs.Expansion.{Item, Byte, Split, Mark, size, substituted}
+use Rattle.hush_commands.specs.Expansion.{Item, Byte, Split, Mark, size, cut_items}
 use Rattle.hush_commands.specs.declared.expansion.ExpansionFault.{ExpansionFault}
 use Rattle.hush_commands.specs.declared.expansion.ExpansionFault.TheVariants.{Word, Memory}
 
@@ -63,10 +63,10 @@ abbrev pub kept : (uncut : Bool) → List Item → List Item
 kept true is = map joined is
 kept false is = is
 
--- the text is what is before its first blank, that blank, and what is after it
-pub record CutsAtBlank (text front back : List ℕ) : Type 0 where
+-- the text is what is before the first byte that it is cut at, that byte, and what is after it
+pub record CutsAt (cuts : ℕ → Bool) (text front back : List ℕ) : Type 0 where
   pub blank : ℕ
-  pub items : substituted false text ≡ map Byte front ++ Split blank ∷ substituted false back
+  pub items : cut_items cuts text ≡ map Byte front ++ Split blank ∷ cut_items cuts back
   pub shorter : length back < length text
 
 -- items are appended to a buffer, when a word may have this many more: how many it may have then

@@ -70,6 +70,10 @@ is_there (i ∷ is) = true
 unfoldable pub fields : List Item → List (List ℕ)
 fields is = map bytes_of (filter is_there (cut is))
 
+-- the items of a text that is cut at these bytes
+abbrev pub cut_items : (cuts : ℕ → Bool) → List ℕ → List Item
+cut_items cuts bs = map (λ b. if cuts b then Split b else Byte b) bs
+
 -- how many items aren't marks
 abbrev pub size : List Item → ℕ
 size [] = 0
@@ -87,6 +91,10 @@ word_fields known word = fields (items_of known word)
 -- the fields of words; no value if one of these is larger than the limit
 abbrev pub expanded : Known → ℕ → List (List Atom) → Option (List (List ℕ))
 expanded known limit words = if list_all (fits known limit) words then Some (flat_map (word_fields known) words) else None
+
+-- the bytes of words that aren't cut; no value if one of these is larger than the limit
+abbrev pub expanded_whole : Known → ℕ → List (List Atom) → Option (List (List ℕ))
+expanded_whole known limit words = if list_all (fits known limit) words then Some (map (λ word. bytes_of (items_of known word)) words) else None
 
 -- the value of an assignment, which isn't cut; no value if it is larger than the limit
 abbrev pub expanded_value : Known → ℕ → List Atom → Option (List ℕ)

@@ -1,10 +1,11 @@
 -- Where the shells differ in a simple command and in the list of a `for` (docs/runs.md, "Boards").
-use Rattle.std.specs.Prelude.{ℕ, Bool, false, List}
+use Rattle.std.specs.Prelude.{ℕ, ◌==◌, ◌||◌, Bool, List, Option}
 use Rattle.std.specs.List.{flat_map}
+use Rattle.hush_words.specs.Words.{Atom}
 use Rattle.hush_calc.specs.Test.{test_of}
 use Rattle.hush_calc.specs.Board.{board_test_of}
 use Rattle.hush_commands.specs.Hardware.{Hardware, is_there}
-use Rattle.hush_commands.specs.Expansion.{fields, substituted}
+use Rattle.hush_commands.specs.Expansion.{Known, fields, cut_items, expanded, expanded_whole}
 use Rattle.hush_commands.specs.declared.shell.Shell.{Shell}
 use Rattle.hush_commands.specs.declared.shell.Shell.TheVariants.{Strict, Board}
 
@@ -23,10 +24,19 @@ abbrev pub test_by : Shell → Hardware → List (List ℕ) → Bool
 test_by Strict h words = test_of words
 test_by Board h words = board_test_of (is_there h) words
 
--- the list of a `for`: a board cuts its fields once more, also those that were quoted, and drops the empty ones
-abbrev pub cut_fields : List (List ℕ) → List (List ℕ)
-cut_fields words = flat_map (λ word. fields (substituted false word)) words
+-- the words of the list of a `for`, as they are expanded: a board cuts none of them by itself
+abbrev pub list_words : Shell → Known → ℕ → List (List Atom) → Option (List (List ℕ))
+list_words Strict known limit words = expanded known limit words
+list_words Board known limit words = expanded_whole known limit words
+
+-- space and newline
+abbrev pub cuts_list : ℕ → Bool
+cuts_list b = b == 32 || b == 10
+
+-- the list of a `for`: a board cuts its words, quoted or not, and drops the empty pieces
+abbrev pub cut_words : List (List ℕ) → List (List ℕ)
+cut_words words = flat_map (λ word. fields (cut_items cuts_list word)) words
 
 abbrev pub list_by : Shell → List (List ℕ) → List (List ℕ)
 list_by Strict words = words
-list_by Board words = cut_fields words
+list_by Board words = cut_words words

@@ -2,16 +2,18 @@
 ghost use Rattle.std.specs.Prelude.{◌≡◌, [], ◌∷◌, map, option_map, OnOk, MatchOption, false};
 ghost use Rattle.hush_words.specs.Parts.{part_atoms, word_atoms};
 ghost use Rattle.hush_words.specs.Ranges.{Fits};
-ghost use Rattle.hush_commands.specs.Expansion.{Byte, items_of, substituted, expanded, expanded_value, value_in};
-ghost use Rattle.hush_commands.specs.Buffers.{with_items, kept, AddsItems, AddsPart, CutsAtBlank, Expands};
+ghost use Rattle.hush_commands.specs.Expansion.{Byte, splits, items_of, substituted, cut_items, expanded, expanded_whole, expanded_value, value_in};
+ghost use Rattle.hush_commands.specs.Buffers.{with_items, kept, AddsItems, AddsPart, CutsAt, Expands};
 ghost use Rattle.hush_commands.specs.Scopes.{known};
+ghost use Rattle.hush_commands.specs.Shells.{cuts_list, list_words};
 
 use crate::field_buffer::FieldBuffer;
 use crate::locals::Locals;
+use crate::shell::Shell;
 use envvars_core::Vars;
 use hush_syntax::{Part, Text, Word};
 use itoa::Buffer;
-use memchr::memchr3;
+use memchr::{memchr2, memchr3};
 use std::alloc::AllocError;
 use thiserror::Error;
 
@@ -81,6 +83,42 @@ impl FieldBuffer {
         self.clear();
         for word in words {
             self.add_word(scope, *word, false, limit as usize)?;
+            self.end()?;
+        }
+        Ok(())
+    }
+
+    /// Makes the words of the list of a `for`, as a shell expands them, in place of the fields that it holds.
+    pub fn expand_list(
+        &mut self,
+        scope: &Scope<'_>,
+        words: &[Word],
+        limit: u32,
+        shell: Shell,
+    ) -> Result<(), ExpansionFault>
+        ensures { Expands (list_words shell (known scope.now) limit (map (word_atoms scope.now.text.now) words.now))
+            self.new result }
+    {
+        match shell {
+            Shell::Strict => self.expand(scope, words, limit),
+            Shell::Board => self.expand_whole(scope, words, limit),
+        }
+    }
+
+    /// Makes one field of each word, which isn't cut, in place of those that it holds. The limit is that of `expand`.
+    fn expand_whole(
+        &mut self,
+        scope: &Scope<'_>,
+        words: &[Word],
+        limit: u32,
+    ) -> Result<(), ExpansionFault>
+        ensures { Expands (expanded_whole (known scope.now) limit (map (word_atoms scope.now.text.now) words.now))
+            self.new result }
+    {
+        self.clear();
+        for word in words {
+            self.begin();
+            self.add_word(scope, *word, true, limit as usize)?;
             self.end()?;
         }
         Ok(())
@@ -192,7 +230,7 @@ impl FieldBuffer {
     }
 
     /// Adds a text that is cut at its blanks and newlines.
-    pub(crate) fn add_split(&mut self, text: &[u8]) -> Result<(), AllocError>
+    fn add_split(&mut self, text: &[u8]) -> Result<(), AllocError>
         ensures { OnOk result (self.new ≡ with_items self.old (substituted false text.now)) }
     {
         let mut rest = text;
@@ -203,12 +241,36 @@ impl FieldBuffer {
         }
         self.append(rest)
     }
+
+    /// Adds a word of the list of a board's `for`, which is cut at its spaces and newlines.
+    pub(crate) fn add_list_word(&mut self, text: &[u8]) -> Result<(), AllocError>
+        ensures { OnOk result (self.new ≡ with_items self.old (cut_items cuts_list text.now)) }
+    {
+        let mut rest = text;
+        while let Some((front, behind)) = cut_at_space(rest) {
+            self.append(front)?;
+            self.end()?;
+            rest = behind;
+        }
+        self.append(rest)
+    }
+}
+
+/// What is before the first space or newline of a text, and after it; `None` if it has none.
+fn cut_at_space(text: &[u8]) -> Option<(&[u8], &[u8])>
+    ensures { MatchOption result (cut_items cuts_list text.now ≡ map Byte text.now)
+        (λ found. CutsAt cuts_list text.now found.0.now found.1.now) }
+{
+    match memchr2(b' ', b'\n', text) {
+        Some(at) => Some((&text[..at], &text[at + 1..])),
+        None => None,
+    }
 }
 
 /// What is before the first blank or newline of a text, and after it; `None` if it has none.
 fn cut_at_blank(text: &[u8]) -> Option<(&[u8], &[u8])>
     ensures { MatchOption result (substituted false text.now ≡ map Byte text.now)
-        (λ found. CutsAtBlank text.now found.0.now found.1.now) }
+        (λ found. CutsAt splits text.now found.0.now found.1.now) }
 {
     match memchr3(b' ', b'\t', b'\n', text) {
         Some(at) => Some((&text[..at], &text[at + 1..])),

@@ -1,6 +1,6 @@
 //! Fields that are taken one after the other.
 ghost use Rattle.std.specs.Prelude.{◌≡◌, ◌==◌, [], length, drop, IfOk};
-ghost use Rattle.hush_commands.specs.Shells.{cut_fields, list_by};
+ghost use Rattle.hush_commands.specs.Shells.{cut_words, list_by};
 
 use crate::field_buffer::FieldBuffer;
 use crate::shell::Shell;
@@ -56,13 +56,13 @@ impl FieldQueue {
         }
     }
 
-    /// The fields as the list of a `for`.
+    /// The words of the list of a `for`, as that list.
     pub fn list_by(self, alloc: Global, shell: Shell) -> Result<FieldQueue, AllocError>
         ensures { IfOk result (λ queue. queue ≡ list_by shell self) }
     {
         match shell {
             Shell::Strict => Ok(self),
-            Shell::Board => cut_fields(alloc, self.fields()),
+            Shell::Board => cut_words(alloc, self.fields()),
         }
     }
 
@@ -92,14 +92,14 @@ impl FieldQueue {
     }
 }
 
-/// Each of these fields cut at its blanks and newlines, without the empty ones, in memory of their own.
-fn cut_fields(alloc: Global, fields: Fields<'_>) -> Result<FieldQueue, AllocError>
-    ensures { IfOk result (λ queue. queue ≡ cut_fields fields.entry) }
+/// Each of these words cut at its spaces and newlines, without the empty pieces, in memory of their own.
+fn cut_words(alloc: Global, words: Fields<'_>) -> Result<FieldQueue, AllocError>
+    ensures { IfOk result (λ queue. queue ≡ cut_words words.entry) }
 {
     let mut buffer = FieldBuffer::new(alloc);
-    let mut rest = fields;
-    while let Some(field) = rest.next() {
-        buffer.add_split(field)?;
+    let mut rest = words;
+    while let Some(word) = rest.next() {
+        buffer.add_list_word(word)?;
         buffer.end()?;
     }
     Ok(buffer.take(alloc))

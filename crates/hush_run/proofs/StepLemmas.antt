@@ -27,7 +27,7 @@ use Rattle.hush_run.specs.declared.ending.Ending.TheVariants as ending
 use Rattle.hush_run.specs.Runs.{reason_of}
 use Rattle.hush_run.specs.Steps.{ending_of_print}
 use Rattle.hush_commands.specs.Hardware.{with_words}
-use Rattle.hush_run.specs.Meaning.{answered, Variable, Answer, Reason, Rules, Begin, State, Out, Goes, Ends, ◌>>=◌, ◌then◌, Effect, Does, Exits, Stops, done, step, with_status, carries, fails, exiting, effect, have_value, followed, simple, follows, fields_of, for, bindings, assigned, assigned_to, has_variable, refuses, bound_status, started_status, list_of, known_in, deletions, start, script, in_text, in_answer, entered, within, bodies_of}
+use Rattle.hush_run.specs.Meaning.{answered, Variable, Answer, Reason, Rules, Begin, State, Out, Goes, Ends, ◌>>=◌, ◌then◌, Effect, Does, Exits, Stops, done, step, with_status, carries, fails, exiting, effect, have_value, followed, simple, follows, fields_of, for, bindings, assigned, assigned_to, has_variable, refuses, bound_status, started_status, list_words_of, list_of, known_in, deletions, start, script, in_text, in_answer, entered, within, bodies_of}
 use Rattle.hush_run.specs.Steps.{Meant, Did, NotDone, Counted, MayStep, FieldsAre, Started, NotStarted, Answered, NotAnswered, value_of}
 
 -- a state with another count
@@ -170,10 +170,10 @@ untold rules meant left message name s new print.Output p stops = rw p.1 (λ beg
 untold rules meant left message name s new print.Memory p stops = rw p.1 refl
 
 -- the list of a for
-pub listed : (rules : Rules) (words : List (List Atom)) (s : State) (fields : List (List ℕ)) → fields_of rules words s ≡ Some fields → list_of rules words s ≡ Some (list_by rules.shell fields)
+pub listed : (rules : Rules) (words : List (List Atom)) (s : State) (fields : List (List ℕ)) → list_words_of rules words s ≡ Some fields → list_of rules words s ≡ Some (list_by rules.shell fields)
 listed rules words s fields e = ap (λ (o : Option (List (List ℕ))). option_map (list_by rules.shell) o) e
 
-pub unlisted : (rules : Rules) (words : List (List Atom)) (s : State) → fields_of rules words s ≡ None → list_of rules words s ≡ None
+pub unlisted : (rules : Rules) (words : List (List Atom)) (s : State) → list_words_of rules words s ≡ None → list_of rules words s ≡ None
 unlisted rules words s e = ap (λ (o : Option (List (List ℕ))). option_map (list_by rules.shell) o) e
 
 -- the head of a for

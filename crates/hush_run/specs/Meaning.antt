@@ -20,7 +20,7 @@ use Rattle.run_limits.specs.Limits.{Bounds}
 use Rattle.hush_commands.specs.Hardware.{Hardware, with_words}
 use Rattle.hush_commands.specs.declared.shell.Shell.{Shell}
 use Rattle.hush_commands.specs.declared.shell.Shell.TheVariants.{Strict, Board}
-use Rattle.hush_commands.specs.Shells.{kept_status, list_by}
+use Rattle.hush_commands.specs.Shells.{kept_status, list_words, list_by}
 use Rattle.hush_commands.specs.Messages.{text_of}
 use Rattle.hush_commands.specs.Output.{Printed, printed, answer}
 use Rattle.hush_commands.specs.Expansion.{Known, expanded, expanded_value}
@@ -255,9 +255,12 @@ for rules name None body = step rules (λ s. Stops Word)
 for rules name (Some []) body = step rules Does then λ s. Goes (with_status 0 s)
 for rules name (Some (f ∷ fs)) body = step rules Does then bindings rules name body (f ∷ fs)
 
--- the fields of the list of a `for`
+-- the list of a `for`
+abbrev pub list_words_of : Rules → List (List Atom) → State → Option (List (List ℕ))
+list_words_of rules words s = list_words rules.shell (known_in s) rules.limits.word words
+
 abbrev pub list_of : Rules → List (List Atom) → State → Option (List (List ℕ))
-list_of rules words s = option_map (list_by rules.shell) (fields_of rules words s)
+list_of rules words s = option_map (list_by rules.shell) (list_words_of rules words s)
 
 -- an `exit` leaves a list: its status is that of the first that it leaves, and those around it have status 0
 abbrev pub in_list : Out → Out

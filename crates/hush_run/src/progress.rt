@@ -3,7 +3,7 @@ ghost use Rattle.std.specs.Prelude.{◌≡◌, ◌<◌, map, IfOk};
 ghost use Rattle.hush_words.specs.Parts.{word_atoms};
 ghost use Rattle.env_session.specs.Session.{Held};
 ghost use Rattle.run_limits.specs.Limits.{most_steps};
-ghost use Rattle.hush_run.specs.Meaning.{Rules, Goes, step, fails, fields_of, first_state};
+ghost use Rattle.hush_run.specs.Meaning.{Rules, Goes, step, fails, fields_of, list_words_of, first_state};
 
 use crate::ending::Ending;
 use env_session::Session;
@@ -76,6 +76,32 @@ impl Progress {
             status: self.status,
         };
         self.fields.expand(&scope, words, given.limits.word())?;
+        Ok(())
+    }
+
+    /// If one more step may be counted, expands the words of the list of a `for` to the fields of that step.
+    pub(crate) fn expand_list(
+        &mut self,
+        given: &Given<'_>,
+        session: &Session,
+        text: &Text,
+        words: &[Word],
+    ) -> Result<(), Ending>
+        ensures same { (held : Held) → state_of held self.new ≡ state_of held self.old }
+        ensures fields { FieldsAre (rules_of given.now)
+            (list_words_of (rules_of given.now) (map (word_atoms text.now) words.now) (state_of session.now self.old))
+            (state_of session.now self.old) self.new.fields result }
+        ensures counts { IfOk result (λ u. self.new.steps < most_steps) }
+    {
+        self.may_step(given)?;
+        let scope = Scope {
+            text,
+            vars: session.vars(),
+            locals: &self.locals,
+            status: self.status,
+        };
+        self.fields
+            .expand_list(&scope, words, given.limits.word(), given.shell)?;
         Ok(())
     }
 

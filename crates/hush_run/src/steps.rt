@@ -101,7 +101,7 @@ pub(crate) fn head_step(
         (λ fields rules begin. bindings rules name (body rules begin) fields) (state_of session.now progress.old)
         (state_of session.now progress.new) result }
 {
-    progress.expand(given, session, text, words)?;
+    progress.expand_list(given, session, text, words)?;
     let made = progress.fields.take(given.alloc);
     let fields = made.list_by(given.alloc, given.shell)?;
     progress.steps += 1;

@@ -1,4 +1,4 @@
-use Rattle.std.proofs.Common.{◌≡◌, rules, List, map, take, get_or, true, subst, sym, Err, arith}
+use Rattle.std.proofs.Common.{◌≡◌, rules, List, map, take, get_or, true, false, subst, sym, Err, arith}
 use Rattle.std.specs.List.{flat_map, list_all}
 use Rattle.hush_words.specs.Words.{Atom}
 use Rattle.hush_words.specs.Parts.{word_atoms}
@@ -27,5 +27,5 @@ loop-word-preserved c =
     let more = sym (next-word text ws i d (omega (arith, c.loop-word-test.true))) in
     record {
       made = subst (λ (xs : List (List Atom)). c.end.new.self ≡ whole (flat_map (word_fields k) xs)) more (made-more k c.args.limit done word c.in_ok-add_word.field-0 c.loop-word.self c.add_word.new.self c.end.new.self c.loop-word.invariant.made c.in_ok-add_word.ensures c.in_ok-end.ensures.ok);
-      small = subst (λ (xs : List (List Atom)). list_all (fits k c.args.limit) xs ≡ true) more (small-more k c.args.limit done word c.in_ok-add_word.field-0 c.loop-word.self c.add_word.new.self c.loop-word.invariant.small c.in_ok-add_word.ensures);
+      small = subst (λ (xs : List (List Atom)). list_all (fits k c.args.limit) xs ≡ true) more (small-more false k c.args.limit done word c.in_ok-add_word.field-0 c.loop-word.self c.add_word.new.self c.loop-word.invariant.small c.in_ok-add_word.ensures);
     }
