@@ -125,6 +125,15 @@ class Run:
             return self.expanded(words)
         return [piece for parts in words for piece in re.split(rb"[ \n]", self.expanded_value(parts)) if piece]
 
+    def called(self, name, parts):
+        """The name of the command that an assignment calls: its word up to the first splitting blank."""
+        for item in self.items(parts):
+            if isinstance(item, tuple):
+                break
+            if item is not None:
+                name += bytes([item])
+        return name
+
     # The tree
 
     def chains(self, chains):
@@ -175,8 +184,11 @@ class Run:
             self.begin()
             if self.is_refused(name):
                 return
-            self.done(self.shell.of_binding(self.status))
-            self.locals[name] = each
+            if self.shell.calls(name):
+                self.done(1, UNKNOWN % (name + b"=" + each))
+            else:
+                self.done(self.shell.of_binding(self.status))
+                self.locals[name] = each
             self.chains(body)
 
     def is_refused(self, name):
@@ -188,6 +200,9 @@ class Run:
 
     def command_assign(self, name, parts, _place):
         self.begin()
+        if self.shell.calls(name):
+            self.done(1, UNKNOWN % self.called(name + b"=", parts))
+            return
         value = self.expanded_value(parts)
         if not self.is_refused(name):
             self.done(0)

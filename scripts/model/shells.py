@@ -47,6 +47,10 @@ class Strict:
         """The status of an `exit` without one."""
         return status
 
+    def calls(self, _name):
+        """Whether an assignment to a name is a command's call."""
+        return False
+
     def test(self, words, _there):
         return test(words)
 
@@ -86,6 +90,9 @@ class Board(Strict):
 
     def of_bare_exit(self, _status):
         return 0
+
+    def calls(self, name):
+        return name.startswith(b"_")
 
     def test(self, words, there):
         return board_test(words, there)

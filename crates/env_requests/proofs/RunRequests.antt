@@ -1,5 +1,5 @@
 -- A run changes the session by writes and saves alone.
-use Rattle.std.proofs.Common.{◌≡◌, not, ℕ, zero, suc, Bool, true, false, get_or, List, [], ◌∷◌, ◌++◌, length, fold, Option, Some, None, refl, sym, ap, subst, ◌∙◌, if◌then◌else◌, cond, is_some, nat_lt, ◌==◌, inl, inr}
+use Rattle.std.proofs.Common.{◌≡◌, not, ℕ, zero, suc, Bool, true, false, get_or, List, [], ◌∷◌, ◌++◌, length, fold, Option, Some, None, refl, sym, ap, subst, ◌∙◌, if◌then◌else◌, cond, is_some, codes, nat_lt, ◌==◌, inl, inr}
 use Rattle.std.specs.Prelude.{◌&&◌}
 use Rattle.std.specs.List.{list_all}
 use Rattle.std.specs.FinMap as map
@@ -10,18 +10,20 @@ use Rattle.env_session.specs.Session.{Held, Mark, on_last, written, saving, side
 use Rattle.env_session.specs.Requests.{Request, Write, Import, Save, MarkNow, UndoTo, Print, refusal_in, request, Runs}
 use Rattle.env_session.specs.Laws.{spares}
 use Rattle.env_session.proofs.LawLemmas.{marks_stand}
+use Rattle.hush_words.specs.Words.{Atom}
 use Rattle.hush_syntax.specs.Grammar.{Command, Simple, Assign, If, For, While, Until, Branches, Elif, Else, Fi, Chain, First, Links, End, Link, Chains, Last, More}
 use Rattle.hush_syntax.specs.Reading.{read_in}
 use Rattle.hush_commands.specs.declared.follow.Follow.{Follow}
 use Rattle.hush_commands.specs.declared.follow.Follow.TheVariants as follow
 use Rattle.hush_commands.specs.declared.messages.Message.{Message}
-use Rattle.hush_commands.specs.declared.messages.Message.TheVariants.{NotDefined, IsVariable, NoScript}
+use Rattle.hush_commands.specs.declared.messages.Message.TheVariants.{NotDefined, UnknownCommand, IsVariable, NoScript}
 use Rattle.hush_commands.specs.Hardware.{Hardware, with_words}
 use Rattle.hush_commands.specs.declared.shell.Shell.{Shell}
 use Rattle.hush_commands.specs.Carrying.{Done, done_of, deletion_of}
 use Rattle.hush_commands.proofs.LeavingLemmas.{Leaves as IsLeft, done_leaves, deletion_leaves}
 use Rattle.hush_commands.specs.Following.{follow_of}
-use Rattle.hush_run.specs.Meaning.{Rules, Starting, Variable, Answer, answered, Begin, State, Out, Goes, Leaves, Ends, ◌>>=◌, ◌then◌, Effect, Does, Exits, Stops, done, step, with_status, carries, fails, goes_on, turns, if_ok, in_turn, deletions, follows, have_value, followed, simple, bindings, for, joins, leaves_chain, after_skip, refuses, bound_status, started_status, fields_of, list_of, exiting, effect, assigned_to, assigned, command, otherwise, chain, linked, chains, script, start, looked_up, in_list, in_text, in_answer, entered, ended, meaning, bodies_of}
+use Rattle.hush_run.specs.Meaning.{Rules, Starting, Variable, Answer, answered, Begin, State, Out, Goes, Leaves, Ends, ◌>>=◌, ◌then◌, Effect, Does, Exits, Stops, done, step, with_status, carries, fails, goes_on, turns, if_ok, in_turn, deletions, follows, have_value, followed, simple, bindings, for, joins, leaves_chain, after_skip, refuses, started_status, fields_of, list_of, exiting, effect, fields_after, called, is_call, bound_to, assigned_to, assigned, command, otherwise, chain, linked, chains, script, start, looked_up, in_list, in_text, in_answer, entered, ended, meaning, bodies_of}
+use Rattle.hush_run.specs.Meaning.Reason.{Word}
 use Rattle.env_requests.specs.Laws.{run_left, writes_or_saves, RunIsRequests, RunKeepsMarks}
 
 -- writes and saves, each of which was done, lead from the one session to the other
@@ -126,6 +128,17 @@ assigned_acts : (shell : Shell) (name : List ℕ) (o : Option (List ℕ)) (s : S
 assigned_acts shell name None s = tt
 assigned_acts shell name (Some value) s = by_bool (refuses shell s name) (Acts s.held) (fails IsVariable name s) (Does (record s { locals = map.insert s.locals name value; status = 0 })) (fails_acts IsVariable name s) (nothing s.held)
 
+call_acts : (o : Option (List (List ℕ))) (s : State) → Acts s.held (elim o [ None ↦ Stops Word | Some fields ↦ fails UnknownCommand (get_or fields 0 []) s ])
+call_acts None s = tt
+call_acts (Some fields) s = fails_acts UnknownCommand (get_or fields 0 []) s
+
+assign_acts : (rules : Rules) (name : List ℕ) (value : List Atom) (s : State) → Acts s.held (assigned rules name value s)
+assign_acts rules name value s =
+    by_bool (is_call rules.shell name) (Acts s.held) (called rules name value s) _ (call_acts (fields_after rules (name ++ codes "=") value s) s) (assigned_acts rules.shell name _ s)
+
+bound_acts : (shell : Shell) (name field : List ℕ) (s : State) → Acts s.held (bound_to shell name field s)
+bound_acts shell name field s = by_bool (is_call shell name) (Acts s.held) (fails UnknownCommand (name ++ codes "=" ++ field) s) _ (fails_acts UnknownCommand (name ++ codes "=" ++ field) s) (nothing s.held)
+
 -- the turns of a loop
 turns_change : (shell : Shell) (n : ℕ) (wanted : Bool) (c d : State → Out) (last : ℕ) → Changes c → Changes d → Changes (turns shell n wanted c d last)
 unfolding turns
@@ -147,7 +160,7 @@ bindings_change rules name body a (f ∷ fs) s =
     by_bool (refuses rules.shell s name) (Comes s.held) _ _
     (step_changes rules (fails IsVariable name) (λ t. fails_acts IsVariable name t) s)
     (bind_comes s.held _ (bindings rules name body fs)
-    (bind_comes s.held _ body (step_changes rules (λ t. Does (record t { locals = map.insert t.locals name f; status = bound_status rules.shell t.status })) (λ t. nothing t.held) s) a)
+    (bind_comes s.held _ body (step_changes rules (bound_to rules.shell name f) (bound_acts rules.shell name f) s) a)
     (bindings_change rules name body a fs))
 
 for_changes : (rules : Rules) (name : List ℕ) (fields : Option (List (List ℕ))) (body : State → Out) → Changes body → Changes (for rules name fields body)
@@ -185,7 +198,7 @@ module _ (rules : Rules) (begin : Begin) (starts : (x : Starting) → Changes (b
   mutual
     command_changes : (c : Command) → Changes (command rules begin c)
     command_changes (Simple words) = λ s. simple_changes (have_value words) (fields_of rules words s) s
-    command_changes (Assign name value) = step_changes rules (assigned rules name value) (λ s. assigned_acts rules.shell name _ s)
+    command_changes (Assign name value) = step_changes rules (assigned rules name value) (assign_acts rules name value)
     command_changes (If c d branches) = then_changes _ _ (chains_change c) (if_ok_changes _ _ (chains_change d) (otherwise_changes branches))
     command_changes (For name words d) = λ s. for_changes rules name (list_of rules words s) _ (chains_change d) s
     command_changes (While c d) = turns_change rules.shell (suc rules.limits.steps) true _ _ 0 (chains_change c) (chains_change d)

@@ -5,7 +5,7 @@ use Rattle.std.specs.List.{flat_map, list_all}
 use Rattle.std.proofs.lemmas.Bool.{cond-true, cond-false, le-leb}
 use Rattle.std.proofs.lemmas.Bool.Decides.{leb_tells}
 use Rattle.std.proofs.Common.{inl, inr, suc}
-use Rattle.std.proofs.lemmas.Grind.{flat_map-append}
+use Rattle.std.proofs.lemmas.Grind.{flat_map-append, fold-append}
 use Rattle.std.proofs.lemmas.List.{map-append, take-append-drop}
 use Rattle.std.proofs.lemmas.List.Folds.{list_all-append}
 use Rattle.std.proofs.Math.Seq.{take-suc, drop-cons}
@@ -14,8 +14,8 @@ use Rattle.hush_words.specs.Parts.{Written, word_atoms}
 use Rattle.hush_words.specs.declared.parts.Word.{Word as Range}
 use Rattle.hush_commands.specs.declared.expansion.ExpansionFault.{ExpansionFault}
 use Rattle.hush_commands.specs.declared.expansion.ExpansionFault.TheVariants.{Word, Memory}
-use Rattle.hush_commands.specs.Expansion.{Known, items_of, size, fields, fits, word_fields, bytes_of, expanded, expanded_whole, expanded_value}
-use Rattle.hush_commands.specs.Buffers.{Made, whole, ended, with_bytes, with_items, kept, AddsItems, Expands}
+use Rattle.hush_commands.specs.Expansion.{Known, items_of, size, fields, fits, word_fields, Byte, bytes_of, expanded, expanded_whole, expanded_after, expanded_value}
+use Rattle.hush_commands.specs.Buffers.{Made, whole, ended, with_bytes, with_item, with_items, kept, AddsItems, Expands}
 use Rattle.hush_commands.proofs.ItemLemmas.{fields_made, whole_made, value_made, size-kept}
 
 abbrev whole_bytes : Known → List Atom → List ℕ
@@ -83,6 +83,17 @@ value-fits known limit word rest a b c e h f =
 
 pub no-value : (known : Known) (limit : ℕ) (word : List Atom) → fits known limit word ≡ false → option_map (λ v. v ∷ []) (expanded_value known limit word) ≡ None
 no-value known limit word e = ap (λ (o : Option (List ℕ)). option_map alone o) (cond-false _ _ _ e)
+
+-- a word with bytes before it
+pub after-fits : (known : Known) (limit : ℕ) (front : List ℕ) (word : List Atom) (rest : ℕ) (a b c : Made) → a ≡ with_items (whole []) (map Byte front) → AddsItems (kept false (items_of known word)) limit a b (Ok rest) → c ≡ ended b → option_map whole (expanded_after known limit front word) ≡ Some c
+after-fits known limit front word rest a b c e h f =
+    let is = items_of known word in
+    ap (λ (o : Option (List (List ℕ))). option_map whole o) (cond-true _ _ _ (within false known limit word rest a b h))
+    ∙ ap (λ (m : Made). let o : Option Made = Some m in o) (sym (f ∙ ap ended (h.1 ∙ ap (λ (m : Made). with_items m is) e ∙ sym (fold-append with_item (whole []) (map Byte front) is)) ∙ fields_made [] (map Byte front ++ is)))
+
+pub after-refused : (known : Known) (limit : ℕ) (front : List ℕ) (word : List Atom) (a b : Made) (f : ExpansionFault) → AddsItems (kept false (items_of known word)) limit a b (Err f) → Expands (expanded_after known limit front word) b (Err f)
+after-refused known limit front word a b Word refused = cond-false _ _ _ (too_large false known limit word a b refused)
+after-refused known limit front word a b Memory refused = tt
 
 -- what a refused word says of them all
 pub word-refused : (known : Known) (limit : ℕ) (text : Written) (ws : List Range) (i : ℕ) (d : Range) (a b : Made) (f : ExpansionFault) → i < length ws → AddsItems (kept false (items_of known (word_atoms text (get_or ws i d)))) limit a b (Err f) → Expands (expanded known limit (map (word_atoms text) ws)) b (Err f)

@@ -1,5 +1,5 @@
 -- What words are expanded to (docs/runs.md, "Expansion").
-use Rattle.std.specs.Prelude.{ℕ, suc, ◌==◌, ◌||◌, ◌&&◌, Bool, true, false, not, nat_le, if◌then◌else◌, List, [], ◌∷◌, map, filter, decimal, Option, Some, None, unwrap_or}
+use Rattle.std.specs.Prelude.{ℕ, suc, ◌==◌, ◌||◌, ◌&&◌, Bool, true, false, not, nat_le, if◌then◌else◌, List, [], ◌∷◌, ◌++◌, map, filter, decimal, Option, Some, None, unwrap_or}
 use Rattle.std.specs.List.{flat_map, list_all}
 use Rattle.std.specs.Option.{option_or}
 use Rattle.std.specs.FinMap.{get}
@@ -95,6 +95,10 @@ expanded known limit words = if list_all (fits known limit) words then Some (fla
 -- the bytes of words that aren't cut; no value if one of these is larger than the limit
 abbrev pub expanded_whole : Known → ℕ → List (List Atom) → Option (List (List ℕ))
 expanded_whole known limit words = if list_all (fits known limit) words then Some (map (λ word. bytes_of (items_of known word)) words) else None
+
+-- the fields of a word with these bytes before it; no value if the word is larger than the limit
+abbrev pub expanded_after : Known → ℕ → (front : List ℕ) → List Atom → Option (List (List ℕ))
+expanded_after known limit front word = if fits known limit word then Some (fields (map Byte front ++ items_of known word)) else None
 
 -- the value of an assignment, which isn't cut; no value if it is larger than the limit
 abbrev pub expanded_value : Known → ℕ → List Atom → Option (List ℕ)

@@ -2,7 +2,7 @@
 ghost use Rattle.std.specs.Prelude.{◌≡◌, [], ◌∷◌, map, option_map, OnOk, MatchOption, false};
 ghost use Rattle.hush_words.specs.Parts.{part_atoms, word_atoms};
 ghost use Rattle.hush_words.specs.Ranges.{Fits};
-ghost use Rattle.hush_commands.specs.Expansion.{Byte, splits, items_of, substituted, cut_items, expanded, expanded_whole, expanded_value, value_in};
+ghost use Rattle.hush_commands.specs.Expansion.{Byte, splits, items_of, substituted, cut_items, expanded, expanded_whole, expanded_after, expanded_value, value_in};
 ghost use Rattle.hush_commands.specs.Buffers.{with_items, kept, AddsItems, AddsPart, CutsAt, Expands};
 ghost use Rattle.hush_commands.specs.Scopes.{known};
 ghost use Rattle.hush_commands.specs.Shells.{cuts_list, list_words};
@@ -138,6 +138,24 @@ impl FieldBuffer {
         self.clear();
         self.begin();
         self.add_word(scope, word, true, limit as usize)?;
+        self.end()?;
+        Ok(())
+    }
+
+    /// Makes the fields of a word with these bytes before it, in place of those that it holds. The limit is the word's.
+    pub fn expand_after(
+        &mut self,
+        scope: &Scope<'_>,
+        front: &[u8],
+        word: Word,
+        limit: u32,
+    ) -> Result<(), ExpansionFault>
+        ensures { Expands (expanded_after (known scope.now) limit front.now (word_atoms scope.now.text.now word))
+            self.new result }
+    {
+        self.clear();
+        self.append(front)?;
+        self.add_word(scope, word, false, limit as usize)?;
         self.end()?;
         Ok(())
     }

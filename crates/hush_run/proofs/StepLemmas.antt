@@ -1,5 +1,5 @@
 -- What the body of a step shows of itself.
-use Rattle.std.proofs.Common.{◌≡◌, ℕ, zero, suc, ◌<◌, ◌≤◌, ◌==◌, Bool, true, false, not, if◌then◌else◌, List, [], ◌∷◌, ◌++◌, length, Option, Some, None, Result, Ok, Err, option_map, unwrap_or, refl, sym, ap, subst, ◌∙◌, arith, nat_lt, is_some, eqb-true, get_or}
+use Rattle.std.proofs.Common.{◌≡◌, ℕ, zero, suc, ◌<◌, ◌≤◌, ◌==◌, Bool, true, false, not, if◌then◌else◌, List, [], ◌∷◌, ◌++◌, length, Option, Some, None, Result, Ok, Err, option_map, unwrap_or, refl, sym, ap, subst, ◌∙◌, arith, nat_lt, is_some, eqb-true, get_or, codes}
 use Rattle.std.proofs.lemmas.Bool.{lt-ltb, le-ltb}
 use Rattle.env_session.specs.Session.{Held}
 use Rattle.hush_words.specs.Words.{Atom}
@@ -10,9 +10,9 @@ use Rattle.hush_commands.specs.declared.output.PrintFault.TheVariants as print
 use Rattle.hush_commands.specs.Buffers.{Made, whole}
 use Rattle.hush_commands.specs.Shells.{list_by}
 use Rattle.std.specs.FinMap as map
-use Rattle.hush_commands.specs.Expansion.{expanded_value}
+use Rattle.hush_commands.specs.Expansion.{fits as within_limit, expanded_value}
 use Rattle.hush_commands.specs.declared.messages.Message.{Message}
-use Rattle.hush_commands.specs.declared.messages.Message.TheVariants.{IsVariable, NotDefined, NoScript}
+use Rattle.hush_commands.specs.declared.messages.Message.TheVariants.{IsVariable, NotDefined, UnknownCommand, NoScript}
 use Rattle.hush_commands.specs.Messages.{text_of}
 use Rattle.hush_commands.specs.Output.{Printed, printed, answer, PrintsWhole}
 use Rattle.hush_syntax.specs.Scripts.{Parsed, tree_of}
@@ -27,7 +27,7 @@ use Rattle.hush_run.specs.declared.ending.Ending.TheVariants as ending
 use Rattle.hush_run.specs.Runs.{reason_of}
 use Rattle.hush_run.specs.Steps.{ending_of_print}
 use Rattle.hush_commands.specs.Hardware.{with_words}
-use Rattle.hush_run.specs.Meaning.{answered, Variable, Answer, Reason, Rules, Begin, State, Out, Goes, Ends, ◌>>=◌, ◌then◌, Effect, Does, Exits, Stops, done, step, with_status, carries, fails, exiting, effect, have_value, followed, simple, follows, fields_of, for, bindings, assigned, assigned_to, has_variable, refuses, bound_status, started_status, list_words_of, list_of, known_in, deletions, start, script, in_text, in_answer, entered, within, bodies_of}
+use Rattle.hush_run.specs.Meaning.{answered, Variable, Answer, Reason, Rules, Begin, State, Out, Goes, Ends, ◌>>=◌, ◌then◌, Effect, Does, Exits, Stops, done, step, with_status, carries, fails, exiting, effect, have_value, followed, simple, follows, fields_of, fields_after, for, bindings, bound_to, assigned, assigned_to, called, is_call, has_variable, refuses, bound_status, started_status, list_words_of, list_of, known_in, deletions, start, script, in_text, in_answer, entered, within, bodies_of}
 use Rattle.hush_run.specs.Steps.{Meant, Did, NotDone, Counted, MayStep, FieldsAre, Started, NotStarted, Answered, NotAnswered, value_of}
 
 -- a state with another count
@@ -59,6 +59,11 @@ step_left rules effect s u k lt leaves is =
     ap (λ (b : Bool). if b then done s (effect s) else Ends Steps None s) (lt-ltb s.steps rules.limits.steps lt)
     ∙ ap (done s) leaves
     ∙ ap (λ (j : ℕ). Ends Exited None (counting j u)) (sym is)
+
+-- a step with another effect that evaluates to the same
+step-same : (r : Rules) (effect other : State → Effect) (s : State) → effect s ≡ other s → step r effect s ≡ step r other s
+unfolding step
+step-same r effect other s e = ap (λ (x : Effect). if nat_lt s.steps r.limits.steps then done s x else Ends Steps None s) e
 
 -- when a command was carried out
 abbrev pub carried : Done → State → State
@@ -217,26 +222,59 @@ module _ (rules : Rules) (words : List (List Atom)) (name : List ℕ) (body : Me
       heads (f ∷ fs) h r begin = refl
 
 -- an assignment
-pub value_large : (rules : Rules) (name : List ℕ) (word : List Atom) (s : State) → s.steps < rules.limits.steps → value_of rules word s ≡ None → step rules (assigned rules name word) s ≡ Ends Word None s
-value_large rules name word s lt e = step_stopped rules (assigned rules name word) s Word lt (ap (λ (o : Option (List ℕ)). assigned_to rules.shell name o s) (none (expanded_value (known_in s) rules.limits.word word) e))
+no_value : (o : Option (List ℕ)) → option_map (λ (v : List ℕ). v ∷ []) o ≡ None → o ≡ None
+no_value None h = refl
+no_value (Some v) h = absurd (let f : true ≡ false = ap (λ (p : Option (List (List ℕ))). is_some p) h in cc)
+
+-- a word that is larger than the limit has no value and no fields
+none_after : (rules : Rules) (front : List ℕ) (word : List Atom) (s : State) → expanded_value (known_in s) rules.limits.word word ≡ None → fields_after rules front word s ≡ None
+none_after rules front word s e = either (within_limit (known_in s) rules.limits.word word) _ _ e
   where
-    none : (o : Option (List ℕ)) → option_map (λ (v : List ℕ). v ∷ []) o ≡ None → o ≡ None
-    none None h = refl
-    none (Some v) h = absurd (let f : true ≡ false = ap (λ (p : Option (List (List ℕ))). is_some p) h in cc)
+    either : (b : Bool) (x : List ℕ) (y : List (List ℕ)) → (if b then Some x else None) ≡ None → (if b then Some y else None) ≡ None
+    either true x y h = absurd (let f : true ≡ false = ap (λ (p : Option (List ℕ)). is_some p) h in cc)
+    either false x y h = refl
+
+-- an assignment that calls a command
+called_none : (rules : Rules) (name : List ℕ) (word : List Atom) (s : State) → fields_after rules (name ++ codes "=") word s ≡ None → called rules name word s ≡ Stops Word
+called_none rules name word s e = ap (λ (o : Option (List (List ℕ))). elim o [ None ↦ Stops Word | Some fields ↦ fails UnknownCommand (get_or fields 0 []) s ]) e
+
+pub call_large : (rules : Rules) (name : List ℕ) (word : List Atom) (s : State) → s.steps < rules.limits.steps → fields_after rules (name ++ codes "=") word s ≡ None → step rules (called rules name word) s ≡ Ends Word None s
+call_large rules name word s lt e = step_stopped rules (called rules name word) s Word lt (called_none rules name word s e)
+
+pub called_some : (rules : Rules) (name : List ℕ) (word : List Atom) (s : State) (fields : List (List ℕ)) (first : List ℕ) → fields_after rules (name ++ codes "=") word s ≡ Some fields → first ≡ get_or fields 0 [] → called rules name word s ≡ fails UnknownCommand first s
+called_some rules name word s fields first e f = ap (λ (o : Option (List (List ℕ))). elim o [ None ↦ Stops Word | Some fs ↦ fails UnknownCommand (get_or fs 0 []) s ]) e ∙ ap (λ (x : List ℕ). fails UnknownCommand x s) (sym f)
+
+pub value_large : (rules : Rules) (name : List ℕ) (word : List Atom) (s : State) → s.steps < rules.limits.steps → value_of rules word s ≡ None → step rules (assigned rules name word) s ≡ Ends Word None s
+value_large rules name word s lt e =
+    let none = no_value (expanded_value (known_in s) rules.limits.word word) e in
+    step_stopped rules (assigned rules name word) s Word lt (either (is_call rules.shell name) none)
+  where
+    either : (b : Bool) → expanded_value (known_in s) rules.limits.word word ≡ None → (if b then called rules name word s else assigned_to rules.shell name (expanded_value (known_in s) rules.limits.word word) s) ≡ Stops Word
+    either true none = called_none rules name word s (none_after rules (name ++ codes "=") word s none)
+    either false none = ap (λ (o : Option (List ℕ)). assigned_to rules.shell name o s) none
+
+-- it is as what it calls, or as what it assigns
+pub assign_called : (rules : Rules) (name : List ℕ) (word : List Atom) (s : State) → is_call rules.shell name ≡ true → assigned rules name word s ≡ called rules name word s
+assign_called rules name word s is = ap (λ (b : Bool). if b then called rules name word s else assigned_to rules.shell name (expanded_value (known_in s) rules.limits.word word) s) is
+
+assign_uncalled : (rules : Rules) (name : List ℕ) (word : List Atom) (s : State) → is_call rules.shell name ≡ false → assigned rules name word s ≡ assigned_to rules.shell name (expanded_value (known_in s) rules.limits.word word) s
+assign_uncalled rules name word s is = ap (λ (b : Bool). if b then called rules name word s else assigned_to rules.shell name (expanded_value (known_in s) rules.limits.word word) s) is
 
 -- the one field that is its value
 pub value_made : (o : Option (List ℕ)) (m : Made) → option_map whole (option_map (λ (v : List ℕ). v ∷ []) o) ≡ Some m → (v : List ℕ) × (o ≡ Some v) × (m.done ≡ v ∷ [])
 value_made None m e = absurd (let f : false ≡ true = ap (λ (p : Option Made). is_some p) e in cc)
 value_made (Some v) m e = (v, refl, sym (ap (λ (p : Option Made). unwrap_or (option_map (λ x. x.done) p) (v ∷ [])) e))
 
-pub assign_refused : (rules : Rules) (name : List ℕ) (word : List Atom) (s : State) (v : List ℕ) → expanded_value (known_in s) rules.limits.word word ≡ Some v → refuses rules.shell s name ≡ true → assigned rules name word s ≡ fails IsVariable name s
-assign_refused rules name word s v e is =
-    ap (λ (o : Option (List ℕ)). assigned_to rules.shell name o s) e
+pub assign_refused : (rules : Rules) (name : List ℕ) (word : List Atom) (s : State) (v : List ℕ) → expanded_value (known_in s) rules.limits.word word ≡ Some v → is_call rules.shell name ≡ false → refuses rules.shell s name ≡ true → assigned rules name word s ≡ fails IsVariable name s
+assign_refused rules name word s v e uncalled is =
+    assign_uncalled rules name word s uncalled
+    ∙ ap (λ (o : Option (List ℕ)). assigned_to rules.shell name o s) e
     ∙ ap (λ (b : Bool). if b then fails IsVariable name s else Does (record s { locals = map.insert s.locals name v; status = 0 })) is
 
-pub assign_done : (rules : Rules) (name : List ℕ) (word : List Atom) (s : State) (v : List ℕ) → expanded_value (known_in s) rules.limits.word word ≡ Some v → refuses rules.shell s name ≡ false → assigned rules name word s ≡ Does (record s { locals = map.insert s.locals name v; status = 0 })
-assign_done rules name word s v e is =
-    ap (λ (o : Option (List ℕ)). assigned_to rules.shell name o s) e
+pub assign_done : (rules : Rules) (name : List ℕ) (word : List Atom) (s : State) (v : List ℕ) → expanded_value (known_in s) rules.limits.word word ≡ Some v → is_call rules.shell name ≡ false → refuses rules.shell s name ≡ false → assigned rules name word s ≡ Does (record s { locals = map.insert s.locals name v; status = 0 })
+assign_done rules name word s v e uncalled is =
+    assign_uncalled rules name word s uncalled
+    ∙ ap (λ (o : Option (List ℕ)). assigned_to rules.shell name o s) e
     ∙ ap (λ (b : Bool). if b then fails IsVariable name s else Does (record s { locals = map.insert s.locals name v; status = 0 })) is
 
 pub unprinted : {X : Type 0} (rules : Rules) (meant : Meant) (left : X → Meant) (d : Done) (s : State) (after : Held) (new : Printed) (fault : PrintFault) → Carries d s.held after s.printed new (Err fault) → ((begin : Begin) → carries d s ≡ Stops Output → meant rules begin s ≡ Ends Output None s) → Did rules meant left s (record { held = after; locals = s.locals; status = s.status; printed = new; steps = s.steps }) (Err (ending_of_print fault))
@@ -264,24 +302,44 @@ module _ (rules : Rules) (name field : List ℕ) (rest : List (List ℕ)) (body 
   pub bind_halts : (begin : Begin) → rules.limits.steps ≤ s.steps → bindings rules name (body rules begin) (field ∷ rest) s ≡ Ends Steps None s
   bind_halts begin le = either (refuses rules.shell s name)
     where
-      either : (b : Bool) → (if b then step rules (fails IsVariable name) s else (step rules (λ t. Does (record t { locals = map.insert t.locals name field; status = bound_status rules.shell t.status })) s >>= body rules begin >>= bindings rules name (body rules begin) rest)) ≡ Ends Steps None s
+      either : (b : Bool) → (if b then step rules (fails IsVariable name) s else (step rules (bound_to rules.shell name field) s >>= body rules begin >>= bindings rules name (body rules begin) rest)) ≡ Ends Steps None s
       either true = step_halts rules _ s le
-      either false = ap (λ (o : Out). o >>= body rules begin >>= bindings rules name (body rules begin) rest) (step_halts rules (λ t. Does (record t { locals = map.insert t.locals name field; status = bound_status rules.shell t.status })) s le)
+      either false = ap (λ (o : Out). o >>= body rules begin >>= bindings rules name (body rules begin) rest) (step_halts rules (bound_to rules.shell name field) s le)
+
+  bound_called : (t : State) → is_call rules.shell name ≡ true → bound_to rules.shell name field t ≡ fails UnknownCommand (name ++ codes "=" ++ field) t
+  bound_called t calls = ap (λ (b : Bool). if b then fails UnknownCommand (name ++ codes "=" ++ field) t else Does (record t { locals = map.insert t.locals name field; status = bound_status rules.shell t.status })) calls
 
   -- if the name is a variable's, it is as the step that fails
   pub bind_refused : (t : State) → refuses rules.shell s name ≡ true → Did rules (λ r begin. step r (fails IsVariable name)) (λ (u : Unit {0}) r begin. Goes) s t (Ok tt) → Did rules (λ r begin. bindings r name (body r begin) (field ∷ rest)) (λ bound r begin. if bound then (body r begin then bindings r name (body r begin) rest) else Goes) s t (Ok false)
-  bind_refused t taken did = (did.0, λ n begin le. ap (λ (b : Bool). if b then step (within n rules) (fails IsVariable name) s else (step (within n rules) (λ t. Does (record t { locals = map.insert t.locals name field; status = bound_status rules.shell t.status })) s >>= body (within n rules) begin >>= bindings (within n rules) name (body (within n rules) begin) rest)) taken ∙ did.1 n begin le)
+  bind_refused t taken did = (did.0, λ n begin le. ap (λ (b : Bool). if b then step (within n rules) (fails IsVariable name) s else (step (within n rules) (bound_to rules.shell name field) s >>= body (within n rules) begin >>= bindings (within n rules) name (body (within n rules) begin) rest)) taken ∙ did.1 n begin le)
 
   pub bind_stopped : (t : State) (o : Option Reason) → refuses rules.shell s name ≡ true → NotDone rules (λ r begin. step r (fails IsVariable name)) s t o → NotDone rules (λ r begin. bindings r name (body r begin) (field ∷ rest)) s t o
-  bind_stopped t (Some e) taken did = λ begin. ap (λ (b : Bool). if b then step rules (fails IsVariable name) s else (step rules (λ t. Does (record t { locals = map.insert t.locals name field; status = bound_status rules.shell t.status })) s >>= body rules begin >>= bindings rules name (body rules begin) rest)) taken ∙ did begin
+  bind_stopped t (Some e) taken did = λ begin. ap (λ (b : Bool). if b then step rules (fails IsVariable name) s else (step rules (bound_to rules.shell name field) s >>= body rules begin >>= bindings rules name (body rules begin) rest)) taken ∙ did begin
   bind_stopped t None taken did = did
 
-  pub bind_done : (k : ℕ) → s.steps < rules.limits.steps → refuses rules.shell s name ≡ false → k ≡ suc s.steps → Did rules (λ r begin. bindings r name (body r begin) (field ∷ rest)) (λ bound r begin. if bound then (body r begin then bindings r name (body r begin) rest) else Goes) s (record s { locals = map.insert s.locals name field; status = bound_status rules.shell s.status; steps = k }) (Ok true)
-  bind_done k lt free is =
-      let did = step_done rules (λ t. Does (record t { locals = map.insert t.locals name field; status = bound_status rules.shell t.status })) s (record s { locals = map.insert s.locals name field; status = bound_status rules.shell s.status }) k lt refl is in (
+  -- if it calls a command, it is as the step that fails, and then the body
+  pub bind_called : (t : State) → refuses rules.shell s name ≡ false → is_call rules.shell name ≡ true → Did rules (λ r begin. step r (fails UnknownCommand (name ++ codes "=" ++ field))) (λ (u : Unit {0}) r begin. Goes) s t (Ok tt) → Did rules (λ r begin. bindings r name (body r begin) (field ∷ rest)) (λ bound r begin. if bound then (body r begin then bindings r name (body r begin) rest) else Goes) s t (Ok true)
+  bind_called t free calls did = (
+    did.0,
+    λ n begin le.
+        ap (λ (b : Bool). if b then step (within n rules) (fails IsVariable name) s else (step (within n rules) (bound_to rules.shell name field) s >>= body (within n rules) begin >>= bindings (within n rules) name (body (within n rules) begin) rest)) free
+        ∙ ap (λ (o : Out). o >>= body (within n rules) begin >>= bindings (within n rules) name (body (within n rules) begin) rest) (step-same (within n rules) (bound_to rules.shell name field) (fails UnknownCommand (name ++ codes "=" ++ field)) s (bound_called s calls) ∙ did.1 n begin le),
+  )
+
+  pub bind_call_stopped : (t : State) (o : Option Reason) → refuses rules.shell s name ≡ false → is_call rules.shell name ≡ true → NotDone rules (λ r begin. step r (fails UnknownCommand (name ++ codes "=" ++ field))) s t o → NotDone rules (λ r begin. bindings r name (body r begin) (field ∷ rest)) s t o
+  bind_call_stopped t (Some e) free calls did = λ begin.
+      ap (λ (b : Bool). if b then step rules (fails IsVariable name) s else (step rules (bound_to rules.shell name field) s >>= body rules begin >>= bindings rules name (body rules begin) rest)) free
+      ∙ ap (λ (o : Out). o >>= body rules begin >>= bindings rules name (body rules begin) rest) (step-same rules (bound_to rules.shell name field) (fails UnknownCommand (name ++ codes "=" ++ field)) s (bound_called s calls) ∙ did begin)
+  bind_call_stopped t None free calls did = did
+
+  pub bind_done : (k : ℕ) → s.steps < rules.limits.steps → refuses rules.shell s name ≡ false → is_call rules.shell name ≡ false → k ≡ suc s.steps → Did rules (λ r begin. bindings r name (body r begin) (field ∷ rest)) (λ bound r begin. if bound then (body r begin then bindings r name (body r begin) rest) else Goes) s (record s { locals = map.insert s.locals name field; status = bound_status rules.shell s.status; steps = k }) (Ok true)
+  bind_done k lt free uncalled is =
+      let does : bound_to rules.shell name field s ≡ Does (record s { locals = map.insert s.locals name field; status = bound_status rules.shell s.status }) =
+      ap (λ (b : Bool). if b then fails UnknownCommand (name ++ codes "=" ++ field) s else Does (record s { locals = map.insert s.locals name field; status = bound_status rules.shell s.status })) uncalled in
+      let did = step_done rules (bound_to rules.shell name field) s (record s { locals = map.insert s.locals name field; status = bound_status rules.shell s.status }) k lt does is in (
         did.0,
         λ n begin le.
-            ap (λ (b : Bool). if b then step (within n rules) (fails IsVariable name) s else (step (within n rules) (λ t. Does (record t { locals = map.insert t.locals name field; status = bound_status rules.shell t.status })) s >>= body (within n rules) begin >>= bindings (within n rules) name (body (within n rules) begin) rest)) free
+            ap (λ (b : Bool). if b then step (within n rules) (fails IsVariable name) s else (step (within n rules) (bound_to rules.shell name field) s >>= body (within n rules) begin >>= bindings (within n rules) name (body (within n rules) begin) rest)) free
             ∙ ap (λ (o : Out). o >>= body (within n rules) begin >>= bindings (within n rules) name (body (within n rules) begin) rest) (did.1 n le),
       )
 
@@ -397,11 +455,6 @@ answer_done rules (suc below) words text s p k lt some reads is =
           ∙ ap (λ (o : Option (Option Chains)). answered (within n rules) (script (within n rules) (start (within n rules) below)) words o s) reads
           ∙ ap (λ (o : Out). o >>= (λ t. in_answer (script (within n rules) (start (within n rules) below) (tree_of p) t))) (did.1 n le),
     )
-
--- a step with another effect that evaluates to the same
-step-same : (r : Rules) (effect other : State → Effect) (s : State) → effect s ≡ other s → step r effect s ≡ step r other s
-unfolding step
-step-same r effect other s e = ap (λ (x : Effect). if nat_lt s.steps r.limits.steps then done s x else Ends Steps None s) e
 
 pub as_step : (rules : Rules) (effect other : State → Effect) (s t : State) (result : Result (Unit {0}) Ending) → effect s ≡ other s → Did rules (λ r begin. step r other) (λ (u : Unit {0}) r begin. Goes) s t result → Did rules (λ r begin. step r effect) (λ (u : Unit {0}) r begin. Goes) s t result
 as_step rules effect other s t (Ok u) e did = (did.0, λ n begin le. step-same (within n rules) effect other s e ∙ did.1 n begin le)

@@ -1,5 +1,5 @@
 -- What a script evaluates to (docs/runs.md, "Meaning").
-use Rattle.std.specs.Prelude.{ℕ, zero, suc, ◌==◌, nat_lt, Bool, true, false, not, if◌then◌else◌, List, [], ◌∷◌, ◌++◌, length, Option, Some, None, is_some, option_map, unwrap_or, get_or}
+use Rattle.std.specs.Prelude.{ℕ, zero, suc, ◌==◌, nat_lt, Bool, true, false, not, if◌then◌else◌, List, [], ◌∷◌, ◌++◌, length, Option, Some, None, is_some, option_map, unwrap_or, get_or, codes}
 use Rattle.std.specs.List.{list_any}
 use Rattle.std.specs.FinMap as map
 use Rattle.envimg_core.specs.Environment.{Environment}
@@ -13,7 +13,7 @@ use Rattle.hush_syntax.specs.declared.nodes.Bodies.{Bodies}
 use Rattle.hush_syntax.specs.declared.nodes.Bodies.TheVariants.{Full, MayBeEmpty}
 use Rattle.hush_syntax.specs.Reading.{read_in}
 use Rattle.hush_commands.specs.declared.messages.Message.{Message}
-use Rattle.hush_commands.specs.declared.messages.Message.TheVariants.{NotDefined, IsVariable, NoScript}
+use Rattle.hush_commands.specs.declared.messages.Message.TheVariants.{NotDefined, UnknownCommand, IsVariable, NoScript}
 use Rattle.hush_commands.specs.declared.follow.Follow.{Follow}
 use Rattle.hush_commands.specs.declared.follow.Follow.TheVariants as follow
 use Rattle.run_limits.specs.Limits.{Bounds}
@@ -23,7 +23,7 @@ use Rattle.hush_commands.specs.declared.shell.Shell.TheVariants.{Strict, Board}
 use Rattle.hush_commands.specs.Shells.{kept_status, list_words, list_by}
 use Rattle.hush_commands.specs.Messages.{text_of}
 use Rattle.hush_commands.specs.Output.{Printed, printed, answer}
-use Rattle.hush_commands.specs.Expansion.{Known, expanded, expanded_value}
+use Rattle.hush_commands.specs.Expansion.{Known, expanded, expanded_after, expanded_value}
 use Rattle.hush_commands.specs.Carrying.{Done, done_of, deletion_of}
 use Rattle.hush_commands.specs.Following.{follow_of}
 
@@ -107,6 +107,10 @@ known_in s = record { env = s.held.now.env; locals = s.locals; status = s.status
 abbrev pub fields_of : Rules → List (List Atom) → State → Option (List (List ℕ))
 fields_of rules words s = expanded (known_in s) rules.limits.word words
 
+-- the fields of a word with these bytes before it
+abbrev pub fields_after : Rules → (front : List ℕ) → List Atom → State → Option (List (List ℕ))
+fields_after rules front word s = expanded_after (known_in s) rules.limits.word front word
+
 -- whether the environment has a variable of this name
 abbrev pub has_variable : State → List ℕ → Bool
 has_variable s name = is_some (map.get s.held.now.env name)
@@ -132,6 +136,19 @@ abbrev pub refuses : Shell → State → List ℕ → Bool
 refuses Strict s name = has_variable s name
 refuses Board s name = false
 
+-- whether an assignment to a name calls a command; on a board one does if its name begins with `_`
+abbrev pub is_call : Shell → List ℕ → Bool
+is_call Strict name = false
+is_call Board name = get_or name 0 0 == 95
+
+-- the step of an assignment that calls a command, of which none has its word as its name, up to the first blank
+abbrev pub called : Rules → List ℕ → List Atom → State → Effect
+called rules name value s =
+    elim (fields_after rules (name ++ codes "=") value s) [
+      | None ↦ Stops Word
+      | Some fields ↦ fails UnknownCommand (get_or fields 0 []) s
+    ]
+
 -- the step of an assignment
 abbrev pub assigned_to : Shell → List ℕ → Option (List ℕ) → State → Effect
 assigned_to shell name None s = Stops Word
@@ -139,7 +156,10 @@ assigned_to shell name (Some value) s =
     if refuses shell s name then fails IsVariable name s else Does (record s { locals = map.insert s.locals name value; status = 0 })
 
 abbrev pub assigned : Rules → List ℕ → List Atom → State → Effect
-assigned rules name value s = assigned_to rules.shell name (expanded_value (known_in s) rules.limits.word value) s
+assigned rules name value s =
+    if is_call rules.shell name
+    then called rules name value s
+    else assigned_to rules.shell name (expanded_value (known_in s) rules.limits.word value) s
 
 -- this if the status is 0, and else that
 abbrev pub if_ok : (State → Out) → (State → Out) → State → Out
@@ -241,13 +261,20 @@ abbrev pub bound_status : Shell → ℕ → ℕ
 bound_status Strict status = status
 bound_status Board status = 0
 
+-- the step of a binding, which may call a command too
+abbrev pub bound_to : Shell → List ℕ → (field : List ℕ) → State → Effect
+bound_to shell name field s =
+    if is_call shell name
+    then fails UnknownCommand (name ++ codes "=" ++ field) s
+    else Does (record s { locals = map.insert s.locals name field; status = bound_status shell s.status })
+
 -- each field is bound to the name, and the body run
 abbrev pub bindings : Rules → List ℕ → (State → Out) → List (List ℕ) → State → Out
 bindings rules name body [] s = Goes s
 bindings rules name body (f ∷ fs) s =
     if refuses rules.shell s name
     then step rules (fails IsVariable name) s
-    else (step rules (λ t. Does (record t { locals = map.insert t.locals name f; status = bound_status rules.shell t.status })) s >>= body >>= bindings rules name body fs)
+    else (step rules (bound_to rules.shell name f) s >>= body >>= bindings rules name body fs)
 
 -- the head of a for and its bindings
 abbrev pub for : Rules → List ℕ → Option (List (List ℕ)) → (State → Out) → State → Out

@@ -1,9 +1,9 @@
 //! What a run is given, and what it changes.
-ghost use Rattle.std.specs.Prelude.{◌≡◌, ◌<◌, map, IfOk};
+ghost use Rattle.std.specs.Prelude.{◌≡◌, ◌<◌, ◌++◌, codes, map, IfOk};
 ghost use Rattle.hush_words.specs.Parts.{word_atoms};
 ghost use Rattle.env_session.specs.Session.{Held};
 ghost use Rattle.run_limits.specs.Limits.{most_steps};
-ghost use Rattle.hush_run.specs.Meaning.{Rules, Goes, step, fails, fields_of, list_words_of, first_state};
+ghost use Rattle.hush_run.specs.Meaning.{Rules, Goes, step, fails, fields_of, fields_after, list_words_of, first_state};
 
 use crate::ending::Ending;
 use env_session::Session;
@@ -130,6 +130,33 @@ impl Progress {
         Ok(())
     }
 
+    /// If one more step may be counted, expands a word with these bytes before it to the fields of that step.
+    pub(crate) fn expand_after(
+        &mut self,
+        given: &Given<'_>,
+        session: &Session,
+        text: &Text,
+        front: &[u8],
+        word: Word,
+    ) -> Result<(), Ending>
+        ensures same { (held : Held) → state_of held self.new ≡ state_of held self.old }
+        ensures fields { FieldsAre (rules_of given.now)
+            (fields_after (rules_of given.now) front.now (word_atoms text.now word) (state_of session.now self.old))
+            (state_of session.now self.old) self.new.fields result }
+        ensures counts { IfOk result (λ u. self.new.steps < most_steps) }
+    {
+        self.may_step(given)?;
+        let scope = Scope {
+            text,
+            vars: session.vars(),
+            locals: &self.locals,
+            status: self.status,
+        };
+        self.fields
+            .expand_after(&scope, front, word, given.limits.word())?;
+        Ok(())
+    }
+
     /// A step that fails with a message.
     pub(crate) fn fail(&mut self, message: Message, name: &[u8]) -> Result<(), Ending>
         requires { self.old.steps < u32.MAX }
@@ -144,17 +171,29 @@ impl Progress {
         Ok(())
     }
 
-    /// A step that fails since the name that it assigns to is that of a variable.
-    pub(crate) fn refuse_name(&mut self) -> Result<(), Ending>
+    /// A step that fails with a message about the name that it assigns to.
+    pub(crate) fn refuse_name(&mut self, message: Message) -> Result<(), Ending>
         requires { self.old.steps < u32.MAX }
         ensures { (rules : Rules) (held : Held) → self.old.steps < rules.limits.steps → Did rules
-            (λ r begin. step r (fails Message.IsVariable self.old.name.items)) (λ u r begin. Goes)
+            (λ r begin. step r (fails message self.old.name.items)) (λ u r begin. Goes)
             (state_of held self.old) (state_of held self.new) result }
     {
-        Message::IsVariable.tell(&self.name, &mut self.output)?;
+        message.tell(&self.name, &mut self.output)?;
         self.status = 1;
         self.steps += 1;
         Ok(())
+    }
+
+    /// A step that fails since no command has the name that binds a field to the name.
+    pub(crate) fn refuse_binding(&mut self, field: &[u8]) -> Result<(), Ending>
+        requires { self.old.steps < u32.MAX }
+        ensures { (rules : Rules) (held : Held) → self.old.steps < rules.limits.steps → Did rules
+            (λ r begin. step r (fails Message.UnknownCommand (self.old.name.items ++ codes "=" ++ field.now)))
+            (λ u r begin. Goes) (state_of held self.old) (state_of held self.new) result }
+    {
+        self.name.extend_from_slice(b"=")?;
+        self.name.extend_from_slice(field)?;
+        self.refuse_name(Message::UnknownCommand)
     }
 
     /// Whether one more step may be counted.

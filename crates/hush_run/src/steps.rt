@@ -5,7 +5,7 @@ ghost use Rattle.hush_words.specs.Parts.{part_atoms, word_atoms};
 ghost use Rattle.hush_words.specs.Ranges.{Fits};
 ghost use Rattle.hush_syntax.specs.Trees.{name_in};
 ghost use Rattle.hush_syntax.specs.Scripts.{tree_of};
-ghost use Rattle.hush_run.specs.Meaning.{State, Goes, ◌then◌, simple, follows, leave_of, have_value, fields_of, list_of, step, assigned, refuses, for, bindings, bound_status, started_status, deletions, bodies_of};
+ghost use Rattle.hush_run.specs.Meaning.{State, Goes, ◌then◌, simple, follows, leave_of, have_value, fields_of, list_of, step, assigned, called, is_call, refuses, for, bindings, bound_status, started_status, deletions, bodies_of};
 ghost use Rattle.hush_run.specs.Steps.{state_of, rules_of, Meant, Did, Started, Answered, plain_bytes};
 
 use crate::ending::Ending;
@@ -76,8 +76,11 @@ pub(crate) fn assign_step(
 {
     progress.expand_value(given, session, text, value)?;
     read_name(text, name, &mut progress.name)?;
+    if is_call(given.shell, &progress.name) {
+        return call_step(given, session, progress, text, name, value);
+    }
     if refuses(given, session, &progress.name) {
-        return progress.refuse_name();
+        return progress.refuse_name(Message::IsVariable);
     }
     let Some(value) = progress.fields.fields().next() else {
         unreachable!()
@@ -86,6 +89,27 @@ pub(crate) fn assign_step(
     progress.status = 0;
     progress.steps += 1;
     Ok(())
+}
+
+/// An assignment that calls a command, of which none has its word as its name.
+fn call_step(
+    given: &Given<'_>,
+    session: &Session,
+    progress: &mut Progress,
+    text: &Text,
+    name: Word,
+    value: Word,
+) -> Result<(), Ending>
+    ensures { Did (rules_of given.now)
+        (λ rules begin. step rules (called rules (name_in text.now name) (word_atoms text.now value)))
+        (λ u rules begin. Goes) (state_of session.now progress.old) (state_of session.now progress.new) result }
+{
+    let mut front = Vec::new(given.alloc);
+    read_name(text, name, &mut front)?;
+    front.extend_from_slice(b"=")?;
+    progress.expand_after(given, session, text, &front, value)?;
+    let fields = progress.fields.take(given.alloc);
+    progress.fail(Message::UnknownCommand, called_in(&fields))
 }
 
 /// The head of a `for` over these words: the fields that are to be bound. Without fields the loop's status is 0.
@@ -130,8 +154,12 @@ pub(crate) fn bind_step(
     progress.may_step(given)?;
     read_name(text, name, &mut progress.name)?;
     if refuses(given, session, &progress.name) {
-        progress.refuse_name()?;
+        progress.refuse_name(Message::IsVariable)?;
         return Ok(false);
+    }
+    if is_call(given.shell, &progress.name) {
+        progress.refuse_binding(field)?;
+        return Ok(true);
     }
     progress.locals.set(given.alloc, &progress.name, field)?;
     progress.status = bound_status(given.shell, progress.status);
@@ -258,6 +286,19 @@ fn refuses(given: &Given<'_>, session: &Session, name: &[u8]) -> bool
     match given.shell {
         Shell::Strict => session.vars().get(name).is_some(),
         Shell::Board => false,
+    }
+}
+
+/// Whether an assignment to a name calls a command.
+fn is_call(shell: Shell, name: &[u8]) -> bool
+    ensures { result ≡ is_call shell name.now }
+{
+    match shell {
+        Shell::Strict => false,
+        Shell::Board => match name.first() {
+            Some(first) => *first == b'_',
+            None => false,
+        },
     }
 }
 

@@ -5,9 +5,9 @@ use Rattle.hush_words.specs.Parts.{word_atoms}
 use Rattle.hush_syntax.specs.Trees.{name_in}
 use Rattle.hush_commands.specs.declared.messages.Message.TheVariants.{IsVariable}
 use Rattle.hush_commands.specs.Expansion.{expanded_value}
-use Rattle.hush_run.specs.Meaning.{Rules, State, Goes, Does, step, assigned, fails, known_in, refuses}
+use Rattle.hush_run.specs.Meaning.{Rules, State, Goes, Does, step, assigned, called, fails, is_call, known_in, refuses}
 use Rattle.hush_run.specs.Steps.{Did, FieldsAre, state_of, rules_of, value_of}
-use Rattle.hush_run.proofs.StepLemmas.{no_fields, step_halts, step_done, value_large, value_made, assign_refused, assign_done, as_step}
+use Rattle.hush_run.proofs.StepLemmas.{no_fields, step_halts, step_done, value_large, value_made, assign_called, assign_refused, assign_done, as_step}
 use Rattle.hush_run.proofs.steps.assign_step.Goals as goal
 
 pub returns-in_err-expand_value : goal.returns-in_err-expand_value
@@ -28,6 +28,17 @@ returns-in_err-read_name c = let same = c.in_ok-expand_value.ensures.same c.args
 pub returns-in_err-set : goal.returns-in_err-set
 returns-in_err-set c = let same = c.in_ok-expand_value.ensures.same c.args.session.now in search (allowed, same)
 
+pub returns-then-is_call : goal.returns-then-is_call
+returns-then-is_call c =
+    let r = rules_of c.args.given.now in
+    let name = name_in c.args.text.now c.args.name in
+    let word = word_atoms c.args.text.now c.args.value in
+    let t = state_of c.args.session.now c.expand_value.new.self in
+    let back : t ≡ state_of c.args.session.now c.args.progress.now = c.in_ok-expand_value.ensures.same c.args.session.now in
+    let calls : is_call r.shell name ≡ true = ap (is_call r.shell) (sym c.in_ok-read_name.ensures) ∙ ap (is_call r.shell) (sym c.deref.ensures.value) ∙ sym c.if-is_call.ensures in
+    subst (λ (u : State). Did r (λ (q : Rules) begin. step q (assigned q name word)) (λ (x : Unit {0}) q begin. Goes) u (state_of c.args.session.now c.call_step.new.progress) c.call_step.result) back
+    (as_step r (assigned r name word) (called r name word) t (state_of c.args.session.now c.call_step.new.progress) c.call_step.result (assign_called r name word t calls) c.call_step.ensures)
+
 pub returns-then-refuses : goal.returns-then-refuses
 returns-then-refuses c =
     let r = rules_of c.args.given.now in
@@ -37,10 +48,11 @@ returns-then-refuses c =
     let back : t ≡ state_of c.args.session.now c.args.progress.now = c.in_ok-expand_value.ensures.same c.args.session.now in
     let are = subst (λ (u : State). FieldsAre r (value_of r word u) u c.expand_value.new.self.fields (Ok tt)) (sym back) c.in_ok-expand_value.ensures.fields in
     let made = value_made (expanded_value (known_in t) r.limits.word word) c.expand_value.new.self.fields are.1 in
-    let taken : refuses r.shell t c.read_name.new.name.items ≡ true = ap (refuses r.shell t) (sym c.deref.ensures.value) ∙ sym (c.if-refuses.ensures t refl) in
+    let uncalled : is_call r.shell c.read_name.new.name.items ≡ false = ap (is_call r.shell) (sym c.deref.ensures.value) ∙ sym c.if-is_call.ensures in
+    let taken : refuses r.shell t c.read_name.new.name.items ≡ true = ap (refuses r.shell t) (sym c.deref-2.ensures.value) ∙ sym (c.if-refuses.ensures t refl) in
     subst (λ (u : State). Did r (λ (q : Rules) begin. step q (assigned q name word)) (λ (x : Unit {0}) q begin. Goes) u (state_of c.args.session.now c.refuse_name.new.self) c.refuse_name.result) back
     (as_step r (assigned r name word) (fails IsVariable c.read_name.new.name.items) t (state_of c.args.session.now c.refuse_name.new.self) c.refuse_name.result
-    (ap (λ (n : List ℕ). assigned r n word t) (sym c.in_ok-read_name.ensures) ∙ assign_refused r c.read_name.new.name.items word t made.0 made.1 taken)
+    (ap (λ (n : List ℕ). assigned r n word t) (sym c.in_ok-read_name.ensures) ∙ assign_refused r c.read_name.new.name.items word t made.0 made.1 uncalled taken)
     (c.refuse_name.ensures r c.args.session.now are.0))
 
 pub returns : goal.returns
@@ -53,11 +65,12 @@ returns c =
     let are = subst (λ (u : State). FieldsAre r (value_of r word u) u c.expand_value.new.self.fields (Ok tt)) (sym back) c.in_ok-expand_value.ensures.fields in
     let made = value_made (expanded_value (known_in t) r.limits.word word) c.expand_value.new.self.fields are.1 in
     let value : c.in-Some.value.now ≡ made.0 = search (allowed, made.2) in
-    let free : refuses r.shell t c.read_name.new.name.items ≡ false = ap (refuses r.shell t) (sym c.deref.ensures.value) ∙ sym (c.if-refuses.ensures t refl) in
+    let uncalled : is_call r.shell c.read_name.new.name.items ≡ false = ap (is_call r.shell) (sym c.deref.ensures.value) ∙ sym c.if-is_call.ensures in
+    let free : refuses r.shell t c.read_name.new.name.items ≡ false = ap (refuses r.shell t) (sym c.deref-2.ensures.value) ∙ sym (c.if-refuses.ensures t refl) in
     let put : c.set.new.self ≡ locals.insert t.locals c.read_name.new.name.items c.in-Some.value.now = search allowed in
     let does : assigned r name word t ≡ Does (record t { locals = c.set.new.self; status = 0 }) =
     ap (λ (n : List ℕ). assigned r n word t) (sym c.in_ok-read_name.ensures)
-    ∙ assign_done r c.read_name.new.name.items word t made.0 made.1 free
+    ∙ assign_done r c.read_name.new.name.items word t made.0 made.1 uncalled free
     ∙ ap (λ (v : List ℕ). Does (record t { locals = locals.insert t.locals c.read_name.new.name.items v; status = 0 })) (sym value)
     ∙ ap (λ (l : Environment). Does (record t { locals = l; status = 0 })) (sym put) in
     let did = step_done r (assigned r name word) t (record t { locals = c.set.new.self; status = 0 }) (c.expand_value.new.self.steps + 1) are.0 does (add-one _) in
