@@ -125,6 +125,9 @@ CALLED = [
     (b"setexpr.x b 1; setexpr. b 1; True; echo1", several(not_called, "1:1 setexpr.x 1:16 setexpr. 1:30 True 1:36 echo1")),
     (b"env grep laod; env", []),
     (b"mmc2; mm; MMC", several(not_called, "1:1 mmc2 1:7 mm 1:11 MMC")),
+    (b"setenv.x b 1; printe b; ec; tru.b", several(not_called, "1:1 setenv.x 1:15 printe 1:25 ec 1:29 tru.b")),
+    (b"us.b; load.q a; lo; mmc", several(not_called, "1:1 us.b 1:7 load.q 1:17 lo")),
+    (b"set b 1; sete.x b; e; .b; usb2.b; Echo; env.x print", several(not_called, "1:1 set 1:10 sete.x 1:20 e 1:23 .b 1:27 usb2.b 1:35 Echo 1:41 env.x")),
     (b"$laod x; \"$mmc\"; l${x}; laod$?; $l", several(not_defined, "1:1 laod 1:10 mmc 1:33 l")),
     (b"echo laod; b=laod; setenv b 'laod'; # laod", []),
     (b"if then", [no_script("1:4", "Unexpected")]),
@@ -241,7 +244,7 @@ LACKED = [
     (b"echo () x; run s ()", [not_run("1:18", "()")]),
     (b"g ()x; g x (); g ( ); g '' ()", several(not_called, "1:1 g 1:8 g 1:16 g 1:23 g")),
     (b"g $x(); g $? (); $x ()", [not_called("1:1", "g"), not_called("1:9", "g")]),
-    (b"f()x; f(){ mmc; }; f(; a)", several(not_called, "1:1 f()x 1:7 f(){ 1:17 } 1:20 f( 1:24 a)")),
+    (b"f()x; f(){ mmc; }; f(b; a)", several(not_called, "1:1 f()x 1:7 f(){ 1:17 } 1:20 f(b 1:25 a)")),
     (b"esac; in; eval; {; !", several(not_called, "1:1 esac 1:7 in 1:11 eval 1:17 { 1:20 !")),
     (b"$b; br${x}; \"[$x\"; f$x(); $x()", [not_defined("1:1", "b")]),
 ]  # fmt: skip

@@ -57,9 +57,14 @@ def without(found, *said):
     return [each for each in found if not any(text in each for text in said)]
 
 
+# Names that a board finds: what is before their first dot is one, or the beginning of only one
+BY_BEGINNINGS = [f"called `{name}`" for name in ("setexpr.x", "setexpr.", "setenv.x", "printe", "ec", "tru.b", "mm", "us.b", "load.q", "lo", "env.x")]
+
+
 def on_board(found):
     """What the board's shell finds where the strict one finds this, if `-e` is the only word of `test` among it."""
-    return [each.replace("so it can not be assigned", "which hides what is assigned") for each in without(found, "operator `-e`")]
+    left = without(found, "operator `-e`", *BY_BEGINNINGS)
+    return [each.replace("so it can not be assigned", "which hides what is assigned") for each in left]
 
 
 def place(text, at):

@@ -8,6 +8,7 @@ use Rattle.hush_words.specs.Words.{Atom}
 use Rattle.hush_words.specs.Words.Atom.{Plain, Quoted, Mark, Value, Status}
 use Rattle.hush_syntax.specs.Grammar.{Command, Simple, Assign, For, Chains, First, End, Last, More}
 use Rattle.hush_commands.specs.Builtins.{builtin_of}
+use Rattle.hush_commands.specs.declared.shell.Shell.TheVariants.{Strict}
 use Rattle.fw_check.specs.Checking.{is_among}
 use Rattle.fw_check.specs.Findings.{Finding, Known, called_findings, error_at, lacking_sentence, name_findings, names_findings, set_by_commands, target_findings, undefined_sentence, warning_at}
 use Rattle.fw_check.specs.Literals.{is_word_of, literal_of, substituted}
@@ -117,22 +118,22 @@ given_target_row = ap (missed (codes "a")) (get-empty bytes_cmp (codes "a"))
 set_target_row : target_findings (Some known) 5 (Some (codes "fileaddr")) ≡ error_at 5 (codes "`run fileaddr` names a variable that is not defined") ∷ []
 set_target_row = ap (missed (codes "fileaddr")) (get-empty bytes_cmp (codes "fileaddr"))
 
-bracket_row : called_findings None false 3 (Some (codes "[[")) ≡ error_at 3 (codes "this shell has no `[[`: write `test`") ∷ []
+bracket_row : called_findings Strict None false 3 (Some (codes "[[")) ≡ error_at 3 (codes "this shell has no `[[`: write `test`") ∷ []
 bracket_row = refl
 
-break_row : called_findings None false 3 (Some (codes "break")) ≡ error_at 3 (codes "this shell has no `break`") ∷ []
+break_row : called_findings Strict None false 3 (Some (codes "break")) ≡ error_at 3 (codes "this shell has no `break`") ∷ []
 break_row = refl
 
-function_row : called_findings None false 3 (Some (codes "f()")) ≡ error_at 3 (codes "this shell has no functions") ∷ []
+function_row : called_findings Strict None false 3 (Some (codes "f()")) ≡ error_at 3 (codes "this shell has no functions") ∷ []
 function_row = refl
 
-other_row : called_findings None false 3 (Some (codes "breaks")) ≡ []
+other_row : called_findings Strict None false 3 (Some (codes "breaks")) ≡ []
 other_row = refl
 
-head_row : called_findings None true 3 (Some (codes "f")) ≡ error_at 3 (codes "this shell has no functions") ∷ []
+head_row : called_findings Strict None true 3 (Some (codes "f")) ≡ error_at 3 (codes "this shell has no functions") ∷ []
 unfolding builtin_of
 head_row = refl
 
-echo_row : called_findings None true 3 (Some (codes "echo")) ≡ []
+echo_row : called_findings Strict None true 3 (Some (codes "echo")) ≡ []
 unfolding builtin_of
 echo_row = refl

@@ -1,9 +1,12 @@
 -- Names of commands that nothing carries out (docs/tools.md, "Checks of scripts").
-use Rattle.std.specs.Prelude.{ℕ, ◌==◌, ◌&&◌, ◌||◌, Bool, false, List, [], ◌∷◌, ◌++◌, codes, Option, Some, None, is_none, is_some, if◌then◌else◌}
+use Rattle.std.specs.Prelude.{ℕ, ◌==◌, ◌&&◌, ◌||◌, Bool, false, List, [], ◌∷◌, ◌++◌, codes, Option, Some, None, is_none, is_some, not, if◌then◌else◌}
 use Rattle.std.specs.List.{ends_with}
 use Rattle.hush_words.specs.Words.{Atom}
 use Rattle.hush_commands.specs.Builtins.{builtin_of}
+use Rattle.hush_commands.specs.CommandNames.{names_command}
+use Rattle.hush_commands.specs.Hardware.{hardware}
 use Rattle.hush_commands.specs.Stubs.{Statuses, status_of_name}
+use Rattle.hush_commands.specs.declared.shell.Shell.{Shell}
 use Rattle.fw_check.specs.Literals.{is_called, is_word_of, literal_of}
 use Rattle.fw_check.specs.declared.commands.CommandFault.{CommandFault}
 use Rattle.fw_check.specs.declared.commands.CommandFault.TheVariants as command
@@ -39,19 +42,19 @@ abbrev pub has_stand_in : Option Statuses → List ℕ → Bool
 has_stand_in None name = false
 has_stand_in (Some stubs) name = is_some (status_of_name stubs name)
 
--- which commands there are is known if there are stand-ins
-abbrev pub is_unknown : Option Statuses → List ℕ → Bool
-is_unknown None name = false
-is_unknown (Some stubs) name = is_none (builtin_of name) && is_none (status_of_name stubs name)
+-- which commands there are is known if there are stand-ins; a shell looks the name up
+abbrev pub is_unknown : Shell → Option Statuses → List ℕ → Bool
+is_unknown shell None name = false
+is_unknown shell (Some stubs) name = not (names_command shell (hardware [] stubs) name)
 
 abbrev pub or_unknown : (unknown : Bool) → Option CommandFault → Option CommandFault
 or_unknown unknown None = if unknown then Some command.Unknown else None
 or_unknown unknown (Some fault) = Some fault
 
 -- what is wrong with a command of this name; a stand-in carries out any name
-abbrev pub command_fault : Option Statuses → (opens : Bool) → List ℕ → Option CommandFault
-command_fault stubs opens name =
-    if has_stand_in stubs name then None else or_unknown (is_unknown stubs name) (lack_of opens name)
+abbrev pub command_fault : Shell → Option Statuses → (opens : Bool) → List ℕ → Option CommandFault
+command_fault shell stubs opens name =
+    if has_stand_in stubs name then None else or_unknown (is_unknown shell stubs name) (lack_of opens name)
 
 abbrev pub command_sentence : CommandFault → List ℕ → List ℕ
 command_sentence command.Bracket name = codes "this shell has no `" ++ name ++ codes "`: write `test`"

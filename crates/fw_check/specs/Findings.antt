@@ -158,14 +158,14 @@ abbrev pub fault_findings : ℕ → (name : List ℕ) → Option CommandFault �
 fault_findings count name None = []
 fault_findings count name (Some fault) = error_at count (command_sentence fault name) ∷ []
 
-abbrev pub called_findings : Option Statuses → (opens : Bool) → ℕ → Option (List ℕ) → List Finding
-called_findings stubs opens count None = []
-called_findings stubs opens count (Some name) = fault_findings count name (command_fault stubs opens name)
+abbrev pub called_findings : Shell → Option Statuses → (opens : Bool) → ℕ → Option (List ℕ) → List Finding
+called_findings shell stubs opens count None = []
+called_findings shell stubs opens count (Some name) = fault_findings count name (command_fault shell stubs opens name)
 
-abbrev pub command_findings : Option Statuses → Written → List Word → List Finding
-command_findings stubs text [] = []
-command_findings stubs text (word ∷ words) =
-    called_findings stubs (begin_in_parentheses (words_in text words)) word.start (literal_of (word_atoms text word))
+abbrev pub command_findings : Shell → Option Statuses → Written → List Word → List Finding
+command_findings shell stubs text [] = []
+command_findings shell stubs text (word ∷ words) =
+    called_findings shell stubs (begin_in_parentheses (words_in text words)) word.start (literal_of (word_atoms text word))
 
 -- the strict shell takes the words as false
 abbrev pub operator_end : Shell → List ℕ
@@ -258,8 +258,8 @@ given_with shell stubs = record { shell = shell; stubs = stubs }
 
 abbrev pub item_findings : Option Known → Given → Written → Item → List Finding
 item_findings known given text (item.Call words) =
-    command_findings given.stubs text words.now ++ operator_findings given.shell text words.now ++ run_findings known text words.now
-    ++ flat_map (word_findings known text) words.now
+    command_findings given.shell given.stubs text words.now ++ operator_findings given.shell text words.now
+    ++ run_findings known text words.now ++ flat_map (word_findings known text) words.now
 item_findings known given text (item.Assignment name value) =
     assigned_findings given.shell known name.start (literal_of (word_atoms text name)) ++ word_findings known text value
 item_findings known given text (item.Binding name words) =

@@ -8,7 +8,7 @@ use crate::commands::{CommandFault, lack_of};
 use crate::literals::is_word_of;
 use crate::name_set::ScriptNames;
 use envvars_core::Vars;
-use hush_commands::{Shell, Stubs, is_builtin};
+use hush_commands::{Shell, Stubs, names_command};
 use std::alloc::Global;
 
 /// What the names of variables are looked up in.
@@ -111,7 +111,7 @@ impl<'k> Lookups<'k> {
 
     /// What is wrong with a command of this name; `opens`: its arguments begin with `()`.
     pub(crate) fn command_fault(&self, opens: bool, name: &[u8]) -> Option<CommandFault>
-        ensures { result ≡ command_fault (stubs_in self.now) opens name.now }
+        ensures { result ≡ command_fault self.now.shell (stubs_in self.now) opens name.now }
     {
         if self.has_stand_in(name) {
             return None;
@@ -133,12 +133,12 @@ impl<'k> Lookups<'k> {
         }
     }
 
-    /// Whether no builtin and no stand-in has this name.
+    /// Whether the shell finds no builtin and no stand-in by this name.
     fn is_unknown(&self, name: &[u8]) -> bool
-        ensures { result ≡ is_unknown (stubs_in self.now) name.now }
+        ensures { result ≡ is_unknown self.now.shell (stubs_in self.now) name.now }
     {
         match self.stubs {
-            Some(stubs) => !is_builtin(name) && stubs.status(name).is_none(),
+            Some(stubs) => !names_command(self.alloc, self.shell, stubs, name),
             None => false,
         }
     }

@@ -66,8 +66,8 @@ fn check_call(
     findings: &mut Findings<'_>,
 ) -> Result<(), AllocError>
     ensures { OnOk result (findings.new ≡ found_more findings.old
-        (command_findings (stubs_in lookups.now) text.now words.now ++ operator_findings lookups.now.shell text.now words.now
-        ++ run_findings (known_in lookups.now) text.now words.now
+        (command_findings lookups.now.shell (stubs_in lookups.now) text.now words.now
+        ++ operator_findings lookups.now.shell text.now words.now ++ run_findings (known_in lookups.now) text.now words.now
         ++ flat_map (word_findings (known_in lookups.now) text.now) words.now)) }
 {
     if words.is_empty() {
@@ -91,7 +91,7 @@ fn check_called(
     findings: &mut Findings<'_>,
 ) -> Result<(), AllocError>
     ensures { OnOk result (findings.new ≡ found_more findings.old
-        (called_findings (stubs_in lookups.now) opens word.start (option_map (λ v. v.items) called.now))) }
+        (called_findings lookups.now.shell (stubs_in lookups.now) opens word.start (option_map (λ v. v.items) called.now))) }
 {
     let Some(name) = called else {
         return Ok(());

@@ -84,6 +84,10 @@ abbrev pub name_by : Shell → Hardware → (word : List ℕ) → List ℕ
 name_by Strict h word = word
 name_by Board h word = whole_name h word
 
+-- whether a word names a command, by a shell
+abbrev pub names_command : Shell → Hardware → (word : List ℕ) → Bool
+names_command shell h word = is_known h (name_by shell h word)
+
 -- a word after `env` is the name of one of its commands; on a board it may be its first bytes, so many that no other of
 -- U-Boot's begins so (default, delete, edit, exists, export, import, print, run, save, set), and have a width
 abbrev pub is_front : (least : ℕ) → (name word : List ℕ) → Bool

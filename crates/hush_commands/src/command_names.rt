@@ -1,7 +1,7 @@
 //! Which command a word names (docs/runs.md, "Boards").
-ghost use Rattle.std.specs.Prelude.{◌≡◌, None, false, map};
+ghost use Rattle.std.specs.Prelude.{◌≡◌, [], None, false, map};
 ghost use Rattle.hush_commands.specs.Builtins.{builtins, name_of};
-ghost use Rattle.hush_commands.specs.CommandNames.{begins_with, found_in, found_names, is_front, is_known, name_by, stands_for, whole_name, with_names, without_width};
+ghost use Rattle.hush_commands.specs.CommandNames.{begins_with, found_in, found_names, is_front, is_known, name_by, names_command, stands_for, whole_name, with_names, without_width};
 ghost use Rattle.hush_commands.specs.Hardware.{hardware};
 
 use crate::board_rules::BoardRules;
@@ -10,6 +10,7 @@ use crate::shell::Shell;
 use crate::stand_ins::Stubs;
 use hush_calc::is_text;
 use memchr::memchr;
+use std::alloc::Global;
 use std::marker::Model;
 
 /// What was found of the names that begin with a word: the first, and whether there are others.
@@ -109,6 +110,15 @@ pub(crate) fn name_by<'a>(
         Shell::Strict => word,
         Shell::Board => whole_name(stand_ins, board, word),
     }
+}
+
+/// Whether a word names a command: a builtin or one of these stand-ins.
+pub fn names_command(alloc: Global, shell: Shell, stand_ins: &Stubs, word: &[u8]) -> bool
+    ensures { result ≡ names_command shell (hardware [] stand_ins.now) word.now }
+{
+    let board = BoardRules::none(alloc);
+    let name = name_by(shell, stand_ins, &board, word);
+    is_known(stand_ins, &board, name)
 }
 
 /// The name that a word stands for on a board.

@@ -25,6 +25,7 @@ mod writes;
 
 pub use board_rules::{BoardRules, Bytes, Pattern, PatternWord, Reply, Rule};
 pub use builtins::is_builtin;
+pub use command_names::names_command;
 pub use execution::carry_out;
 pub use expansion::{ExpansionFault, Scope};
 pub use field_buffer::FieldBuffer;
