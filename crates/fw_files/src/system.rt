@@ -1,6 +1,7 @@
-//! What the program asks of its system besides std's files: locks on open files.
+//! What the program asks of its system besides std's files: locks on open files, and whether somebody types the input.
 
 use std::fs::{File, TryLockError};
+use std::io::{IsTerminal, Stderr, Write};
 use std::rt::Files;
 use std::thread;
 use std::time::{Clock, Duration, Instant};
@@ -37,6 +38,12 @@ pub trait System: Files {
 
     /// Waits for that lock; false if the file can't be locked.
     fn lock(&self, file: &Self::File, hold: Hold) -> bool;
+
+    /// A writer to somebody who types the input.
+    type Screen: Write + Drop;
+
+    /// That writer, if the input is typed at a terminal.
+    fn screen(&self) -> Option<Self::Screen>;
 }
 
 impl System for HostRuntime {
@@ -60,6 +67,16 @@ impl System for HostRuntime {
             Hold::Alone => file.lock(),
         };
         locked.is_ok()
+    }
+
+    type Screen = Stderr;
+
+    fn screen(&self) -> Option<Stderr> {
+        if self.stdin().is_terminal() {
+            Some(self.stderr())
+        } else {
+            None
+        }
     }
 }
 

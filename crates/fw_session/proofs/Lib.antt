@@ -2,6 +2,7 @@ mod AnswerLemmas
 mod BlockLemmas
 mod CutLemmas
 mod EndLemmas
+mod FaultLemmas
 mod HandlingLemmas
 mod LastUndo
 mod LimitLemmas

@@ -4,6 +4,7 @@ pub mod Asked
 pub mod Streams
 pub mod Turns
 pub mod Ends
+pub mod BlockFaults
 pub mod NamedSessions
 pub mod ScriptRun
 -- What the steps of the code do: no promise mentions these.

@@ -1,5 +1,6 @@
 //! Blocks: a script is read, and its run's outcome is written.
 ghost use Rattle.std.specs.Prelude.{◌≡◌, ◌+◌, ◌≤◌, ◌++◌, length};
+ghost use Rattle.fw_session.specs.BlockFaults.{Tells, TellsFaults};
 ghost use Rattle.fw_session.specs.Handling.{IsAskedByBlock};
 ghost use Rattle.fw_session.specs.Streams.{Writes};
 ghost use Rattle.fw_session.specs.Turns.{ending_line};
@@ -9,6 +10,7 @@ use crate::answers::{write_both, write_text};
 use crate::dot_lines::Asked;
 use arrayvec::ArrayVec;
 use env_requests::Request;
+use fw_engines::say_syntax_fault;
 use hush_run::Outcome;
 use hush_syntax::{Bodies, FaultKind, Script};
 use itoa::Buffer;
@@ -24,6 +26,46 @@ pub(crate) fn asked_by_block(alloc: Global, bodies: Bodies, block: Vec<u8>) -> A
         Err(fault) => match fault.kind {
             FaultKind::Memory => Asked::Text(b"[Memory]\n"),
             _ => Asked::Text(b"[Syntax]\n"),
+        },
+    }
+}
+
+/// Tells on `faults`, if there is such a writer, where and why a block isn't a script whose bodies may be so. If there is
+/// no memory to find out, nothing is told.
+pub(crate) fn tell_fault<F: Write>(
+    alloc: Global,
+    bodies: Bodies,
+    block: &[u8],
+    faults: &mut Option<F>,
+)
+    ensures { TellsFaults bodies F.contents faults.old faults.new }
+{
+    match faults {
+        None => {}
+        Some(errors) => {
+            if let Ok(copy) = Vec::from_slice(alloc, block) {
+                say_fault_of(alloc, bodies, block, copy, errors);
+            }
+        }
+    }
+}
+
+/// The same for a block and its copy.
+fn say_fault_of<F: Write>(
+    alloc: Global,
+    bodies: Bodies,
+    block: &[u8],
+    copy: Vec<u8>,
+    errors: &mut F,
+)
+    requires { copy.items ≡ block.now }
+    ensures { Tells bodies (F.contents errors.old) (F.contents errors.new) }
+{
+    match Script::parse_in(alloc, copy, bodies) {
+        Ok(_) => {}
+        Err(fault) => match fault.kind {
+            FaultKind::Memory => {}
+            _ => say_syntax_fault(errors, b"block", block, fault),
         },
     }
 }

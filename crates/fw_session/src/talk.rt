@@ -1,10 +1,12 @@
 //! A session over a reader and a writer.
 ghost use Rattle.std.specs.Prelude.{◌≡◌, [], ℕ, List, Option};
 ghost use Rattle.fw_session.specs.NamedSessions.{named_session, session_of, unnamed};
+ghost use Rattle.fw_session.specs.BlockFaults.{TellsFaults};
 ghost use Rattle.fw_session.specs.Ends.{Ends, AreRequests, LastUndoRestores};
 ghost use Rattle.fw_session.specs.Handling.{IsPending};
 ghost use Rattle.fw_session.specs.Talks.{Finishes};
 ghost use Rattle.env_requests.specs.Views.{rules_of};
+ghost use Rattle.hush_run.specs.Meaning.{bodies_of};
 ghost use Rattle.hush_run.specs.Runs.{rules};
 
 use crate::input::{answer_rest, handle_piece};
@@ -64,16 +66,19 @@ pub fn session<R: Read, W: Write>(
         board: &board,
         limits,
     };
-    session_in(alloc, session, &strict, input, output)
+    let mut nobody: Option<Vec<u8>> = None;
+    session_in(alloc, session, &strict, input, output, &mut nobody)
 }
 
-/// The same, where each block is read and run by these rules, as [`env_requests::obey_in`] does it.
-pub fn session_in<R: Read, W: Write>(
+/// The same, where each block is read and run by these rules, as [`env_requests::obey_in`] does it. On `faults`, if there
+/// is such a writer, it is told where and why a block isn't a script, before the block is answered.
+pub fn session_in<R: Read, W: Write, F: Write>(
     alloc: Global,
     session: Session,
     rules: &RunRules<'_>,
     input: &mut R,
     output: &mut W,
+    faults: &mut Option<F>,
 ) -> SessionEnd
     ensures ends { (names : List (Option (List ℕ))) × Ends result.ending (rules_of rules.now) (unnamed session)
         (R.remaining input.old) (R.remaining input.new) (W.contents output.old) (W.contents output.new) result.read
@@ -81,21 +86,24 @@ pub fn session_in<R: Read, W: Write>(
     ensures requests { AreRequests (rules_of rules.now) session result.session }
     ensures undone { LastUndoRestores result.ending session (R.remaining input.old) (W.contents output.old)
         (W.contents output.new) result.session }
+    ensures told { TellsFaults (bodies_of rules.now.shell) F.contents faults.old faults.new }
 {
     // Does nothing: it tells the prover that the opening exists.
     let _marks = session.marks();
-    answer_all(alloc, session, rules, input, output)
+    answer_all(alloc, session, rules, input, output, faults)
 }
 
 /// The same, of which the other two clauses follow.
-fn answer_all<R: Read, W: Write>(
+fn answer_all<R: Read, W: Write, F: Write>(
     alloc: Global,
     session: Session,
     rules: &RunRules<'_>,
     input: &mut R,
     output: &mut W,
+    faults: &mut Option<F>,
 ) -> SessionEnd
-    ensures { (names : List (Option (List ℕ))) × Ends result.ending (rules_of rules.now) (unnamed session)
+    ensures told { TellsFaults (bodies_of rules.now.shell) F.contents faults.old faults.new }
+    ensures ends { (names : List (Option (List ℕ))) × Ends result.ending (rules_of rules.now) (unnamed session)
         (R.remaining input.old) (R.remaining input.new) (W.contents output.old) (W.contents output.new) result.read
         result.written (named_session result.session names) }
 {
@@ -106,10 +114,10 @@ fn answer_all<R: Read, W: Write>(
         let most = (INPUT_LIMIT - read).min(PIECE);
         match input.read(&mut piece[..most]) {
             Err(_) => return ended(talk, SessionEnding::ReadFault, read),
-            Ok(0) => return finished(talk, rules, output, read),
+            Ok(0) => return finished(talk, rules, output, faults, read),
             Ok(count) => {
                 read += count;
-                match handle_piece(&mut talk, rules, output, &piece[..count]) {
+                match handle_piece(&mut talk, rules, output, faults, &piece[..count]) {
                     Ok(()) => {}
                     Err(Stop::Write) => return ended(talk, SessionEnding::WriteFault, read),
                     Err(Stop::Memory) => return ended(talk, SessionEnding::Memory, read),
@@ -119,7 +127,7 @@ fn answer_all<R: Read, W: Write>(
     }
     match input.read(&mut piece[..1]) {
         Err(_) => ended(talk, SessionEnding::ReadFault, read),
-        Ok(0) => finished(talk, rules, output, read),
+        Ok(0) => finished(talk, rules, output, faults, read),
         Ok(_) => ended(talk, SessionEnding::TooLong, read),
     }
 }
@@ -158,15 +166,22 @@ fn ended(talk: Talk, ending: SessionEnding, read: usize) -> SessionEnd
 }
 
 /// The input has ended: what waits is answered.
-fn finished<W: Write>(talk: Talk, rules: &RunRules<'_>, output: &mut W, read: usize) -> SessionEnd
+fn finished<W: Write, F: Write>(
+    talk: Talk,
+    rules: &RunRules<'_>,
+    output: &mut W,
+    faults: &mut Option<F>,
+    read: usize,
+) -> SessionEnd
     requires { IsPending talk.bytes.items talk.start }
     ensures read { result.read ≡ read }
+    ensures told { TellsFaults (bodies_of rules.now.shell) F.contents faults.old faults.new }
     ensures ends { (names : List (Option (List ℕ))) × Finishes (rules_of rules.now) (session_of talk)
         talk.bytes.items (W.contents output.old) (W.contents output.new) talk.written result.written
         (named_session result.session names) result.ending }
 {
     let mut talk = talk;
-    if answer_rest(&mut talk, rules, output) {
+    if answer_rest(&mut talk, rules, output, faults) {
         ended(talk, SessionEnding::Done, read)
     } else {
         ended(talk, SessionEnding::WriteFault, read)

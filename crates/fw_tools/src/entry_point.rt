@@ -35,7 +35,8 @@ const NO_WORDS: &[u8] = b"fwenv: cannot read the command line\n";
 /// an image of a big-endian board. A subcommand works on the copies that a configuration names ([`printenv`],
 /// [`setenv`], [`set_script`], [`import`], [`export`], [`restore`], [`session`]), and writes back those that it
 /// changed, or reports their state ([`status`], or [`file_status`] of a whole file). Help goes to `output`, status 0; a
-/// fault of the command line to `errors`, status 1. docs/tools.md has each text.
+/// fault of the command line to `errors`, status 1. docs/tools.md has each text. A session also says on the screen of `rt`,
+/// if it has one, where and why a block isn't a script.
 ///
 /// [`printenv`]: fw_engines::printenv
 /// [`setenv`]: fw_engines::setenv

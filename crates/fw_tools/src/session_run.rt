@@ -20,7 +20,6 @@ use fw_files::{
 use fw_session::{SessionEnd, SessionEnding, session_in};
 use hush_commands::BoardRules;
 use hush_run::Stubs;
-use std::alloc::Global;
 use std::io::{Read, Write};
 
 /// Standard error if the input of a session is longer than it may be.
@@ -49,13 +48,14 @@ pub(crate) fn talk<X: System + AllocGlobal, R: Read, W: Write, E: Write>(
         run.stand_ins.unwrap_or(""),
         read_stand_ins(rt, run.stand_ins),
     )?;
-    let end = answer(rt.alloc(), opened, run, &stand_ins, input, output);
+    let end = answer(rt, opened, run, &stand_ins, input, output);
     Some(leave(rt, source, run.write, locks, end, errors))
 }
 
-/// Answers the blocks and dot lines of `input` over a session, with these stand-ins.
-fn answer<R: Read, W: Write>(
-    alloc: Global,
+/// Answers the blocks and dot lines of `input` over a session, with these stand-ins. Somebody who types them is told where
+/// and why a block isn't a script.
+fn answer<X: System + AllocGlobal, R: Read, W: Write>(
+    rt: &X,
     opened: Session,
     run: &DryRun<'_>,
     stand_ins: &Stubs,
@@ -67,6 +67,7 @@ fn answer<R: Read, W: Write>(
         (R.remaining input.old) (R.remaining input.new) (W.contents output.old) (W.contents output.new) result.read
         result.written (named_session result.session names) }
 {
+    let alloc = rt.alloc();
     let board = BoardRules::none(alloc);
     let rules = RunRules {
         shell: run.shell,
@@ -74,7 +75,7 @@ fn answer<R: Read, W: Write>(
         board: &board,
         limits: &run.limits,
     };
-    session_in(alloc, opened, &rules, input, output)
+    session_in(alloc, opened, &rules, input, output, &mut rt.screen())
 }
 
 /// Writes the copies back if that was asked for and the whole input was handled, reports what stopped the session

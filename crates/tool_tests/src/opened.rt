@@ -176,6 +176,12 @@ impl System for Disk<'_> {
     fn lock(&self, file: &Opened<'_>, hold: Hold) -> bool {
         self.try_lock(file, hold) == Attempt::Locked
     }
+
+    type Screen = Vec<u8>;
+
+    fn screen(&self) -> Option<Vec<u8>> {
+        None
+    }
 }
 
 impl<'a> Files for Disk<'a> {
