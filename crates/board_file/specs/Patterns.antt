@@ -1,0 +1,57 @@
+-- The patterns of a board file (docs/runs.md, "Board files").
+use Rattle.std.specs.Prelude.{ℕ, ◌==◌, ◌-◌, ◌&&◌, not, Bool, true, false, if◌then◌else◌, List, [], ◌∷◌, codes, length, take, filter, map, is_some, Option, Some, None, slice_index}
+use Rattle.std.specs.List.{list_any}
+use Rattle.std.specs.Str.{bytes_eq}
+use Rattle.text_parts.specs.Bytes.{begins_with}
+use Rattle.text_parts.specs.Numerals.{minus}
+use Rattle.hush_commands.specs.declared.board_rules.PatternWord.{PatternWord}
+use Rattle.hush_commands.specs.Builtins.{builtin_of, builtins, name_of}
+use Rattle.hush_commands.specs.CommandNames.{is_dot, without_width}
+use Rattle.hush_commands.specs.CommandNames.{begins_with as is_beginning}
+use Rattle.board_file.specs.declared.board_fault.LineFault.{LineFault}
+use Rattle.board_file.specs.declared.board_fault.LineFault.TheVariants.{NoPattern, Lacks, Builtin}
+
+abbrev pub star : ℕ
+star = 42
+
+abbrev pub ends_in_star : List ℕ → Bool
+ends_in_star word = slice_index word (length word - 1) == star
+
+-- a word that ends in `*` fits each that begins with what is before it
+abbrev pub pattern_word : List ℕ → PatternWord
+pattern_word word =
+    if ends_in_star word then record { text = take (length word - 1) word; begins = true }
+    else record { text = word; begins = false }
+
+abbrev pub pattern_words : List (List ℕ) → List PatternWord
+pattern_words words = map pattern_word words
+
+-- whether a word of a pattern fits this text alone
+abbrev pub is_just : List ℕ → PatternWord → Bool
+is_just text w = not w.begins && bytes_eq text w.text
+
+-- whether a pattern is one of `test -e`, which a board's `test` asks
+abbrev pub asks_file : List PatternWord → Bool
+asks_file [] = false
+asks_file (w ∷ []) = false
+asks_file (w ∷ v ∷ ws) = is_just (codes "test") w && is_just (codes "-e") v
+
+-- whether exactly one builtin's name begins so: on a board that is the one which is meant
+abbrev pub names_builtin : List ℕ → Bool
+names_builtin front = length (filter (is_beginning front) (map name_of builtins)) == 1
+
+-- whether all names that begin with a text are those of one builtin with a width: what is behind their first dot is one
+abbrev pub only_widths : List ℕ → Bool
+only_widths text = list_any is_dot text && names_builtin (without_width text)
+
+-- whether a builtin answers the commands whose name this word fits; with a `*` some name is left over, unless all have a width
+abbrev pub is_answered : PatternWord → Bool
+is_answered w = if w.begins then only_widths w.text else is_some (builtin_of w.text)
+
+-- what is wrong with a pattern
+abbrev pub pattern_fault : List PatternWord → Option LineFault
+pattern_fault [] = Some NoPattern
+pattern_fault (w ∷ ws) =
+    if begins_with minus w.text then Some Lacks
+    else if is_answered w && not (asks_file (w ∷ ws)) then Some Builtin
+    else None

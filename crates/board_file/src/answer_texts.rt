@@ -1,0 +1,85 @@
+//! The answers of a board file.
+ghost use Rattle.std.specs.Prelude.{◌≡◌, IfOk, IfErr, Ok};
+ghost use Rattle.hush_commands.specs.Statuses.{status_of};
+ghost use Rattle.board_file.specs.Answers.{answer_of, is_status, script_answer, word_answer};
+ghost use Rattle.board_file.specs.BoardFiles.{IsLineFaultOf};
+
+use crate::board_fault::LineFault;
+use hush_calc::is_text;
+use hush_commands::{Bytes, Reply};
+use hush_syntax::{Bodies, FaultKind, Script};
+use std::alloc::Global;
+use text_parts::{Base, numeral};
+
+/// What a text answers, that has no blanks at its ends.
+pub(crate) fn read_answer(alloc: Global, text: &[u8]) -> Result<Reply, LineFault>
+    ensures read { IfOk result (λ reply. answer_of text.now ≡ Ok reply) }
+    ensures refused { IfErr result (IsLineFaultOf (answer_of text.now)) }
+{
+    match read_status(text) {
+        Some(status) => Ok(Reply::Status {
+            status,
+            boots: false,
+        }),
+        None => word_answer(alloc, text),
+    }
+}
+
+/// A status: decimal digits that spell 0 to 255.
+pub(crate) fn read_status(text: &[u8]) -> Option<u8>
+    ensures { result ≡ status_of text.now }
+{
+    let status = numeral(Base::Decimal, text, 256)?;
+    if status > 255 {
+        return None;
+    }
+    Some(status as u8)
+}
+
+/// What a text answers that is no status.
+fn word_answer(alloc: Global, text: &[u8]) -> Result<Reply, LineFault>
+    ensures read { IfOk result (λ reply. word_answer text.now ≡ Ok reply) }
+    ensures refused { IfErr result (IsLineFaultOf (word_answer text.now)) }
+{
+    if is_text(text, b"") {
+        return Err(LineFault::NoAnswer);
+    }
+    if is_text(text, b"?") {
+        return Err(LineFault::Open);
+    }
+    if is_text(text, b"resets") {
+        return Err(LineFault::Resets);
+    }
+    if is_text(text, b"boots") {
+        return Ok(Reply::Status {
+            status: 0,
+            boots: true,
+        });
+    }
+    script_answer(alloc, text)
+}
+
+/// A script, if the board's shell reads it.
+fn script_answer(alloc: Global, text: &[u8]) -> Result<Reply, LineFault>
+    ensures read { IfOk result (λ reply. script_answer text.now ≡ Ok reply) }
+    ensures refused { IfErr result (IsLineFaultOf (script_answer text.now)) }
+{
+    let source = Vec::from_slice(alloc, text)?;
+    match Script::parse_in(alloc, source, Bodies::MayBeEmpty) {
+        Ok(_script) => Ok(Reply::Text(Bytes::of(alloc, text)?)),
+        Err(fault) => match fault.kind {
+            FaultKind::Memory => Err(LineFault::Memory),
+            _ => Err(LineFault::NoScript),
+        },
+    }
+}
+
+/// Whether an answer is a status, and nothing else.
+pub(crate) fn is_status(reply: &Reply) -> bool
+    ensures { result ≡ is_status reply.now }
+{
+    match reply {
+        Reply::Status { boots, .. } => !*boots,
+        Reply::Text(_) => false,
+    }
+}
