@@ -23,7 +23,7 @@ _fwenv() {
     local word=${COMP_WORDS[COMP_CWORD]} before=${COMP_WORDS[COMP_CWORD - 1]} command='' at
     local commands='printenv setenv import export restore status run check session help'
     local options='-c --default --need-copy --big-endian -h --help'
-    local dry_run=' --write --overwrite --shell --stubs --steps --depth --word --output --env --size'
+    local dry_run=' --write --overwrite --shell --stubs --board --steps --depth --word --output --env --size'
     for ((at = 1; at < COMP_CWORD; at++)); do
         case " $commands " in *" ${COMP_WORDS[at]} "*)
             command=${COMP_WORDS[at]}
@@ -34,7 +34,7 @@ _fwenv() {
     compopt +o default
     COMPREPLY=()
     case $before in
-        -c | --default | --stubs | --env | -s | -f)
+        -c | --default | --stubs | --board | --env | -s | -f)
             compopt -o default
             return
             ;;

@@ -45,6 +45,7 @@ complete -c fwenv -n "__fish_seen_subcommand_from run session" -l write -d 'Writ
 complete -c fwenv -n "__fish_seen_subcommand_from run check session" -l shell -xa 'board strict' -d 'Whose rules count'
 complete -c fwenv -n "__fish_seen_subcommand_from setenv import restore run session" -l overwrite -d 'Write even if a copy is good in another way'
 complete -c fwenv -n "__fish_seen_subcommand_from run check session" -l stubs -rF -d 'Stand-ins'
+complete -c fwenv -n "__fish_seen_subcommand_from run session" -l board -rF -d 'What a board answers'
 complete -c fwenv -n "__fish_seen_subcommand_from run session" -l steps -x -d 'Steps of a script'
 complete -c fwenv -n "__fish_seen_subcommand_from run session" -l depth -x -d 'Starts inside one another'
 complete -c fwenv -n "__fish_seen_subcommand_from run session" -l word -x -d 'Bytes of a word'

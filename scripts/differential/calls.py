@@ -8,7 +8,7 @@ from differential.damage import at_random, mutant, numbers_of
 from differential.random_scripts import Writer, spoiled, variables
 from differential.running import Case
 from differential.scripts import SCRIPTS, TOKENS
-from differential.texts import IMPORTS, IMPORT_TOKENS, SET_SCRIPTS, STAND_INS
+from differential.texts import BOARDS, IMPORTS, IMPORT_TOKENS, SET_SCRIPTS, STAND_INS
 from model.check import STARTED
 from model.image import ERASED, Geometry, entries
 
@@ -47,6 +47,7 @@ RUNS = [
     b"echo a\n  'b", b"true\n\nif false; then", b"a=1; fi", b"\xc3\xa9 ${a", b"a & b",
 ]  # fmt: skip
 GIVEN_STAND_INS = [*STAND_INS, *[b"mmc\nusb 1\n"] * 4, b"[\nmmc\nf() 1\n"]
+GIVEN_BOARDS = [*BOARDS, *[b"mmc x -> setenv a ${1}\nmmc -> 1\nusb -> boots\n"] * 6, b"m* -> run a\nusb -> exit 2\n"]
 BOOTS = [b"mmc", b"mmc", b"usb", b"mmcinfo", b"echo", b"", b"\xc3\xa9"]
 SIZES = [b"0x4000", b"1000", b"0X100", b"200", b"80", b"0d", b"8", b"100001", b"4k"]
 # (a board's shell is compared with boards, and by rows)
@@ -161,6 +162,8 @@ class Calls:
         options = [self.option(name, self.numbers.choice(values)) for name, values in numbers.items() if self.chance(often)]
         if self.chance(50):
             options.append(self.option(b"--stubs", self.text(b"stand-ins", self.numbers.choice(GIVEN_STAND_INS))))
+        if self.chance(30):
+            options.append(self.option(b"--board", self.text(b"board", self.numbers.choice(GIVEN_BOARDS))))
         if is_whole:
             options.append(self.option(b"--env", self.text(b"env", self.entries_text(80))))
         if self.chance(30 if is_whole else 2):

@@ -6,6 +6,7 @@ import re
 
 from differential.boards import unwritten
 from differential.running import Case
+from model.board_file import SENTENCES
 from model.image import Geometry
 from model.program import WARNING, Answer
 
@@ -85,6 +86,14 @@ def stand_in_files():
             yield case
 
 
+def board_files():
+    for text, answer in rows_under("runs.md", "Board file (", "What it is"):
+        fault = re.fullmatch(r"(\w+) in line (\d+)", answer)
+        errors = b"fwenv: board:%d: %s\n" % (int(fault[2]), SENTENCES[fault[1]]) if fault else b""
+        for each in texts_in(text):
+            yield unwritten("docs/runs.md", USUAL, b"", b"", b"--board", b"board", files={b"board": with_newlines(each)}, errors=errors)
+
+
 def shown():
     for given, output, errors, status in rows_under("tools.md", "Standard input", "Standard output", "Standard error", "Status"):
         words = [b"--big-endian"] if "--big-endian" in given else []
@@ -98,4 +107,4 @@ def shown():
 
 
 def chunks():
-    return [dry_runs, runs, calculations, tests, stand_in_files, shown]
+    return [dry_runs, runs, calculations, tests, stand_in_files, board_files, shown]

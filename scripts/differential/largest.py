@@ -162,10 +162,32 @@ def scripts():
     yield dry_run(b"true", b"", stand_ins=many + b"n54321", errors=b"fwenv: stand-ins: Twice in line 100001\n")
 
 
+def by_board(script, output, text, errors=b""):
+    """The same by a board file."""
+    name, form = "the largest: a board file", Geometry(1, 64)
+    files = {b"board": text}
+    return unwritten(name, form, script + b"\n", output, b"--board", b"board", files=files, errors=errors, is_modelled=False, seconds=SECONDS)
+
+
+def board_files():
+    """As many rules as there may be, as long as lines may be: each is compared with all before it."""
+    name = b"p" * 4080 + b"%04d"
+    alike = b"".join(name % number + b" -> 7\n" for number in range(1024))
+    last = name % 1023
+    yield by_board(last + b"; echo $?", b"+ " + last + b"\n7\n[Finished 0 2]\n", alike)
+    covered = alike.removesuffix(last + b" -> 7\n") + name % 0 + b" -> 7\n"
+    yield by_board(b"true", b"", covered, b"fwenv: board:1024: an earlier line answers all of these calls\n")
+    words = b"".join(b"a " * 2040 + b"%04d -> 7\n" % number for number in range(1024))
+    yield by_board(b"a; a " + b"a " * 2039 + b"1023; echo $?", b"Unknown command 'a' - try 'help'\n+ " + b"a " * 2040 + b"1023\n7\n[Finished 0 3]\n", words)
+    beginnings = b"".join(b"a* " * 1300 + b"b%04d* -> 7\n" % number for number in range(1024))
+    yield by_board(b"true", b"[Finished 0 1]\n", beginnings)
+    yield by_board(b"true", b"", beginnings + b"x\n", b"fwenv: board:1025: more than 1024 rules\n")
+
+
 def one(rows, at):
     return [list(rows())[at]]
 
 
 def chunks():
     """Each row is a chunk, since it takes long."""
-    return [functools.partial(one, rows, at) for rows in (texts, images, changes, tools, started, orders, scripts) for at in range(len(list(rows())))]
+    return [functools.partial(one, rows, at) for rows in (texts, images, changes, tools, started, orders, scripts, board_files) for at in range(len(list(rows())))]

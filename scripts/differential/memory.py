@@ -105,11 +105,18 @@ WHOLE_TEXT = b"""# names and quotes
 a=echo a; run it's
 it's=setenv b $a; setexpr n 0$n + 1; env delete a
 """
+ANSWERS = b"""# a board
+load mmc 1:2 a* -> setenv filesize 1c4a00; echo ${3}
+dhcp -> if test -n "${tried}"; then true; else tried=1; false; fi
+test -e mmc 1:2 /boot/* -> 0
+booti -> boots
+"""
 RUNS = [
     ("a script that saves", [*arguments(b"run", b"--write"), *BOOTS, b"-e", SAVED]),
     ("a script that boots", [*arguments(b"run", b"--write"), *BOOTS, b"-f", b"-"], b"saveenv\n" * 9 + b"a_stand_in_of_a_long_name"),
     ("a script that fails", [*arguments(b"run", b"--write"), b"-e", b"saveenv; false"]),
     ("no script", [*arguments(b"run", b"--write"), b"-e", b"saveenv\n'"]),
+    ("a board", [*WHOLE, b"--board", b"board", b"-e", b"load mmc 1:2 ab; dhcp || dhcp; test -e mmc 1:2 /boot/a && boo 1; false"]),
     ("names", [*WHOLE, b"a", b"it's", b"a"]),
     ("a text alone", [*WHOLE, b"--size=100", b"-f", b"text"]),
 ]
@@ -287,15 +294,16 @@ def over_pair():
 def texts_of(case):
     """What a run may have printed before it is stopped: the text of its first steps."""
     program, call = Program(case.files, case.given), read_arguments(case.arguments)
-    session, names, limits = program.opened(call), program.stand_ins(call), call.limits()
+    session, names, board = program.opened(call), program.stand_ins(call), program.board(call)
+    limits, shell = call.limits(), call.shell()
     _, text = program.script(call)
     try:
-        tree = parse(text)
+        tree = parse(text, shell)
     except Fault:
         return {b""}
 
     def outcome(steps):
-        return run(copy.deepcopy(session), tree, names, (steps, *limits[1:]), call.options.get("--boots", ()))
+        return run(copy.deepcopy(session), tree, names, (steps, *limits[1:]), call.options.get("--boots", ()), shell, board)
 
     return {outcome(steps).text for steps in range(outcome(limits[0]).steps + 1)}
 
@@ -307,7 +315,7 @@ def is_stopped(case, texts, found):
 def runs():
     """What a run printed before memory ran out went out, and no copy is written."""
     for name, words, *given in RUNS:
-        files = over_copies() | {b"stand-ins": b"mmc 3\na_stand_in_of_a_long_name\n", b"text": WHOLE_TEXT}
+        files = over_copies() | {b"stand-ins": b"mmc 3\na_stand_in_of_a_long_name\n", b"board": ANSWERS, b"text": WHOLE_TEXT}
         case = Case(f"{name} without memory", words, files, *given)
         yield refusing(case, accepts=functools.partial(is_stopped, case, texts_of(case)))
     case = Case("no good copy without memory", arguments(b"printenv", b"--need-copy"), over_copies(BLANK, BLANK))

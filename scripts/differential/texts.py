@@ -69,9 +69,20 @@ STAND_INS = [
     b"  # 3\nfdt 9\necho 0\nbootz 1\n",
     b"fastboot_device 2\nfastboot_devices 4\n",
 ]
+# Board files
+BOARDS = [
+    b"mmc dev 0 -> 1\nmmc\n",
+    b"# c\r\n\nload mmc 1:2 * -> setenv filesize 1c4a00\nload 1\r\n",
+    b"usb -> echo ${1} ${2}; exit 3\nu* 7\n* -> false\n",
+    b"test -e mmc 1:2 /boot/* -> 0\nbootz -> boots\next4load a -> run x; echo $?\n",
+    b"fdt -> fdt again\nmmc/dev -> if test -n ${t}; then true; else t=1; false; fi\n",
+    b"load* a b 0 -> 3\nload -> ${0}\ncp.* -> 0\nmmc -> ?\n",
+]
+BOARD_TOKENS = [b" ", b"\t", b"\r", b"\n", b"\0", b"#", b"*", b"->", b" -> ", b" -> boots\n", b"\nresets -> resets\n", b"\n-usb\n", b"256", b"\nusb\n", b"\nsetexpr.* 0\n", b"$", b"'"]
 STAND_IN_TOKENS = [b" ", b"\t", b"\r", b"\n", b"\0", b"#", b"255", b"256", b"000", b"\nusb 2\n", b"\nsetexpr.q 0\n", b"\nenv\n"]
 STAND_IN_NAMES = b"mmc usb ext4load load fdt bootz \\# mmc/dev fastboot_device fastboot_devices".split()
 ASKED = b"".join(b"%s; echo $?\n.x\n" % name for name in STAND_IN_NAMES)
+ASKED_OF_BOARD = b"mmc dev 0; echo $?\nload mmc 1:2 a; echo $? ${filesize}\ntest -e mmc 1:2 /boot/a; echo $?\n.x\n" + ASKED
 OFTEN = {
     **{name: 0.002 for name in ("EmptyName", "Nul", "NoCopy", "NotUtf8", "Overlap", "Size", "Unequal", "Builtin", "Line", "Twice")},
     **{name: 0.002 for name in ("BadType", "too short", "cannot read", "no room", "type check")},
@@ -110,12 +121,19 @@ def stood_in(text, numbers):
     return case
 
 
+def boarded(text, numbers):
+    case = over_board("a board file", arguments(b"session", b"--shell", b"board", b"--depth=3", b"--board", b"text"), text, numbers)
+    case.given = ASKED_OF_BOARD
+    return case
+
+
 KINDS = [
     (configured, CONFIGURATIONS, CONFIGURATION_TOKENS),
     (imported, IMPORTS, IMPORT_TOKENS),
     (defaulted, IMPORTS, IMPORT_TOKENS),
     (set_by, SET_SCRIPTS, SET_SCRIPT_TOKENS),
     (stood_in, STAND_INS, STAND_IN_TOKENS),
+    (boarded, BOARDS, BOARD_TOKENS),
 ]
 
 

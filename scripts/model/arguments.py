@@ -15,7 +15,7 @@ FLAGS, OPENING_FLAGS, OPENING_VALUES = {"--big-endian"}, {"--need-copy"}, {"-c",
 # Those of what writes copies
 WRITING_FLAGS = OPENING_FLAGS | {"--overwrite"}
 WHOLE_VALUES = {"--stubs", "--env", "--size"}
-DRY_VALUES = WHOLE_VALUES | {"--shell", "--steps", "--depth", "--word", "--output"}
+DRY_VALUES = WHOLE_VALUES | {"--board", "--shell", "--steps", "--depth", "--word", "--output"}
 # Of each subcommand: its flags, its options with a value, and how many other arguments it takes
 FORMS = {
     "printenv": (OPENING_FLAGS | {"-n"}, OPENING_VALUES, (0, None)),

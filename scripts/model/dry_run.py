@@ -31,8 +31,9 @@ def items_of(text, is_whole):
 class DryRun:
     """A dry run over a session by a shell; `names` are those of its marks."""
 
-    def __init__(self, session, stand_ins, limits, shell=STRICT):
+    def __init__(self, session, stand_ins, limits, shell=STRICT, board=()):
         self.shell = shell
+        self.board = board
         self.session = session
         self.stand_ins = stand_ins
         self.limits = limits
@@ -50,7 +51,7 @@ class DryRun:
             tree = parse(item, self.shell)
         except Fault:
             return b"[Syntax]\n"
-        outcome = run(self.session, tree, self.stand_ins, self.limits, shell=self.shell)
+        outcome = run(self.session, tree, self.stand_ins, self.limits, shell=self.shell, board=self.board)
         return outcome.text + b"[%s %d %d]\n" % (outcome.ending.encode(), outcome.status, outcome.steps)
 
     def obey(self, line):

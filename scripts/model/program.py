@@ -3,7 +3,7 @@
 
 from dataclasses import dataclass
 
-from model import check, report, script_run, texts
+from model import board_file, check, report, script_run, texts
 from model.arguments import VERSION, Wrong, read_arguments
 from model.dry_run import LONGEST, DryRun
 from model.grammar import parse
@@ -287,6 +287,17 @@ class Program:
         path = call.options.get("--stubs")
         return {} if path is None else self.parsed(path, texts.stand_ins)
 
+    def board(self, call):
+        """The rules of a board file."""
+        path = call.options.get("--board")
+        if path is None:
+            return []
+        try:
+            return board_file.rules_of(self.text(path))
+        except board_file.BoardFault as fault:
+            line, kind = fault.args
+            raise Ended(b"fwenv: %s:%d: %s\n" % (path, line, board_file.SENTENCES[kind]))
+
     def script(self, call):
         """The name by which a script is reported, and its text."""
         if "-e" in call.options:
@@ -309,12 +320,13 @@ class Program:
         for name in call.options.get("--boots", ()):
             if name not in stand_ins:
                 raise Ended(NOT_A_STAND_IN % name)
+        board = self.board(call)
         name, text = self.script(call)
         try:
             tree = parse(text, shell)
         except Fault as fault:
             raise Ended(script_run.fault_line(name, text, fault))
-        outcome = run(session, tree, stand_ins, limits, call.options.get("--boots", ()), shell)
+        outcome = run(session, tree, stand_ins, limits, call.options.get("--boots", ()), shell, board)
         self.output = outcome.text
         if not script_run.is_well(outcome):
             return self.say(script_run.ended(outcome))
@@ -341,7 +353,7 @@ class Program:
         call.size_in_memory()
         limits, shell = call.limits(), call.shell()
         session = self.opened(call)
-        self.output = DryRun(session, self.stand_ins(call), limits, shell).answer(self.given, not self.fails)
+        self.output = DryRun(session, self.stand_ins(call), limits, shell, self.board(call)).answer(self.given, not self.fails)
         if len(self.given) > LONGEST:
             raise Ended(TOO_LONG)
         if self.fails:

@@ -3,6 +3,7 @@
 import re
 from dataclasses import dataclass
 
+from model.board_file import first_rule, names_of
 from model.calculations import setexpr, status_of_digits
 from model.grammar import parse
 from model.shells import STRICT
@@ -25,6 +26,7 @@ IS_VARIABLE = b'## Error: "%s" is an environment variable\n'
 NO_SCRIPT = b'## Error: syntax error in "%s"\n'
 WRONG_USE = b"## Error: wrong use of '%s'\n"
 UNKNOWN = b"Unknown command '%s' - try 'help'\n"
+NO_REPLY = object()  # of a command that nothing answers
 BY_ZERO = b"## Error: division by zero\n"
 
 
@@ -53,12 +55,14 @@ def option_of(words, option):
 class Run:
     """A run of a script over a session, by one of the shells."""
 
-    def __init__(self, session, stand_ins, limits, boots=frozenset(), shell=STRICT):
+    def __init__(self, session, stand_ins, limits, boots=frozenset(), shell=STRICT, board=()):
         self.shell = shell
         self.session = session
         self.environment = session.environment
         self.stand_ins = stand_ins
         self.boots = boots
+        self.board = board  # the rules of a board file
+        self.names = stand_ins.keys() | names_of(board)
         self.max_steps, self.max_depth, self.max_word, self.max_output = limits
         self.locals = {}
         self.status = 0
@@ -218,7 +222,7 @@ class Run:
             return
         self.is_substituted = any(map(is_substituted, words))
         name, rest = fields[0], fields[1:]
-        called = self.shell.called(name, self.stand_ins)
+        called = self.shell.called(name, self.names)
         if called == b"env":
             second = self.shell.subcommand(rest[0]) if rest else None
             names = {b"set": "setenv", b"print": "printenv", b"save": "saveenv", b"run": "run", b"delete": "delete", b"exists": "exists"}
@@ -228,12 +232,30 @@ class Run:
                 getattr(self, names[second])(called, rest[1:])
         elif called in BUILTINS:
             getattr(self, called.partition(b".")[0].decode())(called, rest)
-        elif called in self.stand_ins:
-            self.done(self.stand_ins[called], b"+" + b"".join(b" " + each for each in fields) + b"\n")
-            if called in self.boots and self.status == 0:
-                raise Stop("Exited")
         else:
-            self.done(1, UNKNOWN % name)
+            self.other(called, fields)
+
+    def reply(self, called, words):
+        """What a call is answered with: a status, None for one that boots, a text; or that nothing answers it."""
+        rule = first_rule(self.board, [called, *words])
+        if rule:
+            return rule.answer
+        status = self.stand_ins.get(called, NO_REPLY)
+        return None if status == 0 and called in self.boots else status
+
+    def other(self, called, fields):
+        """A command of hardware."""
+        reply = self.reply(called, fields[1:])
+        line = b"+" + b"".join(b" " + each for each in fields) + b"\n"
+        if reply is NO_REPLY:
+            self.done(1, UNKNOWN % fields[0])
+        elif isinstance(reply, bytes):
+            self.done(self.status, line)
+            self.start_answer(reply, fields)
+        else:
+            self.done(reply or 0, line)
+            if reply is None:
+                raise Stop("Exited")
 
     def wrong_use(self, name):
         self.done(1, WRONG_USE % name)
@@ -251,7 +273,11 @@ class Run:
             self.done(0, b" ".join(words) + b"\n")
 
     def test(self, _name, words):
-        self.done(0 if self.shell.test(words, lambda _: False) else 1)
+        self.done(0 if self.shell.test(words, self.is_there) else 1)
+
+    def is_there(self, words):
+        """Whether the call `test -e` of these words is answered with status 0."""
+        return self.reply(b"test", [b"-e", *words]) in (0, None)
 
     def exit(self, name, words):
         status = status_of_digits(words[0]) if words else self.shell.of_bare_exit(self.status)
@@ -361,23 +387,39 @@ class Run:
             return
         self.done(self.shell.of_start(self.status, bool(tree)))
         self.running.append(name)
-        self.text_of(tree)
+        self.text_of(tree, self.shell.of_text)
         self.running.pop()
 
-    def text_of(self, tree):
-        """Runs a text that was started; an `exit` may leave it."""
+    def start_answer(self, text, words):
+        """A script that answers a call of these words; an end inside is placed where the call is."""
+        self.begin()
+        if len(self.running) == self.max_depth:
+            raise Stop("Depth")
+        try:
+            tree = parse(text, self.shell)
+        except Fault:
+            self.done(1, NO_SCRIPT % words[0])
+            return
+        self.done(self.shell.of_start(self.status, bool(tree)))
+        self.locals.update((b"%d" % at, word) for at, word in enumerate(words))
+        self.running.append(self.running[-1] if self.running else None)
+        self.text_of(tree, lambda status: status)
+        self.running.pop()
+
+    def text_of(self, tree, of_text):
+        """Runs a text that was started, of whose status something is made; an `exit` may leave it."""
         nesting, self.nesting = self.nesting, 0
         try:
             self.chains(tree)
-            self.status = self.shell.of_text(self.status)
+            self.status = of_text(self.status)
         except Leave:
             pass
         self.nesting = nesting
 
 
-def run(session, tree, stand_ins, limits, boots=frozenset(), shell=STRICT):
+def run(session, tree, stand_ins, limits, boots=frozenset(), shell=STRICT, board=()):
     """Runs a tree, and answers its outcome. A stand-in of `boots` ends the run if its status is 0."""
-    made = Run(session, stand_ins, limits, boots, shell)
+    made = Run(session, stand_ins, limits, boots, shell, board)
     ending = "Finished"
     try:
         made.chains(tree)

@@ -54,9 +54,9 @@ class Strict:
     def test(self, words, _there):
         return test(words)
 
-    def called(self, name, stand_ins):
-        """The builtin or stand-in that a name calls; None without one."""
-        return name if name in BUILTINS or name in stand_ins else None
+    def called(self, name, _names):
+        """The command that a name calls, by the names of stand-ins and rules."""
+        return name
 
     def subcommand(self, word):
         """The subcommand of `env` that a word names."""
@@ -97,9 +97,9 @@ class Board(Strict):
     def test(self, words, there):
         return board_test(words, there)
 
-    def called(self, name, stand_ins):
-        known = {each for each in BUILTINS if b"." not in each} | stand_ins.keys()
-        return name if name in BUILTINS or name in stand_ins else only(name, known)
+    def called(self, name, names):
+        known = {each for each in BUILTINS if b"." not in each} | names
+        return name if name in BUILTINS | names else only(name, known) or name
 
     def subcommand(self, word):
         return only(word, SUBCOMMANDS)

@@ -14,12 +14,13 @@ use Rattle.fw_arguments.specs.declared.dry_runs.GivenScript as scripts
 use Rattle.fw_arguments.specs.declared.dry_runs.GivenScript.TheVariants as code
 use Rattle.fw_arguments.specs.declared.dry_runs.ScriptRun as script_runs
 
--- whose rules count, whether the copies are written back, the stand-ins' file, if there is one, and the limits of each
--- block
+-- whose rules count, whether the copies are written back, the stand-ins' file and the board file, if there are any, and
+-- the limits of each block
 pub record DryRun : Type 0 where
   pub shell : Shell
   pub write : Bool
   pub stand_ins : Option Text
+  pub board : Option Text
   pub limits : Bounds
 
 -- the number, if it is at most `most`
@@ -66,6 +67,7 @@ run_within shell rows limits = record {
   shell = shell;
   write = is_given (codes "write") rows;
   stand_ins = first_of (codes "stubs") rows;
+  board = first_of (codes "board") rows;
   limits = limits;
 }
 
@@ -128,7 +130,13 @@ abbrev pub texts : Option (Bor (List (Bor Text))) → List Text
 texts words = unwrap_or (option_map (λ w. map (λ x. x.now) w.now) words) []
 
 abbrev pub dry_run_view : dry_runs.DryRun → DryRun
-dry_run_view r = record { shell = r.shell; write = r.write; stand_ins = option_map (λ path. path.now) r.stand_ins; limits = r.limits }
+dry_run_view r = record {
+  shell = r.shell;
+  write = r.write;
+  stand_ins = option_map (λ path. path.now) r.stand_ins;
+  board = option_map (λ path. path.now) r.board;
+  limits = r.limits;
+}
 
 abbrev pub script_view : scripts.GivenScript → GivenScript
 script_view (code.Names names) = Names (map (λ n. n.now) names.now)

@@ -17,8 +17,8 @@ use hush_commands::Shell;
 use run_limits::{Limits, MOST_DEPTH, MOST_OUTPUT, MOST_STEPS, MOST_WORD};
 use text_parts::{Base, numeral};
 
-/// What a session and the run of a script have: `[--shell SHELL] [--write] [--stubs FILE] [--steps N] [--depth N] [--word N]
-/// [--output N]`.
+/// What a session and the run of a script have: `[--shell SHELL] [--write] [--stubs FILE] [--board FILE] [--steps N] [--depth N]
+/// [--word N] [--output N]`.
 #[derive(Clone, Copy, Debug)]
 pub struct DryRun<'w> {
     /// Whose rules count where shells differ.
@@ -27,6 +27,8 @@ pub struct DryRun<'w> {
     pub write: bool,
     /// The path of the stand-ins, if there are any.
     pub stand_ins: Option<&'w str>,
+    /// The path of the board file, if there is one.
+    pub board: Option<&'w str>,
     /// How far each run may go.
     pub limits: Limits,
 }
@@ -81,6 +83,7 @@ fn dry_run_within<'w>(found: &ArgMatches<'w>, shell: Shell, limits: Limits) -> D
         shell,
         write: is_given(found, "write"),
         stand_ins: first(found, "stubs"),
+        board: first(found, "board"),
         limits,
     }
 }

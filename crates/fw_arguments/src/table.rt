@@ -172,6 +172,14 @@ pub const STUBS: Row = Row {
     help: "The stand-ins, a line NAME [STATUS] for each command that only hardware has",
 };
 
+/// `--board FILE`
+pub const BOARD: Row = Row {
+    id: "board",
+    names: Names::Long("board"),
+    takes: Takes::One("FILE"),
+    help: "What a board answers, a line PATTERN -> ANSWER for calls of commands that only hardware has",
+};
+
 /// `--shell SHELL` of `run` and `check`
 pub const SHELL: Row = Row {
     id: "shell",
@@ -413,8 +421,8 @@ pub const RUN: Called = Called {
     about: "Runs a script and prints its text; the status is 0 if it ended well, and nothing is written without --write",
     example: "Example:\n  fwenv run --env board.txt --stubs stand-ins.txt --boots booti bootcmd",
     options: &[
-        CONFIG, DEFAULT, NEED_COPY, BIG_ENDIAN, RUN_WRITE, OVERWRITE, SHELL, STUBS, STEPS, DEPTH,
-        WORD, OUTPUT, ENV, SIZE, BOOTS, GIVEN_TEXT, GIVEN_FILE, RUN_NAMES,
+        CONFIG, DEFAULT, NEED_COPY, BIG_ENDIAN, RUN_WRITE, OVERWRITE, SHELL, STUBS, BOARD, STEPS,
+        DEPTH, WORD, OUTPUT, ENV, SIZE, BOOTS, GIVEN_TEXT, GIVEN_FILE, RUN_NAMES,
     ],
 };
 
@@ -452,6 +460,7 @@ pub const SESSION: Called = Called {
         OVERWRITE,
         SESSION_SHELL,
         STUBS,
+        BOARD,
         STEPS,
         DEPTH,
         WORD,

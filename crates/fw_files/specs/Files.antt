@@ -8,6 +8,11 @@ use Rattle.envcfg_core.specs.declared.entry.TextFault.TheVariants as text
 use Rattle.envvars_core.specs.declared.refusals.Refusal.{Refusal}
 use Rattle.envvars_core.specs.declared.refusals.Refusal.TheVariants.{BadForm, BadType, NoCreate, NoDelete, NoOverwrite, Full, Memory}
 use Rattle.hush_commands.specs.Stubs.{Statuses, stand_ins_of}
+use Rattle.hush_commands.specs.declared.board_rules.Rule.{Rule}
+use Rattle.board_file.specs.declared.board_fault.BoardFault.{BoardFault}
+use Rattle.board_file.specs.declared.board_fault.LineFault.{LineFault}
+use Rattle.board_file.specs.declared.board_fault.LineFault.TheVariants as boards
+use Rattle.board_file.specs.BoardFiles.{board_of}
 use Rattle.fw_files.specs.declared.file_fault.FileFault.{FileFault}
 use Rattle.fw_files.specs.declared.file_fault.FileFault.TheVariants as file
 use Rattle.fw_files.specs.declared.reasons.Explains.{Explains}
@@ -30,6 +35,19 @@ text_fault fault = file.Text fault
 abbrev pub AreStubsOf : Option (List ℕ) → Statuses → Type 0
 AreStubsOf None stand_ins = stand_ins ≡ names.empty
 AreStubsOf (Some path) stand_ins = (text : List ℕ) × (stand_ins_of text ≡ Ok stand_ins)
+
+-- the fault of a board file that is refused
+abbrev pub fault_by : BoardFault → LineFault → FileFault
+fault_by fault boards.Memory = file.Memory
+fault_by fault kind = file.Board fault
+
+abbrev pub board_fault : BoardFault → FileFault
+board_fault fault = fault_by fault fault.kind
+
+-- the rules are those of some text, or there are none
+abbrev pub AreRulesOf : Option (List ℕ) → List Rule → Type 0
+AreRulesOf None rules = rules ≡ []
+AreRulesOf (Some path) rules = (text : List ℕ) × (board_of text ≡ Ok rules)
 
 -- ---- why
 

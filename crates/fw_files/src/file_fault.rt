@@ -8,10 +8,11 @@ ghost use Rattle.fw_files.specs.Said.{SaysLine, SaysSome};
 ghost use Rattle.fw_files.specs.declared.file_fault.FileFault.TheVariants.{CannotRead, Memory};
 
 use crate::file_texts::{
-    CANNOT_READ_FILE, CANNOT_WRITE_FILE, COLON, FWENV, IN_LINE, IS_UBI_VOLUME, IS_YAML, NEWLINE,
-    TOO_SHORT,
+    CANNOT_READ_FILE, CANNOT_WRITE_FILE, COLON, FWENV, IN_LINE, IS_UBI_VOLUME, IS_YAML, LINE,
+    NEWLINE, TOO_SHORT,
 };
 use crate::reasons::{Explains, Reason};
+use board_file::BoardFault;
 use envcfg_core::{ConfigFault, TextFault};
 use envvars_core::Refusal;
 use fw_engines::OUT_OF_MEMORY;
@@ -41,6 +42,8 @@ pub enum FileFault {
     Text(TextFault),
     /// It is a stand-in file that is refused.
     Stubs(StubFault),
+    /// It is a board file that is refused.
+    Board(BoardFault),
     /// It is a default environment, and the entry in this line is refused.
     Default(usize, Refusal),
 }
@@ -115,6 +118,7 @@ pub(crate) fn say_fault<E: Write>(
             Ok(name) => say_refused(errors, path, name.as_bytes()),
             Err(_) => say(errors, OUT_OF_MEMORY),
         },
+        FileFault::Board(refused) => say_place(errors, path, refused.line, refused.kind.text()),
         FileFault::Default(line, refusal) => say_line(errors, path, name_of(refusal), line),
     }
 }
@@ -150,6 +154,19 @@ fn say_line<E: Write>(errors: &mut E, path: &str, name: &[u8], line: usize)
         return;
     }
     say(errors, NEWLINE);
+}
+
+/// Prints the line of a file, and what is wrong with it.
+fn say_place<E: Write>(errors: &mut E, path: &str, line: usize, text: &[u8])
+    ensures { SaysSome (E.contents errors.old) (E.contents errors.new) }
+{
+    if !write_three(errors, FWENV, path.as_bytes(), LINE) {
+        return;
+    }
+    if !write_decimal(errors, line) {
+        return;
+    }
+    let _ = write_three(errors, COLON, text, NEWLINE);
 }
 
 /// The name of a refusal.

@@ -17,6 +17,9 @@ pub(crate) const IS_YAML: &[u8] = b" is YAML: fwenv reads lines of DEVICE OFFSET
 pub(crate) const IS_UBI_VOLUME: &[u8] =
     b" is a UBI volume by its name: fwenv reads files and block devices\n";
 
+/// Between a path and the number of a line.
+pub(crate) const LINE: &[u8] = b":";
+
 /// Between a path and the fault's name, and between that and the number of the line.
 pub(crate) const COLON: &[u8] = b": ";
 

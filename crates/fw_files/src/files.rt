@@ -3,16 +3,18 @@ ghost use Rattle.std.specs.Prelude.{◌≡◌, ◌≤◌, ℕ, List, Ok, Some, I
 ghost use Rattle.envcfg_core.specs.Entries.{entry_view};
 ghost use Rattle.envcfg_core.specs.Import.{import_of};
 ghost use Rattle.envcfg_core.specs.SetScript.{set_script_of};
-ghost use Rattle.fw_files.specs.Files.{AreStubsOf, file_limit, text_fault};
+ghost use Rattle.board_file.specs.BoardFiles.{board_of};
+ghost use Rattle.fw_files.specs.Files.{AreRulesOf, AreStubsOf, board_fault, file_limit, text_fault};
 ghost use Rattle.fw_files.specs.Said.{SaysSome};
 ghost use Rattle.hush_commands.specs.Stubs.{stand_ins_of};
 
 use crate::file_fault::{FileFault, value_or_say};
 use crate::reasons::{Explains, Reason};
+use board_file::{BoardFault, LineFault, parse_board};
 use envcfg_core::{TextEntry, TextFault, parse_import, parse_set_script};
 use fw_engines::StreamFault;
 use fw_engines::streams::read_up_to;
-use hush_commands::{StubFault, Stubs};
+use hush_commands::{BoardRules, StubFault, Stubs};
 use std::alloc::Global;
 use std::fs::OpenOptions;
 use std::io::{self, Read, Write};
@@ -131,6 +133,47 @@ fn stand_ins_from(alloc: Global, text: &[u8]) -> Result<Stubs, FileFault>
         Ok(stand_ins) => Ok(stand_ins),
         Err(StubFault::Memory) => Err(FileFault::Memory),
         Err(fault) => Err(FileFault::Stubs(fault)),
+    }
+}
+
+/// Reads a board file; without one there are no rules.
+pub fn read_board<X: Files + AllocGlobal>(
+    rt: &X,
+    path: Option<&str>,
+) -> Result<BoardRules, FileFault>
+    ensures { IfOk result (AreRulesOf (option_map (λ p. p.now) path.entry)) }
+{
+    match path {
+        None => Ok(BoardRules::none(rt.alloc())),
+        Some(path) => read_board_file(rt, path),
+    }
+}
+
+/// Reads the rules in a file.
+fn read_board_file<X: Files + AllocGlobal>(rt: &X, path: &str) -> Result<BoardRules, FileFault>
+    ensures { IfOk result (AreRulesOf (Some path.now)) }
+{
+    let text = read_file(rt, path)?;
+    board_from(rt.alloc(), &text)
+}
+
+/// The rules in a text.
+fn board_from(alloc: Global, text: &[u8]) -> Result<BoardRules, FileFault>
+    ensures { IfOk result (λ rules. board_of text.now ≡ Ok rules) }
+{
+    match parse_board(alloc, text) {
+        Ok(board) => Ok(board),
+        Err(fault) => Err(board_fault(fault)),
+    }
+}
+
+/// The fault of a board file that is refused.
+fn board_fault(fault: BoardFault) -> FileFault
+    ensures { result ≡ board_fault fault }
+{
+    match fault.kind {
+        LineFault::Memory => FileFault::Memory,
+        _ => FileFault::Board(fault),
     }
 }
 

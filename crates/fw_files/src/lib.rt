@@ -27,7 +27,9 @@ pub use changed_copies::{write_back, write_other_first};
 pub use copies::ReadCopy;
 pub use copy_report::run_report;
 pub use file_fault::{FileFault, value_or_say};
-pub use files::{entries_or_say, read_file, read_stand_in_file, read_stand_ins, script_from};
+pub use files::{
+    entries_or_say, read_board, read_file, read_stand_in_file, read_stand_ins, script_from,
+};
 pub use lock_file::{LockedFiles, Locks, lock_copies};
 pub use opening::open;
 pub use reasons::{Explains, Reason};

@@ -4,6 +4,8 @@ use Rattle.std.specs.Prelude.{MatchOption, Result, Ok, Err, IfOk, unwrap_or}
 use Rattle.std.specs.Result.{result_ok}
 use Rattle.env_session.specs.Session.{Held}
 use Rattle.hush_commands.specs.Stubs.{Statuses}
+use Rattle.hush_commands.specs.Hardware.{hardware}
+use Rattle.hush_commands.specs.declared.board_rules.Rule.{Rule}
 use Rattle.fw_session.specs.declared.session_end.SessionEnding.{SessionEnding}
 use Rattle.fw_arguments.specs.DryRuns.{DryRun}
 use Rattle.fw_files.specs.Copies.{warned_of}
@@ -12,21 +14,21 @@ use Rattle.fw_files.specs.declared.source.Source.{Source}
 use Rattle.env_session.specs.declared.session.Stored.{Stored}
 use Rattle.fw_files.specs.Said.{SaysSome}
 use Rattle.fw_files.proofs.SaidLemmas.{not_waited, said_then, waited_said}
-use Rattle.fw_files.specs.Files.{AreStubsOf}
+use Rattle.fw_files.specs.Files.{AreRulesOf, AreStubsOf}
 use Rattle.fw_tools.specs.SessionRun.{ClosesDryRun, Reports, TriesOver, TriesWith, WaitsAndWarns, text_for}
 use Rattle.fw_engines.specs.Streams.{AppendsFront, Streams}
 use Rattle.fw_tools.proofs.WarnLemmas.{may_warn, no_warning}
 
-pub tried_over : {E : Type 0} (run : DryRun) (session : Held) (old : Streams) (outcome : Result Statuses E) (stand_ins : Statuses) (errors : Option (List ℕ)) (new : Streams) (status : ℕ) →
-    Some stand_ins ≡ result_ok outcome → IfOk outcome (AreStubsOf run.stand_ins) → errors ≡ old.errors →
-    TriesWith run stand_ins session (record { input = old.input; output = old.output; errors = errors }) new status → TriesOver run session old new status
-tried_over run session old (Ok s) stand_ins errors new status is stands same tries =
+pub tried_over : {E : Type 0} (run : DryRun) (session : Held) (old : Streams) (outcome : Result Statuses E) (stand_ins : Statuses) (rules : List Rule) (errors : Option (List ℕ)) (new : Streams) (status : ℕ) →
+    Some stand_ins ≡ result_ok outcome → IfOk outcome (AreStubsOf run.stand_ins) → AreRulesOf run.board rules → errors ≡ old.errors →
+    TriesWith run (hardware rules stand_ins) session (record { input = old.input; output = old.output; errors = errors }) new status → TriesOver run session old new status
+tried_over run session old (Ok s) stand_ins rules errors new status is stands reads same tries =
     inr (
-      stand_ins,
-      subst (AreStubsOf run.stand_ins) (sym (ap (λ o. unwrap_or o stand_ins) is)) stands,
-      subst (λ e. TriesWith run stand_ins session (record { input = old.input; output = old.output; errors = e }) new status) same tries,
+      hardware rules stand_ins,
+      (subst (AreStubsOf run.stand_ins) (sym (ap (λ o. unwrap_or o stand_ins) is)) stands, reads),
+      subst (λ e. TriesWith run (hardware rules stand_ins) session (record { input = old.input; output = old.output; errors = e }) new status) same tries,
     )
-tried_over run session old (Err e) stand_ins errors new status is stands same tries = absurd (no is)
+tried_over run session old (Err e) stand_ins rules errors new status is stands reads same tries = absurd (no is)
   where
     no : Some stand_ins ≡ None → ⊥
     no e = cc

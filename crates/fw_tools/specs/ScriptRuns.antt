@@ -9,7 +9,7 @@ use Rattle.hush_syntax.specs.Reading.{read_in}
 use Rattle.hush_syntax.specs.declared.nodes.Bodies.{Bodies}
 use Rattle.hush_syntax.specs.declared.syntax_fault.SyntaxFault.{SyntaxFault}
 use Rattle.hush_commands.specs.Stubs.{Statuses, with_boot}
-use Rattle.hush_commands.specs.Hardware.{hardware}
+use Rattle.hush_commands.specs.Hardware.{Hardware}
 use Rattle.hush_run.specs.Meaning.{bodies_of}
 use Rattle.hush_run.specs.Runs.{rules_in}
 use Rattle.fw_engines.specs.ScriptFaults.{fault_line}
@@ -20,7 +20,7 @@ use Rattle.fw_engines.specs.declared.tool_end.StreamFault.TheVariants.{Memory}
 use Rattle.fw_arguments.specs.DryRuns.{GivenScript, Names, Words, File, ScriptRun}
 use Rattle.fw_files.specs.Copies.{MayWarn}
 use Rattle.fw_files.specs.Said.{Says, SaysSome, Stops, message_of}
-use Rattle.fw_files.specs.Files.{AreStubsOf}
+use Rattle.fw_files.specs.Files.{AreRulesOf, AreStubsOf}
 
 -- a byte of a name in quotes; a quote is outside of them
 abbrev pub quoted : ℕ → List ℕ
@@ -62,17 +62,17 @@ ClosesRun true end old new status =
 ClosesRun false end old new status = Says end.fault old new × (status ≡ end.status)
 
 -- a script with this tree is run over a session, and the session is left
-abbrev pub RunsTree : ScriptRun → Statuses → Option Chains → Held → Writers → Writers → ℕ → Type 0
-RunsTree run stand_ins tree session old new status =
+abbrev pub RunsTree : ScriptRun → Hardware → Option Chains → Held → Writers → Writers → ℕ → Type 0
+RunsTree run given tree session old new status =
     (after : Held) × (between : Option (List ℕ)) × (end : ToolEnd)
-    × RunsScript (rules_in run.dry.shell (hardware [] stand_ins) run.dry.limits) tree session after old (record { output = new.output; errors = between }) end
+    × RunsScript (rules_in run.dry.shell given run.dry.limits) tree session after old (record { output = new.output; errors = between }) end
     × ClosesRun (is_kept run.dry.write end.status) end between new.errors status
 
 -- a text is run, if it is a script by the rules of the shell
-abbrev pub RunsText : ScriptRun → Statuses → List ℕ → Held → Writers → Writers → ℕ → Type 0
-RunsText run stand_ins text session old new status =
+abbrev pub RunsText : ScriptRun → Hardware → List ℕ → Held → Writers → Writers → ℕ → Type 0
+RunsText run given text session old new status =
     ((new.output ≡ old.output) × Refuses (bodies_of run.dry.shell) (name_of_script run.script) text old.errors new.errors × (status ≡ 1))
-    ⊎ ((tree : Option Chains) × (read_in (bodies_of run.dry.shell) text ≡ Some tree) × RunsTree run stand_ins tree session old new status)
+    ⊎ ((tree : Option Chains) × (read_in (bodies_of run.dry.shell) text ≡ Some tree) × RunsTree run given tree session old new status)
 
 -- the stand-ins, with those of these names made to boot
 abbrev pub with_boots : Statuses → List Text → Statuses
@@ -82,9 +82,13 @@ with_boots stand_ins (name ∷ names) = with_boots (with_boot stand_ins name) na
 abbrev pub AreStandInsOf : ScriptRun → Statuses → Type 0
 AreStandInsOf run stand_ins = (read : Statuses) × AreStubsOf run.dry.stand_ins read × (stand_ins ≡ with_boots read run.boots)
 
+-- what stands in for hardware
+abbrev pub IsHardwareOf : ScriptRun → Hardware → Type 0
+IsHardwareOf run given = AreStandInsOf run given.stubs × AreRulesOf run.dry.board given.rules
+
 -- or before that a file can't be used, or memory runs out
 abbrev pub RunsOver : ScriptRun → Held → Writers → Writers → ℕ → Type 0
 RunsOver run session old new status =
     Stops old new status
-    ⊎ ((stand_ins : Statuses) × (text : List ℕ) × AreStandInsOf run stand_ins × IsTextOf run.script text
-    × RunsText run stand_ins text session old new status)
+    ⊎ ((given : Hardware) × (text : List ℕ) × IsHardwareOf run given × IsTextOf run.script text
+    × RunsText run given text session old new status)

@@ -2,8 +2,7 @@
 use Rattle.std.specs.Prelude.{◌≡◌, ◌⊎◌, ℕ, Bool, true, false, List, [], ◌∷◌, ◌++◌, Option, Some, None, codes}
 use Rattle.clap.specs.Words.{Text}
 use Rattle.env_session.specs.Session.{Held}
-use Rattle.hush_commands.specs.Stubs.{Statuses}
-use Rattle.hush_commands.specs.Hardware.{hardware}
+use Rattle.hush_commands.specs.Hardware.{Hardware}
 use Rattle.hush_run.specs.Runs.{rules_in}
 use Rattle.fw_session.specs.Ends.{Ends}
 use Rattle.fw_session.specs.Turns.{NamedSession}
@@ -12,7 +11,7 @@ use Rattle.fw_session.specs.declared.session_end.SessionEnding.{SessionEnding}
 use Rattle.fw_session.specs.declared.session_end.SessionEnding.TheVariants as ending
 use Rattle.fw_arguments.specs.DryRuns.{DryRun}
 use Rattle.fw_files.specs.Copies.{MayWarn}
-use Rattle.fw_files.specs.Files.{AreStubsOf}
+use Rattle.fw_files.specs.Files.{AreRulesOf, AreStubsOf}
 use Rattle.fw_files.specs.Locks.{HasWaited}
 use Rattle.fw_files.specs.Said.{SaysSome, Stops, message_of}
 use Rattle.fw_engines.specs.Streams.{AppendsFront, Streams, writers_of}
@@ -47,15 +46,19 @@ ClosesDryRun true end old new status =
     (SaysSome old new × (status ≡ 1)) ⊎ ((said : Option (List ℕ)) × WaitsAndWarns old said × Reports (text_for end) said new status)
 ClosesDryRun false end old new status = Reports (text_for end) old new status
 
--- standard input is answered over a session, with these stand-ins
-abbrev pub TriesWith : DryRun → Statuses → Held → Streams → Streams → ℕ → Type 0
-TriesWith run stand_ins session old new status =
+-- standard input is answered over a session, with this hardware
+abbrev pub TriesWith : DryRun → Hardware → Held → Streams → Streams → ℕ → Type 0
+TriesWith run given session old new status =
     (end : SessionEnding) × (read : ℕ) × (written : ℕ) × (after : NamedSession)
-    × Ends end (rules_in run.shell (hardware [] stand_ins) run.limits) (unnamed session) old.input new.input old.output new.output read written after
+    × Ends end (rules_in run.shell given run.limits) (unnamed session) old.input new.input old.output new.output read written after
     × ClosesDryRun (is_kept run.write end) end old.errors new.errors status
 
--- or before that the stand-ins' file can't be used, or memory runs out
+-- what stands in for hardware
+abbrev pub IsHardwareOf : DryRun → Hardware → Type 0
+IsHardwareOf run given = AreStubsOf run.stand_ins given.stubs × AreRulesOf run.board given.rules
+
+-- or before that a file of these can't be used, or memory runs out
 abbrev pub TriesOver : DryRun → Held → Streams → Streams → ℕ → Type 0
 TriesOver run session old new status =
     ((new.input ≡ old.input) × Stops (writers_of old) (writers_of new) status)
-    ⊎ ((stand_ins : Statuses) × AreStubsOf run.stand_ins stand_ins × TriesWith run stand_ins session old new status)
+    ⊎ ((given : Hardware) × IsHardwareOf run given × TriesWith run given session old new status)

@@ -1,13 +1,14 @@
 //! The program: the tools and dry runs over the files that its arguments name. docs/tools.md and docs/dry-runs.md state
 //! the rules; fw_arguments reads the arguments, fw_files reads and writes the files.
 //!
-//! To read in this order: entry_point, greeting; subcommands, task_work, session_run, script_source, script_work,
-//! check_work.
+//! To read in this order: entry_point, greeting; subcommands, task_work, hardware, session_run, script_source,
+//! script_work, check_work.
 #![tactic(auto)]
 
 mod check_work;
 mod entry_point;
 mod greeting;
+mod hardware;
 mod script_source;
 mod script_work;
 mod session_run;

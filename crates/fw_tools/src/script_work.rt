@@ -1,10 +1,12 @@
 //! `run`: a script is run over a session for its own status.
 ghost use Rattle.std.specs.Prelude.{◌≡◌, IfOk, MatchOption, map, unwrap_or};
 ghost use Rattle.hush_syntax.specs.Scripts.{tree_of};
+ghost use Rattle.hush_commands.specs.Hardware.{hardware};
 ghost use Rattle.fw_arguments.specs.DryRuns.{script_run_view, texts};
-ghost use Rattle.fw_tools.specs.ScriptRuns.{AreStandInsOf, ClosesRun, RunsOver, RunsText, RunsTree, is_kept, with_boots};
+ghost use Rattle.fw_tools.specs.ScriptRuns.{AreStandInsOf, ClosesRun, IsHardwareOf, RunsOver, RunsText, RunsTree, is_kept, with_boots};
 ghost use Rattle.fw_files.specs.Said.{SaysSome};
 
+use crate::hardware::{GivenHardware, board_or_say};
 use crate::script_source::{name_of_script, script_or_say, text_or_say};
 use env_requests::RunRules;
 use env_session::Session;
@@ -16,7 +18,6 @@ use fw_files::{
     Explains, FileFault, Source, System, read_stand_ins, report, value_or_say, write_other_first,
 };
 use fw_session::run;
-use hush_commands::BoardRules;
 use hush_run::{Stubs, bodies_of};
 use hush_syntax::Script;
 use std::alloc::{AllocError, Global};
@@ -41,9 +42,23 @@ pub(crate) fn run_given<X: System + AllocGlobal, W: Write, E: Write>(
         (record { output = W.contents output.old; errors = E.contents errors.old })
         (record { output = W.contents output.new; errors = E.contents errors.new }) (unwrap_or result 1) }
 {
-    let stand_ins = stand_ins_or_say(rt, asked, errors)?;
+    let hardware = hardware_or_say(rt, asked, errors)?;
     let text = text_or_say(rt, &asked.script, errors)?;
-    Some(run_text(rt, source, opened, asked, &stand_ins, &text, output, errors))
+    Some(run_text(rt, source, opened, asked, &hardware, &text, output, errors))
+}
+
+/// What stands in for hardware; a fault is reported on `errors`.
+fn hardware_or_say<X: System + AllocGlobal, E: Write>(
+    rt: &X,
+    asked: &ScriptRun<'_, '_>,
+    errors: &mut E,
+) -> Option<GivenHardware>
+    ensures { MatchOption result (SaysSome (E.contents errors.old) (E.contents errors.new))
+        (λ given. IsHardwareOf (script_run_view asked.now) (hardware given.board given.stand_ins) × (E.contents errors.new ≡ E.contents errors.old)) }
+{
+    let stand_ins = stand_ins_or_say(rt, asked, errors)?;
+    let board = board_or_say(rt, asked.dry.board, Explains::Reason, errors)?;
+    Some(GivenHardware { stand_ins, board })
 }
 
 /// The stand-ins, with those asked for made to boot; a fault is reported on `errors`, and so is a name of which there is
@@ -120,12 +135,12 @@ fn run_text<X: System + AllocGlobal, W: Write, E: Write>(
     source: &Source,
     opened: Session,
     asked: &ScriptRun<'_, '_>,
-    stand_ins: &Stubs,
+    given: &GivenHardware,
     text: &[u8],
     output: &mut W,
     errors: &mut E,
 ) -> u8
-    ensures { RunsText (script_run_view asked.now) stand_ins.now text.now opened
+    ensures { RunsText (script_run_view asked.now) (hardware given.now.board given.now.stand_ins) text.now opened
         (record { output = W.contents output.old; errors = E.contents errors.old })
         (record { output = W.contents output.new; errors = E.contents errors.new }) result }
 {
@@ -133,11 +148,7 @@ fn run_text<X: System + AllocGlobal, W: Write, E: Write>(
     let name = name_of_script(&asked.script);
     match script_or_say(rt.alloc(), bodies, name, text, errors) {
         None => 1,
-        Some(script) => {
-            run_script(
-                rt, source, opened, asked, stand_ins, &script, output, errors,
-            )
-        }
+        Some(script) => { run_script(rt, source, opened, asked, given, &script, output, errors) }
     }
 }
 
@@ -147,22 +158,21 @@ fn run_script<X: System + AllocGlobal, W: Write, E: Write>(
     source: &Source,
     opened: Session,
     asked: &ScriptRun<'_, '_>,
-    stand_ins: &Stubs,
+    given: &GivenHardware,
     script: &Script,
     output: &mut W,
     errors: &mut E,
 ) -> u8
-    ensures { RunsTree (script_run_view asked.now) stand_ins.now (tree_of script.now) opened
+    ensures { RunsTree (script_run_view asked.now) (hardware given.now.board given.now.stand_ins) (tree_of script.now) opened
         (record { output = W.contents output.old; errors = E.contents errors.old })
         (record { output = W.contents output.new; errors = E.contents errors.new }) result }
 {
     let mut session = opened;
     let current = session.current();
-    let board = BoardRules::none(rt.alloc());
     let rules = RunRules {
         shell: asked.dry.shell,
-        stand_ins,
-        board: &board,
+        stand_ins: &given.stand_ins,
+        board: &given.board,
         limits: &asked.dry.limits,
     };
     let end = run(rt.alloc(), &mut session, script, &rules, output, errors);

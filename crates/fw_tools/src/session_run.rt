@@ -1,5 +1,5 @@
 //! `session`: a dry run over standard input and output.
-ghost use Rattle.std.specs.Prelude.{◌≡◌, ℕ, List, [], MatchOption, Option, option_map, unwrap_or};
+ghost use Rattle.std.specs.Prelude.{◌≡◌, ℕ, List, MatchOption, Option, option_map, unwrap_or};
 ghost use Rattle.hush_commands.specs.Hardware.{hardware};
 ghost use Rattle.hush_run.specs.Runs.{rules_in};
 ghost use Rattle.fw_session.specs.Ends.{Ends};
@@ -8,6 +8,7 @@ ghost use Rattle.fw_arguments.specs.DryRuns.{dry_run_view};
 ghost use Rattle.fw_files.specs.Said.{SaysSome};
 ghost use Rattle.fw_tools.specs.SessionRun.{ClosesDryRun, Reports, TriesOver, WaitsAndWarns, is_kept, text_for};
 
+use crate::hardware::{GivenHardware, board_or_say};
 use env_requests::RunRules;
 use env_session::{Session, Stored};
 use fw_arguments::{DryRun, LockFiles};
@@ -18,8 +19,6 @@ use fw_files::{
     write_back,
 };
 use fw_session::{SessionEnd, SessionEnding, session_in};
-use hush_commands::BoardRules;
-use hush_run::Stubs;
 use std::io::{Read, Write};
 
 /// Standard error if the input of a session is longer than it may be.
@@ -48,34 +47,34 @@ pub(crate) fn talk<X: System + AllocGlobal, R: Read, W: Write, E: Write>(
         run.stand_ins.unwrap_or(""),
         read_stand_ins(rt, run.stand_ins),
     )?;
-    let end = answer(rt, opened, run, &stand_ins, input, output);
+    let board = board_or_say(rt, run.board, Explains::Nothing, errors)?;
+    let given = GivenHardware { stand_ins, board };
+    let end = answer(rt, opened, run, &given, input, output);
     Some(leave(rt, source, run.write, locks, end, errors))
 }
 
-/// Answers the blocks and dot lines of `input` over a session, with these stand-ins. Somebody who types them is told where
+/// Answers the blocks and dot lines of `input` over a session, with this hardware. Somebody who types them is told where
 /// and why a block isn't a script.
 fn answer<X: System + AllocGlobal, R: Read, W: Write>(
     rt: &X,
     opened: Session,
     run: &DryRun<'_>,
-    stand_ins: &Stubs,
+    given: &GivenHardware,
     input: &mut R,
     output: &mut W,
 ) -> SessionEnd
     ensures { (names : List (Option (List ℕ))) × Ends result.ending
-        (rules_in run.now.shell (hardware [] stand_ins.now) run.now.limits) (unnamed opened)
+        (rules_in run.now.shell (hardware given.now.board given.now.stand_ins) run.now.limits) (unnamed opened)
         (R.remaining input.old) (R.remaining input.new) (W.contents output.old) (W.contents output.new) result.read
         result.written (named_session result.session names) }
 {
-    let alloc = rt.alloc();
-    let board = BoardRules::none(alloc);
     let rules = RunRules {
         shell: run.shell,
-        stand_ins,
-        board: &board,
+        stand_ins: &given.stand_ins,
+        board: &given.board,
         limits: &run.limits,
     };
-    session_in(alloc, opened, &rules, input, output, &mut rt.screen())
+    session_in(rt.alloc(), opened, &rules, input, output, &mut rt.screen())
 }
 
 /// Writes the copies back if that was asked for and the whole input was handled, reports what stopped the session

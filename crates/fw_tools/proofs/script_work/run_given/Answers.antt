@@ -1,19 +1,21 @@
 use Rattle.std.proofs.Common.{inr, subst, ◌∙◌, ℕ, List, Option}
 use Rattle.fw_arguments.specs.DryRuns.{script_run_view}
+use Rattle.hush_commands.specs.Hardware.{hardware}
 use Rattle.fw_tools.specs.ScriptRuns.{RunsText}
 use Rattle.fw_tools.proofs.script_work.run_given.Goals as goal
 
 pub returns : goal.returns
 returns g c =
     let run = script_run_view c.args.asked.now in
+    let given = hardware c.in_ok-hardware.hardware.board c.in_ok-hardware.hardware.stand_ins in
     let of : List ℕ → Option (List ℕ) → Type 0 = λ t e.
-    RunsText run c.in_ok-stand_ins.stand_ins t c.args.opened (record { output = g.W.Write.contents c.args.output.now; errors = e })
+    RunsText run given t c.args.opened (record { output = g.W.Write.contents c.args.output.now; errors = e })
     (record { output = g.W.Write.contents c.run_text.new.output; errors = g.E.Write.contents c.run_text.new.errors }) c.run_text.result in
-    let same = subst (of c.deref.result.now) (c.in_ok-text.ensures.1 ∙ c.in_ok-stand_ins.ensures.1) c.run_text.ensures in
+    let same = subst (of c.deref.result.now) (c.in_ok-text.ensures.1 ∙ c.in_ok-hardware.ensures.1) c.run_text.ensures in
     inr (
-      c.in_ok-stand_ins.stand_ins,
+      given,
       c.in_ok-text.text.items,
-      c.in_ok-stand_ins.ensures.0,
+      c.in_ok-hardware.ensures.0,
       c.in_ok-text.ensures.0,
       subst (λ t. of t (g.E.Write.contents c.args.errors.now)) c.deref.ensures.value same,
     )

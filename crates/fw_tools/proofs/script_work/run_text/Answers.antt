@@ -3,6 +3,7 @@ use Rattle.hush_syntax.specs.Reading.{read_in}
 use Rattle.hush_syntax.specs.Scripts.{tree_of}
 use Rattle.fw_engines.specs.Streams.{Writers}
 use Rattle.fw_arguments.specs.DryRuns.{script_run_view}
+use Rattle.hush_commands.specs.Hardware.{hardware}
 use Rattle.fw_tools.specs.ScriptRuns.{RunsTree}
 use Rattle.fw_tools.proofs.script_work.run_text.Goals as goal
 
@@ -13,6 +14,6 @@ returns-in-Some g c =
     inr (
       tree,
       subst (λ b. read_in b c.args.text.now ≡ Some tree) c.bodies_of-bodies.ensures c.in-Some.ensures.0,
-      subst (λ e. RunsTree (script_run_view c.args.asked.now) c.args.stand_ins.now tree c.args.opened (record { output = g.W.Write.contents c.args.output.now; errors = e }) new c.run_script.result)
+      subst (λ e. RunsTree (script_run_view c.args.asked.now) (hardware c.args.given.now.board c.args.given.now.stand_ins) tree c.args.opened (record { output = g.W.Write.contents c.args.output.now; errors = e }) new c.run_script.result)
           c.in-Some.ensures.1 c.run_script.ensures,
     )
