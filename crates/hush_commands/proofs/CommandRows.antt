@@ -1,6 +1,6 @@
 -- Worked examples of docs/runs.md, "Commands", which the checker computes from the definitions.
 use Rattle.std.proofs.Common.{◌≡◌, ℕ, true, false, List, [], ◌∷◌, None, Some, refl}
-use Rattle.std.specs.Prelude.{codes, map, ◌++◌, Ok, Err}
+use Rattle.std.specs.Prelude.{codes, map, ◌++◌}
 use Rattle.std.specs.Cmp.Lexicographic.{nat_list_cmp_total}
 use Rattle.std.specs.FinMap.{empty, get, insert, entries, get-insert, get-empty}
 use Rattle.env_session.specs.Session.{Held}
@@ -16,13 +16,6 @@ use Rattle.hush_commands.specs.declared.board_rules.PatternWord.{PatternWord}
 use Rattle.hush_commands.specs.declared.board_rules.Rule.{Rule}
 use Rattle.hush_commands.specs.declared.board_rules.Reply.{Reply}
 use Rattle.hush_commands.specs.declared.board_rules.Reply.TheVariants.{Status, Text}
-use Rattle.hush_commands.specs.declared.stand_in_line.StubFault.TheVariants.{Builtin}
-use Rattle.hush_words.specs.Words.{is_blank, ends_word, begins_name, is_in_name, follows_dollar, is_special, is_bare, is_inner, is_escaped}
-use Rattle.hush_words.specs.Reading.{dollar_at, inner_escape, inner_at, double_at, piece_at, passed_at, lexeme_at, tokens_of}
-use Rattle.hush_words.specs.Forms.{is_plain, name_of, assignment_of}
-use Rattle.hush_syntax.specs.Keywords.{keyword_of}
-use Rattle.hush_syntax.specs.Reading.{command, read}
-use Rattle.hush_commands.specs.BoardLines.{Adds, HasRule, NoAnswer, Open, NoScript, NoPattern, AsStandIn, read_board_line}
 use Rattle.hush_commands.specs.Hardware.{Hardware, hardware, ruled, answer_to}
 use Rattle.hush_commands.specs.CommandNames.{name_by, with_name}
 use Rattle.hush_commands.specs.Output.{answer}
@@ -248,37 +241,3 @@ file_there stubs held = refl
 no_file_there : (stubs : Statuses) (held : Held) → get stubs (codes "test -e") ≡ None → done_of Board (hardware disk stubs) (codes "test" ∷ codes "-e" ∷ codes "mmc" ∷ codes "0" ∷ codes "/boot/boot.scr" ∷ []) 7 held ≡ (answer 1 [], held)
 unfolding disk rule exactly opened builtin_of
 no_file_there stubs held absent = simp absent
-
--- lines of a board file
-line_of_status : read_board_line 3 (codes "mmc dev 0   -> 1") ≡ Ok (HasRule (rule (map exactly (codes "mmc" ∷ codes "dev" ∷ codes "0" ∷ [])) (Status 1 false)))
-unfolding rule exactly read
-line_of_status = refl
-
-line_of_text : read_board_line 3 (codes "load mm* -> setenv filesize 1c4a00 ") ≡ Ok (HasRule (rule (exactly (codes "load") ∷ opened (codes "mm") ∷ []) (Text (codes "setenv filesize 1c4a00"))))
-unfolding rule exactly opened read tokens_of lexeme_at passed_at piece_at inner_at double_at inner_escape is_inner is_escaped is_bare ends_word is_special is_blank command keyword_of is_plain name_of assignment_of begins_name is_in_name dollar_at follows_dollar
-line_of_text = refl
-
-line_of_boot : read_board_line 3 (codes "reset -> resets") ≡ Ok (HasRule (rule (exactly (codes "reset") ∷ []) (Status 0 true)))
-unfolding rule exactly
-line_of_boot = refl
-
-line_of_stand_in : read_board_line 3 (codes "dhcp 1") ≡ Ok (Adds (codes "dhcp", 1))
-unfolding builtin_of
-line_of_stand_in = refl
-
-no_answer : read_board_line 3 (codes "dhcp ->") ≡ Err (NoAnswer 3)
-no_answer = refl
-
-open_answer : read_board_line 3 (codes "dhcp -> ?") ≡ Err (Open 3)
-open_answer = refl
-
-no_script : read_board_line 3 (codes "dhcp -> if") ≡ Err (NoScript 3)
-unfolding rule exactly opened read tokens_of lexeme_at passed_at piece_at inner_at double_at inner_escape is_inner is_escaped is_bare ends_word is_special is_blank command keyword_of is_plain name_of assignment_of begins_name is_in_name dollar_at follows_dollar
-no_script = refl
-
-no_pattern : read_board_line 3 (codes " -> 0") ≡ Err (NoPattern 3)
-no_pattern = refl
-
-line_of_builtin : read_board_line 3 (codes "echo") ≡ Err (AsStandIn (Builtin 3))
-unfolding builtin_of
-line_of_builtin = refl

@@ -6,7 +6,6 @@ pub mod StandInLines
 pub mod Stubs
 pub mod Hardware
 pub mod CommandNames
-pub mod BoardLines
 pub mod Messages
 pub mod Expansion
 pub mod Shells
