@@ -18,7 +18,7 @@ OBJECT, GLUE = TOP / "crates/fwenv/out/fwenv-aarch64.o", TOP / "packaging/cross/
 PRELOADS = {"cut": "cut_streams.c", "raw": "raw_device.c"}
 # The parts with nothing at random
 PARTS = ("tool_rows", "report_rows", "client_rows", "script_rows", "board_rows", "check_rows", "check_boards", "session_rows", "documents", "runs 0 0 0",
-         "files", "hostile_files", "cuts 1")  # fmt: skip
+         "files", "hostile_files")  # fmt: skip
 
 
 def compiled(compiler, made, *words):
@@ -62,16 +62,25 @@ def rows(program, folder):
 
 
 def packages(folder):
-    """Makes the packages; whether there is one for 64-bit ARM."""
+    """Makes the packages; whether all could be made."""
     found = run(TOP / "scripts/package", folder)
     check("scripts/package", found.returncode == 0, found.stderr[-500:])
-    return any(folder.glob("fwenv_*_arm64.deb"))
+    return found.returncode == 0
+
+
+def open_to_all(folder):
+    """Lets everyone through this folder and the one around it, as scripts/test makes it: some rows run the program without the rights of
+    root."""
+    for each in (folder, folder.parent):
+        if each.stat().st_uid == os.getuid():
+            each.chmod(each.stat().st_mode & 0o7777 | 0o111)
 
 
 def main():
     folder, what = pathlib.Path(sys.argv[1]).resolve(), "the program for 64-bit ARM"
-    if all([has("dpkg-deb", what), has("dpkg", what), has(QEMU, f"{what} (Debian: qemu-user)")]):
-        if packages(folder / "packages"):
+    if all([has("dpkg-deb", what), has("dpkg", what), has(QEMU, f"{what} (Debian: qemu-user)")]) and packages(folder / "packages"):
+        if any(folder.glob("packages/fwenv_*_arm64.deb")):
+            open_to_all(folder)
             rows(through_qemu(installed(folder / "packages", folder), folder), folder)
         else:
             print(f"NOT TRIED: {what}: there is no cross compiler (Debian: gcc-{CROSS}, libc6-dev-arm64-cross)")

@@ -253,7 +253,7 @@ def completions(folder):
     rows = [
         ("fwenv pri", {"printenv"}),
         ("fwenv ru", {"run"}),
-        ("fwenv run --b", {"--boots", "--big-endian"}),
+        ("fwenv run --b", {"--board", "--boots", "--big-endian"}),
         ("fwenv run --env text boot", {"bootcmd", "bootdelay"}),
         ("fwenv session --si", {"--size"}),
         ("fwenv che", {"check"}),

@@ -213,7 +213,10 @@ def lacked_command(command, known):
 def unknown_command(command, known):
     """A command that only hardware has and that no stand-in answers."""
     name = called(command)
-    if name is None or lacked(command) is not None or known.stand_ins is None or known.shell.called(name, known.stand_ins) is not None:
+    if name is None or lacked(command) is not None or known.stand_ins is None:
+        return []
+    names = known.stand_ins.keys()
+    if known.shell.called(name, names) in BUILTINS | names:
         return []
     return [Finding(command[1][0].place, ERROR, NO_COMMAND % name)]
 
