@@ -163,10 +163,10 @@ def scripts():
 
 
 def by_board(script, output, text, errors=b""):
-    """The same by a board file, whose rules are compared with one another."""
+    """The same by a board file, whose rules are compared with one another: the most of them take 6 s of a processor."""
     name, form = "the largest: a board file", Geometry(1, 64)
     files = {b"board": text}
-    return unwritten(name, form, script + b"\n", output, b"--board", b"board", files=files, errors=errors, is_modelled=False, seconds=3 * SECONDS)
+    return unwritten(name, form, script + b"\n", output, b"--board", b"board", files=files, errors=errors, is_modelled=False, seconds=10 * SECONDS)
 
 
 def board_files():
