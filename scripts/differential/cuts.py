@@ -145,18 +145,19 @@ def both_cut(case):
     for stream, text in ((1, answer.output), (2, answer.errors)):
         for place in places(len(text), "fail", "none"):
             made = cut_case(case, stream, "write", place, None, counted=False)
-            made.accepts = functools.partial(is_cut_of, answer, stream, place[0])
+            made.accepts = functools.partial(is_cut_of, case.files, answer, stream, place[0])
             yield made
     yield replace(case, cut=Cut(2, "write", step=1), wanted=answer)
 
 
-def is_cut_of(answer, stream, after, found):
+def is_cut_of(files, answer, stream, after, found):
+    """(nothing is written then, whatever a script saved)"""
     if stream == 2:
         is_said = found.errors == answer.errors[:after] and answer.output.startswith(found.output)
     else:
         is_said = found.output == answer.output[:after] and found.errors.endswith(CANNOT_WRITE_OUTPUT)
         is_said = is_said and answer.errors.startswith(found.errors.removesuffix(CANNOT_WRITE_OUTPUT))
-    return is_said and found.status == 1 and found.files == answer.files
+    return is_said and found.status == 1 and found.files == files
 
 
 def helps():

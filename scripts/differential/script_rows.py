@@ -186,17 +186,17 @@ SAVES = [
     ([b"--write", b"-e", b"saveenv; setenv a"], b"Saved copy 2\n", b"", FIRST, SAVED),
     ([b"--write", b"-e", b"saveenv; saveenv"], b"Saved copy 2\nSaved copy 1\n", b"", AGAIN, SAVED),
     ([b"--write", b"-e", b"saveenv; false; saveenv"], b"Saved copy 2\nSaved copy 1\n", b"", AGAIN, SAVED),
-    ([b"--write", b"-e", b"saveenv; false"], b"Saved copy 2\n", finished(1, 2), FIRST, SECOND),
-    ([b"--write", b"-e", b"saveenv; saveenv; false"], b"Saved copy 2\nSaved copy 1\n", finished(1, 3), FIRST, SECOND),
-    ([b"--write", b"-e", b"saveenv; exit 2"], b"Saved copy 2\n", exited(2, 2), FIRST, SECOND),
-    ([b"--write", b"--steps=1", b"-e", b"saveenv; true"], b"Saved copy 2\n", stopped(b"Steps", 1), FIRST, SECOND),
-    ([b"--write", b"--depth=0", b"-e", b"saveenv; run a"], b"Saved copy 2\n", stopped(b"Depth", 2), FIRST, SECOND),
-    ([b"--write", b"--word=7", b"-e", b"saveenv; echo a $a$a$a$a$a$a$a$a"], b"Saved copy 2\n", stopped(b"Word", 1), FIRST, SECOND),
-    ([b"--write", b"--output=13", b"-e", b"saveenv; echo"], b"Saved copy 2\n", stopped(b"Output", 1), FIRST, SECOND),
+    ([b"--write", b"-e", b"saveenv; false"], b"Saved copy 2\n", finished(1, 2), FIRST, SAVED),
+    ([b"--write", b"-e", b"saveenv; saveenv; false"], b"Saved copy 2\nSaved copy 1\n", finished(1, 3), AGAIN, SAVED),
+    ([b"--write", b"-e", b"saveenv; exit 2"], b"Saved copy 2\n", exited(2, 2), FIRST, SAVED),
+    ([b"--write", b"--steps=1", b"-e", b"saveenv; true"], b"Saved copy 2\n", stopped(b"Steps", 1), FIRST, SAVED),
+    ([b"--write", b"--depth=0", b"-e", b"saveenv; run a"], b"Saved copy 2\n", stopped(b"Depth", 2), FIRST, SAVED),
+    ([b"--write", b"--word=7", b"-e", b"saveenv; echo a $a$a$a$a$a$a$a$a"], b"Saved copy 2\n", stopped(b"Word", 1), FIRST, SAVED),
+    ([b"--write", b"--output=13", b"-e", b"saveenv; echo"], b"Saved copy 2\n", stopped(b"Output", 1), FIRST, SAVED),
     ([b"--write", b"-e", b"saveenv '"], b"", refused(b"-e", 1, 9, "Quote"), FIRST, SECOND),
     ([b"--write", b"a"], UNKNOWN % b"b", finished(1, 3), FIRST, SECOND),
     ([b"--write", b"--boots", b"mmc", b"--stubs", b"stand-ins", b"-e", b"saveenv; mmc; false"], b"Saved copy 2\n+ mmc\n", b"", FIRST, SAVED),
-    ([b"--write", b"--stubs", b"stand-ins", b"-e", b"saveenv; mmc; false"], b"Saved copy 2\n+ mmc\n", finished(1, 3), FIRST, SECOND),
+    ([b"--write", b"--stubs", b"stand-ins", b"-e", b"saveenv; mmc; false"], b"Saved copy 2\n+ mmc\n", finished(1, 3), FIRST, SAVED),
 ]
 # What is printed of arguments that are wrong, and such arguments; nothing is read
 WRONG_WORDS = {
@@ -409,7 +409,7 @@ def without_copies():
     words = arguments(b"run", b"--default", b"text", b"--write", b"-e")
     yield row("a default text", [*words, b"saveenv"], files, b"Saved copy 1\n", WARNING, left, status=0)
     yield row("a default text", [*words, b"printenv"], files, b"p=1\n", WARNING, status=0)
-    yield row("a default text", [*words, b"saveenv; false"], files, b"Saved copy 1\n", WARNING + finished(1, 2))
+    yield row("a default text", [*words, b"saveenv; false"], files, b"Saved copy 1\n", WARNING + finished(1, 2), left)
     yield row("no default text", arguments(b"run", b"p"), files, NOT_DEFINED % b"p", WARNING + finished(1, 2))
     yield row("a quote", arguments(b"run", b"-e", b"'"), files, b"", WARNING + refused(b"-e", 1, 1, "Quote"))
 

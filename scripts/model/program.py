@@ -328,11 +328,9 @@ class Program:
             raise Ended(script_run.fault_line(name, text, fault))
         outcome = run(session, tree, stand_ins, limits, call.options.get("--boots", ()), shell, board)
         self.output = outcome.text
-        if not script_run.is_well(outcome):
-            return self.say(script_run.ended(outcome))
         if "--write" in call.options:
             self.write_back(session)
-        return 0
+        return 0 if script_run.is_well(outcome) else self.say(script_run.ended(outcome))
 
     def call_check(self, call):
         is_file = "-f" in call.options

@@ -257,7 +257,7 @@ pub const RUN_WRITE: Row = Row {
     id: "write",
     names: Names::Long("write"),
     takes: Takes::Nothing,
-    help: "Writes the changed copies back if the status is 0",
+    help: "Writes the copies that the script saved back, whatever the status",
 };
 
 /// `--boots NAME`

@@ -1,5 +1,5 @@
 -- What `run` prints of a script's run (docs/dry-runs.md, "A script's own status").
-use Rattle.std.specs.Prelude.{ℕ, ◌==◌, Bool, false, List, [], ◌∷◌, codes, if◌then◌else◌, Option, Some, None}
+use Rattle.std.specs.Prelude.{◌≡◌, ℕ, ◌==◌, Bool, false, List, [], ◌∷◌, codes, if◌then◌else◌, Option, Some, None}
 use Rattle.std.specs.Fmt.{decimal}
 use Rattle.std.specs.List.{concat}
 use Rattle.env_session.specs.Session.{Held}
@@ -11,7 +11,7 @@ use Rattle.hush_run.specs.declared.ending.Ending.TheVariants as ending
 use Rattle.hush_run.specs.declared.outcome.Outcome.{Outcome}
 use Rattle.fw_engines.specs.Streams.{Writers}
 use Rattle.fw_engines.specs.Tool.{Prints, Texts}
-use Rattle.fw_engines.specs.declared.tool_end.ToolEnd.{ToolEnd}
+use Rattle.fw_session.specs.declared.script_run.RunEnd.{RunEnd}
 
 -- a run reached its end or an `exit`, with status 0
 abbrev pub is_well : Ending → (status : ℕ) → Bool
@@ -47,7 +47,7 @@ abbrev pub outcome_texts : Outcome → (place : Option (List ℕ)) → Texts
 outcome_texts outcome place = run_texts outcome.ending place outcome.status outcome.steps outcome.text.items
 
 -- a script with this tree was run, and its outcome printed
-abbrev pub RunsScript : Rules → Option Chains → (old new : Held) → (before after : Writers) → ToolEnd → Type 0
-RunsScript rules tree old new before after end =
+abbrev pub RunsScript : Rules → Option Chains → (old new : Held) → (before after : Writers) → RunEnd → Type 0
+RunsScript rules tree old new before after ended =
     (outcome : Outcome) × (place : Option (List ℕ)) × Runs rules tree old new outcome × EndsIn rules tree old outcome place
-    × Prints before after (outcome_texts outcome place) end
+    × (ended.ending ≡ outcome.ending) × Prints before after (outcome_texts outcome place) ended.end

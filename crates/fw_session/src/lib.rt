@@ -15,6 +15,6 @@ mod script_run;
 mod session_end;
 mod talk;
 
-pub use script_run::run;
+pub use script_run::{RunEnd, run};
 pub use session_end::{SessionEnd, SessionEnding};
 pub use talk::{session, session_in};

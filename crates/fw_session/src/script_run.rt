@@ -17,6 +17,15 @@ use itoa::Buffer;
 use std::alloc::Global;
 use std::io::Write;
 
+/// How the run of a script ended, and what was printed of it.
+#[derive(Clone, Copy, Debug, PartialEq, Eq)]
+pub struct RunEnd {
+    /// How the script ended.
+    pub ending: Ending,
+    /// How what was printed of it ended.
+    pub end: ToolEnd,
+}
+
 /// Runs a script over a session by these rules, and prints its text on `output`. The status is 0 if it reached its end or
 /// an `exit` with status 0, else 1, and then `errors` gets a line on how it ended. docs/dry-runs.md has the texts.
 pub fn run<W: Write, E: Write>(
@@ -26,7 +35,7 @@ pub fn run<W: Write, E: Write>(
     rules: &RunRules<'_>,
     output: &mut W,
     errors: &mut E,
-) -> ToolEnd
+) -> RunEnd
     ensures { RunsScript (rules_of rules.now) (tree_of script.now) session.old session.new
         (record { output = W.contents output.old; errors = E.contents errors.old })
         (record { output = W.contents output.new; errors = E.contents errors.new }) result }
@@ -40,7 +49,10 @@ pub fn run<W: Write, E: Write>(
         rules.board,
         rules.limits,
     );
-    print_outcome(&outcome, &place, output, errors)
+    RunEnd {
+        ending: outcome.ending,
+        end: print_outcome(&outcome, &place, output, errors),
+    }
 }
 
 /// Prints the text of a run, and how it ended if it didn't end well.

@@ -162,8 +162,8 @@ script_run_small : (run : ScriptRun) (session : Held) (old new : Writers) (statu
 script_run_small run session old new status (inl stopped) = omega (arith, stopped.1)
 script_run_small run session old new status (inr (stand_ins, text, stand, is, inl refused)) = omega (arith, refused.2)
 script_run_small run session old new status (inr (stand_ins, text, stand, is, inr (tree, reads, r))) =
-    run_closes_small (ScriptRuns.is_kept run.dry.write r.2.status) r.2 r.1 new.errors status
-    (run_small r.2.fault r.2.status old (record { output = new.output; errors = r.1 }) (outcome_texts r.3.0 r.3.1) (texts_small r.3.0.ending r.3.1 r.3.0.status r.3.0.steps r.3.0.text.items) r.3.4) r.4
+    run_closes_small (ScriptRuns.is_kept run.dry.write r.2) r.2.end r.1 new.errors status
+    (run_small r.2.end.fault r.2.end.status old (record { output = new.output; errors = r.1 }) (outcome_texts r.3.0 r.3.1) (texts_small r.3.0.ending r.3.1 r.3.0.status r.3.0.steps r.3.0.text.items) r.3.5) r.4
 
 job_small : (job : Job) (session : Held) (old new : Streams) (status : ℕ) → DoesJob job session old new status → status ≤ 1
 job_small (Tool task) session old new status (unread, uses) = tool_small task session _ _ status uses

@@ -1,5 +1,5 @@
 -- What `run` does over a session (docs/dry-runs.md, "A script's own status").
-use Rattle.std.specs.Prelude.{◌≡◌, ◌⊎◌, ℕ, ◌==◌, ◌&&◌, Bool, true, false, if◌then◌else◌, List, [], ◌∷◌, ◌++◌, Option, Some, None, codes}
+use Rattle.std.specs.Prelude.{◌≡◌, ◌⊎◌, ℕ, ◌==◌, ◌&&◌, Bool, true, false, if◌then◌else◌, List, [], ◌∷◌, ◌++◌, Option, Some, None, codes, is_none}
 use Rattle.std.specs.List.{flat_map}
 use Rattle.clap.specs.Words.{Text}
 use Rattle.env_session.specs.Session.{Held}
@@ -13,7 +13,10 @@ use Rattle.hush_commands.specs.Hardware.{Hardware}
 use Rattle.hush_run.specs.Meaning.{bodies_of}
 use Rattle.hush_run.specs.Runs.{rules_in}
 use Rattle.fw_engines.specs.ScriptFaults.{fault_line}
+use Rattle.hush_run.specs.declared.ending.Ending.{Ending}
+use Rattle.hush_run.specs.declared.ending.Ending.TheVariants as ending
 use Rattle.fw_session.specs.ScriptRun.{RunsScript}
+use Rattle.fw_session.specs.declared.script_run.RunEnd.{RunEnd}
 use Rattle.fw_engines.specs.Streams.{AppendsFront, Writers}
 use Rattle.fw_engines.specs.declared.tool_end.ToolEnd.{ToolEnd}
 use Rattle.fw_engines.specs.declared.tool_end.StreamFault.TheVariants.{Memory}
@@ -52,9 +55,14 @@ Refuses bodies name text old new =
     ⊎ ((fault : SyntaxFault) × (read_in bodies text ≡ None) × IsFaultOf text fault ×
     AppendsFront old new (fault_line name text fault.place fault.kind))
 
--- the copies are written back if that was asked for and the status is 0
-abbrev pub is_kept : Bool → (status : ℕ) → Bool
-is_kept write status = write && status == 0
+-- the copies are written back if that was asked for, whatever the script's status; not if memory ran out in it, or if
+-- what it printed couldn't be written
+abbrev pub is_whole : Ending → Bool
+is_whole ending.Memory = false
+is_whole other = true
+
+abbrev pub is_kept : Bool → RunEnd → Bool
+is_kept write ended = write && is_whole ended.ending && is_none ended.end.fault
 
 abbrev pub ClosesRun : Bool → ToolEnd → Option (List ℕ) → Option (List ℕ) → ℕ → Type 0
 ClosesRun true end old new status =
@@ -64,9 +72,9 @@ ClosesRun false end old new status = Says end.fault old new × (status ≡ end.s
 -- a script with this tree is run over a session, and the session is left
 abbrev pub RunsTree : ScriptRun → Hardware → Option Chains → Held → Writers → Writers → ℕ → Type 0
 RunsTree run given tree session old new status =
-    (after : Held) × (between : Option (List ℕ)) × (end : ToolEnd)
-    × RunsScript (rules_in run.dry.shell given run.dry.limits) tree session after old (record { output = new.output; errors = between }) end
-    × ClosesRun (is_kept run.dry.write end.status) end between new.errors status
+    (after : Held) × (between : Option (List ℕ)) × (ended : RunEnd)
+    × RunsScript (rules_in run.dry.shell given run.dry.limits) tree session after old (record { output = new.output; errors = between }) ended
+    × ClosesRun (is_kept run.dry.write ended) ended.end between new.errors status
 
 -- a text is run, if it is a script by the rules of the shell
 abbrev pub RunsText : ScriptRun → Hardware → List ℕ → Held → Writers → Writers → ℕ → Type 0

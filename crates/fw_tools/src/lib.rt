@@ -22,5 +22,5 @@ pub use fw_engines::{
     print_values, printenv, restore, set_script, setenv, show, status,
 };
 pub use fw_files::{Attempt, Hold, System};
-pub use fw_session::{SessionEnd, SessionEnding, run, session, session_in};
+pub use fw_session::{RunEnd, SessionEnd, SessionEnding, run, session, session_in};
 pub use greeting::{greet, talks};

@@ -12,13 +12,12 @@ use env_requests::RunRules;
 use env_session::Session;
 use envimg_core::Choice;
 use fw_arguments::ScriptRun;
-use fw_engines::ToolEnd;
 use fw_engines::streams::write_three;
 use fw_files::{
     Explains, FileFault, Source, System, read_stand_ins, report, value_or_say, write_other_first,
 };
-use fw_session::run;
-use hush_run::{Stubs, bodies_of};
+use fw_session::{RunEnd, run};
+use hush_run::{Ending, Stubs, bodies_of};
 use hush_syntax::Script;
 use std::alloc::{AllocError, Global};
 use std::io::Write;
@@ -175,24 +174,24 @@ fn run_script<X: System + AllocGlobal, W: Write, E: Write>(
         board: &given.board,
         limits: &asked.dry.limits,
     };
-    let end = run(rt.alloc(), &mut session, script, &rules, output, errors);
-    leave(rt, source, asked.dry.write, current, session, end, errors)
+    let ended = run(rt.alloc(), &mut session, script, &rules, output, errors);
+    leave(rt, source, asked.dry.write, current, session, ended, errors)
 }
 
-/// Writes the copies back if that was asked for and the status is 0, and answers the exit status.
+/// Writes the copies that the script saved back if that was asked for, whatever its status, and answers the exit status.
 fn leave<X: System + AllocGlobal, E: Write>(
     rt: &X,
     source: &Source,
     write: bool,
     current: Choice,
     session: Session,
-    end: ToolEnd,
+    ended: RunEnd,
     errors: &mut E,
 ) -> u8
-    ensures { ClosesRun (is_kept write end.status) end (E.contents errors.old) (E.contents errors.new) result }
+    ensures { ClosesRun (is_kept write ended) ended.end (E.contents errors.old) (E.contents errors.new) result }
 {
-    if !is_kept(write, end.status) {
-        return report(end, errors);
+    if !is_kept(write, ended) {
+        return report(ended.end, errors);
     }
     match write_other_first(
         rt,
@@ -203,13 +202,16 @@ fn leave<X: System + AllocGlobal, E: Write>(
         errors,
     ) {
         None => 1,
-        Some(()) => report(end, errors),
+        Some(()) => report(ended.end, errors),
     }
 }
 
-/// Whether the copies are written back.
-fn is_kept(write: bool, status: u8) -> bool
-    ensures { result ≡ is_kept write status }
+/// Whether the copies are written back: not if memory ran out, or what was printed couldn't be written.
+fn is_kept(write: bool, ended: RunEnd) -> bool
+    ensures { result ≡ is_kept write ended }
 {
-    write && status == 0
+    match ended.ending {
+        Ending::Memory => false,
+        _ => write && ended.end.fault.is_none(),
+    }
 }
