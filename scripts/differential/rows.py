@@ -111,6 +111,6 @@ def boards():
 
 def examples():
     """The boards of examples/: the name of each, its variables, its stand-ins, and the input of a session."""
-    for folder in sorted(path.parent for path in TOP.glob("examples/*/input.txt")):
+    for folder in sorted(path.parent for path in TOP.glob("examples/*/stand-ins.txt")):
         text, stand_ins, given = ((folder / f"{name}.txt").read_bytes() for name in ("environment", "stand-ins", "input"))
         yield folder.name, {name: value for _, name, value in import_entries(text)}, stand_ins, given
