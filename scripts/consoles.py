@@ -20,6 +20,8 @@ TOP = pathlib.Path(__file__).resolve().parent.parent
 BLOCK = re.compile(r"^```console\n(.*?)^```$", re.M | re.S)
 # What is there before the first block of a document: the files of an example, and commands
 STAGES = {
+    "docs/check.md": ("bootcmd", "true"),
+    "docs/guide.md": ("booting", "rm broken.txt stand-ins.txt"),
     "docs/dry-runs.md": (
         "bootcmd",
         "truncate -s 16384 board.bin; echo 'board.bin 0 0x4000' > fw_env.config; fwenv import -c fw_env.config environment.txt",

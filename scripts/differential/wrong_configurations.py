@@ -3,7 +3,6 @@ good is written over under a wrong one, each call writes under a right one, and 
 
 import functools
 import itertools
-import re
 
 from differential.boards import CONFIG
 from differential.documents import rows_under, texts_in
@@ -117,12 +116,11 @@ def under_each(calls, is_client, options):
 
 
 def hint_rows():
-    """The lines of docs/tools.md: a single image, or the first of two copies, that is good as the hint says."""
-    for hint, said in rows_under("tools.md", "Hint of `status`", "Standard error"):
-        [line] = texts_in(said)
-        if not line.endswith(".."):
-            [words] = re.findall(r"`(good .*)`", hint)
-            yield hinted(words, line)
+    """The hints of docs/status.md: a single image, or the first of two copies, that is good as the hint says."""
+    for hints, _ in rows_under("status.md", "Hint", "The bytes"):
+        for words in texts_in(hints):
+            if words.startswith("good"):
+                yield hinted(words, f"fwenv: nothing is written: the first copy is {words}")
 
 
 def hinted(words, line):
@@ -136,7 +134,7 @@ def hinted(words, line):
     lines = b"one 0 0x1000\ntwo 0 0x1000\n" if is_pair else b"one 0 0x1000\n"
     files = {CONFIG: lines, b"one": Geometry(copies, size, found).image(1, NEW), b"two": b"\xff" * 0x1000}
     words = [b"setenv", b"-c", CONFIG, *[b"--big-endian"] * (meant == "big"), b"a", b"2"]
-    return Case("docs/tools.md", words, files, wanted=Answer(1, b"", line.encode() + b"\n", files))
+    return Case("docs/status.md", words, files, wanted=Answer(1, b"", line.encode() + b"\n", files))
 
 
 def others():

@@ -12,8 +12,8 @@ once; everything is bytes. The tests compare the built program with it (scripts/
     session       copies, saves, marks and undo          docs/undo.md
     dry_run       blocks and dot lines                   docs/dry-runs.md
     script_run    what is reported of a script           docs/dry-runs.md
-    check         what is found in scripts               docs/tools.md
-    report        what is stored, line by line           docs/tools.md
+    check         what is found in scripts               docs/check.md
+    report        what is stored, line by line           docs/status.md
     arguments     the command line                       docs/tools.md
     program       the tools over files                   docs/tools.md
 """

@@ -1,4 +1,4 @@
-"""What `fwenv check` finds in scripts without running them (docs/tools.md, "Checks of scripts").
+"""What `fwenv check` finds in scripts without running them (docs/check.md).
 
 Each kind of finding is a function of its own: of a text, or of a command and what is known. `KINDS` are those of commands that are
 looked for, in the order in which one command gets them."""

@@ -1,4 +1,4 @@
-"""Reports of what is stored (docs/tools.md, "Reports of copies")."""
+"""Reports of what is stored (docs/status.md)."""
 
 import re
 

@@ -1,4 +1,4 @@
--- What the arguments of `check` ask for (docs/dry-runs.md, "Faults found before a run").
+-- What the arguments of `check` ask for (docs/check.md).
 use Rattle.std.specs.Prelude.{◌||◌, Bool, List, Option, Result, Ok, Err, codes, if◌then◌else◌, option_map}
 use Rattle.clap.specs.Words.{Row, Text, first_of}
 use Rattle.hush_commands.specs.declared.shell.Shell.{Shell}

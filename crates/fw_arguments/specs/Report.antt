@@ -1,4 +1,4 @@
--- What the arguments of `status` and of any subcommand ask for (docs/tools.md, "Reports of copies").
+-- What the arguments of `status` and of any subcommand ask for (docs/status.md).
 use Rattle.std.specs.Prelude.{Bool, true, false, List, [], ◌∷◌, ◌++◌, Option, Some, None, Result, Ok, Err, codes, if◌then◌else◌}
 use Rattle.std.specs.Str.{bytes_eq}
 use Rattle.clap.specs.Words.{Row, Text, first_of}

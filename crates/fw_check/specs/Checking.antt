@@ -1,4 +1,4 @@
--- What a check of an environment, or of one script, prints (docs/tools.md, "Checks of scripts").
+-- What a check of an environment, or of one script, prints (docs/check.md).
 use Rattle.std.specs.Prelude.{◌≡◌, ◌≢◌, ◌⊎◌, ℕ, suc, ◌&&◌, Bool, not, List, [], ◌∷◌, ◌++◌, map, fold, slice_get, codes, Option, Some, None, is_some, unwrap_or, if◌then◌else◌}
 use Rattle.std.specs.List.{AllByRecursion, flat_map, list_any}
 use Rattle.std.specs.Ordering.{eq_by_cmp}

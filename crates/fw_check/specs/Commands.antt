@@ -1,4 +1,4 @@
--- Names of commands that nothing carries out (docs/tools.md, "Checks of scripts").
+-- Names of commands that nothing carries out (docs/check.md).
 use Rattle.std.specs.Prelude.{ℕ, ◌==◌, ◌&&◌, ◌||◌, Bool, false, List, [], ◌∷◌, ◌++◌, codes, Option, Some, None, is_none, is_some, not, if◌then◌else◌}
 use Rattle.std.specs.List.{ends_with}
 use Rattle.hush_words.specs.Words.{Atom}

@@ -1,4 +1,4 @@
--- What is found in a script, and the lines that report it (docs/tools.md, "Checks of scripts").
+-- What is found in a script, and the lines that report it (docs/check.md).
 use Rattle.std.specs.Prelude.{ℕ, ◌==◌, ◌||◌, nat_le, not, Bool, true, false, List, [], ◌∷◌, ◌++◌, length, fold, codes, Option, Some, None, is_some, if◌then◌else◌}
 use Rattle.std.specs.Fmt.{decimal}
 use Rattle.std.specs.List.{concat, flat_map, fold, list_any, position_or_len}

@@ -1,4 +1,4 @@
--- Words without a substitution, as texts, and the names in others (docs/tools.md, "Checks of scripts").
+-- Words without a substitution, as texts, and the names in others (docs/check.md).
 use Rattle.std.specs.Prelude.{ℕ, Bool, false, List, [], ◌∷◌, Option, Some, None, option_map}
 use Rattle.std.specs.List.{list_any}
 use Rattle.std.specs.Str.{bytes_eq}

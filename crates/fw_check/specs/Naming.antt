@@ -1,4 +1,4 @@
--- The names that statements run, give to something and foresee (docs/tools.md, "Checks of scripts").
+-- The names that statements run, give to something and foresee (docs/check.md).
 use Rattle.std.specs.Prelude.{ℕ, Bool, false, List, [], ◌∷◌, codes, Option, Some, None, option_to_list, if◌then◌else◌}
 use Rattle.std.specs.List.{flat_map}
 use Rattle.hush_words.specs.Words.{Atom}

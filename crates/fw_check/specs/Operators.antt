@@ -1,4 +1,4 @@
--- Words of `test` in the place of an operator that aren't one (docs/tools.md, "Checks of scripts").
+-- Words of `test` in the place of an operator that aren't one (docs/check.md).
 use Rattle.std.specs.Prelude.{ℕ, ◌==◌, ◌&&◌, ◌||◌, Bool, false, not, List, [], ◌∷◌, length, codes, map, Option, Some, None, if◌then◌else◌}
 use Rattle.std.specs.Char.{is_ascii_alphabetic}
 use Rattle.std.specs.List.{list_all}

@@ -1,4 +1,4 @@
--- The commands of a script in the order of its text, at whatever depth (docs/tools.md, "Checks of scripts").
+-- The commands of a script in the order of its text, at whatever depth (docs/check.md).
 use Rattle.std.specs.Prelude.{◌≡◌, ℕ, List, [], ◌∷◌, ◌++◌, map, Option, Some, None}
 use Rattle.hush_words.specs.Words.{Atom}
 use Rattle.hush_words.specs.Parts.{Written, written, word_atoms}

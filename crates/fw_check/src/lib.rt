@@ -1,5 +1,5 @@
 //! A check of boot scripts that runs nothing: what is wrong with a script, or with those of an environment from some
-//! names on, as lines. docs/tools.md states the rules.
+//! names on, as lines. docs/check.md states the rules.
 //!
 //! To read in this order: items, literals, name_set, substitutions, commands, lookups; findings; operators,
 //! undefined_names, statements, script_check; followed, run_names, foreseen, gives, text_names; typed_values, visits.

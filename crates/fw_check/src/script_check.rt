@@ -24,7 +24,7 @@ use std::alloc::{AllocError, Global};
 use std::io::Write;
 
 /// Prints on `output` what is found in one script by the rules of a shell. No environment is used; with stand-ins a command that is
-/// neither a builtin nor one of them is an error. The status is 1 if an error was found, else 0. docs/tools.md has the
+/// neither a builtin nor one of them is an error. The status is 1 if an error was found, else 0. docs/check.md has the
 /// texts.
 ///
 /// At the fault `Memory` nothing is printed.

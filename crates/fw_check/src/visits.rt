@@ -31,7 +31,7 @@ const UNDEFINED: &[u8] = b": error: no variable of this name is defined\n";
 /// builtin nor one of them is an error. So is a `run` of a name that neither the environment has nor one of these
 /// scripts sets, tests or asks for with `env exists`. A substitution of a name that neither the environment nor one of
 /// these scripts defines is a warning. Then follows a line for each variable of the environment whose value doesn't
-/// have the type that `.flags` gives it. The status is 1 if an error was found, else 0. docs/tools.md has the texts.
+/// have the type that `.flags` gives it. The status is 1 if an error was found, else 0. docs/check.md has the texts.
 ///
 /// At the fault `Memory` nothing is printed.
 pub fn check<W: Write>(

@@ -1,4 +1,4 @@
--- What is reported of stored copies, line by line (docs/tools.md, "Reports of copies").
+-- What is reported of stored copies, line by line (docs/status.md).
 use Rattle.std.specs.Prelude.{◌≡◌, ◌⊎◌, ℕ, ◌==◌, Bool, true, false, List, [], ◌∷◌, length, take, codes, Option, Some, None, option_map, if◌then◌else◌}
 use Rattle.std.specs.List.{concat, flat_map}
 use Rattle.std.specs.Fmt.{decimal}

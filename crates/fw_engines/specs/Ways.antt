@@ -1,4 +1,4 @@
--- How bytes may be a good image when they aren't one as meant (docs/tools.md, "Reports of copies").
+-- How bytes may be a good image when they aren't one as meant (docs/status.md).
 use Rattle.std.specs.Prelude.{ℕ, ◌+◌, ◌==◌, ◌&&◌, Bool, true, false, not, nat_le, List, [], ◌∷◌, length, take, Option, Some, None, unwrap_or, if◌then◌else◌}
 use Rattle.std.specs.List.{list_all}
 use Rattle.std.specs.Option.{option_or}

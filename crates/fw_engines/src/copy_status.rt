@@ -45,7 +45,7 @@ pub struct Survey<'a> {
 
 /// Prints the state of each copy, which is current, its variables, and what the next save writes; then the lines of
 /// the configuration that are skipped. For a copy that isn't good it prints why, with a hint if it is good in another
-/// way. The status is 0 if a copy is good, else 1. docs/tools.md has the texts.
+/// way. The status is 0 if a copy is good, else 1. docs/status.md has the texts.
 pub fn status<W: Write>(alloc: Global, survey: &Survey<'_>, output: &mut W) -> ToolEnd
     ensures { Reports (W.contents output.old) (W.contents output.new) (status_of survey.now) result }
 {

@@ -15,7 +15,7 @@ use std::alloc::Global;
 use std::io::Write;
 
 /// Prints the state of a whole file, as a single image or as a copy with a flag, and its variables. The status is 0 if
-/// it is good as one of these in this byte order, else 1. docs/tools.md has the texts.
+/// it is good as one of these in this byte order, else 1. docs/status.md has the texts.
 pub fn file_status<W: Write>(
     alloc: Global,
     order: Order,

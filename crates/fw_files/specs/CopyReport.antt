@@ -1,4 +1,4 @@
--- What `status` does with its files (docs/tools.md, "Reports of copies").
+-- What `status` does with its files (docs/status.md).
 use Rattle.std.specs.Prelude.{◌≡◌, ◌⊎◌, ℕ, List, Option, Some, None, Ok, option_map, string_bytes}
 use Rattle.envcfg_core.specs.Config.{CopyPlace, Settings, config_of}
 use Rattle.envcfg_core.specs.declared.place.Place.{Place}

@@ -1,4 +1,4 @@
--- What is done for a check (docs/dry-runs.md, "Faults found before a run").
+-- What is done for a check (docs/check.md).
 use Rattle.std.specs.Prelude.{◌≡◌, ◌⊎◌, ℕ, List, Option, Some, None}
 use Rattle.clap.specs.Words.{Text}
 use Rattle.env_session.specs.Session.{Held}
