@@ -22,6 +22,7 @@ noted -> # nothing
 left -> exit 3
 hollow -> if true; then else false; fi
 told -> echo $? ${0} ${1}
+outer -> told x; echo ${0} ${1} ${2}.
 cp.* -> 0
 """
 # A script, and its text, if the board is this one; what is reported, if the status isn't 0, and the shell, if it counts
@@ -43,6 +44,9 @@ ANSWERED = [
     (b"hollow", b"+ hollow\n" + NO_SCRIPT % b"hollow", finished(1, 2), STRICT),
     (b"false; told a b", b"+ told a b\n1 told a\n", b"", BOARD_SHELL),
     (b"false; told a b", b"+ told a b\n0 told a\n", b"", STRICT),
+    (b"p1=x; told a; told; echo ${1} ${p1}", b"+ told a\n0 told a\n+ told\n0 told\nx\n", b""),
+    (b"told a b; echo ${1} ${2}", b"+ told a b\n0 told a\na b\n", b""),
+    (b"outer a b", b"+ outer a b\n+ told x\n0 told x\ntold x .\n", b""),
     (b"again", b"+ again\n" + b"+ again and again\n" * 16, stopped(b"Depth", 33), [*BOARD_SHELL, b"--depth=16"]),
     (b"again", b"+ again\n" + b"+ again and again\n" * 8, stopped(b"Depth", 17), STRICT),
     (b"again", b"+ again\n", stopped(b"Depth", 1), [b"--depth=0"]),

@@ -401,6 +401,7 @@ class Run:
             self.done(1, NO_SCRIPT % words[0])
             return
         self.done(self.shell.of_start(self.status, bool(tree)))
+        self.locals = {name: value for name, value in self.locals.items() if not name.isdigit()}
         self.locals.update((b"%d" % at, word) for at, word in enumerate(words))
         self.running.append(self.running[-1] if self.running else None)
         self.text_of(tree, lambda status: status)
