@@ -43,9 +43,13 @@ no_word : command_of (codes "env" ∷ []) ≡ WrongUse (codes "env")
 unfolding builtin_of
 no_word = refl
 
-suffix : command_of (codes "setexpr.q" ∷ codes "n" ∷ []) ≡ Calculate (codes "setexpr.q") (codes "n" ∷ [])
+suffix : command_of (codes "setexpr.q" ∷ codes "n" ∷ codes "1" ∷ []) ≡ Calculate (codes "setexpr.q") (codes "n" ∷ codes "1" ∷ [])
 unfolding builtin_of
 suffix = refl
+
+no_calculation : command_of (codes "setexpr" ∷ codes "n" ∷ codes "*1000" ∷ []) ≡ WrongUse (codes "setexpr")
+unfolding builtin_of
+no_calculation = refl
 
 no_builtin : command_of (codes "envs" ∷ codes "set" ∷ []) ≡ Other (codes "envs") (codes "envs" ∷ codes "set" ∷ [])
 unfolding builtin_of
@@ -244,6 +248,32 @@ file_there stubs held = refl
 no_file_there : (stubs : Statuses) (held : Held) → get stubs (codes "test -e") ≡ None → done_of Board (hardware disk stubs) (codes "test" ∷ codes "-e" ∷ codes "mmc" ∷ codes "0" ∷ codes "/boot/boot.scr" ∷ []) 7 held ≡ (answer 1 [], held)
 unfolding disk rule exactly opened builtin_of
 no_file_there stubs held absent = simp absent
+
+-- forms of builtins that have no meaning here, which rules may answer
+forms : List Rule
+forms =
+    rule (map exactly (codes "env" ∷ codes "import" ∷ [])) (Text (codes "x=a"))
+    ∷ rule (map exactly (codes "setexpr" ∷ codes "s" ∷ codes "gsub" ∷ [])) (Status 1 false)
+    ∷ rule (map exactly (codes "setexpr" ∷ codes "n" ∷ [])) (Status 0 false)
+    ∷ []
+
+asked_env : (stubs : Statuses) → follow_of Strict (hardware forms stubs) (codes "env" ∷ codes "import" ∷ codes "-t" ∷ []) ≡ Answers (codes "env" ∷ codes "import" ∷ codes "-t" ∷ []) (codes "x=a")
+unfolding forms rule exactly builtin_of
+asked_env stubs = refl
+
+asked_setexpr : (stubs : Statuses) (held : Held) → done_of Strict (hardware forms stubs) (codes "setexpr" ∷ codes "s" ∷ codes "gsub" ∷ codes "a" ∷ codes "b" ∷ []) 7 held ≡ (answer 1 (codes "+ setexpr s gsub a b\n"), held)
+unfolding forms rule exactly builtin_of
+asked_setexpr stubs held = refl
+
+-- what no rule answers
+unanswered : (stubs : Statuses) → map (command_in Strict (hardware forms stubs)) ((codes "env" ∷ codes "export" ∷ []) ∷ (codes "setexpr" ∷ codes "s" ∷ codes "sub" ∷ []) ∷ []) ≡ WrongUse (codes "env") ∷ WrongUse (codes "setexpr") ∷ []
+unfolding forms rule exactly builtin_of
+unanswered stubs = refl
+
+-- forms that have a meaning aren't asked
+calculated_here : (stubs : Statuses) → command_in Strict (hardware forms stubs) (codes "setexpr" ∷ codes "n" ∷ codes "1" ∷ []) ≡ Calculate (codes "setexpr") (codes "n" ∷ codes "1" ∷ [])
+unfolding forms rule exactly builtin_of
+calculated_here stubs = refl
 
 -- The words of a call as local variables: those of an earlier one are gone, other local variables stay.
 own_words : (locals : Environment) → get (with_words locals (codes "load" ∷ codes "mmc" ∷ [])) (codes "1") ≡ Some (codes "mmc")
