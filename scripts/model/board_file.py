@@ -19,7 +19,7 @@ SENTENCES = {
     "Lacks": b"a first word that begins with - is not supported",
     "Builtin": b"a builtin answers this itself",
     "NoAnswer": b"no answer after ->",
-    "Open": b"? is not an answer of a single run",
+    "Open": b"? is for fwenv boot",
     "Resets": b"resets cannot be told from boots yet",
     "NoScript": b"what is after -> is not a script",
     "NoStatus": b"test -e is answered by a status alone",
