@@ -4,7 +4,7 @@ from differential.boards import STRICT, in_each_shell, unwritten
 from differential.script_rows import absent, finished, over_text, stopped
 from model.board_file import SENTENCES
 from model.image import Geometry
-from model.script import NO_SCRIPT, UNKNOWN
+from model.script import BY_ZERO, NO_SCRIPT, UNKNOWN, WRONG_USE
 
 BOARD_SHELL = [b"--shell", b"board"]
 # A card in slot 1 with a script on it, and no network at first
@@ -16,12 +16,19 @@ load mmc 1:2 *                -> setenv filesize 1c4a00
 load 1\r
 dhcp -> if test -n "${tried}"; then true; else tried=1; false; fi
 test -e mmc 1:2 /boot/* -> 0
+test -e usb -> 0
+test -e -> 1
+env import -> setenv console ttyS2,1500000
+env def* -> 3
+setexpr * gsub * -> setenv ${1} ${4}
+setexpr * ** -> setenv ${1} 7
 booti -> boots
 again -> again and again
 noted -> # nothing
 left -> exit 3
 hollow -> if true; then else false; fi
 told -> echo $? ${0} ${1}
+outer -> told x; echo ${0} ${1} ${2}.
 cp.* -> 0
 """
 # A script, and its text, if the board is this one; what is reported, if the status isn't 0, and the shell, if it counts
@@ -43,6 +50,9 @@ ANSWERED = [
     (b"hollow", b"+ hollow\n" + NO_SCRIPT % b"hollow", finished(1, 2), STRICT),
     (b"false; told a b", b"+ told a b\n1 told a\n", b"", BOARD_SHELL),
     (b"false; told a b", b"+ told a b\n0 told a\n", b"", STRICT),
+    (b"p1=x; told a; told; echo ${1} ${p1}", b"+ told a\n0 told a\n+ told\n0 told\nx\n", b""),
+    (b"told a b; echo ${1} ${2}", b"+ told a b\n0 told a\na b\n", b""),
+    (b"outer a b", b"+ outer a b\n+ told x\n0 told x\ntold x .\n", b""),
     (b"again", b"+ again\n" + b"+ again and again\n" * 16, stopped(b"Depth", 33), [*BOARD_SHELL, b"--depth=16"]),
     (b"again", b"+ again\n" + b"+ again and again\n" * 8, stopped(b"Depth", 17), STRICT),
     (b"again", b"+ again\n", stopped(b"Depth", 1), [b"--depth=0"]),
@@ -55,6 +65,18 @@ ANSWERED = [
     (b"test -e mmc 1:2 /boot/boot.scr && echo there", b"there\n", b"", BOARD_SHELL),
     (b"test ! -e mmc 1:2 /boot/boot.scr || test -e mmc 1:2 /", b"", finished(1, 2), BOARD_SHELL),
     (b"test -e mmc 1:2 /boot/a -a -e mmc 1:1 /boot/a", b"", finished(1, 1), BOARD_SHELL),
+    (b"test -e usb 0 a && test ! -e mmc 0 a && echo there", b"there\n", b"", BOARD_SHELL),
+    (b"test -e mmc 1:2 /boot/boot.scr", b"", finished(1, 1), STRICT),
+    (b"env import -t '' 10; echo ${console}", b"+ env import -t  10\nttyS2,1500000\n", b""),
+    (b"env default -a", b"+ env default -a\n", finished(3, 1)),
+    (b"env export -t 10", WRONG_USE % b"env", finished(1, 1)),
+    (b"env; env set || env set a 1 && echo ${a}", WRONG_USE % b"env" * 2 + b"1\n", b""),
+    (b"env.x defa", b"+ env.x defa\n", finished(3, 1), BOARD_SHELL),
+    (b"setexpr s gsub a b '${x}' && echo ${s}", b"+ setexpr s gsub a b ${x}\nb\n", b""),
+    (b"setexpr s gsub || setexpr s sub a b", WRONG_USE % b"setexpr" * 2, finished(1, 2)),
+    (b"setexpr v *1000 && setexpr v ${v} + 1; echo ${v}", b"+ setexpr v *1000\n8\n", b""),
+    (b"setexpr.l v *1000; setexpr v 1 / 0", WRONG_USE % b"setexpr.l" + BY_ZERO, finished(1, 2)),
+    (b"setexp.s v *1000", b"+ setexp.s v *1000\n", b"", BOARD_SHELL),
     (b"usb start; mmc dev 0", b"+ usb start\n+ mmc dev 0\n", finished(1, 2), [b"--stubs", b"stand-ins"]),
 ]  # fmt: skip
 # A file that is refused: the line at fault and its kind
@@ -69,9 +91,10 @@ REFUSED = [
     (b"-setexpr", 1, "Lacks"),
     (b"-mmc -> boots", 1, "Lacks"),
     (b"echo", 1, "Builtin"),
-    (b"env import -> 0", 1, "Builtin"),
-    (b"setexpr.q 1", 1, "Builtin"),
-    (b"setexpr.* 1", 1, "Builtin"),
+    (b"env import -> 0\nenv exists -> 0", 2, "Builtin"),
+    (b"env set x -> 0", 1, "Builtin"),
+    (b"env.* 1", 1, "Builtin"),
+    (b"setexp.* 1", 1, "Builtin"),
     (b"printe.* ->", 1, "Builtin"),
     (b"test -> 0", 1, "Builtin"),
     (b"test -* -> 0", 1, "Builtin"),
@@ -91,7 +114,7 @@ REFUSED = [
 # And lines that are close to these
 ACCEPTED = [
     b"", b"\r\n \t\n", b"mmc->0 -> 1", b"mmc -> 000255", b"echo.b\nech* 1\nset.* 1\n[", b"load mmc -> 1\nload mm* -> 0\nload",
-    b"load* a -> 0\nload -> 1", b"mmc -> ? || boots", b"mmc -> exit ${1}; resets", b"test* -e -> boots",
+    b"load* a -> 0\nload -> 1", b"env s* -> boots\nenv", b"setexpr.q 1\nsetexpr.* -> true\nsetexpr", b"mmc -> ? || boots", b"mmc -> exit ${1}; resets", b"test* -e -> boots",
     b"".join(b"a%d\n" % number for number in range(1024)),
 ]  # fmt: skip
 

@@ -6,7 +6,7 @@ from dataclasses import dataclass
 from model.calculations import status_of_digits
 from model.grammar import parse
 from model.shells import BOARD, only
-from model.texts import BUILTINS, lines_of
+from model.texts import BUILTINS, SUBCOMMANDS, lines_of
 from model.words import Fault
 
 MOST_LINE, MOST_RULES = 4096, 1024
@@ -19,7 +19,7 @@ SENTENCES = {
     "Lacks": b"a first word that begins with - is not supported",
     "Builtin": b"a builtin answers this itself",
     "NoAnswer": b"no answer after ->",
-    "Open": b"? is not an answer of a single run",
+    "Open": b"? is for fwenv boot",
     "Resets": b"resets cannot be told from boots yet",
     "NoScript": b"what is after -> is not a script",
     "NoStatus": b"test -e is answered by a status alone",
@@ -59,7 +59,16 @@ class Rule:
         return len(self.pattern) <= len(other.pattern) and all(map(PatternWord.covers, self.pattern, other.pattern))
 
     def asks_file(self):
-        return self.pattern[:2] == [PatternWord(b"test", False), PatternWord(b"-e", False)]
+        return self.pattern[:2] == exactly(b"test", b"-e")
+
+    def is_asked(self):
+        """Whether a builtin asks calls that it fits."""
+        asks_env = self.pattern[:1] == exactly(b"env") and self.pattern[1:2] not in map(exactly, SUBCOMMANDS)
+        return self.asks_file() or asks_env or re.match(rb"setexpr(\Z|\.)", self.pattern[0].text)
+
+
+def exactly(*words):
+    return [PatternWord(word, False) for word in words]
 
 
 def first_rule(rules, call):
@@ -81,7 +90,7 @@ def pattern_of(words):
 
 
 def is_answered(word):
-    """Whether a builtin answers all commands whose name a word fits."""
+    """Whether a builtin has all commands whose name a word fits."""
     if not word.is_open:
         return word.text in BUILTINS
     return b"." in word.text and only(word.text, {name for name in BUILTINS if b"." not in name}) is not None
@@ -110,7 +119,7 @@ def refuse_pattern(rule):
         raise BoardFault("NoPattern")
     if rule.pattern[0].text.startswith(b"-"):
         raise BoardFault("Lacks")
-    if is_answered(rule.pattern[0]) and not rule.asks_file():
+    if is_answered(rule.pattern[0]) and not rule.is_asked():
         raise BoardFault("Builtin")
 
 

@@ -7,7 +7,7 @@ from model.board_file import first_rule, names_of
 from model.calculations import setexpr, status_of_digits
 from model.grammar import parse
 from model.shells import STRICT
-from model.texts import BUILTINS
+from model.texts import BUILTINS, SUBCOMMANDS
 from model.variables import NOT_DEFINED, REFUSALS
 from model.words import Fault
 
@@ -221,15 +221,15 @@ class Run:
             self.done(self.shell.kept(self.status))
             return
         self.is_substituted = any(map(is_substituted, words))
+        self.fields = fields
         name, rest = fields[0], fields[1:]
         called = self.shell.called(name, self.names)
         if called == b"env":
             second = self.shell.subcommand(rest[0]) if rest else None
-            names = {b"set": "setenv", b"print": "printenv", b"save": "saveenv", b"run": "run", b"delete": "delete", b"exists": "exists"}
-            if second not in names:
-                self.wrong_use(called)
+            if second in SUBCOMMANDS:
+                getattr(self, SUBCOMMANDS[second])(called, rest[1:])
             else:
-                getattr(self, names[second])(called, rest[1:])
+                self.asked(called)
         elif called in BUILTINS:
             getattr(self, called.partition(b".")[0].decode())(called, rest)
         else:
@@ -256,6 +256,13 @@ class Run:
             self.done(reply or 0, line)
             if reply is None:
                 raise Stop("Exited")
+
+    def asked(self, called):
+        """A form of a builtin that has no meaning here."""
+        if first_rule(self.board, [called, *self.fields[1:]]):
+            self.other(called, self.fields)
+        else:
+            self.wrong_use(called)
 
     def wrong_use(self, name):
         self.done(1, WRONG_USE % name)
@@ -311,7 +318,7 @@ class Run:
     def setexpr(self, name, words):
         answer = setexpr(words)
         if answer == "use":
-            self.wrong_use(name)
+            self.asked(name)
         elif answer == "zero":
             self.done(1, BY_ZERO)
         else:
@@ -401,6 +408,7 @@ class Run:
             self.done(1, NO_SCRIPT % words[0])
             return
         self.done(self.shell.of_start(self.status, bool(tree)))
+        self.locals = {name: value for name, value in self.locals.items() if not name.isdigit()}
         self.locals.update((b"%d" % at, word) for at, word in enumerate(words))
         self.running.append(self.running[-1] if self.running else None)
         self.text_of(tree, lambda status: status)

@@ -12,6 +12,8 @@ BUILTINS = {
     b"true", b"false", b"echo", b"setenv", b"printenv", b"saveenv", b"run", b"env", b"test", b"exit",
     b"setexpr", b"setexpr.b", b"setexpr.w", b"setexpr.l", b"setexpr.q",
 }  # fmt: skip
+# Those of `env`, and what they are called without it
+SUBCOMMANDS = {b"set": "setenv", b"print": "printenv", b"save": "saveenv", b"run": "run", b"delete": "delete", b"exists": "exists"}
 
 
 class TextFault(Exception):

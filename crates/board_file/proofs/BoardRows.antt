@@ -76,7 +76,7 @@ unfolding builtin_of read_in tokens_of lexeme_at passed_at piece_at inner_at dou
 no_script = refl
 
 -- a builtin's names, also those with a width; what a board takes as one of them; and `test` without `-e`
-builtins : map read_line (codes "echo" ∷ codes "env import -> 0" ∷ codes "setexpr.l -> 0" ∷ codes "setexpr.* -> 0" ∷ codes "printe.* -> 0" ∷ codes "test -> 0" ∷ codes "test -* -> 0" ∷ [])
+builtins : map read_line (codes "echo" ∷ codes "env set x -> 0" ∷ codes "env.* -> 0" ∷ codes "setexp.* -> 0" ∷ codes "printe.* -> 0" ∷ codes "test -> 0" ∷ codes "test -* -> 0" ∷ [])
     ≡ Err Builtin ∷ Err Builtin ∷ Err Builtin ∷ Err Builtin ∷ Err Builtin ∷ Err Builtin ∷ Err Builtin ∷ []
 unfolding builtin_of
 builtins = refl
@@ -86,6 +86,17 @@ no_builtins : map read_line (codes "ech* 1" ∷ codes "set.* 1" ∷ codes "cp.* 
     ≡ holds (opened (codes "ech") ∷ []) (Status 1 false) ∷ holds (opened (codes "set.") ∷ []) (Status 1 false) ∷ holds (opened (codes "cp.") ∷ []) (Status 1 false) ∷ []
 unfolding holds rule opened builtin_of
 no_builtins = refl
+
+-- forms of builtins that are asked
+asked : map read_line (codes "env 1" ∷ codes "env import -> 1" ∷ codes "env s* -> 1" ∷ codes "setexpr.l -> 1" ∷ codes "setexpr.* -> 1" ∷ [])
+    ≡ holds (exactly (codes "env") ∷ []) (Status 1 false)
+    ∷ holds (exactly (codes "env") ∷ exactly (codes "import") ∷ []) (Status 1 false)
+    ∷ holds (exactly (codes "env") ∷ opened (codes "s") ∷ []) (Status 1 false)
+    ∷ holds (exactly (codes "setexpr.l") ∷ []) (Status 1 false)
+    ∷ holds (opened (codes "setexpr.") ∷ []) (Status 1 false)
+    ∷ []
+unfolding holds rule exactly opened builtin_of
+asked = refl
 
 -- whether a file is there has a status
 file_line : read_line (codes "test -e mmc 1:2 /boot/* -> 0") ≡ holds (map exactly (codes "test" ∷ codes "-e" ∷ codes "mmc" ∷ codes "1:2" ∷ []) ++ opened (codes "/boot/") ∷ []) (Status 0 false)

@@ -1,5 +1,5 @@
 -- The patterns of a board file (docs/runs.md, "Board files").
-use Rattle.std.specs.Prelude.{ℕ, ◌==◌, ◌-◌, ◌&&◌, not, Bool, true, false, if◌then◌else◌, List, [], ◌∷◌, codes, length, take, filter, map, is_some, Option, Some, None, slice_index}
+use Rattle.std.specs.Prelude.{ℕ, ◌==◌, ◌-◌, ◌&&◌, ◌||◌, not, Bool, true, false, if◌then◌else◌, List, [], ◌∷◌, codes, length, take, filter, map, is_some, Option, Some, None, slice_index}
 use Rattle.std.specs.List.{list_any}
 use Rattle.std.specs.Str.{bytes_eq}
 use Rattle.text_parts.specs.Bytes.{begins_with}
@@ -36,6 +36,34 @@ asks_file [] = false
 asks_file (w ∷ []) = false
 asks_file (w ∷ v ∷ ws) = is_just (codes "test") w && is_just (codes "-e") v
 
+-- whether the words after `env` begin with the name of a command of `env` that a run has itself
+abbrev pub is_subcommand : PatternWord → Bool
+is_subcommand w =
+    is_just (codes "set") w
+    || is_just (codes "print") w
+    || is_just (codes "save") w
+    || is_just (codes "run") w
+    || is_just (codes "delete") w
+    || is_just (codes "exists") w
+
+abbrev pub names_subcommand : List PatternWord → Bool
+names_subcommand [] = false
+names_subcommand (w ∷ ws) = is_subcommand w
+
+-- whether a pattern is one of other commands of `env`, which are asked
+abbrev pub asks_env : List PatternWord → Bool
+asks_env [] = false
+asks_env (w ∷ ws) = is_just (codes "env") w && not (names_subcommand ws)
+
+-- or one of `setexpr`, perhaps with a width: what is no calculation is asked
+abbrev pub asks_setexpr : List PatternWord → Bool
+asks_setexpr [] = false
+asks_setexpr (w ∷ ws) = bytes_eq (codes "setexpr") w.text || is_beginning (codes "setexpr.") w.text
+
+-- whether a builtin asks calls that a pattern fits
+abbrev pub is_asked : List PatternWord → Bool
+is_asked pattern = asks_file pattern || (asks_env pattern || asks_setexpr pattern)
+
 -- whether exactly one builtin's name begins so: on a board that is the one which is meant
 abbrev pub names_builtin : List ℕ → Bool
 names_builtin front = length (filter (is_beginning front) (map name_of builtins)) == 1
@@ -44,7 +72,7 @@ names_builtin front = length (filter (is_beginning front) (map name_of builtins)
 abbrev pub only_widths : List ℕ → Bool
 only_widths text = list_any is_dot text && names_builtin (without_width text)
 
--- whether a builtin answers the commands whose name this word fits; with a `*` some name is left over, unless all have a width
+-- whether a builtin has the commands whose name this word fits; with a `*` some name is left over, unless all have a width
 abbrev pub is_answered : PatternWord → Bool
 is_answered w = if w.begins then only_widths w.text else is_some (builtin_of w.text)
 
@@ -53,5 +81,5 @@ abbrev pub pattern_fault : List PatternWord → Option LineFault
 pattern_fault [] = Some NoPattern
 pattern_fault (w ∷ ws) =
     if begins_with minus w.text then Some Lacks
-    else if is_answered w && not (asks_file (w ∷ ws)) then Some Builtin
+    else if is_answered w && not (is_asked (w ∷ ws)) then Some Builtin
     else None

@@ -53,7 +53,7 @@ impl LineFault {
             LineFault::Lacks => b"a first word that begins with - is not supported",
             LineFault::Builtin => b"a builtin answers this itself",
             LineFault::NoAnswer => b"no answer after ->",
-            LineFault::Open => b"? is not an answer of a single run",
+            LineFault::Open => b"? is for fwenv boot",
             LineFault::Resets => b"resets cannot be told from boots yet",
             LineFault::NoScript => b"what is after -> is not a script",
             LineFault::NoStatus => b"test -e is answered by a status alone",

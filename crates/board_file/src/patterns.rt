@@ -1,8 +1,10 @@
 //! The patterns of a board file.
-ghost use Rattle.std.specs.Prelude.{◌≡◌, if◌then◌else◌, [], ◌∷◌, IfOk, filter, length, map};
+ghost use Rattle.std.specs.Prelude.{◌≡◌, ◌||◌, if◌then◌else◌, [], ◌∷◌, codes, IfOk, filter, length, map};
+ghost use Rattle.std.specs.Str.{bytes_eq};
 ghost use Rattle.hush_commands.specs.CommandNames.{begins_with as is_beginning};
 ghost use Rattle.hush_commands.specs.StandInLines.{words_of};
-ghost use Rattle.board_file.specs.Patterns.{asks_file, is_answered, is_just, names_builtin, only_widths, pattern_fault, pattern_word, pattern_words};
+ghost use Rattle.board_file.specs.Patterns.{asks_env, asks_file, asks_setexpr, is_answered, is_asked, is_just, is_subcommand, names_builtin, names_subcommand, only_widths};
+ghost use Rattle.board_file.specs.Patterns.{pattern_fault, pattern_word, pattern_words};
 
 use crate::board_fault::LineFault;
 use crate::line_parts::next_word;
@@ -74,12 +76,68 @@ pub(crate) fn pattern_fault(pattern: &[PatternWord]) -> Option<LineFault>
     match pattern.split_first() {
         None => Some(LineFault::NoPattern),
         Some((word, _)) if begins_with_byte(b'-', word.text.as_bytes()) => Some(LineFault::Lacks),
-        Some((word, _)) if is_answered(word) && !asks_file(pattern) => Some(LineFault::Builtin),
+        Some((word, _)) if is_answered(word) && !is_asked(pattern) => Some(LineFault::Builtin),
         Some(_) => None,
     }
 }
 
-/// Whether a builtin answers the commands whose name a word fits.
+/// Whether a builtin asks calls that a pattern fits.
+fn is_asked(pattern: &[PatternWord]) -> bool
+    ensures { result ≡ is_asked pattern.now }
+{
+    asks_file(pattern) || asks_env(pattern) || asks_setexpr(pattern)
+}
+
+/// Whether a pattern is one of commands of `env` that a run doesn't have itself.
+fn asks_env(pattern: &[PatternWord]) -> bool
+    ensures { result ≡ asks_env pattern.now }
+{
+    match pattern.split_first() {
+        Some((word, others)) => is_just(b"env", word) && !names_subcommand(others),
+        None => false,
+    }
+}
+
+/// Whether the words after `env` begin with the name of a command that a run has itself.
+fn names_subcommand(words: &[PatternWord]) -> bool
+    ensures { result ≡ names_subcommand words.now }
+{
+    match words.split_first() {
+        Some((word, _others)) => is_subcommand(word),
+        None => false,
+    }
+}
+
+/// Whether a word of a pattern is the name of a command of `env` that a run has itself.
+fn is_subcommand(word: &PatternWord) -> bool
+    ensures { result ≡ is_subcommand word.now }
+{
+    is_just(b"set", word)
+        || is_just(b"print", word)
+        || is_just(b"save", word)
+        || is_just(b"run", word)
+        || is_just(b"delete", word)
+        || is_just(b"exists", word)
+}
+
+/// Whether a pattern is one of `setexpr`, perhaps with a width.
+fn asks_setexpr(pattern: &[PatternWord]) -> bool
+    ensures { result ≡ asks_setexpr pattern.now }
+{
+    match pattern.split_first() {
+        Some((word, _others)) => names_setexpr(word.text.as_bytes()),
+        None => false,
+    }
+}
+
+/// Whether a name is `setexpr`, perhaps with a width.
+fn names_setexpr(text: &[u8]) -> bool
+    ensures { result ≡ (bytes_eq (codes "setexpr") text.now || is_beginning (codes "setexpr.") text.now) }
+{
+    is_text(text, b"setexpr") || is_beginning(b"setexpr.", text)
+}
+
+/// Whether a builtin has the commands whose name a word fits.
 fn is_answered(word: &PatternWord) -> bool
     ensures { result ≡ is_answered word.now }
 {

@@ -1,8 +1,10 @@
 -- Worked examples of docs/runs.md, "Commands", which the checker computes from the definitions.
 use Rattle.std.proofs.Common.{◌≡◌, ℕ, true, false, List, [], ◌∷◌, None, Some, refl}
 use Rattle.std.specs.Prelude.{codes, map, ◌++◌}
+use Rattle.std.specs.Fmt.{digits}
 use Rattle.std.specs.Cmp.Lexicographic.{nat_list_cmp_total}
 use Rattle.std.specs.FinMap.{empty, get, insert, entries, get-insert, get-empty}
+use Rattle.envimg_core.specs.Environment.{Environment}
 use Rattle.env_session.specs.Session.{Held}
 use Rattle.hush_commands.specs.declared.stand_ins.Role.{Role}
 use Rattle.hush_commands.specs.declared.command.Command.TheVariants.{Set, Delete, Exists, Calculate, WrongUse, Other}
@@ -16,13 +18,14 @@ use Rattle.hush_commands.specs.declared.board_rules.PatternWord.{PatternWord}
 use Rattle.hush_commands.specs.declared.board_rules.Rule.{Rule}
 use Rattle.hush_commands.specs.declared.board_rules.Reply.{Reply}
 use Rattle.hush_commands.specs.declared.board_rules.Reply.TheVariants.{Status, Text}
-use Rattle.hush_commands.specs.Hardware.{Hardware, hardware, ruled, answer_to}
+use Rattle.hush_commands.specs.Hardware.{Hardware, hardware, ruled, answer_to, with_words}
 use Rattle.hush_commands.specs.CommandNames.{name_by, with_name}
 use Rattle.hush_commands.specs.Output.{answer}
 use Rattle.hush_commands.specs.declared.shell.Shell.{Shell}
 use Rattle.hush_commands.specs.declared.shell.Shell.TheVariants.{Strict, Board}
 use Rattle.hush_commands.specs.Carrying.{Done, done_of, other_of}
 use Rattle.hush_commands.specs.Following.{follow_of}
+use Rattle.hush_commands.proofs.LocalLemmas.{get-unnumbered}
 
 -- the command of the strict shell
 abbrev command_of : List (List ℕ) → Command
@@ -40,9 +43,13 @@ no_word : command_of (codes "env" ∷ []) ≡ WrongUse (codes "env")
 unfolding builtin_of
 no_word = refl
 
-suffix : command_of (codes "setexpr.q" ∷ codes "n" ∷ []) ≡ Calculate (codes "setexpr.q") (codes "n" ∷ [])
+suffix : command_of (codes "setexpr.q" ∷ codes "n" ∷ codes "1" ∷ []) ≡ Calculate (codes "setexpr.q") (codes "n" ∷ codes "1" ∷ [])
 unfolding builtin_of
 suffix = refl
+
+no_calculation : command_of (codes "setexpr" ∷ codes "n" ∷ codes "*1000" ∷ []) ≡ WrongUse (codes "setexpr")
+unfolding builtin_of
+no_calculation = refl
 
 no_builtin : command_of (codes "envs" ∷ codes "set" ∷ []) ≡ Other (codes "envs") (codes "envs" ∷ codes "set" ∷ [])
 unfolding builtin_of
@@ -241,3 +248,42 @@ file_there stubs held = refl
 no_file_there : (stubs : Statuses) (held : Held) → get stubs (codes "test -e") ≡ None → done_of Board (hardware disk stubs) (codes "test" ∷ codes "-e" ∷ codes "mmc" ∷ codes "0" ∷ codes "/boot/boot.scr" ∷ []) 7 held ≡ (answer 1 [], held)
 unfolding disk rule exactly opened builtin_of
 no_file_there stubs held absent = simp absent
+
+-- forms of builtins that have no meaning here, which rules may answer
+forms : List Rule
+forms =
+    rule (map exactly (codes "env" ∷ codes "import" ∷ [])) (Text (codes "x=a"))
+    ∷ rule (map exactly (codes "setexpr" ∷ codes "s" ∷ codes "gsub" ∷ [])) (Status 1 false)
+    ∷ rule (map exactly (codes "setexpr" ∷ codes "n" ∷ [])) (Status 0 false)
+    ∷ []
+
+asked_env : (stubs : Statuses) → follow_of Strict (hardware forms stubs) (codes "env" ∷ codes "import" ∷ codes "-t" ∷ []) ≡ Answers (codes "env" ∷ codes "import" ∷ codes "-t" ∷ []) (codes "x=a")
+unfolding forms rule exactly builtin_of
+asked_env stubs = refl
+
+asked_setexpr : (stubs : Statuses) (held : Held) → done_of Strict (hardware forms stubs) (codes "setexpr" ∷ codes "s" ∷ codes "gsub" ∷ codes "a" ∷ codes "b" ∷ []) 7 held ≡ (answer 1 (codes "+ setexpr s gsub a b\n"), held)
+unfolding forms rule exactly builtin_of
+asked_setexpr stubs held = refl
+
+-- what no rule answers
+unanswered : (stubs : Statuses) → map (command_in Strict (hardware forms stubs)) ((codes "env" ∷ codes "export" ∷ []) ∷ (codes "setexpr" ∷ codes "s" ∷ codes "sub" ∷ []) ∷ []) ≡ WrongUse (codes "env") ∷ WrongUse (codes "setexpr") ∷ []
+unfolding forms rule exactly builtin_of
+unanswered stubs = refl
+
+-- forms that have a meaning aren't asked
+calculated_here : (stubs : Statuses) → command_in Strict (hardware forms stubs) (codes "setexpr" ∷ codes "n" ∷ codes "1" ∷ []) ≡ Calculate (codes "setexpr") (codes "n" ∷ codes "1" ∷ [])
+unfolding forms rule exactly builtin_of
+calculated_here stubs = refl
+
+-- The words of a call as local variables: those of an earlier one are gone, other local variables stay.
+own_words : (locals : Environment) → get (with_words locals (codes "load" ∷ codes "mmc" ∷ [])) (codes "1") ≡ Some (codes "mmc")
+unfolding digits
+own_words locals = simp (get-insert {X = List ℕ} nat_list_cmp_total)
+
+stale_words : (locals : Environment) → get (with_words (insert locals (codes "5") (codes "p")) (codes "load" ∷ codes "mmc" ∷ [])) (codes "5") ≡ None
+unfolding digits
+stale_words locals = simp (get-insert {X = List ℕ} nat_list_cmp_total, get-unnumbered)
+
+other_locals : (locals : Environment) → get (with_words (insert locals (codes "p5") (codes "2")) (codes "load" ∷ [])) (codes "p5") ≡ Some (codes "2")
+unfolding digits
+other_locals locals = simp (get-insert {X = List ℕ} nat_list_cmp_total, get-unnumbered)

@@ -1,13 +1,17 @@
 -- Which command the fields of a simple command are, with its operands (docs/runs.md, "Commands").
-use Rattle.std.specs.Prelude.{ℕ, Bool, not, if◌then◌else◌, List, [], ◌∷◌, codes, Option, Some, None}
+use Rattle.std.specs.Prelude.{ℕ, Bool, true, false, not, if◌then◌else◌, List, [], ◌∷◌, codes, drop, Option, Some, None, Ok, Err}
 use Rattle.hush_calc.specs.Fields.{split_option}
+use Rattle.hush_calc.specs.Setexpr.{Answer, setexpr_of}
+use Rattle.hush_calc.specs.declared.calculation.SetexprFault.TheVariants as fault
 use Rattle.hush_commands.specs.declared.builtins.Builtin.{Builtin}
 use Rattle.hush_commands.specs.declared.builtins.Builtin.TheVariants as builtin
 use Rattle.hush_commands.specs.declared.command.Command.{Command}
 use Rattle.hush_commands.specs.declared.command.Command.TheVariants as command
 use Rattle.hush_commands.specs.Builtins.{builtin_of}
 use Rattle.hush_commands.specs.declared.shell.Shell.{Shell}
-use Rattle.hush_commands.specs.Hardware.{Hardware}
+use Rattle.hush_commands.specs.declared.board_rules.Rule.{Rule}
+use Rattle.hush_commands.specs.declared.board_rules.Reply.{Reply}
+use Rattle.hush_commands.specs.Hardware.{Hardware, ruled}
 use Rattle.hush_commands.specs.CommandNames.{name_by, stands_for}
 use Rattle.hush_commands.specs.Statuses.{status_of}
 
@@ -71,40 +75,57 @@ exit_command called [] = command.Exit None
 exit_command called (digits ∷ []) = exit_with called (status_of digits)
 exit_command called (digits ∷ more ∷ words) = command.WrongUse called
 
--- the commands of `env`
-abbrev pub env_word : Shell → (called word : List ℕ) → List (List ℕ) → Command
-env_word shell called word words =
+-- a form of a builtin that has no meaning here is a call, if a rule answers that
+abbrev pub answered : Option Reply → (called : List ℕ) → (fields : List (List ℕ)) → Command
+answered None called fields = command.WrongUse called
+answered (Some reply) called fields = command.Other called fields
+
+abbrev pub asked : List Rule → (called : List ℕ) → (fields : List (List ℕ)) → Command
+asked rules called fields = answered (ruled rules (called ∷ drop 1 fields)) called fields
+
+-- the commands of `env`, of which other words are none here
+abbrev pub env_word : Shell → List Rule → (called : List ℕ) → (fields : List (List ℕ)) → (word : List ℕ) → List (List ℕ) → Command
+env_word shell rules called fields word words =
     if stands_for shell 2 (codes "set") word then set_command called words
     else if stands_for shell 1 (codes "print") word then print_command words
     else if stands_for shell 2 (codes "save") word then save_command called words
     else if stands_for shell 1 (codes "run") word then run_command called words
     else if stands_for shell 3 (codes "delete") word then delete_command called words
     else if stands_for shell 3 (codes "exists") word then exists_command called words
-    else command.WrongUse called
+    else asked rules called fields
 
-abbrev pub env_command : Shell → (called : List ℕ) → List (List ℕ) → Command
-env_command shell called [] = command.WrongUse called
-env_command shell called (word ∷ words) = env_word shell called word words
+abbrev pub env_command : Shell → List Rule → (called : List ℕ) → (fields words : List (List ℕ)) → Command
+env_command shell rules called fields [] = asked rules called fields
+env_command shell rules called fields (word ∷ words) = env_word shell rules called fields word words
 
-abbrev pub builtin_command : Shell → Builtin → (called : List ℕ) → List (List ℕ) → Command
-builtin_command shell builtin.True called words = command.True
-builtin_command shell builtin.False called words = command.False
-builtin_command shell builtin.Echo called words = echo_command words
-builtin_command shell builtin.SetEnv called words = set_command called words
-builtin_command shell builtin.PrintEnv called words = print_command words
-builtin_command shell builtin.SaveEnv called words = save_command called words
-builtin_command shell builtin.Run called words = run_command called words
-builtin_command shell builtin.Env called words = env_command shell called words
-builtin_command shell builtin.Test called words = command.Test words
-builtin_command shell builtin.SetExpr called words = command.Calculate called words
-builtin_command shell builtin.Exit called words = exit_command called words
+-- a `setexpr` whose words are no calculation has no meaning here
+abbrev pub is_wrong_use : Answer → Bool
+is_wrong_use (Ok written) = false
+is_wrong_use (Err fault.WrongUse) = true
+is_wrong_use (Err fault.DivisionByZero) = false
+
+abbrev pub calculate_command : List Rule → (called : List ℕ) → (fields words : List (List ℕ)) → Command
+calculate_command rules called fields words = if is_wrong_use (setexpr_of words) then asked rules called fields else command.Calculate called words
+
+abbrev pub builtin_command : Shell → List Rule → Builtin → (called : List ℕ) → (fields words : List (List ℕ)) → Command
+builtin_command shell rules builtin.True called fields words = command.True
+builtin_command shell rules builtin.False called fields words = command.False
+builtin_command shell rules builtin.Echo called fields words = echo_command words
+builtin_command shell rules builtin.SetEnv called fields words = set_command called words
+builtin_command shell rules builtin.PrintEnv called fields words = print_command words
+builtin_command shell rules builtin.SaveEnv called fields words = save_command called words
+builtin_command shell rules builtin.Run called fields words = run_command called words
+builtin_command shell rules builtin.Env called fields words = env_command shell rules called fields words
+builtin_command shell rules builtin.Test called fields words = command.Test words
+builtin_command shell rules builtin.SetExpr called fields words = calculate_command rules called fields words
+builtin_command shell rules builtin.Exit called fields words = exit_command called words
 
 -- builtins come first
-abbrev pub named_command : Shell → Option Builtin → (name : List ℕ) → (fields words : List (List ℕ)) → Command
-named_command shell (Some builtin) name fields words = builtin_command shell builtin name words
-named_command shell None name fields words = command.Other name fields
+abbrev pub named_command : Shell → List Rule → Option Builtin → (name : List ℕ) → (fields words : List (List ℕ)) → Command
+named_command shell rules (Some builtin) name fields words = builtin_command shell rules builtin name fields words
+named_command shell rules None name fields words = command.Other name fields
 
 -- a command is called by the name that its first word stands for
 abbrev pub command_in : Shell → Hardware → List (List ℕ) → Command
 command_in shell h [] = command.Nothing
-command_in shell h (word ∷ words) = let name = name_by shell h word in named_command shell (builtin_of name) name (word ∷ words) words
+command_in shell h (word ∷ words) = let name = name_by shell h word in named_command shell h.rules (builtin_of name) name (word ∷ words) words

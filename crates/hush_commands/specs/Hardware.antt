@@ -1,7 +1,9 @@
 -- What a board answers a call with (docs/runs.md, "Boards").
-use Rattle.std.specs.Prelude.{ℕ, suc, ◌==◌, Bool, true, false, ◌&&◌, if◌then◌else◌, List, [], ◌∷◌, codes, length, take, drop, decimal, Option, Some, None, option_map}
+use Rattle.std.specs.Prelude.{ℕ, suc, ◌==◌, Bool, true, false, not, ◌&&◌, if◌then◌else◌, List, [], ◌∷◌, codes, length, take, drop, decimal, Option, Some, None, option_map}
 use Rattle.std.specs.Option.{option_or}
+use Rattle.std.specs.List.{list_all}
 use Rattle.std.specs.Str.{bytes_eq}
+use Rattle.std.specs.Char.{is_ascii_digit}
 use Rattle.std.specs.FinMap as names
 use Rattle.envimg_core.specs.Environment.{Environment}
 use Rattle.hush_commands.specs.declared.stand_ins.Role.{Role}
@@ -58,5 +60,13 @@ abbrev pub bound_from : ℕ → Environment → List (List ℕ) → Environment
 bound_from n locals [] = locals
 bound_from n locals (word ∷ words) = bound_from (suc n) (names.insert locals (decimal n) word) words
 
+-- a name of digits alone
+abbrev pub is_number : List ℕ → Bool
+is_number name = list_all is_ascii_digit name
+
+-- the words of an earlier call are gone: no other local variable has a number as its name
+abbrev pub unnumbered : Environment → Environment
+unnumbered locals = names.retain_keys locals (λ name. not (is_number name))
+
 abbrev pub with_words : Environment → List (List ℕ) → Environment
-with_words locals words = bound_from 0 locals words
+with_words locals words = bound_from 0 (unnumbered locals) words

@@ -1,5 +1,7 @@
 //! Which command the fields of a simple command are, with its operands (docs/runs.md, "Commands").
 ghost use Rattle.std.specs.Prelude.{◌≡◌};
+ghost use Rattle.hush_calc.specs.Setexpr.{setexpr_of};
+ghost use Rattle.hush_commands.specs.Commands.{is_wrong_use};
 
 use crate::board_rules::BoardRules;
 use crate::builtins::Builtin;
@@ -7,7 +9,7 @@ use crate::command_names::{name_by, stands_for};
 use crate::shell::Shell;
 use crate::stand_in_line::read_status;
 use crate::stand_ins::Stubs;
-use hush_calc::Fields;
+use hush_calc::{Fields, SetexprFault, setexpr};
 use std::marker::Model;
 
 /// A name among the fields: that of a variable, or of the command itself.
@@ -95,7 +97,8 @@ pub(crate) enum Command<'a> {
     WrongUse {
         called: Name<'a>,
     },
-    /// No builtin: a stand-in, or unknown; the first of its fields stands for its name
+    /// No builtin, or a form of one that a rule answers: a stand-in, or unknown; the first of its fields stands for its
+    /// name
     Other {
         called: Name<'a>,
         fields: Fields<'a>,
@@ -107,7 +110,7 @@ impl<'a> Command<'a> {
     ghost use Rattle.hush_commands.specs.Hardware.{hardware};
     ghost use Rattle.hush_commands.specs.Commands.{env_command, env_word, echo_command, set_command, print_command};
     ghost use Rattle.hush_commands.specs.Commands.{save_command, run_command, delete_command, exists_command};
-    ghost use Rattle.hush_commands.specs.Commands.{exit_command, exit_with};
+    ghost use Rattle.hush_commands.specs.Commands.{asked, calculate_command, exit_command, exit_with};
 
     /// The command of these fields.
     pub(crate) fn of(
@@ -123,7 +126,9 @@ impl<'a> Command<'a> {
             Some(word) => {
                 let called = name_by(shell, stand_ins, board, word);
                 match Builtin::of(called) {
-                    Some(builtin) => Command::of_builtin(shell, builtin, called, words),
+                    Some(builtin) => {
+                        Command::of_builtin(shell, board, builtin, called, fields, words)
+                    }
                     None => Command::Other {
                         called: Name::of(called),
                         fields,
@@ -136,11 +141,13 @@ impl<'a> Command<'a> {
 
     fn of_builtin(
         shell: Shell,
+        board: &BoardRules,
         builtin: Builtin,
         called: &'a [u8],
+        fields: Fields<'a>,
         words: Fields<'a>,
     ) -> Command<'a>
-        ensures { result ≡ builtin_command shell builtin called.now words.entry }
+        ensures { result ≡ builtin_command shell board.now builtin called.now fields.entry words.entry }
     {
         match builtin {
             Builtin::True => Command::True,
@@ -150,29 +157,39 @@ impl<'a> Command<'a> {
             Builtin::PrintEnv => Command::print(words),
             Builtin::SaveEnv => Command::save(called, words),
             Builtin::Run => Command::run(called, words),
-            Builtin::Env => Command::env(shell, called, words),
+            Builtin::Env => Command::env(shell, board, called, fields, words),
             Builtin::Test => Command::Test { words },
-            Builtin::SetExpr => Command::Calculate {
-                called: Name::of(called),
-                words,
-            },
+            Builtin::SetExpr => Command::calculate(board, called, fields, words),
             Builtin::Exit => Command::exit(called, words),
         }
     }
 
     /// `env` with the name of one of its commands.
-    fn env(shell: Shell, called: &'a [u8], words: Fields<'a>) -> Command<'a>
-        ensures { result ≡ env_command shell called.now words.entry }
+    fn env(
+        shell: Shell,
+        board: &BoardRules,
+        called: &'a [u8],
+        fields: Fields<'a>,
+        words: Fields<'a>,
+    ) -> Command<'a>
+        ensures { result ≡ env_command shell board.now called.now fields.entry words.entry }
     {
         let mut rest = words;
         match rest.next() {
-            Some(word) => Command::env_word(shell, called, word, rest),
-            None => Command::wrong_use(called),
+            Some(word) => Command::env_word(shell, board, called, fields, word, rest),
+            None => Command::asked(board, called, fields),
         }
     }
 
-    fn env_word(shell: Shell, called: &'a [u8], word: &[u8], words: Fields<'a>) -> Command<'a>
-        ensures { result ≡ env_word shell called.now word.now words.entry }
+    fn env_word(
+        shell: Shell,
+        board: &BoardRules,
+        called: &'a [u8],
+        fields: Fields<'a>,
+        word: &[u8],
+        words: Fields<'a>,
+    ) -> Command<'a>
+        ensures { result ≡ env_word shell board.now called.now fields.entry word.now words.entry }
     {
         if stands_for(shell, 2, b"set", word) {
             Command::set(called, words)
@@ -187,7 +204,39 @@ impl<'a> Command<'a> {
         } else if stands_for(shell, 3, b"exists", word) {
             Command::exists(called, words)
         } else {
-            Command::wrong_use(called)
+            Command::asked(board, called, fields)
+        }
+    }
+
+    /// `setexpr`: a calculation, or a form that has no meaning here.
+    fn calculate(
+        board: &BoardRules,
+        called: &'a [u8],
+        fields: Fields<'a>,
+        words: Fields<'a>,
+    ) -> Command<'a>
+        ensures { result ≡ calculate_command board.now called.now fields.entry words.entry }
+    {
+        if is_wrong_use(words.again()) {
+            Command::asked(board, called, fields)
+        } else {
+            Command::Calculate {
+                called: Name::of(called),
+                words,
+            }
+        }
+    }
+
+    /// A form of a builtin that has no meaning here: a call, if a rule answers that.
+    fn asked(board: &BoardRules, called: &'a [u8], fields: Fields<'a>) -> Command<'a>
+        ensures { result ≡ asked board.now called.now fields.entry }
+    {
+        match board.find(called, &fields) {
+            Some(_reply) => Command::Other {
+                called: Name::of(called),
+                fields,
+            },
+            None => Command::wrong_use(called),
         }
     }
 
@@ -292,5 +341,16 @@ impl<'a> Command<'a> {
         Command::WrongUse {
             called: Name::of(called),
         }
+    }
+}
+
+/// Whether the words of a `setexpr` are no calculation.
+fn is_wrong_use(words: Fields<'_>) -> bool
+    ensures { result ≡ is_wrong_use (setexpr_of words.entry) }
+{
+    match setexpr(words) {
+        Ok(_calculated) => false,
+        Err(SetexprFault::WrongUse) => true,
+        Err(SetexprFault::DivisionByZero) => false,
     }
 }

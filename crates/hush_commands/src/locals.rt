@@ -2,7 +2,7 @@
 ghost use Rattle.std.specs.Prelude.{◌≡◌, OnOk, OnErr, option_copied};
 ghost use Rattle.std.specs.FinMap as env;
 ghost use Rattle.std.specs.Prelude.{IfOk};
-ghost use Rattle.hush_commands.specs.Hardware.{with_words};
+ghost use Rattle.hush_commands.specs.Hardware.{is_number, unnumbered, with_words};
 
 use hush_calc::Fields;
 use itoa::Buffer;
@@ -74,11 +74,28 @@ impl Locals {
         Ok(Locals { values })
     }
 
-    /// These, and the words of a call as `0`, `1`, `2` and so on.
+    /// These without the words of an earlier call, in memory of their own.
+    fn unnumbered(&self) -> Result<Locals, AllocError>
+        ensures { IfOk result (λ locals. locals ≡ unnumbered self.now) }
+    {
+        let mut locals = self.again()?;
+        locals.drop_numbers();
+        Ok(locals)
+    }
+
+    /// Drops the names that are numbers.
+    fn drop_numbers(&mut self)
+        ensures { self.new ≡ unnumbered self.old }
+    {
+        self.values
+            .retain(|name, _value| !is_number(name.as_slice()));
+    }
+
+    /// These, and the words of a call as `0`, `1`, `2` and so on; other names that are numbers are dropped.
     pub fn with_words(&self, alloc: Global, words: Fields<'_>) -> Result<Locals, AllocError>
         ensures { IfOk result (λ locals. locals ≡ with_words self.now words.entry) }
     {
-        let mut locals = self.again()?;
+        let mut locals = self.unnumbered()?;
         let mut rest = words;
         let mut number: usize = 0;
         while let Some(word) = rest.next() {
@@ -91,4 +108,11 @@ impl Locals {
         }
         Ok(locals)
     }
+}
+
+/// Whether a name has digits alone.
+fn is_number(name: &[u8]) -> bool
+    ensures { result ≡ is_number name.now }
+{
+    name.iter().all(|byte| byte.is_ascii_digit())
 }
