@@ -28,7 +28,7 @@ FAULTS = {
         (b"for i a; do b; done", 1, 7), (b"for i 'in' a; do b; done", 1, 7), (b"for 'i' in a; do b; done", 1, 5),
         (b"for i in a; b; done", 1, 13), (b"for i in a do b; done", 1, 18), (b"for i in a && b; do c; done", 1, 12), (b"&& a", 1, 1),
         (b"|| a", 1, 1), (b"a && && b", 1, 6), (b"a; && b", 1, 4), (b"if true then a; fi", 1, 17), (b"a && ;", 1, 6), (b"for ; in", 1, 5),
-        (b"if a; then # nothing\nfi", 2, 1), (b"if true then echo a; fi", 1, 22), (b"for 1 in a; do b; done", 1, 5),
+        (b"if a; then # nothing\nfi", 2, 1), (b"if true then echo a; fi", 1, 22), (b"if a; then elif b; then c; fi", 1, 12), (b"for 1 in a; do b; done", 1, 5),
     ],
     "Missing": [
         (b"if true; then echo", 1, 19), (b"if true; then echo a", 1, 21), (b"a &&", 1, 5),

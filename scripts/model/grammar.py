@@ -144,6 +144,8 @@ class Parser:
         while True:
             condition = self.inner()
             self.expect(b"then")
+            if self.keyword() == b"elif":
+                self.refuse()
             branches.append((condition, self.body()))
             if self.keyword() != b"elif":
                 break

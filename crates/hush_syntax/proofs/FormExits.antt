@@ -16,7 +16,7 @@ use Rattle.hush_syntax.specs.Grammar.{Command, For, While, Until, Chains, begins
 use Rattle.hush_syntax.specs.Nodes.{OfChains, OfCommand}
 use Rattle.hush_syntax.specs.Stored.{Members, if_built, for_of, built, block_of}
 use Rattle.hush_syntax.specs.Builders.{members_of, followed, waiting, add_branches, Adds, Put, SettlesBranches, later, Grows, ChainsAt, CommandAt, BranchAt, OtherwiseAt, LoopAt, if_stored}
-use Rattle.hush_syntax.specs.Reading.{behind, skip, is, is_word, one, name, words_at, separators, list, loop_parts, compound, command, inner}
+use Rattle.hush_syntax.specs.Reading.{behind, skip, is, is_word, one, name, words_at, separators, list, loop_parts, compound, command, inner, then_word}
 use Rattle.hush_syntax.specs.Trees.{words_in, name_in}
 use Rattle.hush_syntax.proofs.FromMembers.{if_from}
 use Rattle.hush_syntax.proofs.Shorter.{behind-begun}
@@ -100,7 +100,7 @@ module _ (text : Written) (bodies : Bodies) (room : ℕ) where
       (λ more. let h = f.3 more in rw (h.3, h.4, h.2))
       put
 
-  pub branch-built : (old mid new : Builder) (now a b r : List Token) (p q : NodeId) → Found ChainsAt text (list (command bodies room) now) old mid a p → one (is (codes "then")) a ≡ Some (tt, b) → Found ChainsAt text (inner bodies (command bodies room) b) mid new r q → Found BranchAt text (branch bodies (command bodies room) now) old new r (record { condition = p; body = q })
+  pub branch-built : (old mid new : Builder) (now a b r : List Token) (p q : NodeId) → Found ChainsAt text (list (command bodies room) now) old mid a p → then_word bodies a ≡ Some (tt, b) → Found ChainsAt text (inner bodies (command bodies room) b) mid new r q → Found BranchAt text (branch bodies (command bodies room) now) old new r (record { condition = p; body = q })
   branch-built old mid new now a b r p q f at_then g =
       ((f.0, g.0), rw (f.1, at_then, g.1), grows-both old.table mid.table new.table f.2 g.2, λ more. (goes_on text mid.table new.table g.2 more p (OfChains f.0) (f.3 (followed g.2.1 more)), g.3 more), g.4 ∙ f.4)
 

@@ -5,11 +5,11 @@ use Rattle.hush_syntax.specs.declared.nodes.Bodies.{Bodies}
 use Rattle.hush_syntax.specs.declared.keywords.Keyword.TheVariants as keyword
 use Rattle.hush_syntax.specs.Answers.{branch, otherwise}
 use Rattle.hush_syntax.specs.Grammar.{Command, If, Branches, Elif, Else, Fi, Chains, begins}
-use Rattle.hush_syntax.specs.Reading.{Reader, bind, ◌into◌, mapped, behind, is, one, list, branches_within, branches, compound, command, inner}
+use Rattle.hush_syntax.specs.Reading.{Reader, bind, ◌into◌, mapped, behind, is, one, list, branches_within, branches, compound, command, inner, then_word}
 use Rattle.hush_syntax.proofs.FromMembers.{no_command, branches_from, if_from}
 use Rattle.hush_syntax.proofs.Fronts.{by_test}
 use Rattle.hush_syntax.proofs.Readers.{by_option}
-use Rattle.hush_syntax.proofs.Shorter.{behind-begun, empty, Shortens, into-shortens, mapped-shortens, one-shortens, list-shorter, inner-shorter}
+use Rattle.hush_syntax.proofs.Shorter.{behind-begun, empty, Shortens, into-shortens, mapped-shortens, then-shortens, list-shorter, inner-shorter}
 
 abbrev pub branches_before : List (Chains × Chains) → Branches → Branches
 branches_before [] rest = rest
@@ -38,12 +38,12 @@ branches_found-push x y bs c d None = refl
 branches_found-push x y bs c d (Some v) = rw (branches_before-push bs c d v.0)
 
 -- a branch in one piece
-branch-joined : {Y : Type 0} (bodies : Bodies) (p : Reader Command) (f : Chains → Chains → Branches → Y) (rest : Reader Branches) (ts : List Token) → (list p into λ c. one (is (codes "then")) into λ _. inner bodies p into λ d. mapped (f c d) rest) ts ≡ (branch bodies p into λ b. mapped (f b.0 b.1) rest) ts
+branch-joined : {Y : Type 0} (bodies : Bodies) (p : Reader Command) (f : Chains → Chains → Branches → Y) (rest : Reader Branches) (ts : List Token) → (list p into λ c. then_word bodies into λ _. inner bodies p into λ d. mapped (f c d) rest) ts ≡ (branch bodies p into λ b. mapped (f b.0 b.1) rest) ts
 branch-joined bodies p f rest ts =
     by_option (list p ts)
     (λ e. rw e)
     (λ c e.
-    by_option (one (is (codes "then")) c.1)
+    by_option (then_word bodies c.1)
     (λ g. rw (e, g))
     (λ u g. by_option (inner bodies p u.1) (λ h. rw (e, g, h)) (λ d h. rw (e, g, h))))
 
@@ -78,8 +78,8 @@ branches-turn bodies room (suc k) now short e =
 
 pub branch-shorter : (bodies : Bodies) (room : ℕ) → Shortens (branch bodies (command bodies room))
 branch-shorter bodies room =
-    into-shortens (list (command bodies room)) (λ c. one (is (codes "then")) into λ _. mapped (λ d. (c, d)) (inner bodies (command bodies room))) (list-shorter bodies room)
-    (λ c. into-shortens (one (is (codes "then"))) (λ _. mapped (λ d. (c, d)) (inner bodies (command bodies room))) (one-shortens (is (codes "then")))
+    into-shortens (list (command bodies room)) (λ c. then_word bodies into λ _. mapped (λ d. (c, d)) (inner bodies (command bodies room))) (list-shorter bodies room)
+    (λ c. into-shortens (then_word bodies) (λ _. mapped (λ d. (c, d)) (inner bodies (command bodies room))) (then-shortens bodies)
     (λ _. mapped-shortens (λ d. (c, d)) (inner bodies (command bodies room)) (inner-shorter bodies room)))
 
 module _ (bodies : Bodies) (room : ℕ) where

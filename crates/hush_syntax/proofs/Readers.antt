@@ -1,7 +1,8 @@
 -- What the answer of a reader says of the readers that it is made of.
-use Rattle.std.proofs.Common.{◌≡◌, List, refl, sym, ◌∙◌, ap, Option, Some, None}
+use Rattle.std.proofs.Common.{◌≡◌, Bool, true, false, List, codes, refl, sym, ◌∙◌, ap, Option, Some, None, if◌then◌else◌}
 use Rattle.hush_words.specs.Tokens.{Token}
-use Rattle.hush_syntax.specs.Reading.{Reader, bind, ◌into◌, mapped}
+use Rattle.hush_syntax.specs.declared.nodes.Bodies.{Bodies}
+use Rattle.hush_syntax.specs.Reading.{Reader, bind, ◌into◌, mapped, is, one, elif_at_once, then_word}
 
 -- either way of an option
 pub by_option : {X P : Type 0} (o : Option X) → (o ≡ None → P) → ((x : X) → o ≡ Some x → P) → P
@@ -23,3 +24,16 @@ mapped-some {X} {Y} f p ts r y e =
     let s = bind-some (p ts) (λ x. Some (f x.0, x.1)) (y, r) e in
     let same = same_pair (f s.0.0) y s.0.1 r s.2 in
     (s.0.0, s.1 ∙ ap (λ (z : List Token). let o : Option (X × List Token) = Some (s.0.0, z) in o) same.1, sym same.0)
+
+-- a `then` that is taken: what is after it isn't `elif` where that may not be
+unless : {X : Type 0} (b : Bool) (x y : X) → (if b then None else Some x) ≡ Some y → (b ≡ false) × (x ≡ y)
+unless {X} true x y e = absurd (let no : ◌≡◌ {A = Option X} None (Some y) = e in cc)
+unless false x y e = (refl, cc)
+
+pub then-some : (bodies : Bodies) (ts r : List Token) (u : Unit {0}) → then_word bodies ts ≡ Some (u, r) → (one (is (codes "then")) ts ≡ Some (u, r)) × (elif_at_once bodies r ≡ false)
+then-some bodies ts r u e =
+    let s = bind-some (one (is (codes "then")) ts) (λ u. if elif_at_once bodies u.1 then None else Some u) (u, r) e in
+    let t = unless (elif_at_once bodies s.0.1) s.0 (u, r) s.2 in (
+      s.1 ∙ ap (λ (x : Unit {0} × List Token). let o : Option (Unit {0} × List Token) = Some x in o) t.1,
+      ap (λ (x : Unit {0} × List Token). elif_at_once bodies x.1) (sym t.1) ∙ t.0,
+    )

@@ -9,12 +9,12 @@ use Rattle.hush_syntax.specs.declared.nodes.Bodies.{Bodies}
 use Rattle.hush_syntax.specs.declared.keywords.Keyword.{Keyword}
 use Rattle.hush_syntax.specs.declared.keywords.Keyword.TheVariants as keyword
 use Rattle.hush_syntax.specs.Keywords.{spelling}
-use Rattle.hush_syntax.specs.Grammar.{Command, Simple, Assign, If, For, While, Until, Branches, Elif, Else, Fi, Chain, First, Links, Link, End, Chains, Last, More, ◌then◌, Is, IsName, AreWords, is_newline, is_separator, begins, AnyNewlines, AnySeparators, Separators, operator_token, IsOperator, begins_command, Spells, SpellsBranches, SpellsChain, SpellsLinks, SpellsList, SpellsChains, SpellsScript, depth, depth_in_branches, depth_in_chain, depth_in_links, depth_inside, script_depth, nest_limit, nothing, SpellsInner}
-use Rattle.hush_syntax.specs.Reading.{Reader, bind, ◌into◌, mapped, behind, skip, is_end, is_word, is, one, any_newlines, separators, words_at, any_words, name, plain, keyword_at, closes, operator_at, links, chain, list_within, list, branches_within, branches, loop_parts, compound, chains_within, command, script_in, inner, may_be_empty}
+use Rattle.hush_syntax.specs.Grammar.{Command, Simple, Assign, If, For, While, Until, Branches, Elif, Else, Fi, Chain, First, Links, Link, End, Chains, Last, More, ◌then◌, Is, IsName, AreWords, is_newline, is_separator, begins, AnyNewlines, AnySeparators, Separators, operator_token, IsOperator, begins_command, Spells, SpellsBranches, SpellsChain, SpellsLinks, SpellsList, SpellsChains, SpellsScript, depth, depth_in_branches, depth_in_chain, depth_in_links, depth_inside, script_depth, nest_limit, nothing, SpellsInner, AfterThen}
+use Rattle.hush_syntax.specs.Reading.{Reader, bind, ◌into◌, mapped, behind, skip, is_end, is_word, is, one, any_newlines, separators, words_at, any_words, name, plain, keyword_at, closes, operator_at, links, chain, list_within, list, branches_within, branches, loop_parts, compound, chains_within, command, script_in, inner, may_be_empty, then_word}
 use Rattle.hush_syntax.proofs.Fronts.{all-skipped, by_test, skip-splits, words_at-splits, links-stop, links-go, plain-assignment, plain-simple, command-compound, command-plain, command-none, inner-list, inner-nothing}
 use Rattle.hush_syntax.proofs.Forms.{FormsAreTold, begins_is, keyword_at-some, assignment_of-some}
-use Rattle.hush_syntax.proofs.Readers.{by_option, bind-some, same_pair, into-some, mapped-some}
-use Rattle.hush_syntax.proofs.SoundParts.{Reads, reads_then, one-some, separators-reads, separators-some, name-some, operator_at-some}
+use Rattle.hush_syntax.proofs.Readers.{by_option, bind-some, same_pair, into-some, mapped-some, then-some}
+use Rattle.hush_syntax.proofs.SoundParts.{Reads, reads_then, reads_after, one-some, separators-reads, separators-some, name-some, operator_at-some}
 
 -- what a reader of commands finds is spelled, and has no more if, for, while and until inside one another
 abbrev pub IsSound : Bodies → ℕ → Reader Command → Type 0
@@ -113,15 +113,17 @@ module _ (told : FormsAreTold) (bodies : Bodies) (n : ℕ) (p : Reader Command) 
       let whole = reads_part (Is (codes "do") then SpellsInner bodies body.0 then Is (codes "done")) ts s.1 r s.0 s.2 body.2 in
       (s.0, body.0, body.1, whole.0, whole.1, body.3)
 
-  branch-sound : {Y : Type 0} (rest : Reader Branches) → ((ts r : List Token) (bs : Branches) → rest ts ≡ Some (bs, r) → Reads (SpellsBranches bodies bs) ts r × (depth_in_branches bs ≤ n)) → (f : Chains → Chains → Branches → Y) (ts r : List Token) (y : Y) → (list p into λ c. one (is (codes "then")) into λ _. inner bodies p into λ d. mapped (f c d) rest) ts ≡ Some (y, r) → (c : Chains) × (d : Chains) × (bs : Branches) × (y ≡ f c d bs) × Reads (AnySeparators then SpellsList bodies c then Is (codes "then") then SpellsInner bodies d then SpellsBranches bodies bs) ts r × (max (max (depth_inside c) (depth_inside d)) (depth_in_branches bs) ≤ n)
+  branch-sound : {Y : Type 0} (rest : Reader Branches) → ((ts r : List Token) (bs : Branches) → rest ts ≡ Some (bs, r) → Reads (SpellsBranches bodies bs) ts r × (depth_in_branches bs ≤ n)) → (f : Chains → Chains → Branches → Y) (ts r : List Token) (y : Y) → (list p into λ c. then_word bodies into λ _. inner bodies p into λ d. mapped (f c d) rest) ts ≡ Some (y, r) → (c : Chains) × (d : Chains) × (bs : Branches) × (y ≡ f c d bs) × Reads (AnySeparators then SpellsList bodies c then Is (codes "then") then AfterThen bodies (SpellsInner bodies d then SpellsBranches bodies bs)) ts r × (max (max (depth_inside c) (depth_inside d)) (depth_in_branches bs) ≤ n)
   branch-sound rest rest-sound f ts r y e =
-      let s = into-some (list p) (λ c. one (is (codes "then")) into λ _. inner bodies p into λ d. mapped (f c d) rest) ts r y e in
-      let t = into-some (one (is (codes "then"))) (λ _. inner bodies p into λ d. mapped (f s.0 d) rest) s.1 r y s.3 in
+      let s = into-some (list p) (λ c. then_word bodies into λ _. inner bodies p into λ d. mapped (f c d) rest) ts r y e in
+      let t = into-some (then_word bodies) (λ _. inner bodies p into λ d. mapped (f s.0 d) rest) s.1 r y s.3 in
       let u = into-some (inner bodies p) (λ d. mapped (f s.0 d) rest) t.1 r y t.3 in
       let v = mapped-some (f s.0 u.0) rest u.1 r y u.3 in
       let last = rest-sound u.1 r v.0 v.1 in
       let body = reads_inner (SpellsBranches bodies v.0) t.1 u.1 r u.0 u.2 last.0 in
-      let whole = reads_part (Is (codes "then") then SpellsInner bodies u.0 then SpellsBranches bodies v.0) ts s.1 r s.0 s.2 (reads_word (codes "then") (SpellsInner bodies u.0 then SpellsBranches bodies v.0) s.1 t.1 r t.0 t.2 body.0) in
+      let w = then-some bodies s.1 t.1 t.0 t.2 in
+      let after = reads_after told bodies (SpellsInner bodies u.0 then SpellsBranches bodies v.0) t.1 r w.1 body.0 in
+      let whole = reads_part (Is (codes "then") then AfterThen bodies (SpellsInner bodies u.0 then SpellsBranches bodies v.0)) ts s.1 r s.0 s.2 (reads_word (codes "then") (AfterThen bodies (SpellsInner bodies u.0 then SpellsBranches bodies v.0)) s.1 t.1 r t.0 w.0 after) in
       (s.0, u.0, v.0, v.2, whole.0, omega (arith, whole.1, body.1, last.1))
 
   branches-sound : (m : ℕ) (ts r : List Token) (bs : Branches) → branches_within bodies p m ts ≡ Some (bs, r) → Reads (SpellsBranches bodies bs) ts r × (depth_in_branches bs ≤ n)
@@ -131,7 +133,7 @@ module _ (told : FormsAreTold) (bodies : Bodies) (n : ℕ) (p : Reader Command) 
       (λ h.
       let s = branch-sound (branches_within bodies p m) (branches-sound m) Elif (behind ts) r bs (rw h at e) in
       subst (λ x. Reads (SpellsBranches bodies x) ts r × (depth_in_branches x ≤ n)) (sym s.3)
-      (reads_then (Is (codes "elif")) (AnySeparators then SpellsList bodies s.0 then Is (codes "then") then SpellsInner bodies s.1 then SpellsBranches bodies s.2) ts (behind ts) r (Word (map Plain (codes "elif")) ∷ [], begins_is told (codes "elif") ts h, refl) s.4, s.5))
+      (reads_then (Is (codes "elif")) (AnySeparators then SpellsList bodies s.0 then Is (codes "then") then AfterThen bodies (SpellsInner bodies s.1 then SpellsBranches bodies s.2)) ts (behind ts) r (Word (map Plain (codes "elif")) ∷ [], begins_is told (codes "elif") ts h, refl) s.4, s.5))
       (λ h.
       let e2 = rw h at e in
       by_test (begins (is (codes "else")) ts)
@@ -153,7 +155,7 @@ module _ (told : FormsAreTold) (bodies : Bodies) (n : ℕ) (p : Reader Command) 
   compound-sound keyword.If ts r y k e =
       let s = branch-sound (branches bodies p) (λ ts. branches-sound (length ts) ts) If (behind ts) r y e in
       subst (λ x. Reads (Spells bodies x) ts r × (depth x ≤ suc n)) (sym s.3)
-      (opened keyword.If (AnySeparators then SpellsList bodies s.0 then Is (codes "then") then SpellsInner bodies s.1 then SpellsBranches bodies s.2) ts r k s.4, omega (arith, s.5))
+      (opened keyword.If (AnySeparators then SpellsList bodies s.0 then Is (codes "then") then AfterThen bodies (SpellsInner bodies s.1 then SpellsBranches bodies s.2)) ts r k s.4, omega (arith, s.5))
   compound-sound keyword.For ts r y k e =
       let s1 = into-some name (λ v. one (is (codes "in")) into λ _. any_words into λ words. separators into λ _. one (is (codes "do")) into λ _. inner bodies p into λ d. mapped (λ _. For v words d) (one (is (codes "done")))) (behind ts) r y e in
       let s2 = into-some (one (is (codes "in"))) (λ _. any_words into λ words. separators into λ _. one (is (codes "do")) into λ _. inner bodies p into λ d. mapped (λ _. For s1.0 words d) (one (is (codes "done")))) s1.1 r y s1.3 in

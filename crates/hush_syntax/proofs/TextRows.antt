@@ -6,7 +6,7 @@ use Rattle.hush_words.specs.Reading.{dollar_at, inner_escape, inner_at, double_a
 use Rattle.hush_words.specs.Forms.{is_plain, name_of, assignment_of}
 use Rattle.hush_syntax.specs.declared.nodes.Bodies.TheVariants.{MayBeEmpty}
 use Rattle.hush_syntax.specs.Keywords.{keyword_of}
-use Rattle.hush_syntax.specs.Grammar.{Command, Simple, If, Else, Fi, For, While, First, End, Chains, Last, nothing}
+use Rattle.hush_syntax.specs.Grammar.{Command, Simple, If, Elif, Else, Fi, For, While, First, End, Chains, Last, nothing}
 use Rattle.hush_syntax.specs.Reading.{command, read_in, read}
 
 abbrev word : List ℕ → List Atom
@@ -59,6 +59,16 @@ empty_comment_row = refl
 empty_then_row : read_in MayBeEmpty (codes "if a; then; else b; fi") ≡ Some (Some (alone (If (alone (Simple (word (codes "a") ∷ []))) nothing (Else (alone (Simple (word (codes "b") ∷ [])))))))
 unfolding read_in tokens_of lexeme_at passed_at piece_at is_bare ends_word is_special is_blank command keyword_of is_plain name_of assignment_of begins_name is_in_name
 empty_then_row = refl
+
+-- `then` and `elif` side by side, where a board leaves the `if`
+then_elif_row : read_in MayBeEmpty (codes "if a; then elif b; then c; fi") ≡ None
+unfolding read_in tokens_of lexeme_at passed_at piece_at is_bare ends_word is_special is_blank command keyword_of is_plain name_of assignment_of begins_name is_in_name
+then_elif_row = refl
+
+-- a separator is between them
+then_apart_row : read_in MayBeEmpty (codes "if a; then; elif b; then c; fi") ≡ Some (Some (alone (If (alone (Simple (word (codes "a") ∷ []))) nothing (Elif (alone (Simple (word (codes "b") ∷ []))) (alone (Simple (word (codes "c") ∷ []))) Fi))))
+unfolding read_in tokens_of lexeme_at passed_at piece_at is_bare ends_word is_special is_blank command keyword_of is_plain name_of assignment_of begins_name is_in_name
+then_apart_row = refl
 
 -- `else` and `fi` side by side
 empty_else_row : read_in MayBeEmpty (codes "if a; then b; else fi") ≡ Some (Some (alone (If (alone (Simple (word (codes "a") ∷ []))) (alone (Simple (word (codes "b") ∷ []))) (Else nothing))))

@@ -12,9 +12,9 @@ use crate::stored::{Block, Stored};
 use crate::table::Builder;
 
 impl<'s> Parser<'s> {
-    ghost use Rattle.hush_syntax.specs.Answers.{branch, otherwise, SameEnd, IsAt, HasFaultOf, Keeps};
+    ghost use Rattle.hush_syntax.specs.Answers.{Answers, branch, left_in, otherwise, SameEnd, IsAt, HasFaultOf, Keeps};
     ghost use Rattle.hush_syntax.specs.Grammar.{Chains, Command};
-    ghost use Rattle.hush_syntax.specs.Reading.{command, compound, loop_parts};
+    ghost use Rattle.hush_syntax.specs.Reading.{command, compound, elif_at_once, loop_parts, then_word};
     ghost use Rattle.hush_syntax.specs.Builders.{Parses, CommandAt, BranchAt, OtherwiseAt, LoopAt};
 
     /// What is after a form's first word. It isn't inlined into what reads every command, which so has less to set up.
@@ -142,9 +142,30 @@ impl<'s> Parser<'s> {
         ensures at { Keeps self.entry.text.now tokens.new result }
     {
         let condition = self.list(tokens, builder, room)?;
-        tokens.expect(self.text, Keyword::Then.text())?;
+        self.then_word(tokens)?;
         let body = self.inner(tokens, builder, room)?;
         Ok(Branch { condition, body })
+    }
+
+    /// Passes `then`, which `elif` may not follow at once where a body may be empty.
+    fn then_word(self, tokens: &mut Tokens) -> Result<(), SyntaxFault>
+        requires at { IsAt self.text.now tokens.old }
+        ensures answered { Answers (λ _. tt) (then_word self.entry.bodies (left_in self.entry.text.now tokens.old)) (left_in self.entry.text.now tokens.new) result }
+        ensures whole { OnOk result (SameEnd self.entry.text.now tokens.old tokens.new) }
+        ensures at { Keeps self.entry.text.now tokens.new result }
+    {
+        tokens.expect(self.text, Keyword::Then.text())?;
+        if self.elif_at_once(tokens) {
+            return Err(tokens.fault());
+        }
+        Ok(())
+    }
+
+    /// Whether `elif` comes next, where a body may be empty.
+    fn elif_at_once(self, tokens: &Tokens) -> bool
+        ensures { result ≡ elif_at_once self.entry.bodies (left_in self.entry.text.now tokens.now) }
+    {
+        self.bodies.may_be_empty() && tokens.at(self.text, Keyword::Elif.text())
     }
 
     /// `else` with its body, if it is there, and `fi`.
