@@ -105,7 +105,7 @@ REFUSED = [
     (b"mmc -> echo $2", 1, "NoScript"),
     (b"test -e -> boots", 1, "NoStatus"),
     (b"test -e mmc -> true", 1, "NoStatus"),
-    (b"".join(b"a%d\n" % number for number in range(1025)), 1025, "Many"),
+    (b"".join(b"a%d\n" % number for number in range(513)), 513, "Many"),
     (b"mmc\nusb\nmmc 1", 3, "Unreachable"),
     (b"mmc\nmmc dev 0 -> 1", 2, "Unreachable"),
     (b"l* m* -> 1\nload mmc 1:2 -> 0", 2, "Unreachable"),
@@ -115,7 +115,7 @@ REFUSED = [
 ACCEPTED = [
     b"", b"\r\n \t\n", b"mmc->0 -> 1", b"mmc -> 000255", b"echo.b\nech* 1\nset.* 1\n[", b"load mmc -> 1\nload mm* -> 0\nload",
     b"load* a -> 0\nload -> 1", b"env s* -> boots\nenv", b"setexpr.q 1\nsetexpr.* -> true\nsetexpr", b"mmc -> ? || boots", b"mmc -> exit ${1}; resets", b"test* -e -> boots",
-    b"".join(b"a%d\n" % number for number in range(1024)),
+    b"".join(b"a%d\n" % number for number in range(512)),
 ]  # fmt: skip
 
 

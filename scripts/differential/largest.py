@@ -163,25 +163,25 @@ def scripts():
 
 
 def by_board(script, output, text, errors=b""):
-    """The same by a board file, whose rules are compared with one another: the most of them take 6 s of a processor."""
+    """The same by a board file, whose rules are compared with one another: they are the most that there may be."""
     name, form = "the largest: a board file", Geometry(1, 64)
     files = {b"board": text}
-    return unwritten(name, form, script + b"\n", output, b"--board", b"board", files=files, errors=errors, is_modelled=False, seconds=10 * SECONDS)
+    return unwritten(name, form, script + b"\n", output, b"--board", b"board", files=files, errors=errors, is_modelled=False, seconds=SECONDS)
 
 
 def board_files():
     """As many rules as there may be, as long as lines may be: each is compared with all before it."""
     name = b"p" * 4080 + b"%04d"
-    alike = b"".join(name % number + b" -> 7\n" for number in range(1024))
-    last = name % 1023
+    alike = b"".join(name % number + b" -> 7\n" for number in range(512))
+    last = name % 511
     yield by_board(last + b"; echo $?", b"+ " + last + b"\n7\n[Finished 0 2]\n", alike)
     covered = alike.removesuffix(last + b" -> 7\n") + name % 0 + b" -> 7\n"
-    yield by_board(b"true", b"", covered, b"fwenv: board:1024: an earlier line answers all of these calls\n")
-    words = b"".join(b"a " * 2040 + b"%04d -> 7\n" % number for number in range(1024))
-    yield by_board(b"a; a " + b"a " * 2039 + b"1023; echo $?", b"Unknown command 'a' - try 'help'\n+ " + b"a " * 2040 + b"1023\n7\n[Finished 0 3]\n", words)
-    beginnings = b"".join(b"a* " * 1300 + b"b%04d* -> 7\n" % number for number in range(1024))
+    yield by_board(b"true", b"", covered, b"fwenv: board:512: an earlier line answers all of these calls\n")
+    words = b"".join(b"a " * 2040 + b"%04d -> 7\n" % number for number in range(512))
+    yield by_board(b"a; a " + b"a " * 2039 + b"0511; echo $?", b"Unknown command 'a' - try 'help'\n+ " + b"a " * 2040 + b"0511\n7\n[Finished 0 3]\n", words)
+    beginnings = b"".join(b"a* " * 1300 + b"b%04d* -> 7\n" % number for number in range(512))
     yield by_board(b"true", b"[Finished 0 1]\n", beginnings)
-    yield by_board(b"true", b"", beginnings + b"x\n", b"fwenv: board:1025: more than 1024 rules\n")
+    yield by_board(b"true", b"", beginnings + b"x\n", b"fwenv: board:513: more than 512 rules\n")
 
 
 def one(rows, at):

@@ -9,7 +9,7 @@ from model.shells import BOARD, only
 from model.texts import BUILTINS, SUBCOMMANDS, lines_of
 from model.words import Fault
 
-MOST_LINE, MOST_RULES = 4096, 1024
+MOST_LINE, MOST_RULES = 4096, 512
 ARROW = re.compile(rb"(?:\A|(?<=[ \t]))->(?=[ \t]|\Z)")
 SENTENCES = {
     "Nul": b"a byte 0",
@@ -23,7 +23,7 @@ SENTENCES = {
     "Resets": b"resets cannot be told from boots yet",
     "NoScript": b"what is after -> is not a script",
     "NoStatus": b"test -e is answered by a status alone",
-    "Many": b"more than 1024 rules",
+    "Many": b"more than 512 rules",
     "Unreachable": b"an earlier line answers all of these calls",
 }
 

@@ -11,7 +11,7 @@ use Rattle.board_file.specs.BoardLines.{LineOrFault, read_line}
 
 -- how many rules a board may have
 abbrev pub most_rules : ℕ
-most_rules = 1024
+most_rules = 512
 
 abbrev pub RulesOrLineFault : Type 0
 RulesOrLineFault = Result (List Rule) LineFault
@@ -73,6 +73,6 @@ fault_text fault.Open = codes "? is for fwenv boot"
 fault_text fault.Resets = codes "resets cannot be told from boots yet"
 fault_text fault.NoScript = codes "what is after -> is not a script"
 fault_text fault.NoStatus = codes "test -e is answered by a status alone"
-fault_text fault.Many = codes "more than 1024 rules"
+fault_text fault.Many = codes "more than 512 rules"
 fault_text fault.Unreachable = codes "an earlier line answers all of these calls"
 fault_text fault.Memory = codes "out of memory"

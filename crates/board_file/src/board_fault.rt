@@ -30,7 +30,7 @@ pub enum LineFault {
     NoScript,
     /// Its answer to `test -e` isn't a status.
     NoStatus,
-    /// It is one rule more than 1,024.
+    /// It is one rule more than 512.
     Many,
     /// An earlier line answers all of its calls.
     Unreachable,
@@ -57,7 +57,7 @@ impl LineFault {
             LineFault::Resets => b"resets cannot be told from boots yet",
             LineFault::NoScript => b"what is after -> is not a script",
             LineFault::NoStatus => b"test -e is answered by a status alone",
-            LineFault::Many => b"more than 1024 rules",
+            LineFault::Many => b"more than 512 rules",
             LineFault::Unreachable => b"an earlier line answers all of these calls",
             LineFault::Memory => b"out of memory",
         }

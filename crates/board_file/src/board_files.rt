@@ -11,7 +11,7 @@ use std::alloc::{AllocError, Global};
 use text_parts::{numbered_lines, strip_carriage_return};
 
 /// How many rules a board may have: each is compared with all before it.
-const MOST_RULES: usize = 1024;
+const MOST_RULES: usize = 512;
 
 /// Reads a board file: a rule in each line, of which the first that fits a call answers it (docs/runs.md, "Board files").
 ///
