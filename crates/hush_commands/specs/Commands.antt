@@ -9,7 +9,7 @@ use Rattle.hush_commands.specs.Builtins.{builtin_of}
 use Rattle.hush_commands.specs.declared.shell.Shell.{Shell}
 use Rattle.hush_commands.specs.Hardware.{Hardware}
 use Rattle.hush_commands.specs.CommandNames.{name_by, stands_for}
-use Rattle.hush_commands.specs.Statuses.{status_of}
+use Rattle.hush_commands.specs.Shells.{exit_word}
 
 -- an option, if it is the first word, and the words after it
 abbrev pub Optioned : Type 0
@@ -66,10 +66,10 @@ abbrev pub exit_with : (called : List ℕ) → Option ℕ → Command
 exit_with called None = command.WrongUse called
 exit_with called (Some status) = command.Exit (Some status)
 
-abbrev pub exit_command : (called : List ℕ) → List (List ℕ) → Command
-exit_command called [] = command.Exit None
-exit_command called (digits ∷ []) = exit_with called (status_of digits)
-exit_command called (digits ∷ more ∷ words) = command.WrongUse called
+abbrev pub exit_command : Shell → (called : List ℕ) → List (List ℕ) → Command
+exit_command shell called [] = command.Exit None
+exit_command shell called (word ∷ []) = exit_with called (exit_word shell word)
+exit_command shell called (word ∷ more ∷ words) = command.WrongUse called
 
 -- the commands of `env`
 abbrev pub env_word : Shell → (called word : List ℕ) → List (List ℕ) → Command
@@ -97,7 +97,7 @@ builtin_command shell builtin.Run called words = run_command called words
 builtin_command shell builtin.Env called words = env_command shell called words
 builtin_command shell builtin.Test called words = command.Test words
 builtin_command shell builtin.SetExpr called words = command.Calculate called words
-builtin_command shell builtin.Exit called words = exit_command called words
+builtin_command shell builtin.Exit called words = exit_command shell called words
 
 -- builtins come first
 abbrev pub named_command : Shell → Option Builtin → (name : List ℕ) → (fields words : List (List ℕ)) → Command
