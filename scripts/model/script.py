@@ -4,7 +4,7 @@ import re
 from dataclasses import dataclass
 
 from model.board_file import first_rule, names_of
-from model.calculations import setexpr, status_of_digits
+from model.calculations import setexpr
 from model.grammar import parse
 from model.shells import STRICT
 from model.texts import BUILTINS, SUBCOMMANDS
@@ -287,7 +287,7 @@ class Run:
         return self.reply(b"test", [b"-e", *words]) in (0, None)
 
     def exit(self, name, words):
-        status = status_of_digits(words[0]) if words else self.shell.of_bare_exit(self.status)
+        status = self.shell.of_exit(words[0]) if words else self.shell.of_bare_exit(self.status)
         if len(words) > 1 or status is None:
             self.wrong_use(name)
         elif not self.shell.leaves_text:

@@ -1,10 +1,14 @@
 """The two shells of a run, by what they make of a script (docs/runs.md, "Boards")."""
 
-from model.calculations import board_test, test
+import re
+
+from model.calculations import board_test, status_of_digits, test
 from model.texts import BUILTINS
 
 # Those of `env` that most boards have, of which some are wrong use in a dry run
 SUBCOMMANDS = {b"default", b"delete", b"edit", b"exists", b"export", b"import", b"print", b"run", b"save", b"set"}
+# What a board reads of a word of `exit`
+DIGITS = re.compile(rb"0[xX]([0-9A-Fa-f]*)|([0-9]*)")
 
 
 def only(name, known):
@@ -46,6 +50,10 @@ class Strict:
     def of_bare_exit(self, status):
         """The status of an `exit` without one."""
         return status
+
+    def of_exit(self, word):
+        """The status of an `exit` with a word; None if it can't have it."""
+        return status_of_digits(word)
 
     def calls(self, _name):
         """Whether an assignment to a name is a command's call."""
@@ -90,6 +98,10 @@ class Board(Strict):
 
     def of_bare_exit(self, _status):
         return 0
+
+    def of_exit(self, word):
+        hexadecimal, decimal = DIGITS.match(word).groups()
+        return min(int(decimal or b"0") if hexadecimal is None else int(hexadecimal or b"0", 16), 255)
 
     def calls(self, name):
         return name.startswith(b"_")

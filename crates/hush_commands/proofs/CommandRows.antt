@@ -13,6 +13,7 @@ use Rattle.hush_commands.specs.declared.follow.Follow.TheVariants.{Next, End, Le
 use Rattle.hush_commands.specs.Builtins.{builtin_of}
 use Rattle.hush_commands.specs.declared.command.Command.{Command}
 use Rattle.hush_commands.specs.Commands.{command_in}
+use Rattle.hush_commands.specs.Shells.{exit_word}
 use Rattle.hush_commands.specs.Stubs.{Statuses, is_end, with_boot}
 use Rattle.hush_commands.specs.declared.board_rules.PatternWord.{PatternWord}
 use Rattle.hush_commands.specs.declared.board_rules.Rule.{Rule}
@@ -71,6 +72,11 @@ exit_ends = refl
 board_exit_leaves : let none : Statuses = empty in follow_of Board (hardware [] none) (codes "exit" ∷ []) ≡ Leaves
 unfolding builtin_of
 board_exit_leaves = refl
+
+-- and takes any word, of which the digits in front count
+exit_words : map (exit_word Board) (codes "08" ∷ codes "3x" ∷ codes "0x1f" ∷ codes "300" ∷ codes "abc" ∷ codes "-1" ∷ [] ∷ [])
+    ≡ map Some (8 ∷ 3 ∷ 31 ∷ 255 ∷ 0 ∷ 0 ∷ 0 ∷ [])
+exit_words = refl
 
 wrong_exit_goes_on : follow_after (codes "exit" ∷ codes "256" ∷ []) ≡ Next
 unfolding follow_after builtin_of

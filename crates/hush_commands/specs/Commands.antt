@@ -13,7 +13,7 @@ use Rattle.hush_commands.specs.declared.board_rules.Rule.{Rule}
 use Rattle.hush_commands.specs.declared.board_rules.Reply.{Reply}
 use Rattle.hush_commands.specs.Hardware.{Hardware, ruled}
 use Rattle.hush_commands.specs.CommandNames.{name_by, stands_for}
-use Rattle.hush_commands.specs.Statuses.{status_of}
+use Rattle.hush_commands.specs.Shells.{exit_word}
 
 -- an option, if it is the first word, and the words after it
 abbrev pub Optioned : Type 0
@@ -70,10 +70,10 @@ abbrev pub exit_with : (called : List ℕ) → Option ℕ → Command
 exit_with called None = command.WrongUse called
 exit_with called (Some status) = command.Exit (Some status)
 
-abbrev pub exit_command : (called : List ℕ) → List (List ℕ) → Command
-exit_command called [] = command.Exit None
-exit_command called (digits ∷ []) = exit_with called (status_of digits)
-exit_command called (digits ∷ more ∷ words) = command.WrongUse called
+abbrev pub exit_command : Shell → (called : List ℕ) → List (List ℕ) → Command
+exit_command shell called [] = command.Exit None
+exit_command shell called (word ∷ []) = exit_with called (exit_word shell word)
+exit_command shell called (word ∷ more ∷ words) = command.WrongUse called
 
 -- a form of a builtin that has no meaning here is a call, if a rule answers that
 abbrev pub answered : Option Reply → (called : List ℕ) → (fields : List (List ℕ)) → Command
@@ -118,7 +118,7 @@ builtin_command shell rules builtin.Run called fields words = run_command called
 builtin_command shell rules builtin.Env called fields words = env_command shell rules called fields words
 builtin_command shell rules builtin.Test called fields words = command.Test words
 builtin_command shell rules builtin.SetExpr called fields words = calculate_command rules called fields words
-builtin_command shell rules builtin.Exit called fields words = exit_command called words
+builtin_command shell rules builtin.Exit called fields words = exit_command shell called words
 
 -- builtins come first
 abbrev pub named_command : Shell → List Rule → Option Builtin → (name : List ℕ) → (fields words : List (List ℕ)) → Command

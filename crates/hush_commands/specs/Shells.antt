@@ -1,11 +1,12 @@
 -- Where the shells differ in a simple command and in the list of a `for` (docs/runs.md, "Boards").
-use Rattle.std.specs.Prelude.{ℕ, ◌==◌, ◌||◌, Bool, List, Option}
+use Rattle.std.specs.Prelude.{ℕ, ◌==◌, ◌||◌, Bool, List, Option, Some}
 use Rattle.std.specs.List.{flat_map}
 use Rattle.hush_words.specs.Words.{Atom}
 use Rattle.hush_calc.specs.Test.{test_of}
 use Rattle.hush_calc.specs.Board.{board_test_of}
 use Rattle.hush_commands.specs.Hardware.{Hardware, is_there}
 use Rattle.hush_commands.specs.Expansion.{Known, fields, cut_items, expanded, expanded_whole}
+use Rattle.hush_commands.specs.Statuses.{status_of, status_in_front}
 use Rattle.hush_commands.specs.declared.shell.Shell.{Shell}
 use Rattle.hush_commands.specs.declared.shell.Shell.TheVariants.{Strict, Board}
 
@@ -18,6 +19,11 @@ kept_status Board status = status
 abbrev pub exit_status : Shell → ℕ → ℕ
 exit_status Strict status = status
 exit_status Board status = 0
+
+-- the status of an `exit` with this word, if it may have it: a board takes any word
+abbrev pub exit_word : Shell → List ℕ → Option ℕ
+exit_word Strict word = status_of word
+exit_word Board word = Some (status_in_front word)
 
 -- the command `test`; a board's `-e` asks what stands in for hardware
 abbrev pub test_by : Shell → Hardware → List (List ℕ) → Bool

@@ -6,8 +6,7 @@ ghost use Rattle.hush_commands.specs.Commands.{is_wrong_use};
 use crate::board_rules::BoardRules;
 use crate::builtins::Builtin;
 use crate::command_names::{name_by, stands_for};
-use crate::shell::Shell;
-use crate::stand_in_line::read_status;
+use crate::shell::{Shell, exit_word};
 use crate::stand_ins::Stubs;
 use hush_calc::{Fields, SetexprFault, setexpr};
 use std::marker::Model;
@@ -160,7 +159,7 @@ impl<'a> Command<'a> {
             Builtin::Env => Command::env(shell, board, called, fields, words),
             Builtin::Test => Command::Test { words },
             Builtin::SetExpr => Command::calculate(board, called, fields, words),
-            Builtin::Exit => Command::exit(called, words),
+            Builtin::Exit => Command::exit(shell, called, words),
         }
     }
 
@@ -314,18 +313,18 @@ impl<'a> Command<'a> {
         }
     }
 
-    fn exit(called: &'a [u8], words: Fields<'a>) -> Command<'a>
-        ensures { result ≡ exit_command called.now words.entry }
+    fn exit(shell: Shell, called: &'a [u8], words: Fields<'a>) -> Command<'a>
+        ensures { result ≡ exit_command shell called.now words.entry }
     {
         let mut rest = words;
         match (rest.next(), rest.next()) {
             (None, _) => Command::Exit { status: None },
-            (Some(digits), None) => Command::exit_with(called, read_status(digits)),
+            (Some(word), None) => Command::exit_with(called, exit_word(shell, word)),
             _ => Command::wrong_use(called),
         }
     }
 
-    /// `exit` with a word that spells this status, or no status.
+    /// `exit` with a word that is this status, or none.
     fn exit_with(called: &'a [u8], status: Option<u8>) -> Command<'a>
         ensures { result ≡ exit_with called.now status }
     {

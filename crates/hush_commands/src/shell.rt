@@ -1,11 +1,15 @@
 //! Whose rules a run follows, and where the shells differ in a simple command.
-ghost use Rattle.std.specs.Prelude.{◌≡◌, Some};
-ghost use Rattle.hush_commands.specs.Shells.{kept_status, exit_status, test_by};
+ghost use Rattle.std.specs.Prelude.{◌≡◌, Some, min};
+ghost use Rattle.hush_calc.specs.Numbers.{front_number};
+ghost use Rattle.hush_commands.specs.Shells.{kept_status, exit_status, exit_word, test_by};
+ghost use Rattle.hush_commands.specs.Statuses.{status_in_front};
 ghost use Rattle.hush_commands.specs.Hardware.{hardware, is_success};
 
 use crate::board_rules::{BoardRules, Reply};
+use crate::stand_in_line::read_status;
 use crate::stand_ins::Stubs;
 use hush_calc::{Fields, Files, board_test, test};
+use text_parts::{Base, behind_0x, digits_in_front, number};
 
 /// The shell whose rules a run follows where the two differ (docs/runs.md, "Boards").
 #[derive(Clone, Copy, Debug, PartialEq, Eq)]
@@ -34,6 +38,33 @@ pub(crate) fn exit_status(shell: Shell, status: u8) -> u8
         Shell::Strict => status,
         Shell::Board => 0,
     }
+}
+
+/// The status of an `exit` with this word, if it may have it.
+pub(crate) fn exit_word(shell: Shell, word: &[u8]) -> Option<u8>
+    ensures { result ≡ exit_word shell word.now }
+{
+    match shell {
+        Shell::Strict => read_status(word),
+        Shell::Board => Some(status_in_front(word)),
+    }
+}
+
+/// The status of the digits that a text begins with.
+fn status_in_front(text: &[u8]) -> u8
+    ensures { result ≡ status_in_front text.now }
+{
+    match behind_0x(text) {
+        Some(rest) => digits_status(Base::Hexadecimal, rest),
+        None => digits_status(Base::Decimal, text),
+    }
+}
+
+/// The status of the digits of a base that a text begins with.
+fn digits_status(base: Base, text: &[u8]) -> u8
+    ensures { result ≡ min (front_number base text.now) 255 }
+{
+    number(base, digits_in_front(base, text), 255) as u8
 }
 
 /// The command `test`.
