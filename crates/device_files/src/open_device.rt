@@ -5,7 +5,7 @@ ghost use Rattle.device_files.specs.Record.{calls_in};
 ghost use Rattle.devices.specs.Device.{Only};
 
 use crate::device_file::DeviceFile;
-use crate::open_files::{LastCall, NO_CALL, OpenFiles};
+use crate::open_files::{LastCall, OpenFiles};
 use crate::record::{Call, Record, text_of};
 use devices::{Device, Fault};
 use std::alloc::Global;
@@ -43,17 +43,9 @@ impl<F: Read + Write + Seek + OpenFile + Drop, S: Start> OpenDevice<F, S> {
             Only (seen_after S.contents (calls_in device.calls))
             (MayLeave S.contents (calls_in device.calls))) }
     {
-        let mut files = OpenFiles {
-            first,
-            second,
-            last: NO_CALL,
-        };
+        let mut files = OpenFiles::opened(first, second);
         match files.flush() {
-            Ok(()) => Ok(OpenDevice {
-                files,
-                calls: Record::new(),
-                start: PhantomData,
-            }),
+            Ok(()) => Ok(OpenDevice::begun(files)),
             Err(_) => Err(files.last),
         }
     }
@@ -67,15 +59,7 @@ impl<F: Read + Write + Seek + OpenFile + Drop, S: Start> OpenDevice<F, S> {
             length: 0,
             is_flushed: true,
         };
-        OpenDevice {
-            files: OpenFiles {
-                first,
-                second: None,
-                last: NO_CALL,
-            },
-            calls: Record::new(),
-            start: PhantomData,
-        }
+        OpenDevice::begun(OpenFiles::opened(first, None))
     }
 
     /// What the last call did.
@@ -83,6 +67,17 @@ impl<F: Read + Write + Seek + OpenFile + Drop, S: Start> OpenDevice<F, S> {
         ensures { result ≡ self.now.files.last }
     {
         self.files.last
+    }
+
+    /// These files, of which no call was made yet.
+    fn begun(files: OpenFiles<F>) -> Self
+        ensures { calls_in result.calls ≡ [] }
+    {
+        OpenDevice {
+            files,
+            calls: Record::new(),
+            start: PhantomData,
+        }
     }
 }
 

@@ -16,12 +16,6 @@ pub struct LastCall {
     pub failure: Option<ErrorKind>,
 }
 
-/// Of a device that was just opened.
-pub(crate) const NO_CALL: LastCall = LastCall {
-    is_second: false,
-    failure: None,
-};
-
 /// One open file, or two.
 #[derive(Drop)]
 pub(crate) struct OpenFiles<F: Read + Write + Seek + OpenFile + Drop> {
@@ -31,6 +25,18 @@ pub(crate) struct OpenFiles<F: Read + Write + Seek + OpenFile + Drop> {
 }
 
 impl<F: Read + Write + Seek + OpenFile + Drop> OpenFiles<F> {
+    /// These files, as they were opened.
+    pub(crate) fn opened(first: DeviceFile<F>, second: Option<DeviceFile<F>>) -> Self {
+        OpenFiles {
+            first,
+            second,
+            last: LastCall {
+                is_second: false,
+                failure: None,
+            },
+        }
+    }
+
     /// How many bytes there are.
     pub(crate) fn measure(&mut self) -> Result<usize, Fault>
         ensures { IsErrOf result Fault.Changed → ⊥ }
