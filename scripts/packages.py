@@ -264,6 +264,8 @@ def completions(folder):
         ("fwenv check -c of-copy boot", names),
         ("fwenv import --n", {"--need-copy"}),
         ("fwenv export --de", {"--default"}),
+        ("fwenv export --co", {"--copy"}),
+        ("fwenv printenv --copy ", {"1", "2"}),
         ("fwenv session --st", {"--stubs", "--steps"}),
         ("fwenv re", {"restore"}),
         ("fwenv status --b", {"--big-endian"}),

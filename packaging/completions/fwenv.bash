@@ -42,11 +42,16 @@ _fwenv() {
             mapfile -t COMPREPLY < <(compgen -W 'board strict' -- "$word")
             return
             ;;
+        --copy)
+            mapfile -t COMPREPLY < <(compgen -W '1 2' -- "$word")
+            return
+            ;;
         --steps | --depth | --word | --output | --size | --boots | -e) return ;;
     esac
     case $command in
         '') options="$commands --big-endian -h --help -V --version" ;;
-        printenv) options+=' -n' ;;
+        printenv) options+=' --copy -n' ;;
+        export) options+=' --copy' ;;
         setenv) options+=' -s --overwrite' ;;
         import | restore) options+=' --overwrite' ;;
         status) options='-c --big-endian -h --help' ;;

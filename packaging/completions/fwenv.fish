@@ -37,6 +37,7 @@ complete -c fwenv -l big-endian -d 'Checksums have the highest byte first'
 complete -c fwenv -n "__fish_seen_subcommand_from printenv setenv import export restore status run check session" -s c -rF -d 'Configuration'
 complete -c fwenv -n "__fish_seen_subcommand_from printenv setenv import export restore run check session" -l default -rF -d 'Default environment'
 complete -c fwenv -n "__fish_seen_subcommand_from printenv setenv import export restore run session" -l need-copy -d 'Do nothing without a good copy'
+complete -c fwenv -n "__fish_seen_subcommand_from printenv export" -l copy -xa '1 2' -d 'One copy, which has to be good'
 complete -c fwenv -n "__fish_seen_subcommand_from printenv" -s n -d 'Print the value alone'
 complete -c fwenv -n "__fish_seen_subcommand_from printenv setenv run check" -a "(__fwenv_names)"
 complete -c fwenv -n "__fish_seen_subcommand_from setenv" -s s -rF -d 'Script of names and values'

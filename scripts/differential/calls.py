@@ -60,6 +60,7 @@ OFTEN = {
     **{name: 0.0002 for name in ("Can't create", "Can't delete", "Can't overwrite", "EmptyName", "Undone")},
     **{name: 0.001 for name in ("Exited", "Finished", "Quote", "Missing", "Unexpected", "Substitution", "no good copy", "is written")},
     **{name: 0.003 for name in ("variable that is", "nothing defines", "no builtin", "carriage return", "be assigned", "no variable")},
+    **{name: 0.001 for name in ("copy isn't good", "no second copy", "possible values: 1, 2")},
     "this shell has": 0.002,
     "status 0": 0.3,
 }
@@ -206,10 +207,15 @@ class Calls:
             options.append(self.option(b"--size", self.numbers.choice(SIZES)))
         return options, self.some(CHECKED, 2) if self.chance(60) else []
 
+    def wanted_copy(self):
+        return [self.option(b"--copy", self.numbers.choice([b"1", b"2", b"2", b"3"]))] if self.chance(30) else []
+
     def own(self, tool, is_whole):
         """The options and the other arguments of a subcommand."""
         if tool == b"printenv":
-            return [[b"-n"]] * self.chance(30), self.some(NAMES, 2)
+            return self.wanted_copy() + [[b"-n"]] * self.chance(30), self.some(NAMES, 2)
+        if tool == b"export":
+            return self.wanted_copy(), []
         if tool == b"setenv":
             if self.chance(40):
                 return [self.option(b"-s", self.text(b"script", self.numbers.choice(SET_SCRIPTS)))], self.some(NAMES, 1) * self.chance(5)

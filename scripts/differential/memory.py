@@ -31,7 +31,9 @@ WITHOUT_FILES = [
 ]  # fmt: skip
 # Tools over two copies: their arguments, and perhaps the file `text`
 TOOLS = [
-    *((words, b"") for words in calls("printenv / printenv a / printenv q a / setenv a b / setenv a bc / setenv a=b c / export / status")),
+    *((words, b"") for words in calls(
+        "printenv / printenv a / printenv --copy 2 / export --copy=1 / printenv q a / setenv a b / setenv a bc / setenv a=b c / export / status"
+    )),
     *(([b"setenv", b"-s", b"text"], text) for text in (b"a c\na b\n", b"a c\nb c\na d\n")),
     *(([b"import", b"text"], text) for text in (b"a=c\na=b\n", b"a=bc\nq=1\na=\n")),
     *(([b"restore", b"text"], text) for text in (b"a=c\n", b"a=bcd\n")),

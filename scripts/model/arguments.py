@@ -18,10 +18,10 @@ WHOLE_VALUES = {"--stubs", "--env", "--size"}
 DRY_VALUES = WHOLE_VALUES | {"--board", "--shell", "--steps", "--depth", "--word", "--output"}
 # Of each subcommand: its flags, its options with a value, and how many other arguments it takes
 FORMS = {
-    "printenv": (OPENING_FLAGS | {"-n"}, OPENING_VALUES, (0, None)),
+    "printenv": (OPENING_FLAGS | {"-n"}, OPENING_VALUES | {"--copy"}, (0, None)),
     "setenv": (WRITING_FLAGS, OPENING_VALUES | {"-s"}, (0, None)),
     "import": (WRITING_FLAGS, OPENING_VALUES, (1, 1)),
-    "export": (OPENING_FLAGS, OPENING_VALUES, (0, 0)),
+    "export": (OPENING_FLAGS, OPENING_VALUES | {"--copy"}, (0, 0)),
     "restore": (WRITING_FLAGS, OPENING_VALUES, (1, 1)),
     "status": (set(), {"-c"}, (0, 1)),
     "session": (WRITING_FLAGS | {"--write"}, OPENING_VALUES | DRY_VALUES, (0, 0)),
@@ -58,6 +58,11 @@ For more information, try '--help'.
 """
 NO_SHELL = b"""error: invalid value '%s' for '--shell <SHELL>'
   [possible values: board, strict]
+
+For more information, try '--help'.
+"""
+NO_COPY = b"""error: invalid value '%s' for '--copy <N>'
+  [possible values: 1, 2]
 
 For more information, try '--help'.
 """
@@ -141,6 +146,13 @@ class Call:
         if name not in SHELLS:
             raise Wrong(NO_SHELL % name)
         return SHELLS[name]
+
+    def wanted_copy(self):
+        """The copy that is asked for, 0 or 1; None for the current one."""
+        number = self.options.get("--copy")
+        if number not in (None, b"1", b"2"):
+            raise Wrong(NO_COPY % number)
+        return None if number is None else int(number) - 1
 
     def limits(self):
         """The limits on steps, depth, word and output; the first that isn't a number within its limit is a fault."""

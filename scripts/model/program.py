@@ -35,6 +35,8 @@ For more information, try '--help'.
 """
 OVERLAP = b"fwenv: copies overlap\n"
 NO_GOOD_COPY = b"fwenv: no good copy: "
+NOT_GOOD = b"fwenv: the %s copy isn't good: %s\n"
+NO_SECOND = b"fwenv: there is no second copy\n"
 LOOK_AT = b"; look at the size and the number of lines in the configuration, and at the byte order (--big-endian)\n"
 REFUSED_TEXT = b"fwenv: %s: %s\n"
 TOO_LONG = b"fwenv: input too long\n"
@@ -179,12 +181,15 @@ class Program:
 
     def opened(self, call):
         """A session over those copies, or over an image in memory that holds nothing yet."""
-        size = call.size_in_memory()
+        size, wanted = call.size_in_memory(), call.wanted_copy()
         if size is not None:
             geometry = Geometry(1, size, call.order())
             return erased(geometry, self.defaults(call, geometry))
         geometry, read = self.found(call)
         copies = [rest[: geometry.size] for _, rest in read]
+        if wanted is not None:
+            # as if each were that copy
+            copies = [self.good_copy(geometry, copies, wanted)] * len(copies)
         if geometry.choice(copies)[0] is not None:
             return Session(geometry, copies, self.defaults(call, geometry))
         try:
@@ -198,6 +203,15 @@ class Program:
             raise Ended(NO_GOOD_COPY + report.faults(geometry, copies) + LOOK_AT)
         self.errors += WARNING
         return Session(geometry, copies, defaults)
+
+    def good_copy(self, geometry, copies, at):
+        """The copy that is asked for."""
+        if at == len(copies):
+            raise Ended(NO_SECOND)
+        state, _ = geometry.read(copies[at])
+        if state != "Good":
+            raise Ended(NOT_GOOD % ((b"first", b"second")[at], report.FAULTS[state]))
+        return copies[at]
 
     def write_back(self, session):
         """The copies go where they came from; what is around them stays. A warning comes before one that goes over other data."""

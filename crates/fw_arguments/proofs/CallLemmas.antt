@@ -5,7 +5,7 @@ use Rattle.std.proofs.lemmas.List.{map-append}
 use Rattle.clap.specs.Words.{AddsAliases, Row, Rule, Text, all_of, first_of, rule_of}
 use Rattle.clap.specs.declared.builder.arg.Arg.{Arg}
 use Rattle.envimg_core.specs.declared.geometry.Order.{Order}
-use Rattle.fw_arguments.specs.Calls.{Defaults, Job, defaults_of, LockFiles, is_client, job_of, locks_of, with_image}
+use Rattle.fw_arguments.specs.Calls.{Defaults, Job, defaults_of, LockFiles, is_client, job_of, locks_of, with_copy}
 use Rattle.fw_arguments.specs.Checks.{file_alone, file_check_by, file_check_of, names_environment}
 use Rattle.fw_arguments.specs.Shells.{board_shell, shell_of}
 use Rattle.hush_commands.specs.declared.shell.Shell.{Shell}
@@ -13,6 +13,7 @@ use Rattle.fw_arguments.specs.DryRuns.{DryRun, GivenScript, and_then, run_within
 use Rattle.fw_arguments.specs.Values.{first_or, is_given}
 use Rattle.run_limits.specs.Limits.{Bounds}
 use Rattle.fw_arguments.specs.Report.{Subject, in_order, report_of, subject_of}
+use Rattle.fw_arguments.specs.declared.wanted_copy.WantedCopy.{WantedCopy}
 use Rattle.fw_arguments.specs.Words.{either_order, order_by, source_in}
 
 pub text_or : (o : Option (Bor (List ℕ))) (other : Bor (List ℕ)) → (unwrap_or o other).now ≡ unwrap_or (option_map (λ s. s.now) o) other.now
@@ -27,13 +28,13 @@ alias_rule old new alias shown rule (same, more) is =
     ∙ ap (λ xs. record (rule_of old) { aliases = xs }) (map-append (λ (a : Bor (List ℕ) × Bool). a.0.now) old.aliases.items ((alias, shown) ∷ []))
     ∙ ap (λ (r : Rule). record r { aliases = r.aliases ++ alias.now ∷ [] }) is
 
-pub with_image_is : (order : Order) (name : Text) (rows : List Row) (image : Option ℕ) (config : Text) (defaults : Defaults) (locks : LockFiles) (chosen : Order) (only over : Bool) (job : Job) →
+pub with_copy_is : (order : Order) (name : Text) (rows : List Row) (image : Option ℕ) (copy : WantedCopy) (config : Text) (defaults : Defaults) (locks : LockFiles) (chosen : Order) (only over : Bool) (job : Job) →
     config ≡ first_or (codes "/etc/fw_env.config") (codes "config") rows → defaults ≡ defaults_of name rows → locks ≡ locks_of name rows →
     chosen ≡ either_order order (order_by (source_in (codes "big-endian") rows)) → only ≡ is_client name →
     over ≡ is_given (codes "overwrite") rows → Ok job ≡ job_of name rows →
-    Ok (record { config = config; image = image; defaults = defaults; locks = locks; order = chosen; only_changes = only; overwrite = over; job = job }) ≡ with_image order name rows image
-with_image_is order name rows image config defaults locks chosen only over job p q l r o w j =
-    λ i. and_then (j i) (λ k. Ok (record { config = p i; image = image; defaults = q i; locks = l i; order = r i; only_changes = o i; overwrite = w i; job = k }))
+    Ok (record { config = config; image = image; copy = copy; defaults = defaults; locks = locks; order = chosen; only_changes = only; overwrite = over; job = job }) ≡ with_copy order name rows image copy
+with_copy_is order name rows image copy config defaults locks chosen only over job p q l r o w j =
+    λ i. and_then (j i) (λ k. Ok (record { config = p i; image = image; copy = copy; defaults = q i; locks = l i; order = r i; only_changes = o i; overwrite = w i; job = k }))
 
 -- the run of a script with what was found for it
 pub script_is : (shell : Shell) (rows : List Row) (dry : DryRun) (limits : Bounds) (boots : Option (List Text)) (script : GivenScript) →

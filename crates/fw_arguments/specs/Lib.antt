@@ -8,5 +8,6 @@ pub mod Report
 pub mod Shells
 pub mod Table
 pub mod Values
+pub mod WantedCopies
 pub mod WordFaults
 pub mod Words

@@ -52,6 +52,9 @@ pub(crate) const BAD_SHELL: &[u8] =
     b"' for '--shell <SHELL>'\n  [possible values: board, strict]\n\n\
       For more information, try '--help'.\n";
 
+pub(crate) const BAD_COPY: &[u8] =
+    b"' for '--copy <N>'\n  [possible values: 1, 2]\n\nFor more information, try '--help'.\n";
+
 pub(crate) const BAD_SIZE: &[u8] =
     b"' for '--size <N>': not the size of an image in hexadecimal, 0x8 to 0x100000\n\n\
       For more information, try '--help'.\n";

@@ -1,7 +1,7 @@
 //! What the program's arguments ask for. docs/tools.md and docs/dry-runs.md state the rules.
 //!
-//! To read in this order: program_name; table, command_line; arguments, call, task,
-//! shells, dry_runs, check_requests, image_size, report; word_fault, argument_texts.
+//! To read in this order: program_name; table, command_line; arguments, call, wanted_copy, job,
+//! task, shells, dry_runs, check_requests, image_size, report; word_fault, argument_texts.
 #![tactic(auto)]
 
 mod argument_texts;
@@ -11,20 +11,24 @@ mod check_requests;
 mod command_line;
 mod dry_runs;
 mod image_size;
+mod job;
 mod program_name;
 mod report;
 mod shells;
 mod table;
 mod task;
+mod wanted_copy;
 mod word_fault;
 
 pub use argument_texts::STANDARD_INPUT;
 pub use arguments::{called, chosen_order};
-pub use call::{Call, Defaults, Job, LockFiles};
+pub use call::{Call, Defaults, LockFiles};
 pub use check_requests::{EnvironmentCheck, FileCheck};
 pub use command_line::read_words;
 pub use dry_runs::{DryRun, GivenScript, ScriptRun};
+pub use job::Job;
 pub use program_name::{ProgramName, Subcommand};
 pub use report::{Asked, Report, Subject, read_asked};
 pub use task::{Printing, Task};
+pub use wanted_copy::WantedCopy;
 pub use word_fault::WordFault;

@@ -108,6 +108,14 @@ pub const BIG_ENDIAN: Row = Row {
     help: "The image is a big-endian board's: its checksum has the highest byte first",
 };
 
+/// `--copy N`
+pub const COPY: Row = Row {
+    id: "copy",
+    names: Names::Long("copy"),
+    takes: Takes::One("N"),
+    help: "Takes the variables of copy 1 or 2, which has to be good, whichever copy is current",
+};
+
 /// `-n`
 pub const VALUE_ONLY: Row = Row {
     id: "value-only",
@@ -364,7 +372,7 @@ pub const PRINTENV: Called = Called {
     has_version: false,
     about: "Prints variables, a line NAME=VALUE each",
     example: "Example:\n  fwenv printenv bootcmd bootdelay",
-    options: &[CONFIG, DEFAULT, NEED_COPY, BIG_ENDIAN, VALUE_ONLY, NAMES],
+    options: &[CONFIG, DEFAULT, NEED_COPY, COPY, BIG_ENDIAN, VALUE_ONLY, NAMES],
 };
 
 /// `setenv`
@@ -393,7 +401,7 @@ pub const EXPORT: Called = Called {
     has_version: false,
     about: "Prints every variable as a text that import reads",
     example: "Example:\n  fwenv export > variables.txt",
-    options: &[CONFIG, DEFAULT, NEED_COPY, BIG_ENDIAN],
+    options: &[CONFIG, DEFAULT, NEED_COPY, COPY, BIG_ENDIAN],
 };
 
 /// `restore`
@@ -410,7 +418,7 @@ pub const STATUS: Called = Called {
     name: "status",
     has_version: false,
     about: "Says what each copy is good for, and which is current; writes nothing",
-    example: "Example:\n  fwenv status -c fw_env.config\n  fwenv status board.img",
+    example: "Example:\n  fwenv status -c fw_env.config\n  fwenv status board.img\n\nBack to the variables of the other copy, here the second:\n  fwenv export --copy 2 > before.txt\n  fwenv restore before.txt",
     options: &[CONFIG, BIG_ENDIAN, IMAGE],
 };
 

@@ -8,3 +8,4 @@ pub mod Opening
 pub mod Reasons
 pub mod Said
 pub mod Source
+pub mod WantedCopy

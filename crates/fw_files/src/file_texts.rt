@@ -31,6 +31,13 @@ pub(crate) const NEWLINE: &[u8] = b"\n";
 /// Standard error if two copies share a byte of one device.
 pub(crate) const COPIES_OVERLAP: &[u8] = b"fwenv: copies overlap\n";
 
+/// Before what is wrong with the copy that is asked for, and standard error if it isn't there.
+pub(crate) const FIRST_NOT_GOOD: &[u8] = b"fwenv: the first copy isn't good: ";
+
+pub(crate) const SECOND_NOT_GOOD: &[u8] = b"fwenv: the second copy isn't good: ";
+
+pub(crate) const NO_SECOND_COPY: &[u8] = b"fwenv: there is no second copy\n";
+
 /// Standard error if neither copy is good.
 pub(crate) const BAD_CRC_DEFAULT: &[u8] = b"Warning: Bad CRC, using default environment\n";
 

@@ -2,8 +2,8 @@
 //! over copies is opened here, copies are written back and reported on, and it is reported why a file can not be used.
 //! docs/tools.md states the rules.
 //!
-//! To read in this order: system, reasons, file_fault, files; waiting, devices, lock_file, copies, source, default_text,
-//! misread_copies, opening, changed_copies; copy_report; tool_messages, file_texts.
+//! To read in this order: system, reasons, file_fault, files; waiting, devices, lock_file, copies, source, wanted_source,
+//! default_text, misread_copies, opening, changed_copies; copy_report; tool_messages, file_texts.
 #![tactic(auto)]
 
 mod changed_copies;
@@ -22,6 +22,7 @@ mod source;
 mod system;
 mod tool_messages;
 mod waiting;
+mod wanted_source;
 
 pub use changed_copies::{write_back, write_other_first};
 pub use copies::ReadCopy;
@@ -36,3 +37,4 @@ pub use reasons::{Explains, Reason};
 pub use source::{Source, config_or_say, erased_or_say, read_source};
 pub use system::{Attempt, Hold, System};
 pub use tool_messages::{message_of, report};
+pub use wanted_source::wanted_or_say;

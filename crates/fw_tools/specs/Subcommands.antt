@@ -105,7 +105,7 @@ DoesJob (Checks check) session old new status = (new.input ≡ old.input) × Che
 abbrev pub UsesSession : Call → Streams → Streams → ℕ → Type 0
 UsesSession call old new status =
     (waited : Option (List ℕ)) × (asked : Defaults) × (session : Held) × (warned : Option (List ℕ)) × HasWaited old.errors waited
-    × IsTaken session.now.current call.defaults asked × IsOpening call.image call.order (spares call) asked session
+    × IsTaken session.now.current call.defaults asked × IsOpening call.image call.order call.copy (spares call) asked session
     × IsAccepted asked session waited warned
     × DoesJob call.job session (record { input = old.input; output = old.output; errors = warned }) new status
 
