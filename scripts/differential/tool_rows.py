@@ -180,6 +180,33 @@ def wanted_copies():
         yield Case("no option", arguments(tool, b"--copy=1"), files, wanted=Answer(1, b"", None, files))
 
 
+# The same of which a text is standard input: that text, the status, output and errors, and the second copy afterwards (SECOND)
+OVER_INPUT = [
+    ([b"import", b"-"], b"c=1\na=\n", 1, b"", NO_ROOM % (b"c", 1) + b"## Error: 1 entries refused\n", EMPTIED),
+    ([b"restore", b"-"], b"q=1\n", 0, b"", b"", PAIR.image(8, b"q=1\0")),
+    ([b"restore", b"--", b"-"], b"", 1, b"", NO_ENTRY),
+    ([b"import", b"-"], b"=c\n", 1, b"", b"fwenv: -: EmptyName in line 1\n"),
+    ([b"setenv", b"-s", b"-"], b"a\nc 1\n", 0, b"", b"", PAIR.image(8, b"c=1\0")),
+    ([b"setenv", b"-s-"], b"=b\n", 1, b"", b"fwenv: -: EmptyName in line 1\n"),
+    ([b"printenv", b"--default=-"], b"=b\n", 1, b"", b"fwenv: -: EmptyName in line 1\n"),
+    ([b"printenv", b"-"], b"", 1, b"", b'## Error: "-" not defined\n'),
+    ([b"restore", b"-"], b"\n" * 16_777_217, 1, b"", b"fwenv: cannot read -: it is longer than 16777216 bytes\n"),
+    ([b"import", b"./-"], b"", 0, b"", b"", PAIR.image(8, b"a=x\0")),
+]
+
+
+def over_input():
+    for (tool, *rest), given, status, output, errors, *left in OVER_INPUT:
+        files = {b"-": b"a=x\n"} | board(PAIR, [FIRST, SECOND])
+        wanted = Answer(status, output, errors, files | board(PAIR, [FIRST, *(left or [SECOND])]))
+        yield Case("standard input", arguments(tool, *rest), files, given, wanted=wanted, is_modelled=b"./-" not in rest)
+    files = board(PAIR, [FIRST, SECOND])
+    wanted = Answer(0, b"a=b\n", b"", files)
+    yield Case("a configuration from standard input", [b"printenv", b"-c", b"-"], files, files[CONFIG], wanted=wanted)
+    text = b"whole file   -, 10 bytes: good as a copy with a flag, flag 7\nvariables    1, 5 of 5 bytes used\n"
+    yield Case("an image from standard input", [b"status", b"-"], {}, FIRST, wanted=Answer(0, text, b"", {}))
+
+
 def over_pairs():
     for row in OVER_GOOD_COPIES:
         yield over_pair([FIRST, SECOND], 1, b"", *row)
@@ -241,4 +268,4 @@ def words():
 
 
 def chunks():
-    return [over_pairs, wanted_copies, over_one_copy, over_types, restores, in_big_endian, words, *text_rows.chunks()]
+    return [over_pairs, over_input, wanted_copies, over_one_copy, over_types, restores, in_big_endian, words, *text_rows.chunks()]

@@ -28,6 +28,8 @@ FORMS = {
     "run": (WRITING_FLAGS | {"--write"}, OPENING_VALUES | DRY_VALUES | {"--boots", "-e", "-f"}, (0, None)),
     "check": (set(), OPENING_VALUES | WHOLE_VALUES | {"-f", "--shell"}, (0, None)),
 }
+# Options whose value names a text, which - takes from standard input
+TEXTS = {"-c", "--default", "--env", "--stubs", "--board", "-s", "-f"}
 # Options that may be given more than once
 REPEATED = {"--boots"}
 # The limits of a dry run: the usual one, None for that of the shell, and the largest
@@ -63,6 +65,10 @@ For more information, try '--help'.
 """
 NO_COPY = b"""error: invalid value '%s' for '--copy <N>'
   [possible values: 1, 2]
+
+For more information, try '--help'.
+"""
+READ_TWICE = b"""error: '-' is standard input, which can be read once
 
 For more information, try '--help'.
 """
@@ -164,6 +170,14 @@ class Call:
             found.append(int(text))
         return tuple(found)
 
+    def refuse_second_input(self):
+        """Standard input is read once, by one text or by a session."""
+        texts = [self.options[option] for option in TEXTS & self.options.keys()]
+        if self.tool in ("import", "restore", "status"):
+            texts += self.words
+        if texts.count(b"-") + (self.tool == "session") > 1:
+            raise Wrong(READ_TWICE)
+
     def refuse_scripts(self):
         """A run takes one script: names, a text or a file."""
         given = bool(self.words) + ("-e" in self.options) + ("-f" in self.options)
@@ -238,6 +252,7 @@ def read_subcommand(tool, options, rest):
             call.words.append(word)
     if len(call.words) < least or (most is not None and len(call.words) > most):
         raise Wrong
+    call.refuse_second_input()
     if tool == "setenv" and ("-s" in call.options) == bool(call.words):
         raise Wrong
     if tool == "status" and "-c" in call.options and call.words:

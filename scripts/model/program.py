@@ -130,7 +130,7 @@ class Program:
         return Ended(explained(line, reason) if self.explains else line)
 
     def text(self, path):
-        found = self.files.get(path)
+        found = self.given if path == b"-" else self.files.get(path)
         if found is None:
             raise self.unreadable(path, NO_SUCH_FILE)
         if len(found) > LONGEST:
@@ -289,7 +289,7 @@ class Program:
             return status
         path = call.options.get("-c", CONFIG)
         geometry, read = self.found(call)
-        self.output, status = report.of_copies(path, self.files[path], geometry, self.places, read)
+        self.output, status = report.of_copies(path, self.text(path), geometry, self.places, read)
         return status
 
     def saved(self, session):
@@ -318,12 +318,7 @@ class Program:
             return b"-e", call.options["-e"]
         if "-f" not in call.options:
             return b"run", script_run.starts(call.words)
-        path = call.options["-f"]
-        if path != b"-":
-            return path, self.text(path)
-        if len(self.given) > LONGEST:
-            raise self.unreadable(path, LONGER)
-        return path, self.given
+        return call.options["-f"], self.text(call.options["-f"])
 
     def call_run(self, call):
         call.size_in_memory()

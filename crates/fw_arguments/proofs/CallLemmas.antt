@@ -12,7 +12,8 @@ use Rattle.hush_commands.specs.declared.shell.Shell.{Shell}
 use Rattle.fw_arguments.specs.DryRuns.{DryRun, GivenScript, and_then, run_within, script_of, script_within}
 use Rattle.fw_arguments.specs.Values.{first_or, is_given}
 use Rattle.run_limits.specs.Limits.{Bounds}
-use Rattle.fw_arguments.specs.Report.{Subject, in_order, report_of, subject_of}
+use Rattle.fw_arguments.specs.Report.{Subject, asked_of, asked_once, in_order, report_of, subject_of}
+use Rattle.fw_arguments.specs.StandardInput.{read_twice, reads_twice}
 use Rattle.fw_arguments.specs.declared.wanted_copy.WantedCopy.{WantedCopy}
 use Rattle.fw_arguments.specs.Words.{either_order, order_by, source_in}
 
@@ -50,3 +51,9 @@ report_is order chosen rows subject p q = λ i. in_order (p i) (q i)
 pub refused_file : (rows : List Row) (path text : List ℕ) → text ≡ file_alone → names_environment rows ≡ true → Err text ≡ file_check_of path rows
 refused_file rows path text is named =
     ap Err is ∙ ap (λ (b : Bool). if b then Err file_alone else and_then (shell_of board_shell rows) (λ shell. Ok (file_check_by path rows shell))) (sym named)
+
+-- ---- standard input
+
+pub twice_refused : (order : Order) (name text : Text) (rows : List Row) → text ≡ read_twice → reads_twice name rows ≡ true → Err text ≡ asked_of order name rows
+twice_refused order name text rows is twice =
+    ap Err is ∙ ap (λ (b : Bool). if b then Err read_twice else asked_once order name rows) (sym twice)

@@ -122,10 +122,6 @@ set_task both neither (Some name) None words = Ok (Set name words)
 set_task both neither None (Some path) words = Ok (SetScript path)
 set_task both neither None None words = Err neither
 
--- the script `-` of fw_setenv is standard input
-abbrev pub script_file : Option Text → Option Text
-script_file path = option_map (λ p. if bytes_eq p (codes "-") then codes "/dev/stdin" else p) path
-
 -- fw_printenv prints the values of any number of names, but at least one
 abbrev pub no_names : Text
 no_names =
@@ -153,7 +149,7 @@ tool_task name rows =
 abbrev pub fw_setenv_task : List Row → Result Task Text
 fw_setenv_task rows =
     set_task (name_and_script (codes "--script") fw_setenv_words) (no_name (codes "--script") fw_setenv_words) (first_of (codes "name") rows)
-    (script_file (first_of (codes "script") rows)) (all_values (codes "words") rows)
+    (first_of (codes "script") rows) (all_values (codes "words") rows)
 
 abbrev pub task_of : Text → List Row → Result Task Text
 task_of name rows =

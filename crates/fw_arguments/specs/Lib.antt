@@ -6,6 +6,7 @@ pub mod ImageSizes
 pub mod ProgramNames
 pub mod Report
 pub mod Shells
+pub mod StandardInput
 pub mod Table
 pub mod Values
 pub mod WantedCopies

@@ -5,6 +5,7 @@ use Rattle.clap.specs.Words.{Row, Text, first_of}
 use Rattle.envimg_core.specs.declared.geometry.Order.{Order}
 use Rattle.fw_arguments.specs.Calls.{Call, call_of, call_view}
 use Rattle.fw_arguments.specs.Checks.{FileCheck, file_check_of, file_check_view}
+use Rattle.fw_arguments.specs.StandardInput.{read_twice, reads_twice}
 use Rattle.fw_arguments.specs.Values.{first_or, is_given}
 use Rattle.fw_arguments.specs.Words.{either_order, order_by, source_in}
 use Rattle.fw_arguments.specs.declared.report.Asked as asked
@@ -67,12 +68,15 @@ abbrev pub checked_by : Option Text → Order → List Row → Result Asked Text
 checked_by None order rows = worked (call_of order (codes "check") rows)
 checked_by (Some path) order rows = checked (file_check_of path rows)
 
--- what arguments that choose a byte order before the subcommand ask for, or the text for what is wrong
-abbrev pub asked_of : Order → Text → List Row → Result Asked Text
-asked_of order name rows =
+abbrev pub asked_once : Order → Text → List Row → Result Asked Text
+asked_once order name rows =
     if bytes_eq name (codes "status") then looked (report_of order rows)
     else if bytes_eq name (codes "check") then checked_by (first_of (codes "script") rows) order rows
     else worked (call_of order name rows)
+
+-- what arguments that choose a byte order before the subcommand ask for, or the text for what is wrong
+abbrev pub asked_of : Order → Text → List Row → Result Asked Text
+asked_of order name rows = if reads_twice name rows then Err read_twice else asked_once order name rows
 
 -- the code's answers, in this form
 abbrev pub subject_view : subjects.Subject → Subject

@@ -1,7 +1,8 @@
-//! The texts about wrong arguments that clap's rules don't detect, each once; and the file that `-` is.
+//! The texts about wrong arguments that clap's rules don't detect, each once.
 
-/// The file that is standard input.
-pub const STANDARD_INPUT: &str = "/dev/stdin";
+/// Standard error if standard input would be read twice.
+pub(crate) const READ_TWICE: &[u8] =
+    b"error: '-' is standard input, which can be read once\n\nFor more information, try '--help'.\n";
 
 /// Standard error if `setenv` has a name and a script.
 pub(crate) const NAME_AND_SCRIPT: &[u8] =

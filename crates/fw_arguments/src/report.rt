@@ -2,13 +2,14 @@
 ghost use Rattle.std.specs.Prelude.{◌≡◌, codes, option_copied};
 ghost use Rattle.clap.specs.Words.{first_of, found_of, rows_of};
 ghost use Rattle.fw_arguments.specs.Calls.{call_of};
-ghost use Rattle.fw_arguments.specs.Report.{asked_of, asked_view, checked_by, looked, report_of, report_view, subject_by, subject_of, subject_view, worked};
+ghost use Rattle.fw_arguments.specs.Report.{asked_of, asked_once, asked_view, checked_by, looked, report_of, report_view, subject_by, subject_of, subject_view, worked};
 ghost use Rattle.fw_arguments.specs.WordFaults.{word_seen};
 
-use crate::argument_texts::CONFIG_AND_FILE;
+use crate::argument_texts::{CONFIG_AND_FILE, READ_TWICE};
 use crate::arguments::{chosen_order, either_order, first, first_or, is_given};
 use crate::call::{Call, read_call};
 use crate::check_requests::{FileCheck, read_file_check};
+use crate::standard_input::reads_twice;
 use crate::table::CONFIG_PATH;
 use crate::word_fault::WordFault;
 use clap::ArgMatches;
@@ -51,6 +52,20 @@ pub fn read_asked<'m, 'w>(
     found: &'m ArgMatches<'w>,
 ) -> Result<Asked<'m, 'w>, WordFault<'w>>
     ensures { word_seen asked_view result ≡ asked_of order name.now (rows_of (found_of found.now)) }
+{
+    if reads_twice(name, found) {
+        return Err(WordFault::of(READ_TWICE));
+    }
+    ask(order, name, found)
+}
+
+/// The same of arguments that have standard input read at most once.
+fn ask<'m, 'w>(
+    order: Order,
+    name: &str,
+    found: &'m ArgMatches<'w>,
+) -> Result<Asked<'m, 'w>, WordFault<'w>>
+    ensures { word_seen asked_view result ≡ asked_once order name.now (rows_of (found_of found.now)) }
 {
     if name == "status" {
         return ask_to_look(order, found);

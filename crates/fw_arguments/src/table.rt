@@ -60,6 +60,9 @@ pub const USUAL_WORD: &str = "4096";
 
 pub const USUAL_OUTPUT: &str = "1048576";
 
+/// The path of a text that is standard input.
+pub const STANDARD_INPUT: &str = "-";
+
 /// The size of the image under an environment that is a text.
 pub const USUAL_SIZE: &str = "0x4000";
 
@@ -81,7 +84,7 @@ pub const DEFAULT: Row = Row {
     id: "default",
     names: Names::Long("default"),
     takes: Takes::One("FILE"),
-    help: "The default environment, a text as for import; without it that is empty",
+    help: "The default environment, a text as for import, or - for standard input; without it that is empty",
 };
 
 /// `--need-copy`
@@ -161,7 +164,7 @@ pub const FILE: Row = Row {
     id: "file",
     names: Names::Operand,
     takes: Takes::Wanted("FILE"),
-    help: "The text, as export prints it",
+    help: "The text, as export prints it, or - for standard input",
 };
 
 /// `FILE` of `status`

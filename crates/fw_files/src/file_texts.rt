@@ -48,6 +48,9 @@ pub(crate) const FIRST_OVER_DATA: &[u8] =
 pub(crate) const SECOND_OVER_DATA: &[u8] =
     b"Warning: the second copy is written over data that is no environment\n";
 
+/// The file that is standard input.
+pub(crate) const DEVICE_OF_INPUT: &str = "/dev/stdin";
+
 /// The default environment of a board's build.
 pub(crate) const INITIAL_ENVIRONMENT: &str = "/etc/u-boot-initial-env";
 
