@@ -208,7 +208,7 @@ class Calls:
         return options, self.some(CHECKED, 2) if self.chance(60) else []
 
     def wanted_copy(self):
-        return [self.option(b"--copy", self.numbers.choice([b"1", b"2", b"2", b"3"]))] if self.chance(30) else []
+        return [self.option(b"--copy", self.numbers.choice([b"1", b"2", b"2", b"3"]))] if self.chance(20) else []
 
     def own(self, tool, is_whole):
         """The options and the other arguments of a subcommand."""

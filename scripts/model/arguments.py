@@ -6,7 +6,7 @@ import pathlib
 import re
 from dataclasses import dataclass, field
 
-from model.image import LARGEST
+from model.image import LARGEST, Geometry
 from model.shells import SHELLS
 from model.texts import SIZE
 
@@ -24,6 +24,7 @@ FORMS = {
     "export": (OPENING_FLAGS, OPENING_VALUES | {"--copy"}, (0, 0)),
     "restore": (WRITING_FLAGS, OPENING_VALUES, (1, 1)),
     "status": (set(), {"-c"}, (0, 1)),
+    "image": ({"--both"}, {"--env", "--size", "--copies", "--output"}, (0, 0)),
     "session": (WRITING_FLAGS | {"--write"}, OPENING_VALUES | DRY_VALUES, (0, 0)),
     "run": (WRITING_FLAGS | {"--write"}, OPENING_VALUES | DRY_VALUES | {"--boots", "-e", "-f"}, (0, None)),
     "check": (set(), OPENING_VALUES | WHOLE_VALUES | {"-f", "--shell"}, (0, None)),
@@ -65,6 +66,19 @@ For more information, try '--help'.
 """
 NO_COPY = b"""error: invalid value '%s' for '--copy <N>'
   [possible values: 1, 2]
+
+For more information, try '--help'.
+"""
+NO_COPIES = b"""error: invalid value '%s' for '--copies <N>'
+  [possible values: 1, 2]
+
+For more information, try '--help'.
+"""
+BOTH_ALONE = b"""error: the argument '--both' is only for '--copies 2'
+
+For more information, try '--help'.
+"""
+NO_PAIR_SIZE = b"""error: invalid value '%s' for '--size <N>': not the size of one of two copies in hexadecimal, 0x9 to 0x100000
 
 For more information, try '--help'.
 """
@@ -209,11 +223,24 @@ class Call:
             if option in self.options:
                 raise Wrong(ENV_AND % shown)
         self.refuse_overwrite_alone()
-        text = self.options.get("--size", USUAL_SIZE)
-        size = SIZE.fullmatch(text)
-        if not size or not 8 <= int(size[1], 16) <= LARGEST:
-            raise Wrong(NO_SIZE % text)
-        return int(size[1], 16)
+        return read_size(self.options.get("--size", USUAL_SIZE), 8, NO_SIZE)
+
+    def new_geometry(self):
+        """That of a new image."""
+        copies = self.options.get("--copies", b"1")
+        if copies not in (b"1", b"2"):
+            raise Wrong(NO_COPIES % copies)
+        if copies == b"1" and "--both" in self.options:
+            raise Wrong(BOTH_ALONE)
+        least, fault = (8, NO_SIZE) if copies == b"1" else (9, NO_PAIR_SIZE)
+        return Geometry(int(copies), read_size(self.options["--size"], least, fault), self.order())
+
+
+def read_size(text, least, fault):
+    size = SIZE.fullmatch(text)
+    if not size or not least <= int(size[1], 16) <= LARGEST:
+        raise Wrong(fault % text)
+    return int(size[1], 16)
 
 
 def option_of(word):
@@ -254,6 +281,8 @@ def read_subcommand(tool, options, rest):
         raise Wrong
     call.refuse_second_input()
     if tool == "setenv" and ("-s" in call.options) == bool(call.words):
+        raise Wrong
+    if tool == "image" and not call.options.keys() >= {"--env", "--size"}:
         raise Wrong
     if tool == "status" and "-c" in call.options and call.words:
         raise Wrong(CONFIG_AND_FILE)

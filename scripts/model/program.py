@@ -7,7 +7,7 @@ from model import board_file, check, report, script_run, texts
 from model.arguments import VERSION, Wrong, read_arguments
 from model.dry_run import LONGEST, DryRun
 from model.grammar import parse
-from model.image import LARGEST, Geometry
+from model.image import ERASED, LARGEST, Geometry, entries
 from model.script import run
 from model.session import Session, erased
 from model.texts import TextFault
@@ -25,7 +25,7 @@ NO_SUCH_FILE, LONGER = b"no such file", b"it is longer than %d bytes" % LONGEST
 DIRECTORY, DENIED, NO_SPACE = b"it is a directory", b"permission denied", b"no space is left"
 CHANGED = b"another program changed it"
 # The subcommands that report it
-EXPLAINING = {"status", "run", "check", "restore"}
+EXPLAINING = {"status", "run", "check", "restore", "image"}
 TOO_SHORT = b"fwenv: %s is too short\n"
 IS_YAML = b"fwenv: %s is YAML: fwenv reads lines of DEVICE OFFSET SIZE\n"
 IS_UBI_VOLUME = b"fwenv: %s is a UBI volume by its name: fwenv reads files and block devices\n"
@@ -128,6 +128,9 @@ class Program:
     def unreadable(self, path, reason):
         line = CANNOT_READ % path
         return Ended(explained(line, reason) if self.explains else line)
+
+    def unwritable(self, path, reason):
+        return Ended(explained(CANNOT_WRITE % path, reason))
 
     def text(self, path):
         found = self.given if path == b"-" else self.files.get(path)
@@ -291,6 +294,21 @@ class Program:
         geometry, read = self.found(call)
         self.output, status = report.of_copies(path, self.text(path), geometry, self.places, read)
         return status
+
+    def call_image(self, call):
+        geometry = call.new_geometry()
+        copy = geometry.image(1, entries(self.defaults(call, geometry)))
+        if geometry.copies == 2:
+            copy = (copy if "--both" in call.options else ERASED * geometry.size) + copy
+        path = call.options.get("--output")
+        if path is None:
+            self.output = copy
+        elif path == b"." or b"/" in path:
+            # (the model has no folders)
+            raise self.unwritable(path, DIRECTORY if path == b"." else NO_SUCH_FILE)
+        else:
+            self.files[path] = copy
+        return 0
 
     def saved(self, session):
         session.save()

@@ -14,6 +14,8 @@ use Rattle.fw_arguments.specs.Values.{first_or, is_given}
 use Rattle.run_limits.specs.Limits.{Bounds}
 use Rattle.fw_arguments.specs.Report.{Subject, asked_of, asked_once, in_order, report_of, subject_of}
 use Rattle.fw_arguments.specs.StandardInput.{read_twice, reads_twice}
+use Rattle.fw_arguments.specs.ImageRequests.{ImageRequest, both_alone, is_both_alone, request_by, request_in, size_of}
+use Rattle.envimg_core.specs.declared.geometry.Layout.{Layout}
 use Rattle.fw_arguments.specs.declared.wanted_copy.WantedCopy.{WantedCopy}
 use Rattle.fw_arguments.specs.Words.{either_order, order_by, source_in}
 
@@ -52,8 +54,20 @@ pub refused_file : (rows : List Row) (path text : List ℕ) → text ≡ file_al
 refused_file rows path text is named =
     ap Err is ∙ ap (λ (b : Bool). if b then Err file_alone else and_then (shell_of board_shell rows) (λ shell. Ok (file_check_by path rows shell))) (sym named)
 
--- ---- standard input
+-- ---- standard input and new images
 
 pub twice_refused : (order : Order) (name text : Text) (rows : List Row) → text ≡ read_twice → reads_twice name rows ≡ true → Err text ≡ asked_of order name rows
 twice_refused order name text rows is twice =
     ap Err is ∙ ap (λ (b : Bool). if b then Err read_twice else asked_once order name rows) (sym twice)
+
+pub both_refused : (order : Order) (rows : List Row) (layout : Layout) (text : Text) → text ≡ both_alone → is_both_alone layout (is_given (codes "both") rows) ≡ true →
+    Err text ≡ request_by order rows layout
+both_refused order rows layout text is alone =
+    ap Err is ∙ ap (λ (b : Bool). if b then Err both_alone else and_then (size_of rows layout) (λ size. Ok (request_in order rows layout size))) (sym alone)
+
+pub request_is : (order chosen : Order) (rows : List Row) (layout : Layout) (size : ℕ) (text : Text) (both : Bool) (output : Option Text) →
+    text ≡ first_or [] (codes "env") rows → chosen ≡ either_order order (order_by (source_in (codes "big-endian") rows)) → both ≡ is_given (codes "both") rows →
+    output ≡ first_of (codes "output") rows →
+    ◌≡◌ {A = ImageRequest} (record { text = text; layout = layout; size = size; order = chosen; both = both; output = output }) (request_in order rows layout size)
+request_is order chosen rows layout size text both output t r b o =
+    λ i. record { text = t i; layout = layout; size = size; order = r i; both = b i; output = o i }

@@ -2,6 +2,7 @@
 pub mod Calls
 pub mod Checks
 pub mod DryRuns
+pub mod ImageRequests
 pub mod ImageSizes
 pub mod ProgramNames
 pub mod Report

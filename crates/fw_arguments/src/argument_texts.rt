@@ -60,6 +60,17 @@ pub(crate) const BAD_SIZE: &[u8] =
     b"' for '--size <N>': not the size of an image in hexadecimal, 0x8 to 0x100000\n\n\
       For more information, try '--help'.\n";
 
+pub(crate) const BAD_COPIES: &[u8] =
+    b"' for '--copies <N>'\n  [possible values: 1, 2]\n\nFor more information, try '--help'.\n";
+
+pub(crate) const BAD_PAIR_SIZE: &[u8] =
+    b"' for '--size <N>': not the size of one of two copies in hexadecimal, 0x9 to 0x100000\n\n\
+      For more information, try '--help'.\n";
+
+/// Standard error if both copies of a new image are to hold the variables, and there is one.
+pub(crate) const BOTH_ALONE: &[u8] =
+    b"error: the argument '--both' is only for '--copies 2'\n\nFor more information, try '--help'.\n";
+
 /// Standard error if an environment without a board is asked for, and something that only a board has.
 pub(crate) const ENV_AND_CONFIG: &[u8] =
     b"error: the argument '--env <FILE>' cannot be used with '-c <FILE>'\n\n\

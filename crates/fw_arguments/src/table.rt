@@ -66,6 +66,9 @@ pub const STANDARD_INPUT: &str = "-";
 /// The size of the image under an environment that is a text.
 pub const USUAL_SIZE: &str = "0x4000";
 
+/// How many copies a new image has.
+pub const ONE_COPY: &str = "1";
+
 /// The names of the shells.
 pub const BOARD_SHELL: &str = "board";
 
@@ -168,7 +171,7 @@ pub const FILE: Row = Row {
 };
 
 /// `FILE` of `status`
-pub const IMAGE: Row = Row {
+pub const WHOLE_FILE: Row = Row {
     id: "file",
     names: Names::Operand,
     takes: Takes::One("FILE"),
@@ -253,6 +256,46 @@ pub const SIZE: Row = Row {
     names: Names::Long("size"),
     takes: Takes::Usual("N", USUAL_SIZE),
     help: "The size of the image that such an environment is in, hexadecimal as in a configuration",
+};
+
+/// `--env FILE` of `image`
+pub const IMAGE_ENV: Row = Row {
+    id: "env",
+    names: Names::Long("env"),
+    takes: Takes::Wanted("FILE"),
+    help: "The variables, a text as for import, or - for standard input",
+};
+
+/// `--size N` of `image`
+pub const IMAGE_SIZE: Row = Row {
+    id: "size",
+    names: Names::Long("size"),
+    takes: Takes::Wanted("N"),
+    help: "The size of a copy, hexadecimal as in a configuration",
+};
+
+/// `--copies N`
+pub const COPIES: Row = Row {
+    id: "copies",
+    names: Names::Long("copies"),
+    takes: Takes::Usual("N", ONE_COPY),
+    help: "One copy, or two with a flag each: the second has the variables, and the first is erased",
+};
+
+/// `--both`
+pub const BOTH: Row = Row {
+    id: "both",
+    names: Names::Long("both"),
+    takes: Takes::Nothing,
+    help: "Each of two copies has the variables",
+};
+
+/// `--output FILE`
+pub const IMAGE_OUTPUT: Row = Row {
+    id: "output",
+    names: Names::Long("output"),
+    takes: Takes::One("FILE"),
+    help: "The file that the image is written into [default: standard output]",
 };
 
 /// `--write` of `session`
@@ -422,7 +465,23 @@ pub const STATUS: Called = Called {
     has_version: false,
     about: "Says what each copy is good for, and which is current; writes nothing",
     example: "Example:\n  fwenv status -c fw_env.config\n  fwenv status board.img\n\nBack to the variables of the other copy, here the second:\n  fwenv export --copy 2 > before.txt\n  fwenv restore before.txt",
-    options: &[CONFIG, BIG_ENDIAN, IMAGE],
+    options: &[CONFIG, BIG_ENDIAN, WHOLE_FILE],
+};
+
+/// `image`
+pub const IMAGE: Called = Called {
+    name: "image",
+    has_version: false,
+    about: "Makes the image of a text's variables, to be written on a board",
+    example: "Example:\n  fwenv image --env variables.txt --size 0x4000 --copies 2 --output env.img",
+    options: &[
+        IMAGE_ENV,
+        IMAGE_SIZE,
+        COPIES,
+        BOTH,
+        BIG_ENDIAN,
+        IMAGE_OUTPUT,
+    ],
 };
 
 /// `run`
