@@ -38,6 +38,7 @@ NO_GOOD_COPY = b"fwenv: no good copy: "
 NOT_GOOD = b"fwenv: the %s copy isn't good: %s\n"
 NO_SECOND = b"fwenv: there is no second copy\n"
 LOOK_AT = b"; look at the size and the number of lines in the configuration, and at the byte order (--big-endian)\n"
+NO_EQUALS = b"fwenv: %s:%d: no = in this line\n"
 REFUSED_TEXT = b"fwenv: %s: %s\n"
 TOO_LONG = b"fwenv: input too long\n"
 BAD_IMAGE = b"## Error: bad image: %s\n"
@@ -166,6 +167,9 @@ class Program:
         path = call.options.get("--env", call.options.get("--default"))
         environment = Environment(geometry.room)
         entries = [] if path is None else self.parsed(path, texts.import_entries)
+        for line, _, _ in entries:
+            if b"=" not in self.text(path).split(b"\n")[line - 1]:
+                raise Ended(NO_EQUALS % (path, line))
         for line, name, value in entries:
             refusal = environment.write(name, value, True)
             if refusal:

@@ -1,4 +1,5 @@
 -- What the public calls promise.
+pub mod BareLines
 pub mod Copies
 pub mod CopyReport
 pub mod Files

@@ -17,6 +17,9 @@ pub(crate) const IS_YAML: &[u8] = b" is YAML: fwenv reads lines of DEVICE OFFSET
 pub(crate) const IS_UBI_VOLUME: &[u8] =
     b" is a UBI volume by its name: fwenv reads files and block devices\n";
 
+/// What is wrong with a line of a default environment.
+pub(crate) const NO_EQUALS: &[u8] = b"no = in this line";
+
 /// Between a path and the number of a line.
 pub(crate) const LINE: &[u8] = b":";
 

@@ -3,9 +3,10 @@
 //! docs/tools.md states the rules.
 //!
 //! To read in this order: system, reasons, file_fault, files, new_file; waiting, devices, lock_file, copies, source, wanted_source,
-//! default_text, misread_copies, opening, changed_copies; copy_report; tool_messages, file_texts.
+//! bare_lines, default_text, misread_copies, opening, changed_copies; copy_report; tool_messages, file_texts.
 #![tactic(auto)]
 
+mod bare_lines;
 mod changed_copies;
 mod copies;
 mod copy_report;
