@@ -150,13 +150,7 @@ fn large_enough(layout: Layout, size: u32) -> Option<u32>
 {
     match layout {
         Layout::Single => Some(size),
-        Layout::Redundant => {
-            if size < PAIR_MIN {
-                None
-            } else {
-                Some(size)
-            }
-        }
+        Layout::Redundant => { if size < PAIR_MIN { None } else { Some(size) } }
     }
 }
 

@@ -52,7 +52,10 @@ impl Job<'_, '_> {
 }
 
 /// What the arguments of the subcommand `name` ask to be done over its session.
-pub(crate) fn read_job<'m, 'w>(name: &str, found: &'m ArgMatches<'w>) -> Result<Job<'m, 'w>, WordFault<'w>>
+pub(crate) fn read_job<'m, 'w>(
+    name: &str,
+    found: &'m ArgMatches<'w>,
+) -> Result<Job<'m, 'w>, WordFault<'w>>
     ensures { word_seen job_view result ≡ job_of name.now (rows_of (found_of found.now)) }
 {
     if name == "session" {

@@ -8,7 +8,9 @@ use crate::table::STANDARD_INPUT;
 use clap::ArgMatches;
 
 /// The options and the operands that name a text.
-pub(crate) const TEXTS: [&str; 7] = ["config", "default", "env", "stubs", "board", "script", "file"];
+pub(crate) const TEXTS: [&str; 7] = [
+    "config", "default", "env", "stubs", "board", "script", "file",
+];
 
 /// Whether the subcommand `name` would read standard input twice: for two of its texts, or for a text of a session, whose
 /// lines are there.

@@ -418,7 +418,9 @@ pub const PRINTENV: Called = Called {
     has_version: false,
     about: "Prints variables, a line NAME=VALUE each",
     example: "Example:\n  fwenv printenv bootcmd bootdelay",
-    options: &[CONFIG, DEFAULT, NEED_COPY, COPY, BIG_ENDIAN, VALUE_ONLY, NAMES],
+    options: &[
+        CONFIG, DEFAULT, NEED_COPY, COPY, BIG_ENDIAN, VALUE_ONLY, NAMES,
+    ],
 };
 
 /// `setenv`

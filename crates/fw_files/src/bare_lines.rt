@@ -10,7 +10,11 @@ use text_parts::{contains_byte, numbered_lines};
 pub(crate) fn bare_in(plain: bool, text: &[u8], entries: &[TextEntry]) -> Option<usize>
     ensures { result ≡ bare_in plain text.now (map entry_view entries.now) }
 {
-    if plain { None } else { bare_line(text, entries) }
+    if plain {
+        None
+    } else {
+        bare_line(text, entries)
+    }
 }
 
 /// The same of a text for import that has these entries.

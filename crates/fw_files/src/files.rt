@@ -48,7 +48,11 @@ impl<F: Read> Read for Reading<F> {
 fn opened_path(path: &str) -> &str
     ensures { result.now ≡ opened_path path.now }
 {
-    if path == STANDARD_INPUT { DEVICE_OF_INPUT } else { path }
+    if path == STANDARD_INPUT {
+        DEVICE_OF_INPUT
+    } else {
+        path
+    }
 }
 
 /// Reads a whole file of at most 16,777,216 bytes, or standard input.
