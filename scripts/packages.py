@@ -113,7 +113,7 @@ def installed(program, links, folder):
 
 def rows(folder):
     """The rows of the tools, of sessions and of the documents over the program as it is packaged."""
-    for part in ("tool_rows", "report_rows", "check_rows", "session_rows", "documents"):
+    for part in ("tool_rows", "report_rows", "image_rows", "check_rows", "session_rows", "documents"):
         words = (sys.executable, "-B", "-m", "differential", folder / "root/usr/bin/fwenv", folder, part)
         lines = run(*words, env=os.environ | {"PYTHONPATH": str(TOP / "scripts")}).stdout.decode().splitlines()
         check(f"{part} over the program of the package", lines[-1:] and lines[-1].endswith(", 0 failed"), "\n".join(lines[-6:]))
@@ -130,13 +130,13 @@ def pages(folder):
     for page in (TOP / "packaging/man").iterdir():
         found = run("groff", "-ww", "-man", "-Tutf8", "-z", page)
         same(f"the page {page.name}", found.stderr, b"")
-    calls = {"fwenv": [], **{f"fwenv {name}": [name] for name in ("printenv", "setenv", "import", "export", "restore", "status", "run", "check", "session")}}
+    calls = {"fwenv": [], **{f"fwenv {name}": [name] for name in ("printenv", "setenv", "import", "export", "restore", "status", "image", "run", "check", "session")}}
     listed = page_options("fwenv.1") | {f"fwenv {name}": page_options(f"fwenv-{name}.1")[""] for name in ("run", "check", "session")}
     common = listed[""] - {"-V", "--version"}
     for name, words in calls.items():
         helped = options_of_help(run(folder / "root/usr/bin/fwenv", *words, "--help").stdout.decode())
         own = {"--big-endian"} | listed[""] - {"-c", "--default", "--need-copy"} if name == "fwenv" else common | listed[name]
-        own -= {"fwenv status": {"--default", "--need-copy"}, "fwenv check": {"--need-copy"}}.get(name, set())
+        own -= {"fwenv status": {"--default", "--need-copy"}, "fwenv image": {"-c", "--default", "--need-copy"}, "fwenv check": {"--need-copy"}}.get(name, set())
         own -= set() if name in WRITING else {"--overwrite"}
         same(f"the options of {name}, in its page and in its help", sorted(own), sorted(helped))
 
@@ -256,6 +256,9 @@ def completions(folder):
         ("fwenv run --b", {"--board", "--boots", "--big-endian"}),
         ("fwenv run --env text boot", {"bootcmd", "bootdelay"}),
         ("fwenv session --si", {"--size"}),
+        ("fwenv im", {"import", "image"}),
+        ("fwenv image --", {"--env", "--size", "--copies", "--both", "--output", "--big-endian", "--help"}),
+        ("fwenv image --copies ", {"1", "2"}),
         ("fwenv che", {"check"}),
         ("fwenv check --", {"--default", "--big-endian", "--shell", "--stubs", "--env", "--size", "--help"}),
         ("fwenv run --shell b", {"board"}),
@@ -264,6 +267,8 @@ def completions(folder):
         ("fwenv check -c of-copy boot", names),
         ("fwenv import --n", {"--need-copy"}),
         ("fwenv export --de", {"--default"}),
+        ("fwenv export --co", {"--copy"}),
+        ("fwenv printenv --copy ", {"1", "2"}),
         ("fwenv session --st", {"--stubs", "--steps"}),
         ("fwenv re", {"restore"}),
         ("fwenv status --b", {"--big-endian"}),

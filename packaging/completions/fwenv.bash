@@ -21,7 +21,7 @@ _fwenv_names() {
 
 _fwenv() {
     local word=${COMP_WORDS[COMP_CWORD]} before=${COMP_WORDS[COMP_CWORD - 1]} command='' at
-    local commands='printenv setenv import export restore status run check session help'
+    local commands='printenv setenv import export restore status image run check session help'
     local options='-c --default --need-copy --big-endian -h --help'
     local dry_run=' --write --overwrite --shell --stubs --board --steps --depth --word --output --env --size'
     for ((at = 1; at < COMP_CWORD; at++)); do
@@ -33,6 +33,16 @@ _fwenv() {
     done
     compopt +o default
     COMPREPLY=()
+    case $command$before in
+        image--output)
+            compopt -o default
+            return
+            ;;
+        image--copies)
+            mapfile -t COMPREPLY < <(compgen -W '1 2' -- "$word")
+            return
+            ;;
+    esac
     case $before in
         -c | --default | --stubs | --board | --env | -s | -f)
             compopt -o default
@@ -42,14 +52,20 @@ _fwenv() {
             mapfile -t COMPREPLY < <(compgen -W 'board strict' -- "$word")
             return
             ;;
+        --copy)
+            mapfile -t COMPREPLY < <(compgen -W '1 2' -- "$word")
+            return
+            ;;
         --steps | --depth | --word | --output | --size | --boots | -e) return ;;
     esac
     case $command in
         '') options="$commands --big-endian -h --help -V --version" ;;
-        printenv) options+=' -n' ;;
+        printenv) options+=' --copy -n' ;;
+        export) options+=' --copy' ;;
         setenv) options+=' -s --overwrite' ;;
         import | restore) options+=' --overwrite' ;;
         status) options='-c --big-endian -h --help' ;;
+        image) options='--env --size --copies --both --output --big-endian -h --help' ;;
         run) options+="$dry_run --boots -e -f" ;;
         check) options='-c --default --big-endian -h --help --shell --stubs --env --size -f' ;;
         session) options+=$dry_run ;;

@@ -19,7 +19,7 @@ function __fwenv_names
     timeout 1 fwenv $call 2>/dev/null | string replace -rf '^([^=-][^=]*)=.*' '$1'
 end
 
-set -l commands printenv setenv import export restore status run check session help
+set -l commands printenv setenv import export restore status image run check session help
 complete -c fwenv -f
 complete -c fwenv -n "not __fish_seen_subcommand_from $commands" -a printenv -d 'Print variables'
 complete -c fwenv -n "not __fish_seen_subcommand_from $commands" -a setenv -d 'Set or delete variables, and save'
@@ -27,6 +27,7 @@ complete -c fwenv -n "not __fish_seen_subcommand_from $commands" -a import -d 'S
 complete -c fwenv -n "not __fish_seen_subcommand_from $commands" -a export -d 'Print a text that import reads'
 complete -c fwenv -n "not __fish_seen_subcommand_from $commands" -a restore -d 'Make the variables those of a text, and save'
 complete -c fwenv -n "not __fish_seen_subcommand_from $commands" -a status -d 'Say what each copy is good for'
+complete -c fwenv -n "not __fish_seen_subcommand_from $commands" -a image -d 'Make the image of a text'
 complete -c fwenv -n "not __fish_seen_subcommand_from $commands" -a run -d 'Run a boot script for its own status'
 complete -c fwenv -n "not __fish_seen_subcommand_from $commands" -a check -d 'Look for faults in boot scripts'
 complete -c fwenv -n "not __fish_seen_subcommand_from $commands" -a session -d 'Try boot scripts'
@@ -37,6 +38,7 @@ complete -c fwenv -l big-endian -d 'Checksums have the highest byte first'
 complete -c fwenv -n "__fish_seen_subcommand_from printenv setenv import export restore status run check session" -s c -rF -d 'Configuration'
 complete -c fwenv -n "__fish_seen_subcommand_from printenv setenv import export restore run check session" -l default -rF -d 'Default environment'
 complete -c fwenv -n "__fish_seen_subcommand_from printenv setenv import export restore run session" -l need-copy -d 'Do nothing without a good copy'
+complete -c fwenv -n "__fish_seen_subcommand_from printenv export" -l copy -xa '1 2' -d 'One copy, which has to be good'
 complete -c fwenv -n "__fish_seen_subcommand_from printenv" -s n -d 'Print the value alone'
 complete -c fwenv -n "__fish_seen_subcommand_from printenv setenv run check" -a "(__fwenv_names)"
 complete -c fwenv -n "__fish_seen_subcommand_from setenv" -s s -rF -d 'Script of names and values'
@@ -50,6 +52,11 @@ complete -c fwenv -n "__fish_seen_subcommand_from run session" -l steps -x -d 'S
 complete -c fwenv -n "__fish_seen_subcommand_from run session" -l depth -x -d 'Starts inside one another'
 complete -c fwenv -n "__fish_seen_subcommand_from run session" -l word -x -d 'Bytes of a word'
 complete -c fwenv -n "__fish_seen_subcommand_from run session" -l output -x -d 'Bytes that a script prints'
+complete -c fwenv -n "__fish_seen_subcommand_from image" -l env -rF -d 'Text with the variables'
+complete -c fwenv -n "__fish_seen_subcommand_from image" -l size -x -d 'Size of a copy, in hexadecimal'
+complete -c fwenv -n "__fish_seen_subcommand_from image" -l copies -xa '1 2' -d 'Copies'
+complete -c fwenv -n "__fish_seen_subcommand_from image" -l both -d 'Both copies have the variables'
+complete -c fwenv -n "__fish_seen_subcommand_from image" -l output -rF -d 'File of the image'
 complete -c fwenv -n "__fish_seen_subcommand_from run check session" -l env -rF -d 'Text that is the whole environment'
 complete -c fwenv -n "__fish_seen_subcommand_from run check session" -l size -x -d 'Size of its image, in hexadecimal'
 complete -c fwenv -n "__fish_seen_subcommand_from run" -l boots -x -d 'Command that does not come back'

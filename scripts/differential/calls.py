@@ -60,6 +60,8 @@ OFTEN = {
     **{name: 0.0002 for name in ("Can't create", "Can't delete", "Can't overwrite", "EmptyName", "Undone")},
     **{name: 0.001 for name in ("Exited", "Finished", "Quote", "Missing", "Unexpected", "Substitution", "no good copy", "is written")},
     **{name: 0.003 for name in ("variable that is", "nothing defines", "no builtin", "carriage return", "be assigned", "no variable")},
+    **{name: 0.001 for name in ("copy isn't good", "no second copy", "possible values: 1, 2")},
+    "no = in": 0.005,
     "this shell has": 0.002,
     "status 0": 0.3,
 }
@@ -136,7 +138,7 @@ class Calls:
             return []
         options = [self.option(b"-c", CONFIG if not self.chance(3) else b"absent")]
         if tool != b"status" and self.chance(40):
-            options.append(self.option(b"--default", self.text(b"default", self.entries_text())))
+            options.append(self.option(b"--default", self.text(b"default", self.entries_text(85))))
         if tool not in (b"status", b"check") and self.chance(25):
             options.append([b"--need-copy"])
         if tool in WRITING and self.chance(10):
@@ -165,7 +167,7 @@ class Calls:
         if self.chance(30):
             options.append(self.option(b"--board", self.text(b"board", self.numbers.choice(GIVEN_BOARDS))))
         if is_whole:
-            options.append(self.option(b"--env", self.text(b"env", self.entries_text(80))))
+            options.append(self.option(b"--env", self.text(b"env", self.entries_text(95))))
         if self.chance(30 if is_whole else 2):
             options.append(self.option(b"--size", self.numbers.choice(SIZES)))
         options += [[b"--write"]] * self.chance(5 if is_whole else 60)
@@ -206,10 +208,15 @@ class Calls:
             options.append(self.option(b"--size", self.numbers.choice(SIZES)))
         return options, self.some(CHECKED, 2) if self.chance(60) else []
 
+    def wanted_copy(self):
+        return [self.option(b"--copy", self.numbers.choice([b"1", b"2", b"2", b"3"]))] if self.chance(20) else []
+
     def own(self, tool, is_whole):
         """The options and the other arguments of a subcommand."""
         if tool == b"printenv":
-            return [[b"-n"]] * self.chance(30), self.some(NAMES, 2)
+            return self.wanted_copy() + [[b"-n"]] * self.chance(30), self.some(NAMES, 2)
+        if tool == b"export":
+            return self.wanted_copy(), []
         if tool == b"setenv":
             if self.chance(40):
                 return [self.option(b"-s", self.text(b"script", self.numbers.choice(SET_SCRIPTS)))], self.some(NAMES, 1) * self.chance(5)

@@ -66,7 +66,7 @@ STARTS = [
     (b"env none 1; env set; env -f set none; env $x set none; run none", [not_run("1:60", "none")]),
     (b"env print none; env delete none; env run none; run none", [not_run("1:52", "none")]),
     (b"env exists; env exists $x none; env exists -f none; run none", [not_run("1:57", "none")]),
-    (b"Setenv none; setenv2 none; setexpr.x none; setexpr. none; run none", [not_run("1:63", "none")]),
+    (b"Setenv none; setenv2 none; run none", [not_run("1:32", "none")]),
     (b"$x none; \"$run\" none; echo setenv none; run none", [not_run("1:45", "none")]),
     (b"env test $x; Test $x none; test2 $none; none=$x; run none", [not_run("1:54", "none")]),
     (b"for none in 1; do echo $none; done; none=1; run none", [not_run("1:49", "none")]),
@@ -326,6 +326,20 @@ DEFINED = [
     b"echo $bootcount $ethact $ethaddr $fdtaddr $mtdids $mtdparts $partition $ver",
     b"$gatewayip $hostname $ipaddr; b=$netmask; for b in $rootpath; do echo \"${serverip}\"; done",
 ]  # fmt: skip
+# Commands by beginnings of their names and with widths: what a board finds, and what the strict shell does
+NAMED = [
+    (b"seten none 1; run none", [], [not_run("1:19", "none")]),
+    (b"setenv.x -f none 1; run none", [], [not_run("1:25", "none")]),
+    (b"setex none 1; run none", [], [not_run("1:19", "none")]),
+    (b"env se none 1; run none", [], [not_run("1:20", "none")]),
+    (b"env.b exi.x none && run none", [], [not_run("1:25", "none")]),
+    (b"setexpr.x none; setexpr. none; run none", [], [not_run("1:36", "none")]),
+    (b"tes -n $none; run none", [], [not_run("1:19", "none")]),
+    (b"tes -n $none; echo $none", [], several(not_defined, "1:8 none 1:20 none")),
+    (b"ru none; run.x lost", several(not_run, "1:4 none 1:16 lost"), []),
+    (b"test.b a == b", [no_operator_of_board("1:10", "==")], []),
+    (b"sete none 1; env s none; run none", [not_run("1:30", "none")], [not_run("1:30", "none")]),
+]
 # More than one kind in a script: the carriage return first, then the commands in the order of the text
 MIXED = b"laod; run n; a=2\r\nrun s; for ok in a; do usb $none; laod n; done"
 MIXED_FOUND = [
@@ -388,6 +402,15 @@ def starts():
     yield over(over_these | {b"s": b"a=2; for a in b; do run a; done"}, [b"s"], lines([not_run("1:25", "a")], "s"))
 
 
+def names():
+    for script, on_a_board, strict in NAMED:
+        yield over(VARIABLES | {b"s": script}, [b"s"], lines(on_a_board, "s"))
+        yield over(VARIABLES | {b"s": script}, [b"s", *STRICT], lines(strict, "s"))
+    yield over({b"s": b"r.x t", b"t": b"run none"}, [b"s"], lines([not_run("1:5", "none")], "t"))
+    found, files = [not_called("1:1", "seten"), not_run("1:19", "none")], {b"stand-ins": b"setenvx\n"}
+    yield over({b"s": NAMED[0][0]}, with_stand_ins([b"s"]), lines(found, "s"), files)
+
+
 def calls():
     files = {b"stand-ins": STAND_INS}
     for script, found in [*CALLED, (MIXED, MIXED_FOUND)]:
@@ -413,4 +436,4 @@ def substitutions():
 
 
 def chunks():
-    return [no_scripts, starts, calls, lacked_commands, substitutions]
+    return [no_scripts, starts, names, calls, lacked_commands, substitutions]

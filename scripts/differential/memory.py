@@ -31,7 +31,9 @@ WITHOUT_FILES = [
 ]  # fmt: skip
 # Tools over two copies: their arguments, and perhaps the file `text`
 TOOLS = [
-    *((words, b"") for words in calls("printenv / printenv a / printenv q a / setenv a b / setenv a bc / setenv a=b c / export / status")),
+    *((words, b"") for words in calls(
+        "printenv / printenv a / printenv --copy 2 / export --copy=1 / printenv q a / setenv a b / setenv a bc / setenv a=b c / export / status"
+    )),
     *(([b"setenv", b"-s", b"text"], text) for text in (b"a c\na b\n", b"a c\nb c\na d\n")),
     *(([b"import", b"text"], text) for text in (b"a=c\na=b\n", b"a=bc\nq=1\na=\n")),
     *(([b"restore", b"text"], text) for text in (b"a=c\n", b"a=bcd\n")),
@@ -185,6 +187,8 @@ def tools():
     yield refusing(Case("status of a file without memory", [b"status", b"device"], over_copies()))
     files = {b"device": ERASED * 4096, b"fw.config": b"device 0 1000\n", b"text": b".flags=a:d\na=x\nb=1\n"}
     yield refusing(Case("an import of a type without memory", arguments(b"import", b"text"), files), WARNING)
+    for options in calls("--size 40 / --size 40 --copies 2 --both / --size 40 --copies 2 --output out"):
+        yield refusing(Case("an image without memory", [b"image", b"--env", b"text", *options], {b"text": b"# b\nb=1\na=2\\\n3\n"}))
     for tool in (b"printenv", b"export", b"status"):
         yield refusing(Case(f"{tool.decode()} of 2,500 variables without memory", arguments(tool), OVER_MANY))
     files = over_copies(BLANK, BLANK) | {b"default": b"p=1\n"}

@@ -1,5 +1,6 @@
 """Tools of other makers over the same files: what libubootenv's tools and U-Boot's mkenvimage write is read, and the other way round."""
 
+import pathlib
 import shutil
 import subprocess
 
@@ -84,6 +85,38 @@ def copies_of_mkenvimage(runner):
         wants(ran(runner, ["fwenv", "printenv", "-c", "fw.config", *words]), SHOWN.replace(b"2", b"3"))
 
 
+def images_for_boards(runner):
+    """What fwenv makes is what mkenvimage makes, if zeros fill it and names ascend."""
+    text = SHOWN.replace(b"=b", b"==b")
+    with open("sorted", "wb") as it:
+        it.write(text)
+    for order, words in ([], []), (["-b"], ["--big-endian"]):
+        for size in ("0x40", "0x4000", "0x100000"):
+            ran(runner, ["mkenvimage", "-p", "0", *order, "-s", size, "-o", "made", "sorted"], errors=None)
+            ran(runner, ["mkenvimage", "-p", "0", "-r", *order, "-s", size, "-o", "copy", "sorted"], errors=None)
+            single, copy = pathlib.Path("made").read_bytes(), pathlib.Path("copy").read_bytes()
+            image = ["fwenv", "image", "--env", "sorted", "--size", size, *words]
+            wants(ran(runner, image), single)
+            wants(ran(runner, [*image, "--copies", "2"]), ERASED * len(copy) + copy)
+            wants(ran(runner, [*image, "--copies", "2", "--both"]), copy + copy)
+
+
+def new_images(runner):
+    """libubootenv reads what fwenv makes."""
+    with open("text", "wb") as it:
+        it.write(BOOT)
+    for words, config in (
+        ([], "new 0 1000\n"),
+        (["--copies", "2"], "new 0 1000\nnew 0x1000 1000\n"),
+        (["--copies", "2", "--both"], "new 0 1000\nnew 0x1000 1000\n"),
+    ):
+        with open("fw.config", "w") as it:
+            it.write(config)
+        wants(ran(runner, ["fwenv", "image", "--env", "text", "--size", "1000", *words, "--output", "new"]), b"")
+        found = ran(runner, ["fw_printenv", "-c", "fw.config"], errors=None)
+        wants(sorted(found.splitlines()), sorted(BOOT.splitlines()))
+
+
 def libubootenv(runner):
     """In both layouts each reads what the other wrote."""
     for config in ("device 0 100\n", "device 0 100\ndevice 0x100 100\n"):
@@ -102,8 +135,10 @@ def checks():
     if HAS_MKENVIMAGE:
         yield tried(images_of_mkenvimage)
         yield tried(copies_of_mkenvimage)
+        yield tried(images_for_boards)
     if HAS_LIBUBOOTENV:
         yield tried(libubootenv)
+        yield tried(new_images)
 
 
 def chunks():

@@ -6,7 +6,7 @@ import re
 from differential.boards import BLANK, CONFIG, EMPTIED, FIRST, PAIR, SAVED, SECOND, STRICT, arguments, board, calls, in_each_shell
 from differential.running import Case
 from differential.script_faults import EMPTY_BODIES, NEAR_SCRIPTS, NO_SCRIPTS, NO_STAND_INS, NULS, refused
-from model.arguments import ENV_AND, NO_NUMBER, NO_SCRIPT, NO_SHELL, NO_SIZE, SEVERAL_SCRIPTS, SIZE_ALONE
+from model.arguments import ENV_AND, NO_NUMBER, NO_SCRIPT, NO_SHELL, NO_SIZE, READ_TWICE, SEVERAL_SCRIPTS, SIZE_ALONE
 from model.dry_run import LONGEST
 from model.image import LARGEST, Geometry
 from model.program import LOOK_AT, NO_GOOD_COPY, NOT_A_STAND_IN, WARNING, Answer
@@ -222,6 +222,11 @@ WRONG_WORDS = {
         "run --env absent --need-copy ok / run --write --need-copy --env absent ok / session --env absent --need-copy"
     ),
     SIZE_ALONE: "run --size 0x4000 ok / run --size x -c absent ok / session --size 0x4000 / run --steps=x --size 8",
+    READ_TWICE: (
+        "run --env - -f - / check --env=- --stubs - / printenv -c - --default=- / restore --default - - / status -c - - / "
+        "session --env - / session --stubs=- / session -c- / setenv -s - --default - / import -c - -- - / run --steps=x --board - -c - ok / "
+        "check --shell=x --stubs - -f-"
+    ),
     NO_NUMBER % (b"x", b"--steps", 1_000_000): "run --steps=x --env absent",
     NO_NUMBER % (b"17", b"--depth", 16): "run --depth=17 --output=x ok",
     NO_NUMBER % (b"65537", b"--word", 65_536): "run --word=65537 ok",
@@ -266,6 +271,12 @@ NO_ENVIRONMENTS = [
     (b".flags=n:d\nn=3\\\n4\n", None, b"fwenv: env: BadType in line 2\n"),
     (b"a=1\\\n2\nb=3\n", b"0xe", b"fwenv: env: Full in line 3\n"),
     (b"a=1\n=2\n", None, b"fwenv: env: EmptyName in line 2\n"),
+    (b"a=1\nb\nc\n", None, b"fwenv: env:2: no = in this line\n"),
+    (b"# x\n \n\tb # c\n", None, b"fwenv: env:3: no = in this line\n"),
+    (b"a=1\\\n2\nb=\\\n\n c", None, b"fwenv: env:5: no = in this line\n"),
+    (b"a=1\n#include <env.h>\n/* the board */\nb+=2\n", None, b"fwenv: env:3: no = in this line\n"),
+    (b"b\n=2\n", None, b"fwenv: env: EmptyName in line 2\n"),
+    (b"a=" + b"x" * 16_377 + b"\nb\n", None, b"fwenv: env:2: no = in this line\n"),
     (b"a=1\0\n", None, b"fwenv: env: Nul\n"),
     (None, None, absent(b"env")),
     (b"\n" * (LONGEST + 1), None, longer(b"env")),
@@ -306,7 +317,7 @@ ORDER = [
     ([b"--env", b"none", b"--stubs", b"nothing", b"-f", b"no"], b"none"),
     ([b"--env", b"stand-ins", b"--stubs", b"nothing", b"-f", b"no"], b"nothing"),
     ([b"--env", b"stand-ins", b"-f", b"no"], b"no"),
-    ([b"--env", b"-", b"-f", b"no"], b"-"),
+    ([b"--env", b"-", b"-f", b"no"], b"no"),
 ]
 
 

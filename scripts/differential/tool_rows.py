@@ -4,7 +4,7 @@ from differential import text_rows
 from differential.boards import BLANK, CONFIG, EMPTIED, FIRST, PAIR, SAVED, SECOND, arguments, board
 from differential.damage import turned
 from differential.running import Case
-from model.arguments import NAME_AND_SCRIPT, NO_NAME, NO_SUBCOMMAND, VERSION
+from model.arguments import NAME_AND_SCRIPT, NO_COPY, NO_NAME, NO_SUBCOMMAND, VERSION
 from model.image import ERASED, Geometry, entries
 from model.program import WARNING, Answer
 
@@ -141,6 +141,72 @@ def over_pair(copies, side, warning, words, status, output, errors, left=None, t
     return Case("a tool", arguments(tool, *rest), board(PAIR, copies) | files, wanted=wanted)
 
 
+# One copy that is asked for: the copies, arguments, status, output and errors; the first copy has the flag 7
+LONG_LIST, NOT_FIRST = PAIR.image(9, b"a=bcd"), b"fwenv: the first copy isn't good: "
+OLDER, NEWER = PAIR.image(6, b"a=o\0"), PAIR.image(8, b"a=n\0")
+WANTED = [
+    ([FIRST, NEWER], [b"printenv", b"--copy", b"1"], 0, b"a=b\n", b""),
+    ([FIRST, NEWER], [b"printenv", b"--copy=2"], 0, b"a=n\n", b""),
+    ([FIRST, OLDER], [b"printenv", b"-n", b"--copy=1", b"a"], 0, b"b\n", b""),
+    ([FIRST, OLDER], [b"printenv", b"--copy=2", b"a", b"q"], 1, b"a=o\n", b'## Error: "q" not defined\n'),
+    ([FIRST, OLDER], [b"export", b"--copy", b"2"], 0, b"a=o\n", b""),
+    ([FIRST, SECOND], [b"export", b"--copy=2"], 0, b"", b""),
+    ([FIRST, BLANK], [b"export", b"--copy=1", b"--need-copy"], 0, b"a=b\n", b""),
+    ([FIRST, BLANK], [b"export", b"--copy=2"], 1, b"", b"fwenv: the second copy isn't good: checksum is wrong\n"),
+    ([FIRST, LONG_LIST], [b"printenv", b"--copy=2"], 1, b"", b"fwenv: the second copy isn't good: list of entries isn't ended\n"),
+    ([BLANK, NEWER], [b"printenv", b"--copy=1", b"--default", b"absent"], 1, b"", NOT_FIRST + b"checksum is wrong\n"),
+    ([LONG_LIST, BLANK], [b"export", b"--copy=1", b"--need-copy"], 1, b"", NOT_FIRST + b"list of entries isn't ended\n"),
+    ([FIRST, NEWER], [b"printenv", b"--copy=2", b"--default", b"absent"], 1, b"", b"fwenv: cannot read absent\n"),
+]
+WRONG_COPIES = [b"0", b"3", b"12", b"", b"01", b"one", b"-1", b"+1", b" 1"]
+
+
+def wanted_copies():
+    for copies, (tool, *rest), status, output, errors in WANTED:
+        files = board(PAIR, copies)
+        yield Case("one copy", arguments(tool, *rest), files, wanted=Answer(status, output, errors, files))
+    big = Geometry(2, 10, "big")
+    files = board(big, [big.image(7, b"a=b\0"), big.image(8, b"a=n\0")])
+    yield Case("one copy", arguments(b"export", b"--copy=1", order="big"), files, wanted=Answer(0, b"a=b\n", b"", files))
+    files = board(SINGLE, [SINGLE.image(0, b"a=1\0")])
+    yield Case("the one copy", arguments(b"printenv", b"--copy=1"), files, wanted=Answer(0, b"a=1\n", b"", files))
+    wanted = Answer(1, b"", b"fwenv: there is no second copy\n", files)
+    yield Case("no second copy", arguments(b"printenv", b"--copy=2"), files, wanted=wanted)
+    files = board(PAIR, [FIRST, SECOND])
+    for word in WRONG_COPIES:
+        for tool in (b"printenv", b"export"):
+            yield Case("no copy", arguments(tool, b"--copy=" + word), files, wanted=Answer(1, b"", NO_COPY % word, files))
+    for tool in (b"status", b"session", b"check"):
+        yield Case("no option", arguments(tool, b"--copy=1"), files, wanted=Answer(1, b"", None, files))
+
+
+# The same of which a text is standard input: that text, the status, output and errors, and the second copy afterwards (SECOND)
+OVER_INPUT = [
+    ([b"import", b"-"], b"c=1\na=\n", 1, b"", NO_ROOM % (b"c", 1) + b"## Error: 1 entries refused\n", EMPTIED),
+    ([b"restore", b"-"], b"q=1\n", 0, b"", b"", PAIR.image(8, b"q=1\0")),
+    ([b"restore", b"--", b"-"], b"", 1, b"", NO_ENTRY),
+    ([b"import", b"-"], b"=c\n", 1, b"", b"fwenv: -: EmptyName in line 1\n"),
+    ([b"setenv", b"-s", b"-"], b"a\nc 1\n", 0, b"", b"", PAIR.image(8, b"c=1\0")),
+    ([b"setenv", b"-s-"], b"=b\n", 1, b"", b"fwenv: -: EmptyName in line 1\n"),
+    ([b"printenv", b"--default=-"], b"=b\n", 1, b"", b"fwenv: -: EmptyName in line 1\n"),
+    ([b"printenv", b"-"], b"", 1, b"", b'## Error: "-" not defined\n'),
+    ([b"restore", b"-"], b"\n" * 16_777_217, 1, b"", b"fwenv: cannot read -: it is longer than 16777216 bytes\n"),
+    ([b"import", b"./-"], b"", 0, b"", b"", PAIR.image(8, b"a=x\0")),
+]
+
+
+def over_input():
+    for (tool, *rest), given, status, output, errors, *left in OVER_INPUT:
+        files = {b"-": b"a=x\n"} | board(PAIR, [FIRST, SECOND])
+        wanted = Answer(status, output, errors, files | board(PAIR, [FIRST, *(left or [SECOND])]))
+        yield Case("standard input", arguments(tool, *rest), files, given, wanted=wanted, is_modelled=b"./-" not in rest)
+    files = board(PAIR, [FIRST, SECOND])
+    wanted = Answer(0, b"a=b\n", b"", files)
+    yield Case("a configuration from standard input", [b"printenv", b"-c", b"-"], files, files[CONFIG], wanted=wanted)
+    text = b"whole file   -, 10 bytes: good as a copy with a flag, flag 7\nvariables    1, 5 of 5 bytes used\n"
+    yield Case("an image from standard input", [b"status", b"-"], {}, FIRST, wanted=Answer(0, text, b"", {}))
+
+
 def over_pairs():
     for row in OVER_GOOD_COPIES:
         yield over_pair([FIRST, SECOND], 1, b"", *row)
@@ -202,4 +268,4 @@ def words():
 
 
 def chunks():
-    return [over_pairs, over_one_copy, over_types, restores, in_big_endian, words, *text_rows.chunks()]
+    return [over_pairs, over_input, wanted_copies, over_one_copy, over_types, restores, in_big_endian, words, *text_rows.chunks()]

@@ -6,7 +6,7 @@ import pathlib
 import re
 from dataclasses import dataclass, field
 
-from model.image import LARGEST
+from model.image import LARGEST, Geometry
 from model.shells import SHELLS
 from model.texts import SIZE
 
@@ -18,16 +18,19 @@ WHOLE_VALUES = {"--stubs", "--env", "--size"}
 DRY_VALUES = WHOLE_VALUES | {"--board", "--shell", "--steps", "--depth", "--word", "--output"}
 # Of each subcommand: its flags, its options with a value, and how many other arguments it takes
 FORMS = {
-    "printenv": (OPENING_FLAGS | {"-n"}, OPENING_VALUES, (0, None)),
+    "printenv": (OPENING_FLAGS | {"-n"}, OPENING_VALUES | {"--copy"}, (0, None)),
     "setenv": (WRITING_FLAGS, OPENING_VALUES | {"-s"}, (0, None)),
     "import": (WRITING_FLAGS, OPENING_VALUES, (1, 1)),
-    "export": (OPENING_FLAGS, OPENING_VALUES, (0, 0)),
+    "export": (OPENING_FLAGS, OPENING_VALUES | {"--copy"}, (0, 0)),
     "restore": (WRITING_FLAGS, OPENING_VALUES, (1, 1)),
     "status": (set(), {"-c"}, (0, 1)),
+    "image": ({"--both"}, {"--env", "--size", "--copies", "--output"}, (0, 0)),
     "session": (WRITING_FLAGS | {"--write"}, OPENING_VALUES | DRY_VALUES, (0, 0)),
     "run": (WRITING_FLAGS | {"--write"}, OPENING_VALUES | DRY_VALUES | {"--boots", "-e", "-f"}, (0, None)),
     "check": (set(), OPENING_VALUES | WHOLE_VALUES | {"-f", "--shell"}, (0, None)),
 }
+# Options whose value names a text, which - takes from standard input
+TEXTS = {"-c", "--default", "--env", "--stubs", "--board", "-s", "-f"}
 # Options that may be given more than once
 REPEATED = {"--boots"}
 # The limits of a dry run: the usual one, None for that of the shell, and the largest
@@ -58,6 +61,28 @@ For more information, try '--help'.
 """
 NO_SHELL = b"""error: invalid value '%s' for '--shell <SHELL>'
   [possible values: board, strict]
+
+For more information, try '--help'.
+"""
+NO_COPY = b"""error: invalid value '%s' for '--copy <N>'
+  [possible values: 1, 2]
+
+For more information, try '--help'.
+"""
+NO_COPIES = b"""error: invalid value '%s' for '--copies <N>'
+  [possible values: 1, 2]
+
+For more information, try '--help'.
+"""
+BOTH_ALONE = b"""error: the argument '--both' is only for '--copies 2'
+
+For more information, try '--help'.
+"""
+NO_PAIR_SIZE = b"""error: invalid value '%s' for '--size <N>': not the size of one of two copies in hexadecimal, 0x9 to 0x100000
+
+For more information, try '--help'.
+"""
+READ_TWICE = b"""error: '-' is standard input, which can be read once
 
 For more information, try '--help'.
 """
@@ -142,6 +167,13 @@ class Call:
             raise Wrong(NO_SHELL % name)
         return SHELLS[name]
 
+    def wanted_copy(self):
+        """The copy that is asked for, 0 or 1; None for the current one."""
+        number = self.options.get("--copy")
+        if number not in (None, b"1", b"2"):
+            raise Wrong(NO_COPY % number)
+        return None if number is None else int(number) - 1
+
     def limits(self):
         """The limits on steps, depth, word and output; the first that isn't a number within its limit is a fault."""
         shell, found = self.shell(), []
@@ -151,6 +183,14 @@ class Call:
                 raise Wrong(NO_NUMBER % (text, option.encode(), most))
             found.append(int(text))
         return tuple(found)
+
+    def refuse_second_input(self):
+        """Standard input is read once, by one text or by a session."""
+        texts = [self.options[option] for option in TEXTS & self.options.keys()]
+        if self.tool in ("import", "restore", "status"):
+            texts += self.words
+        if texts.count(b"-") + (self.tool == "session") > 1:
+            raise Wrong(READ_TWICE)
 
     def refuse_scripts(self):
         """A run takes one script: names, a text or a file."""
@@ -183,11 +223,24 @@ class Call:
             if option in self.options:
                 raise Wrong(ENV_AND % shown)
         self.refuse_overwrite_alone()
-        text = self.options.get("--size", USUAL_SIZE)
-        size = SIZE.fullmatch(text)
-        if not size or not 8 <= int(size[1], 16) <= LARGEST:
-            raise Wrong(NO_SIZE % text)
-        return int(size[1], 16)
+        return read_size(self.options.get("--size", USUAL_SIZE), 8, NO_SIZE)
+
+    def new_geometry(self):
+        """That of a new image."""
+        copies = self.options.get("--copies", b"1")
+        if copies not in (b"1", b"2"):
+            raise Wrong(NO_COPIES % copies)
+        if copies == b"1" and "--both" in self.options:
+            raise Wrong(BOTH_ALONE)
+        least, fault = (8, NO_SIZE) if copies == b"1" else (9, NO_PAIR_SIZE)
+        return Geometry(int(copies), read_size(self.options["--size"], least, fault), self.order())
+
+
+def read_size(text, least, fault):
+    size = SIZE.fullmatch(text)
+    if not size or not least <= int(size[1], 16) <= LARGEST:
+        raise Wrong(fault % text)
+    return int(size[1], 16)
 
 
 def option_of(word):
@@ -226,7 +279,10 @@ def read_subcommand(tool, options, rest):
             call.words.append(word)
     if len(call.words) < least or (most is not None and len(call.words) > most):
         raise Wrong
+    call.refuse_second_input()
     if tool == "setenv" and ("-s" in call.options) == bool(call.words):
+        raise Wrong
+    if tool == "image" and not call.options.keys() >= {"--env", "--size"}:
         raise Wrong
     if tool == "status" and "-c" in call.options and call.words:
         raise Wrong(CONFIG_AND_FILE)

@@ -126,14 +126,20 @@ def literal(word):
     return bytes(part[1] for part in word if part[0] != "mark")
 
 
-def called(command):
-    """The name of a simple command, if it is literal."""
+def named(command):
+    """The name of a simple command as it is written, if it is literal."""
     return literal(command[1][0]) if command[0] == "simple" and command[1] else None
 
 
-def targets(command):
+def called(command, known):
+    """The name that the shell finds by it."""
+    name = named(command)
+    return name if name is None else known.shell.called(name, set(known.stand_ins or ()))
+
+
+def targets(command, known):
     """The names that a command starts whatever its variables are: literal arguments of `run`, with their places."""
-    if called(command) != b"run":
+    if called(command, known) != b"run":
         return []
     return [(word.place, literal(word)) for word in command[1][1:] if literal(word) is not None]
 
@@ -152,24 +158,25 @@ def words_of(command):
     return command[1] if command[0] == "simple" else []
 
 
-def given(command):
+def given(command, known):
     """The names that a command assigns, gives to a command, or tests."""
     if command[0] in ("assign", "for"):
         return {command[1]}
     arguments = words_of(command)[1:]
-    tested = substituted(arguments) if called(command) == b"test" else []
+    tested = substituted(arguments) if called(command, known) == b"test" else []
     return {literal(word) for word in arguments} - {None} | {name for _, name in tested}
 
 
-def foreseen(command):
+def foreseen(command, known):
     """The names that a command sets by `setenv`, `env set` or `setexpr`, substitutes in `test`, or asks for by `env exists`."""
-    name, arguments = called(command), words_of(command)[1:]
+    name, arguments = called(command, known), words_of(command)[1:]
     if name == b"test":
         return {tested for _, tested in substituted(arguments)}
     words = [literal(word) for word in arguments]
-    if name == b"env" and words[:1] == [b"exists"]:
+    subcommand = known.shell.subcommand(words[0]) if name == b"env" and words[:1] not in ([], [None]) else None
+    if subcommand == b"exists":
         return set(words[1:2]) - {None}
-    if name == b"env" and words[:1] == [b"set"]:
+    if subcommand == b"set":
         name, words = b"setenv", words[1:]
     if name == b"setenv" and words[:1] == [b"-f"]:
         words = words[1:]
@@ -195,7 +202,7 @@ def no_script(fault):
 
 def lacked(command):
     """What is reported of a command that this shell lacks; None for another."""
-    name, arguments = called(command), words_of(command)[1:]
+    name, arguments = named(command), words_of(command)[1:]
     if name is None or name in LACKED:
         return LACKED.get(name)
     is_head = name.endswith(b"()") or (arguments and literal(arguments[0]) == b"()" and name not in BUILTINS)
@@ -204,7 +211,7 @@ def lacked(command):
 
 def lacked_command(command, known):
     """A command that other shells have, unless a stand-in answers it."""
-    name = called(command)
+    name = named(command)
     if lacked(command) is None or name in (known.stand_ins or {}):
         return []
     return [Finding(command[1][0].place, ERROR, lacked(command))]
@@ -212,11 +219,10 @@ def lacked_command(command, known):
 
 def unknown_command(command, known):
     """A command that only hardware has and that no stand-in answers."""
-    name = called(command)
+    name = named(command)
     if name is None or lacked(command) is not None or known.stand_ins is None:
         return []
-    names = known.stand_ins.keys()
-    if known.shell.called(name, names) in BUILTINS | names:
+    if called(command, known) in BUILTINS | known.stand_ins.keys():
         return []
     return [Finding(command[1][0].place, ERROR, NO_COMMAND % name)]
 
@@ -225,7 +231,7 @@ def undefined_target(command, known):
     """A start of a variable that isn't there."""
     if known.values is None:
         return []
-    return [Finding(place, ERROR, NO_TARGET % name) for place, name in targets(command) if name not in known.started]
+    return [Finding(place, ERROR, NO_TARGET % name) for place, name in targets(command, known) if name not in known.started]
 
 
 def refused_assignment(command, known):
@@ -282,7 +288,7 @@ def no_operator_of_board(words):
 
 def unknown_operator(command, known):
     """A word of `test` in the place of an operator; by the strict shell it is false then."""
-    if called(command) != b"test":
+    if called(command, known) != b"test":
         return []
     word = (no_operator if known.shell is STRICT else no_operator_of_board)(command[1][1:])
     return [] if word is None else [Finding(word.place, ERROR, NO_OPERATOR % literal(word) + IS_FALSE * (known.shell is STRICT))]
@@ -325,21 +331,26 @@ def of_script(shell, name, text, stand_ins):
     return report
 
 
-def visited(shell, values, names):
+def commands_of(name, known):
+    """The commands of a variable's script; what isn't a script has none."""
+    tree, _ = tree_of(known.values[name], known.shell)
+    return commands(tree or [])
+
+
+def visited(known, names):
     """The variables that are checked, each once: those that are named, and after them those that each of them starts."""
-    found = list(dict.fromkeys(name for name in names if name in values))
+    found = list(dict.fromkeys(name for name in names if name in known.values))
     for name in found:
-        tree, _ = tree_of(values[name], shell)
-        for command in commands(tree or []):
-            for _, target in targets(command):
-                if target in values and target not in found:
+        for command in commands_of(name, known):
+            for _, target in targets(command, known):
+                if target in known.values and target not in found:
                     found.append(target)
     return found
 
 
-def names_by(kind, shell, scripts, values):
-    """The names that are given or foreseen by the commands of these variables; what isn't a script has none."""
-    return {name for script in scripts for command in commands(tree_of(values[script], shell)[0] or []) for name in kind(command)}
+def names_by(kind, known, scripts):
+    """The names that are given or foreseen by the commands of these variables."""
+    return {name for script in scripts for command in commands_of(script, known) for name in kind(command, known)}
 
 
 def not_typed(values):
@@ -354,9 +365,10 @@ def of_environment(shell, values, stand_ins, names):
     for name in names:
         if name not in values:
             report.add_line(NOT_DEFINED % name, True)
-    scripts = visited(shell, values, names or STARTED)
-    defined = values.keys() | names_by(given, shell, scripts, values) | SET_BY_UBOOT
-    known = Known(shell, values, stand_ins, defined, values.keys() | names_by(foreseen, shell, scripts, values))
+    known = Known(shell, values, stand_ins)
+    scripts = visited(known, names or STARTED)
+    known.defined = values.keys() | names_by(given, known, scripts) | SET_BY_UBOOT
+    known.started = values.keys() | names_by(foreseen, known, scripts)
     for name in scripts:
         report.add(name, values[name], findings(values[name], known))
     for name in not_typed(values):

@@ -7,7 +7,7 @@ from model import board_file, check, report, script_run, texts
 from model.arguments import VERSION, Wrong, read_arguments
 from model.dry_run import LONGEST, DryRun
 from model.grammar import parse
-from model.image import LARGEST, Geometry
+from model.image import ERASED, LARGEST, Geometry, entries
 from model.script import run
 from model.session import Session, erased
 from model.texts import TextFault
@@ -25,7 +25,7 @@ NO_SUCH_FILE, LONGER = b"no such file", b"it is longer than %d bytes" % LONGEST
 DIRECTORY, DENIED, NO_SPACE = b"it is a directory", b"permission denied", b"no space is left"
 CHANGED = b"another program changed it"
 # The subcommands that report it
-EXPLAINING = {"status", "run", "check", "restore"}
+EXPLAINING = {"status", "run", "check", "restore", "image"}
 TOO_SHORT = b"fwenv: %s is too short\n"
 IS_YAML = b"fwenv: %s is YAML: fwenv reads lines of DEVICE OFFSET SIZE\n"
 IS_UBI_VOLUME = b"fwenv: %s is a UBI volume by its name: fwenv reads files and block devices\n"
@@ -35,7 +35,10 @@ For more information, try '--help'.
 """
 OVERLAP = b"fwenv: copies overlap\n"
 NO_GOOD_COPY = b"fwenv: no good copy: "
+NOT_GOOD = b"fwenv: the %s copy isn't good: %s\n"
+NO_SECOND = b"fwenv: there is no second copy\n"
 LOOK_AT = b"; look at the size and the number of lines in the configuration, and at the byte order (--big-endian)\n"
+NO_EQUALS = b"fwenv: %s:%d: no = in this line\n"
 REFUSED_TEXT = b"fwenv: %s: %s\n"
 TOO_LONG = b"fwenv: input too long\n"
 BAD_IMAGE = b"## Error: bad image: %s\n"
@@ -127,8 +130,11 @@ class Program:
         line = CANNOT_READ % path
         return Ended(explained(line, reason) if self.explains else line)
 
+    def unwritable(self, path, reason):
+        return Ended(explained(CANNOT_WRITE % path, reason))
+
     def text(self, path):
-        found = self.files.get(path)
+        found = self.given if path == b"-" else self.files.get(path)
         if found is None:
             raise self.unreadable(path, NO_SUCH_FILE)
         if len(found) > LONGEST:
@@ -161,6 +167,9 @@ class Program:
         path = call.options.get("--env", call.options.get("--default"))
         environment = Environment(geometry.room)
         entries = [] if path is None else self.parsed(path, texts.import_entries)
+        for line, _, _ in entries:
+            if b"=" not in self.text(path).split(b"\n")[line - 1]:
+                raise Ended(NO_EQUALS % (path, line))
         for line, name, value in entries:
             refusal = environment.write(name, value, True)
             if refusal:
@@ -179,12 +188,15 @@ class Program:
 
     def opened(self, call):
         """A session over those copies, or over an image in memory that holds nothing yet."""
-        size = call.size_in_memory()
+        size, wanted = call.size_in_memory(), call.wanted_copy()
         if size is not None:
             geometry = Geometry(1, size, call.order())
             return erased(geometry, self.defaults(call, geometry))
         geometry, read = self.found(call)
         copies = [rest[: geometry.size] for _, rest in read]
+        if wanted is not None:
+            # as if each were that copy
+            copies = [self.good_copy(geometry, copies, wanted)] * len(copies)
         if geometry.choice(copies)[0] is not None:
             return Session(geometry, copies, self.defaults(call, geometry))
         try:
@@ -198,6 +210,15 @@ class Program:
             raise Ended(NO_GOOD_COPY + report.faults(geometry, copies) + LOOK_AT)
         self.errors += WARNING
         return Session(geometry, copies, defaults)
+
+    def good_copy(self, geometry, copies, at):
+        """The copy that is asked for."""
+        if at == len(copies):
+            raise Ended(NO_SECOND)
+        state, _ = geometry.read(copies[at])
+        if state != "Good":
+            raise Ended(NOT_GOOD % ((b"first", b"second")[at], report.FAULTS[state]))
+        return copies[at]
 
     def write_back(self, session):
         """The copies go where they came from; what is around them stays. A warning comes before one that goes over other data."""
@@ -275,8 +296,23 @@ class Program:
             return status
         path = call.options.get("-c", CONFIG)
         geometry, read = self.found(call)
-        self.output, status = report.of_copies(path, self.files[path], geometry, self.places, read)
+        self.output, status = report.of_copies(path, self.text(path), geometry, self.places, read)
         return status
+
+    def call_image(self, call):
+        geometry = call.new_geometry()
+        copy = geometry.image(1, entries(self.defaults(call, geometry)))
+        if geometry.copies == 2:
+            copy = (copy if "--both" in call.options else ERASED * geometry.size) + copy
+        path = call.options.get("--output")
+        if path is None:
+            self.output = copy
+        elif path == b"." or b"/" in path:
+            # (the model has no folders)
+            raise self.unwritable(path, DIRECTORY if path == b"." else NO_SUCH_FILE)
+        else:
+            self.files[path] = copy
+        return 0
 
     def saved(self, session):
         session.save()
@@ -304,12 +340,7 @@ class Program:
             return b"-e", call.options["-e"]
         if "-f" not in call.options:
             return b"run", script_run.starts(call.words)
-        path = call.options["-f"]
-        if path != b"-":
-            return path, self.text(path)
-        if len(self.given) > LONGEST:
-            raise self.unreadable(path, LONGER)
-        return path, self.given
+        return call.options["-f"], self.text(call.options["-f"])
 
     def call_run(self, call):
         call.size_in_memory()

@@ -5,14 +5,18 @@ use Rattle.std.proofs.lemmas.List.{map-append}
 use Rattle.clap.specs.Words.{AddsAliases, Row, Rule, Text, all_of, first_of, rule_of}
 use Rattle.clap.specs.declared.builder.arg.Arg.{Arg}
 use Rattle.envimg_core.specs.declared.geometry.Order.{Order}
-use Rattle.fw_arguments.specs.Calls.{Defaults, Job, defaults_of, LockFiles, is_client, job_of, locks_of, with_image}
+use Rattle.fw_arguments.specs.Calls.{Defaults, Job, defaults_of, LockFiles, is_client, job_of, locks_of, with_copy}
 use Rattle.fw_arguments.specs.Checks.{file_alone, file_check_by, file_check_of, names_environment}
 use Rattle.fw_arguments.specs.Shells.{board_shell, shell_of}
 use Rattle.hush_commands.specs.declared.shell.Shell.{Shell}
 use Rattle.fw_arguments.specs.DryRuns.{DryRun, GivenScript, and_then, run_within, script_of, script_within}
 use Rattle.fw_arguments.specs.Values.{first_or, is_given}
 use Rattle.run_limits.specs.Limits.{Bounds}
-use Rattle.fw_arguments.specs.Report.{Subject, in_order, report_of, subject_of}
+use Rattle.fw_arguments.specs.Report.{Subject, asked_of, asked_once, in_order, report_of, subject_of}
+use Rattle.fw_arguments.specs.StandardInput.{read_twice, reads_twice}
+use Rattle.fw_arguments.specs.ImageRequests.{ImageRequest, both_alone, is_both_alone, request_by, request_in, size_of}
+use Rattle.envimg_core.specs.declared.geometry.Layout.{Layout}
+use Rattle.fw_arguments.specs.declared.wanted_copy.WantedCopy.{WantedCopy}
 use Rattle.fw_arguments.specs.Words.{either_order, order_by, source_in}
 
 pub text_or : (o : Option (Bor (List ℕ))) (other : Bor (List ℕ)) → (unwrap_or o other).now ≡ unwrap_or (option_map (λ s. s.now) o) other.now
@@ -27,13 +31,13 @@ alias_rule old new alias shown rule (same, more) is =
     ∙ ap (λ xs. record (rule_of old) { aliases = xs }) (map-append (λ (a : Bor (List ℕ) × Bool). a.0.now) old.aliases.items ((alias, shown) ∷ []))
     ∙ ap (λ (r : Rule). record r { aliases = r.aliases ++ alias.now ∷ [] }) is
 
-pub with_image_is : (order : Order) (name : Text) (rows : List Row) (image : Option ℕ) (config : Text) (defaults : Defaults) (locks : LockFiles) (chosen : Order) (only over : Bool) (job : Job) →
+pub with_copy_is : (order : Order) (name : Text) (rows : List Row) (image : Option ℕ) (copy : WantedCopy) (config : Text) (defaults : Defaults) (locks : LockFiles) (chosen : Order) (only over : Bool) (job : Job) →
     config ≡ first_or (codes "/etc/fw_env.config") (codes "config") rows → defaults ≡ defaults_of name rows → locks ≡ locks_of name rows →
     chosen ≡ either_order order (order_by (source_in (codes "big-endian") rows)) → only ≡ is_client name →
     over ≡ is_given (codes "overwrite") rows → Ok job ≡ job_of name rows →
-    Ok (record { config = config; image = image; defaults = defaults; locks = locks; order = chosen; only_changes = only; overwrite = over; job = job }) ≡ with_image order name rows image
-with_image_is order name rows image config defaults locks chosen only over job p q l r o w j =
-    λ i. and_then (j i) (λ k. Ok (record { config = p i; image = image; defaults = q i; locks = l i; order = r i; only_changes = o i; overwrite = w i; job = k }))
+    Ok (record { config = config; image = image; copy = copy; defaults = defaults; locks = locks; order = chosen; only_changes = only; overwrite = over; job = job }) ≡ with_copy order name rows image copy
+with_copy_is order name rows image copy config defaults locks chosen only over job p q l r o w j =
+    λ i. and_then (j i) (λ k. Ok (record { config = p i; image = image; copy = copy; defaults = q i; locks = l i; order = r i; only_changes = o i; overwrite = w i; job = k }))
 
 -- the run of a script with what was found for it
 pub script_is : (shell : Shell) (rows : List Row) (dry : DryRun) (limits : Bounds) (boots : Option (List Text)) (script : GivenScript) →
@@ -49,3 +53,21 @@ report_is order chosen rows subject p q = λ i. in_order (p i) (q i)
 pub refused_file : (rows : List Row) (path text : List ℕ) → text ≡ file_alone → names_environment rows ≡ true → Err text ≡ file_check_of path rows
 refused_file rows path text is named =
     ap Err is ∙ ap (λ (b : Bool). if b then Err file_alone else and_then (shell_of board_shell rows) (λ shell. Ok (file_check_by path rows shell))) (sym named)
+
+-- ---- standard input and new images
+
+pub twice_refused : (order : Order) (name text : Text) (rows : List Row) → text ≡ read_twice → reads_twice name rows ≡ true → Err text ≡ asked_of order name rows
+twice_refused order name text rows is twice =
+    ap Err is ∙ ap (λ (b : Bool). if b then Err read_twice else asked_once order name rows) (sym twice)
+
+pub both_refused : (order : Order) (rows : List Row) (layout : Layout) (text : Text) → text ≡ both_alone → is_both_alone layout (is_given (codes "both") rows) ≡ true →
+    Err text ≡ request_by order rows layout
+both_refused order rows layout text is alone =
+    ap Err is ∙ ap (λ (b : Bool). if b then Err both_alone else and_then (size_of rows layout) (λ size. Ok (request_in order rows layout size))) (sym alone)
+
+pub request_is : (order chosen : Order) (rows : List Row) (layout : Layout) (size : ℕ) (text : Text) (both : Bool) (output : Option Text) →
+    text ≡ first_or [] (codes "env") rows → chosen ≡ either_order order (order_by (source_in (codes "big-endian") rows)) → both ≡ is_given (codes "both") rows →
+    output ≡ first_of (codes "output") rows →
+    ◌≡◌ {A = ImageRequest} (record { text = text; layout = layout; size = size; order = chosen; both = both; output = output }) (request_in order rows layout size)
+request_is order chosen rows layout size text both output t r b o =
+    λ i. record { text = t i; layout = layout; size = size; order = r i; both = b i; output = o i }

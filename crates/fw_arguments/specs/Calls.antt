@@ -9,6 +9,7 @@ pub use Rattle.fw_arguments.specs.DryRuns.{texts}
 use Rattle.fw_arguments.specs.Checks.{EnvironmentCheck, environment_check_of, environment_check_view}
 use Rattle.fw_arguments.specs.ImageSizes.{image_of, whole_text}
 use Rattle.fw_arguments.specs.Values.{all_values, first_or, is_given}
+use Rattle.fw_arguments.specs.WantedCopies.{wanted_copy_of}
 use Rattle.fw_arguments.specs.Words.{either_order, order_by, source_in}
 use Rattle.fw_arguments.specs.declared.call.Call as calls
 use Rattle.fw_arguments.specs.declared.task.Printing.{Printing}
@@ -16,10 +17,11 @@ use Rattle.fw_arguments.specs.declared.task.Printing.TheVariants.{Lines, OneValu
 use Rattle.fw_arguments.specs.declared.call.Defaults as defaults
 use Rattle.fw_arguments.specs.declared.call.LockFiles as locks
 use Rattle.fw_arguments.specs.declared.call.LockFiles.TheVariants as lock
-use Rattle.fw_arguments.specs.declared.call.Job as jobs
-use Rattle.fw_arguments.specs.declared.call.Job.TheVariants as job
+use Rattle.fw_arguments.specs.declared.job.Job as jobs
+use Rattle.fw_arguments.specs.declared.job.Job.TheVariants as job
 use Rattle.fw_arguments.specs.declared.task.Task as tasks
 use Rattle.fw_arguments.specs.declared.task.Task.TheVariants as code
+use Rattle.fw_arguments.specs.declared.wanted_copy.WantedCopy.{WantedCopy}
 
 -- what a tool is to do: print these names in a way; set a name to words; apply a set script; import a file;
 -- export; replace the variables by those of a file
@@ -57,12 +59,13 @@ pub data LockFiles : Type 0 where
   IfPossible : LockFiles
 
 -- a subcommand with its files: the configuration, the default environment and the lock files; the size of the erased
--- image in memory that replaces the configuration's copies, if there is one; its byte order; whether copies are
--- written back only if a variable changed; whether copies may be written over that are good in another way than the
--- configuration has them; and what it does
+-- image in memory that replaces the configuration's copies, if there is one; the copy whose variables it takes; its
+-- byte order; whether copies are written back only if a variable changed; whether copies may be written over that are
+-- good in another way than the configuration has them; and what it does
 pub record Call : Type 0 where
   pub config : Text
   pub image : Option ℕ
+  pub copy : WantedCopy
   pub defaults : Defaults
   pub locks : LockFiles
   pub order : Order
@@ -119,10 +122,6 @@ set_task both neither (Some name) None words = Ok (Set name words)
 set_task both neither None (Some path) words = Ok (SetScript path)
 set_task both neither None None words = Err neither
 
--- the script `-` of fw_setenv is standard input
-abbrev pub script_file : Option Text → Option Text
-script_file path = option_map (λ p. if bytes_eq p (codes "-") then codes "/dev/stdin" else p) path
-
 -- fw_printenv prints the values of any number of names, but at least one
 abbrev pub no_names : Text
 no_names =
@@ -150,7 +149,7 @@ tool_task name rows =
 abbrev pub fw_setenv_task : List Row → Result Task Text
 fw_setenv_task rows =
     set_task (name_and_script (codes "--script") fw_setenv_words) (no_name (codes "--script") fw_setenv_words) (first_of (codes "name") rows)
-    (script_file (first_of (codes "script") rows)) (all_values (codes "words") rows)
+    (first_of (codes "script") rows) (all_values (codes "words") rows)
 
 abbrev pub task_of : Text → List Row → Result Task Text
 task_of name rows =
@@ -209,10 +208,11 @@ abbrev pub locks_of : Text → List Row → LockFiles
 locks_of name rows = if is_client name then locks_in (first_of (codes "lock") rows) else IfPossible
 
 -- a job with its files and its byte order
-abbrev pub with_files : Order → Text → List Row → Option ℕ → Job → Call
-with_files order name rows image job = record {
+abbrev pub with_files : Order → Text → List Row → Option ℕ → WantedCopy → Job → Call
+with_files order name rows image copy job = record {
   config = first_or (codes "/etc/fw_env.config") (codes "config") rows;
   image = image;
+  copy = copy;
   defaults = defaults_of name rows;
   locks = locks_of name rows;
   order = either_order order (order_by (source_in (codes "big-endian") rows));
@@ -221,8 +221,11 @@ with_files order name rows image job = record {
   job = job;
 }
 
+abbrev pub with_copy : Order → Text → List Row → Option ℕ → WantedCopy → Result Call Text
+with_copy order name rows image copy = and_then (job_of name rows) (λ job. Ok (with_files order name rows image copy job))
+
 abbrev pub with_image : Order → Text → List Row → Option ℕ → Result Call Text
-with_image order name rows image = and_then (job_of name rows) (λ job. Ok (with_files order name rows image job))
+with_image order name rows image = and_then (wanted_copy_of rows) (with_copy order name rows image)
 
 -- what arguments that choose a byte order before the subcommand ask for
 abbrev pub call_of : Order → Text → List Row → Result Call Text
@@ -256,6 +259,7 @@ abbrev pub call_view : calls.Call → Call
 call_view c = record {
   config = c.config.now;
   image = c.image;
+  copy = c.copy;
   defaults = defaults_view c.defaults;
   locks = locks_view c.locks;
   order = c.order;

@@ -2,11 +2,14 @@
 pub mod Calls
 pub mod Checks
 pub mod DryRuns
+pub mod ImageRequests
 pub mod ImageSizes
 pub mod ProgramNames
 pub mod Report
 pub mod Shells
+pub mod StandardInput
 pub mod Table
 pub mod Values
+pub mod WantedCopies
 pub mod WordFaults
 pub mod Words

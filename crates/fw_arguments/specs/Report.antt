@@ -5,6 +5,8 @@ use Rattle.clap.specs.Words.{Row, Text, first_of}
 use Rattle.envimg_core.specs.declared.geometry.Order.{Order}
 use Rattle.fw_arguments.specs.Calls.{Call, call_of, call_view}
 use Rattle.fw_arguments.specs.Checks.{FileCheck, file_check_of, file_check_view}
+use Rattle.fw_arguments.specs.ImageRequests.{ImageRequest, image_request_of, image_request_view}
+use Rattle.fw_arguments.specs.StandardInput.{read_twice, reads_twice}
 use Rattle.fw_arguments.specs.Values.{first_or, is_given}
 use Rattle.fw_arguments.specs.Words.{either_order, order_by, source_in}
 use Rattle.fw_arguments.specs.declared.report.Asked as asked
@@ -23,11 +25,12 @@ pub record Report : Type 0 where
   pub order : Order
   pub subject : Subject
 
--- what a subcommand asks for: work over a session, a report, or the check of the script in a file
+-- what a subcommand asks for: work over a session, a report, the check of the script in a file, or a new image
 pub data Asked : Type 0 where
   Work : Call → Asked
   Look : Report → Asked
   Check : FileCheck → Asked
+  Make : ImageRequest → Asked
 
 -- what is wrong if a configuration and a file are given
 abbrev pub config_and_file : Text
@@ -62,17 +65,25 @@ abbrev pub checked : Result FileCheck Text → Result Asked Text
 checked (Ok check) = Ok (Check check)
 checked (Err text) = Err text
 
+abbrev pub made : Result ImageRequest Text → Result Asked Text
+made (Ok image) = Ok (Make image)
+made (Err text) = Err text
+
 -- the script in a file is checked if one is given, else the scripts of an environment
 abbrev pub checked_by : Option Text → Order → List Row → Result Asked Text
 checked_by None order rows = worked (call_of order (codes "check") rows)
 checked_by (Some path) order rows = checked (file_check_of path rows)
 
--- what arguments that choose a byte order before the subcommand ask for, or the text for what is wrong
-abbrev pub asked_of : Order → Text → List Row → Result Asked Text
-asked_of order name rows =
+abbrev pub asked_once : Order → Text → List Row → Result Asked Text
+asked_once order name rows =
     if bytes_eq name (codes "status") then looked (report_of order rows)
     else if bytes_eq name (codes "check") then checked_by (first_of (codes "script") rows) order rows
+    else if bytes_eq name (codes "image") then made (image_request_of order rows)
     else worked (call_of order name rows)
+
+-- what arguments that choose a byte order before the subcommand ask for, or the text for what is wrong
+abbrev pub asked_of : Order → Text → List Row → Result Asked Text
+asked_of order name rows = if reads_twice name rows then Err read_twice else asked_once order name rows
 
 -- the code's answers, in this form
 abbrev pub subject_view : subjects.Subject → Subject
@@ -86,3 +97,4 @@ abbrev pub asked_view : asked.Asked → Asked
 asked_view (answer.Work call) = Work (call_view call)
 asked_view (answer.Look report) = Look (report_view report)
 asked_view (answer.Check check) = Check (file_check_view check)
+asked_view (answer.Make image) = Make (image_request_view image)

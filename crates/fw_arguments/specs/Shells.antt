@@ -1,5 +1,5 @@
 -- Whose rules a run follows and a check goes by, as the arguments choose (docs/dry-runs.md, "The board's shell and the strict one").
-use Rattle.std.specs.Prelude.{List, Option, Some, None, Result, Ok, Err, codes, if◌then◌else◌}
+use Rattle.std.specs.Prelude.{List, Option, Some, None, Result, codes, if◌then◌else◌}
 use Rattle.std.specs.Str.{bytes_eq}
 use Rattle.clap.specs.Words.{Row, Text}
 use Rattle.hush_commands.specs.declared.shell.Shell.{Shell}

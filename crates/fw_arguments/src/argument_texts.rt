@@ -1,7 +1,8 @@
-//! The texts about wrong arguments that clap's rules don't detect, each once; and the file that `-` is.
+//! The texts about wrong arguments that clap's rules don't detect, each once.
 
-/// The file that is standard input.
-pub const STANDARD_INPUT: &str = "/dev/stdin";
+/// Standard error if standard input would be read twice.
+pub(crate) const READ_TWICE: &[u8] =
+    b"error: '-' is standard input, which can be read once\n\nFor more information, try '--help'.\n";
 
 /// Standard error if `setenv` has a name and a script.
 pub(crate) const NAME_AND_SCRIPT: &[u8] =
@@ -52,9 +53,23 @@ pub(crate) const BAD_SHELL: &[u8] =
     b"' for '--shell <SHELL>'\n  [possible values: board, strict]\n\n\
       For more information, try '--help'.\n";
 
+pub(crate) const BAD_COPY: &[u8] =
+    b"' for '--copy <N>'\n  [possible values: 1, 2]\n\nFor more information, try '--help'.\n";
+
 pub(crate) const BAD_SIZE: &[u8] =
     b"' for '--size <N>': not the size of an image in hexadecimal, 0x8 to 0x100000\n\n\
       For more information, try '--help'.\n";
+
+pub(crate) const BAD_COPIES: &[u8] =
+    b"' for '--copies <N>'\n  [possible values: 1, 2]\n\nFor more information, try '--help'.\n";
+
+pub(crate) const BAD_PAIR_SIZE: &[u8] =
+    b"' for '--size <N>': not the size of one of two copies in hexadecimal, 0x9 to 0x100000\n\n\
+      For more information, try '--help'.\n";
+
+/// Standard error if both copies of a new image are to hold the variables, and there is one.
+pub(crate) const BOTH_ALONE: &[u8] =
+    b"error: the argument '--both' is only for '--copies 2'\n\nFor more information, try '--help'.\n";
 
 /// Standard error if an environment without a board is asked for, and something that only a board has.
 pub(crate) const ENV_AND_CONFIG: &[u8] =

@@ -1,17 +1,14 @@
 //! What the arguments of a subcommand ask for.
 ghost use Rattle.std.specs.Prelude.{◌≡◌, option_copied};
 ghost use Rattle.clap.specs.Words.{found_of, rows_of};
-ghost use Rattle.fw_arguments.specs.Calls.{call_of, call_view, called, checked, defaults_of, defaults_view, is_client, job_of, job_view, keeps_lock, locks_in, locks_of, locks_view, ran, spares, task_of, tried, with_image, writes};
-ghost use Rattle.fw_arguments.specs.Checks.{environment_check_of};
-ghost use Rattle.fw_arguments.specs.DryRuns.{dry_run_of, script_run_of};
+ghost use Rattle.fw_arguments.specs.Calls.{call_of, call_view, defaults_of, defaults_view, is_client, locks_in, locks_of, locks_view, spares, with_copy, with_image};
 ghost use Rattle.fw_arguments.specs.WordFaults.{word_seen};
 
 use crate::arguments::{chosen_order, either_order, first, first_or, is_given};
-use crate::check_requests::{EnvironmentCheck, read_environment_check};
-use crate::dry_runs::{DryRun, ScriptRun, read_dry_run, read_script_run};
 use crate::image_size::{read_image, whole_text};
+use crate::job::{Job, read_job};
 use crate::table::CONFIG_PATH;
-use crate::task::{Task, read_task};
+use crate::wanted_copy::{WantedCopy, read_wanted_copy};
 use crate::word_fault::WordFault;
 use clap::ArgMatches;
 use envimg_core::Order;
@@ -23,6 +20,8 @@ pub struct Call<'m, 'w> {
     pub config: &'w str,
     /// The size of the erased image in memory that replaces the configuration's copies, if there is one.
     pub image: Option<u32>,
+    /// The copy whose variables it takes.
+    pub copy: WantedCopy,
     /// The default environment.
     pub defaults: Defaults<'w>,
     /// The lock files that are held while it uses the copies.
@@ -72,45 +71,6 @@ pub enum LockFiles<'w> {
     IfPossible,
 }
 
-/// What a subcommand does over its session.
-#[derive(Clone, Copy, Debug)]
-pub enum Job<'m, 'w> {
-    /// A tool works on it.
-    Tool(Task<'m, 'w>),
-    /// Blocks of script and dot lines are tried on it.
-    DryRun(DryRun<'w>),
-    /// A script is run over it.
-    Script(ScriptRun<'m, 'w>),
-    /// Its scripts are checked.
-    Check(EnvironmentCheck<'m, 'w>),
-}
-
-impl Job<'_, '_> {
-    /// Whether it may write the copies back.
-    pub fn writes(&self) -> bool
-        ensures { result ≡ writes (job_view self.now) }
-    {
-        match self {
-            Job::Tool(task) => task.changes(),
-            Job::DryRun(run) => run.write,
-            Job::Script(run) => run.dry.write,
-            Job::Check(_) => false,
-        }
-    }
-
-    /// Whether it works under that lock; a session releases it once the copies are read, and takes it again to write.
-    pub fn keeps_lock(&self) -> bool
-        ensures { result ≡ keeps_lock (job_view self.now) }
-    {
-        match self {
-            Job::Tool(task) => task.changes(),
-            Job::DryRun(_) => false,
-            Job::Script(run) => run.dry.write,
-            Job::Check(_) => false,
-        }
-    }
-}
-
 /// What the arguments of the subcommand `name` ask for, if the arguments before it chose `order`; or what is wrong with
 /// them that clap's rules don't detect.
 pub(crate) fn read_call<'m, 'w>(
@@ -135,10 +95,27 @@ fn with_image<'m, 'w>(
 ) -> Result<Call<'m, 'w>, WordFault<'w>>
     ensures { word_seen call_view result ≡ with_image order name.now (rows_of (found_of found.now)) image }
 {
+    match read_wanted_copy(found) {
+        Ok(copy) => with_copy(order, name, found, image, copy),
+        Err(fault) => Err(fault),
+    }
+}
+
+/// The same with the variables of this copy.
+fn with_copy<'m, 'w>(
+    order: Order,
+    name: &str,
+    found: &'m ArgMatches<'w>,
+    image: Option<u32>,
+    copy: WantedCopy,
+) -> Result<Call<'m, 'w>, WordFault<'w>>
+    ensures { word_seen call_view result ≡ with_copy order name.now (rows_of (found_of found.now)) image copy }
+{
     match read_job(name, found) {
         Ok(job) => Ok(Call {
             config: first_or(found, "config", CONFIG_PATH),
             image,
+            copy,
             defaults: defaults_of(name, found),
             locks: locks_of(name, found),
             order: either_order(order, chosen_order(found)),
@@ -147,62 +124,6 @@ fn with_image<'m, 'w>(
             job,
         }),
         Err(fault) => Err(fault),
-    }
-}
-
-/// What the arguments of the subcommand `name` ask to be done over its session.
-fn read_job<'m, 'w>(name: &str, found: &'m ArgMatches<'w>) -> Result<Job<'m, 'w>, WordFault<'w>>
-    ensures { word_seen job_view result ≡ job_of name.now (rows_of (found_of found.now)) }
-{
-    if name == "session" {
-        return dry_job(found);
-    }
-    if name == "run" {
-        return script_job(found);
-    }
-    if name == "check" {
-        return check_job(found);
-    }
-    tool_job(name, found)
-}
-
-/// The dry run that the arguments of `session` ask for.
-fn dry_job<'m, 'w>(found: &'m ArgMatches<'w>) -> Result<Job<'m, 'w>, WordFault<'w>>
-    ensures { word_seen job_view result ≡ tried (dry_run_of (rows_of (found_of found.now))) }
-{
-    match read_dry_run(found) {
-        Ok(run) => Ok(Job::DryRun(run)),
-        Err(fault) => Err(fault),
-    }
-}
-
-/// The run of a script that the arguments of `run` ask for.
-fn script_job<'m, 'w>(found: &'m ArgMatches<'w>) -> Result<Job<'m, 'w>, WordFault<'w>>
-    ensures { word_seen job_view result ≡ ran (script_run_of (rows_of (found_of found.now))) }
-{
-    match read_script_run(found) {
-        Ok(run) => Ok(Job::Script(run)),
-        Err(fault) => Err(fault),
-    }
-}
-
-/// The check that the arguments of `check` ask for.
-fn check_job<'m, 'w>(found: &'m ArgMatches<'w>) -> Result<Job<'m, 'w>, WordFault<'w>>
-    ensures { word_seen job_view result ≡ checked (environment_check_of (rows_of (found_of found.now))) }
-{
-    match read_environment_check(found) {
-        Ok(check) => Ok(Job::Check(check)),
-        Err(fault) => Err(fault),
-    }
-}
-
-/// The tool that the arguments of another subcommand call.
-fn tool_job<'m, 'w>(name: &str, found: &'m ArgMatches<'w>) -> Result<Job<'m, 'w>, WordFault<'w>>
-    ensures { word_seen job_view result ≡ called (task_of name.now (rows_of (found_of found.now))) }
-{
-    match read_task(name, found) {
-        Ok(task) => Ok(Job::Tool(task)),
-        Err(text) => Err(WordFault::of(text)),
     }
 }
 

@@ -108,7 +108,7 @@ fn sized(word: &str) -> Result<Option<u32>, WordFault<'_>>
 
 /// The size of an image in a configuration's form: hexadecimal digits, possibly after `0x` or `0X`, whose value is one
 /// that an image may have.
-fn read_size(text: &[u8]) -> Option<u32>
+pub(crate) fn read_size(text: &[u8]) -> Option<u32>
     ensures { result ≡ size_in text.now }
 {
     let most = u64::from(SIZE_MAX);

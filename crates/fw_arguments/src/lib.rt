@@ -1,7 +1,8 @@
 //! What the program's arguments ask for. docs/tools.md and docs/dry-runs.md state the rules.
 //!
-//! To read in this order: program_name; table, command_line; arguments, call, task,
-//! shells, dry_runs, check_requests, image_size, report; word_fault, argument_texts.
+//! To read in this order: program_name; table, command_line; arguments, call, wanted_copy, job,
+//! task, shells, dry_runs, check_requests, image_size, image_request, standard_input, report;
+//! word_fault, argument_texts.
 #![tactic(auto)]
 
 mod argument_texts;
@@ -10,21 +11,28 @@ mod call;
 mod check_requests;
 mod command_line;
 mod dry_runs;
+mod image_request;
 mod image_size;
+mod job;
 mod program_name;
 mod report;
 mod shells;
+mod standard_input;
 mod table;
 mod task;
+mod wanted_copy;
 mod word_fault;
 
-pub use argument_texts::STANDARD_INPUT;
 pub use arguments::{called, chosen_order};
-pub use call::{Call, Defaults, Job, LockFiles};
+pub use call::{Call, Defaults, LockFiles};
 pub use check_requests::{EnvironmentCheck, FileCheck};
 pub use command_line::read_words;
 pub use dry_runs::{DryRun, GivenScript, ScriptRun};
+pub use image_request::ImageRequest;
+pub use job::Job;
 pub use program_name::{ProgramName, Subcommand};
 pub use report::{Asked, Report, Subject, read_asked};
+pub use table::STANDARD_INPUT;
 pub use task::{Printing, Task};
+pub use wanted_copy::WantedCopy;
 pub use word_fault::WordFault;

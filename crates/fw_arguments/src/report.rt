@@ -2,13 +2,16 @@
 ghost use Rattle.std.specs.Prelude.{◌≡◌, codes, option_copied};
 ghost use Rattle.clap.specs.Words.{first_of, found_of, rows_of};
 ghost use Rattle.fw_arguments.specs.Calls.{call_of};
-ghost use Rattle.fw_arguments.specs.Report.{asked_of, asked_view, checked_by, looked, report_of, report_view, subject_by, subject_of, subject_view, worked};
+ghost use Rattle.fw_arguments.specs.ImageRequests.{image_request_of};
+ghost use Rattle.fw_arguments.specs.Report.{asked_of, asked_once, asked_view, checked_by, looked, made, report_of, report_view, subject_by, subject_of, subject_view, worked};
 ghost use Rattle.fw_arguments.specs.WordFaults.{word_seen};
 
-use crate::argument_texts::CONFIG_AND_FILE;
+use crate::argument_texts::{CONFIG_AND_FILE, READ_TWICE};
 use crate::arguments::{chosen_order, either_order, first, first_or, is_given};
 use crate::call::{Call, read_call};
 use crate::check_requests::{FileCheck, read_file_check};
+use crate::image_request::{ImageRequest, read_image_request};
+use crate::standard_input::reads_twice;
 use crate::table::CONFIG_PATH;
 use crate::word_fault::WordFault;
 use clap::ArgMatches;
@@ -23,6 +26,8 @@ pub enum Asked<'m, 'w> {
     Look(Report<'w>),
     /// A check of the script in a file.
     Check(FileCheck<'w>),
+    /// A new image.
+    Make(ImageRequest<'w>),
 }
 
 /// A report: `status [-c FILE] [--big-endian] [FILE]`.
@@ -52,11 +57,28 @@ pub fn read_asked<'m, 'w>(
 ) -> Result<Asked<'m, 'w>, WordFault<'w>>
     ensures { word_seen asked_view result ≡ asked_of order name.now (rows_of (found_of found.now)) }
 {
+    if reads_twice(name, found) {
+        return Err(WordFault::of(READ_TWICE));
+    }
+    ask(order, name, found)
+}
+
+/// The same of arguments that have standard input read at most once.
+fn ask<'m, 'w>(
+    order: Order,
+    name: &str,
+    found: &'m ArgMatches<'w>,
+) -> Result<Asked<'m, 'w>, WordFault<'w>>
+    ensures { word_seen asked_view result ≡ asked_once order name.now (rows_of (found_of found.now)) }
+{
     if name == "status" {
         return ask_to_look(order, found);
     }
     if name == "check" {
         return ask_to_check(order, found);
+    }
+    if name == "image" {
+        return ask_to_make(order, found);
     }
     ask_to_work(order, name, found)
 }
@@ -86,6 +108,19 @@ fn ask_to_look<'m, 'w>(
 {
     match read_report(order, found) {
         Ok(report) => Ok(Asked::Look(report)),
+        Err(fault) => Err(fault),
+    }
+}
+
+/// The image that the arguments of `image` ask for.
+fn ask_to_make<'m, 'w>(
+    order: Order,
+    found: &'m ArgMatches<'w>,
+) -> Result<Asked<'m, 'w>, WordFault<'w>>
+    ensures { word_seen asked_view result ≡ made (image_request_of order (rows_of (found_of found.now))) }
+{
+    match read_image_request(order, found) {
+        Ok(image) => Ok(Asked::Make(image)),
         Err(fault) => Err(fault),
     }
 }

@@ -60,8 +60,14 @@ pub const USUAL_WORD: &str = "4096";
 
 pub const USUAL_OUTPUT: &str = "1048576";
 
+/// The path of a text that is standard input.
+pub const STANDARD_INPUT: &str = "-";
+
 /// The size of the image under an environment that is a text.
 pub const USUAL_SIZE: &str = "0x4000";
+
+/// How many copies a new image has.
+pub const ONE_COPY: &str = "1";
 
 /// The names of the shells.
 pub const BOARD_SHELL: &str = "board";
@@ -81,7 +87,7 @@ pub const DEFAULT: Row = Row {
     id: "default",
     names: Names::Long("default"),
     takes: Takes::One("FILE"),
-    help: "The default environment, a text as for import; without it that is empty",
+    help: "The default environment, a text as for import, or - for standard input; without it that is empty",
 };
 
 /// `--need-copy`
@@ -106,6 +112,14 @@ pub const BIG_ENDIAN: Row = Row {
     names: Names::Long("big-endian"),
     takes: Takes::Nothing,
     help: "The image is a big-endian board's: its checksum has the highest byte first",
+};
+
+/// `--copy N`
+pub const COPY: Row = Row {
+    id: "copy",
+    names: Names::Long("copy"),
+    takes: Takes::One("N"),
+    help: "Takes the variables of copy 1 or 2, which has to be good, whichever copy is current",
 };
 
 /// `-n`
@@ -153,11 +167,11 @@ pub const FILE: Row = Row {
     id: "file",
     names: Names::Operand,
     takes: Takes::Wanted("FILE"),
-    help: "The text, as export prints it",
+    help: "The text, as export prints it, or - for standard input",
 };
 
 /// `FILE` of `status`
-pub const IMAGE: Row = Row {
+pub const WHOLE_FILE: Row = Row {
     id: "file",
     names: Names::Operand,
     takes: Takes::One("FILE"),
@@ -242,6 +256,46 @@ pub const SIZE: Row = Row {
     names: Names::Long("size"),
     takes: Takes::Usual("N", USUAL_SIZE),
     help: "The size of the image that such an environment is in, hexadecimal as in a configuration",
+};
+
+/// `--env FILE` of `image`
+pub const IMAGE_ENV: Row = Row {
+    id: "env",
+    names: Names::Long("env"),
+    takes: Takes::Wanted("FILE"),
+    help: "The variables, a text as for import, or - for standard input",
+};
+
+/// `--size N` of `image`
+pub const IMAGE_SIZE: Row = Row {
+    id: "size",
+    names: Names::Long("size"),
+    takes: Takes::Wanted("N"),
+    help: "The size of a copy, hexadecimal as in a configuration",
+};
+
+/// `--copies N`
+pub const COPIES: Row = Row {
+    id: "copies",
+    names: Names::Long("copies"),
+    takes: Takes::Usual("N", ONE_COPY),
+    help: "One copy, or two with a flag each: the second has the variables, and the first is erased",
+};
+
+/// `--both`
+pub const BOTH: Row = Row {
+    id: "both",
+    names: Names::Long("both"),
+    takes: Takes::Nothing,
+    help: "Each of two copies has the variables",
+};
+
+/// `--output FILE`
+pub const IMAGE_OUTPUT: Row = Row {
+    id: "output",
+    names: Names::Long("output"),
+    takes: Takes::One("FILE"),
+    help: "The file that the image is written into [default: standard output]",
 };
 
 /// `--write` of `session`
@@ -364,7 +418,9 @@ pub const PRINTENV: Called = Called {
     has_version: false,
     about: "Prints variables, a line NAME=VALUE each",
     example: "Example:\n  fwenv printenv bootcmd bootdelay",
-    options: &[CONFIG, DEFAULT, NEED_COPY, BIG_ENDIAN, VALUE_ONLY, NAMES],
+    options: &[
+        CONFIG, DEFAULT, NEED_COPY, COPY, BIG_ENDIAN, VALUE_ONLY, NAMES,
+    ],
 };
 
 /// `setenv`
@@ -393,7 +449,7 @@ pub const EXPORT: Called = Called {
     has_version: false,
     about: "Prints every variable as a text that import reads",
     example: "Example:\n  fwenv export > variables.txt",
-    options: &[CONFIG, DEFAULT, NEED_COPY, BIG_ENDIAN],
+    options: &[CONFIG, DEFAULT, NEED_COPY, COPY, BIG_ENDIAN],
 };
 
 /// `restore`
@@ -410,8 +466,24 @@ pub const STATUS: Called = Called {
     name: "status",
     has_version: false,
     about: "Says what each copy is good for, and which is current; writes nothing",
-    example: "Example:\n  fwenv status -c fw_env.config\n  fwenv status board.img",
-    options: &[CONFIG, BIG_ENDIAN, IMAGE],
+    example: "Example:\n  fwenv status -c fw_env.config\n  fwenv status board.img\n\nBack to the variables of the other copy, here the second:\n  fwenv export --copy 2 > before.txt\n  fwenv restore before.txt",
+    options: &[CONFIG, BIG_ENDIAN, WHOLE_FILE],
+};
+
+/// `image`
+pub const IMAGE: Called = Called {
+    name: "image",
+    has_version: false,
+    about: "Makes the image of a text's variables, to be written on a board",
+    example: "Example:\n  fwenv image --env variables.txt --size 0x4000 --copies 2 --output env.img",
+    options: &[
+        IMAGE_ENV,
+        IMAGE_SIZE,
+        COPIES,
+        BOTH,
+        BIG_ENDIAN,
+        IMAGE_OUTPUT,
+    ],
 };
 
 /// `run`

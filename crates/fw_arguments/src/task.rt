@@ -1,11 +1,11 @@
 //! What the arguments of a subcommand ask a tool to do.
 ghost use Rattle.std.specs.Prelude.{◌≡◌, if◌then◌else◌, option_copied};
 ghost use Rattle.clap.specs.Words.{found_of, rows_of};
-ghost use Rattle.fw_arguments.specs.Calls.{changes, print_task, script_file, seen, set_task, task_of, task_view, texts, tool_task, values_task};
+ghost use Rattle.fw_arguments.specs.Calls.{changes, print_task, seen, set_task, task_of, task_view, texts, tool_task, values_task};
 ghost use Rattle.fw_arguments.specs.declared.task.Printing.TheVariants.{Lines, OneValue};
 
 use crate::argument_texts::{
-    CLIENT_NAME_AND_SCRIPT, CLIENT_NO_NAME, NAME_AND_SCRIPT, NO_NAME, NO_NAMES, STANDARD_INPUT,
+    CLIENT_NAME_AND_SCRIPT, CLIENT_NO_NAME, NAME_AND_SCRIPT, NO_NAME, NO_NAMES,
 };
 use crate::arguments::{first, first_or, is_given, values};
 use clap::ArgMatches;
@@ -78,7 +78,7 @@ pub(crate) fn read_task<'m, 'w>(
             CLIENT_NAME_AND_SCRIPT,
             CLIENT_NO_NAME,
             first(found, "name"),
-            script_file(first(found, "script")),
+            first(found, "script"),
             values(found, "words"),
         );
     }
@@ -159,16 +159,6 @@ fn values_task<'m, 'w>(names: Option<&'m [&'w str]>) -> Result<Task<'m, 'w>, &'s
                 })
             }
         }
-    }
-}
-
-/// The file of a script, which is standard input for `-`.
-fn script_file(path: Option<&str>) -> Option<&str>
-    ensures { option_copied result ≡ script_file (option_copied path.entry) }
-{
-    match path {
-        None => None,
-        Some(path) => Some(if path == "-" { STANDARD_INPUT } else { path }),
     }
 }
 

@@ -2,17 +2,20 @@
 use Rattle.std.proofs.Common.{◌≡◌, ℕ, ◌||◌, true, false, not, List, [], ◌∷◌, ◌++◌, map, codes, refl, ap, Option, Some, None, if◌then◌else◌}
 use Rattle.std.specs.Prelude.{is_some}
 use Rattle.std.specs.List.{flat_map}
-use Rattle.std.specs.FinMap.{empty, get-empty}
+use Rattle.std.specs.FinMap.{empty, entries, get, get-empty}
 use Rattle.envimg_core.specs.Environment.{bytes_cmp}
 use Rattle.hush_words.specs.Words.{Atom}
 use Rattle.hush_words.specs.Words.Atom.{Plain, Quoted, Mark, Value, Status}
 use Rattle.hush_syntax.specs.Grammar.{Command, Simple, Assign, For, Chains, First, End, Last, More}
 use Rattle.hush_commands.specs.Builtins.{builtin_of}
-use Rattle.hush_commands.specs.declared.shell.Shell.TheVariants.{Strict}
+use Rattle.hush_commands.specs.declared.shell.Shell.TheVariants.{Strict, Board}
+use Rattle.hush_commands.specs.CommandNames.{with_name}
+use Rattle.hush_commands.specs.Stubs.{Statuses}
+use Rattle.fw_check.specs.Called.{Given, called_by, given_with}
 use Rattle.fw_check.specs.Checking.{is_among}
 use Rattle.fw_check.specs.Findings.{Finding, Known, called_findings, error_at, lacking_sentence, name_findings, names_findings, set_by_commands, target_findings, undefined_sentence, warning_at}
 use Rattle.fw_check.specs.Literals.{is_word_of, literal_of, substituted}
-use Rattle.fw_check.specs.Naming.{foreseen_names, given_names, run_names}
+use Rattle.fw_check.specs.Naming.{foreseen_as, foreseen_names, given_names, run_names}
 use Rattle.fw_check.specs.Statements.{of_script}
 
 abbrev word : List ℕ → List Atom
@@ -20,6 +23,9 @@ word text = map Plain text
 
 abbrev value : List ℕ → List Atom
 value name = Mark ∷ Value name true ∷ Mark ∷ []
+
+abbrev strict : Given
+strict = given_with Strict None
 
 abbrev more : Command → Chains → Chains
 more c cs = More (First c End) cs
@@ -40,11 +46,11 @@ script =
     (more (Simple (value (codes "e") ∷ value (codes "f") ∷ []))
     (alone (Simple (word (codes "run") ∷ word (codes "c") ∷ value (codes "d") ∷ [])))))
 
-given_row : flat_map given_names (of_script (Some script))
+given_row : flat_map (given_names strict) (of_script (Some script))
     ≡ codes "i" ∷ codes "-n" ∷ codes "a" ∷ codes "uuid" ∷ codes "mmc" ∷ codes "y" ∷ codes "x" ∷ codes "c" ∷ []
 given_row = refl
 
-run_row : flat_map run_names (of_script (Some script)) ≡ codes "c" ∷ []
+run_row : flat_map (run_names strict) (of_script (Some script)) ≡ codes "c" ∷ []
 run_row = refl
 
 -- `${a}x$?"$b"$a`
@@ -74,11 +80,24 @@ setting =
     (more (call (codes "env") (word (codes "exists") ∷ word (codes "k") ∷ []))
     (alone (call (codes "setexpr.x") (word (codes "j") ∷ [])))))))))))
 
-foreseen_row : flat_map foreseen_names (of_script (Some setting)) ≡ codes "a" ∷ codes "b" ∷ codes "c" ∷ codes "d" ∷ codes "e" ∷ codes "k" ∷ []
+foreseen_row : flat_map (foreseen_names strict) (of_script (Some setting)) ≡ codes "a" ∷ codes "b" ∷ codes "c" ∷ codes "d" ∷ codes "e" ∷ codes "k" ∷ []
 foreseen_row = refl
 
+-- a board takes a beginning that only one command has, and what is before a dot
+beginning_row : (stubs : Statuses) → entries stubs ≡ [] → get stubs (codes "seten") ≡ None → called_by (given_with Board (Some stubs)) (word (codes "seten")) ≡ Some (codes "setenv")
+unfolding builtin_of with_name
+beginning_row stubs none absent = simp (none, absent)
+
+width_row : (stubs : Statuses) → get stubs (codes "test.x") ≡ None → called_by (given_with Board (Some stubs)) (word (codes "test.x")) ≡ Some (codes "test")
+unfolding builtin_of
+width_row stubs absent = simp absent
+
+env_row : map (foreseen_as Board (Some (codes "env"))) ((word (codes "se") ∷ word (codes "a") ∷ []) ∷ (word (codes "exi.b") ∷ word (codes "a") ∷ []) ∷ (word (codes "s") ∷ word (codes "a") ∷ []) ∷ [])
+    ≡ (codes "a" ∷ []) ∷ (codes "a" ∷ []) ∷ [] ∷ []
+env_row = refl
+
 -- neither a `for` nor an assignment, nor an argument of another command
-foreseen_first_row : flat_map foreseen_names (of_script (Some script)) ≡ codes "a" ∷ []
+foreseen_first_row : flat_map (foreseen_names strict) (of_script (Some script)) ≡ codes "a" ∷ []
 foreseen_first_row = refl
 
 -- an empty environment, in which a script gives `a` to something, and foresees `c`

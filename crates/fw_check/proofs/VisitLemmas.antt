@@ -7,12 +7,12 @@ use Rattle.std.proofs.lemmas.Grind.{flat_map-append}
 use Rattle.envimg_core.specs.Environment.{Environment}
 use Rattle.hush_syntax.specs.FaultPlaces.{IsFaultOf}
 use Rattle.hush_syntax.specs.Reading.{read_in}
-use Rattle.hush_syntax.specs.declared.nodes.Bodies.{Bodies}
 use Rattle.hush_syntax.specs.declared.syntax_fault.FaultKind.TheVariants.{Memory}
 use Rattle.hush_syntax.specs.declared.syntax_fault.SyntaxFault.{SyntaxFault}
 use Rattle.hush_run.specs.Meaning.{bodies_of}
 use Rattle.fw_check.specs.Checking.{AreVisited, Faulty, Reports, Script, Visit, after_visit, in_all, is_among, is_set, known_after, reading_findings, value_in, with_name, with_names}
-use Rattle.fw_check.specs.Findings.{Given, Known, Report, error_at, fault_sentence, return_findings}
+use Rattle.fw_check.specs.Called.{Given}
+use Rattle.fw_check.specs.Findings.{Known, Report, error_at, fault_sentence, return_findings}
 use Rattle.fw_check.specs.Found.{Found, found_more}
 use Rattle.fw_check.specs.NameSets.{no_names, with_all}
 use Rattle.fw_check.specs.Naming.{foreseen_in, given_in, run_in}
@@ -78,18 +78,18 @@ abbrev IsSet : Environment → (names_in : List ℕ → List (List ℕ)) → Lis
 IsSet env names_in visited set = set ≡ with_all no_names (in_all names_in env visited)
 
 -- from these names on the first ones were visited, and these are the sets of what their scripts give and foresee
-pub record Follows (bodies : Bodies) (env : Environment) (first now : List (List ℕ)) (index : ℕ) (given foreseen : List ℕ → Bool) : Type 0 where
-  pub visited : (rest : List (List ℕ)) → AreVisited bodies env now index rest → AreVisited bodies env first 0 (take index now ++ rest)
-  pub gives : IsSet env (given_in bodies) (take index now) given
-  pub foresees : IsSet env (foreseen_in bodies) (take index now) foreseen
+pub record Follows (rules : Given) (env : Environment) (first now : List (List ℕ)) (index : ℕ) (given foreseen : List ℕ → Bool) : Type 0 where
+  pub visited : (rest : List (List ℕ)) → AreVisited rules env now index rest → AreVisited rules env first 0 (take index now ++ rest)
+  pub gives : IsSet env (given_in rules) (take index now) given
+  pub foresees : IsSet env (foreseen_in rules) (take index now) foreseen
 
-pub follows-none : (bodies : Bodies) (env : Environment) (names : List (List ℕ)) (given foreseen : List ℕ → Bool) → given ≡ no_names → foreseen ≡ no_names → Follows bodies env names names 0 given foreseen
-follows-none bodies env names given foreseen none nor = record { visited = λ rest h. h; gives = none; foresees = nor }
+pub follows-none : (rules : Given) (env : Environment) (names : List (List ℕ)) (given foreseen : List ℕ → Bool) → given ≡ no_names → foreseen ≡ no_names → Follows rules env names names 0 given foreseen
+follows-none rules env names given foreseen none nor = record { visited = λ rest h. h; gives = none; foresees = nor }
 
-module _ (bodies : Bodies) (env : Environment) (first now more : List (List ℕ)) (index : ℕ) (name : List ℕ) (here : slice_get now index ≡ Some name) (followed : more ≡ with_names env now (run_in bodies (value_in env name))) where
+module _ (rules : Given) (env : Environment) (first now more : List (List ℕ)) (index : ℕ) (name : List ℕ) (here : slice_get now index ≡ Some name) (followed : more ≡ with_names env now (run_in rules (value_in env name))) where
   next-visited : take (index + 1) more ≡ take index now ++ name ∷ []
   next-visited =
-      let l = longer env now (run_in bodies (value_in env name)) in
+      let l = longer env now (run_in rules (value_in env name)) in
       (λ i. take (let e : index + 1 ≡ suc index = omega arith in e i) ((followed ∙ l.1) i)) ∙ take-next now l.0 index name here
 
   next-names : (names_in : List ℕ → List (List ℕ)) → in_all names_in env (take (index + 1) more) ≡ in_all names_in env (take index now) ++ names_in (value_in env name)
@@ -104,31 +104,31 @@ module _ (bodies : Bodies) (env : Environment) (first now more : List (List ℕ)
       ∙ with-append no_names (in_all names_in env (take index now)) (names_in (value_in env name))
       ∙ ap (with_all no_names) (sym (next-names names_in))
 
-  pub follows-next : (given foreseen gives foresees : List ℕ → Bool) → Follows bodies env first now index given foreseen → gives ≡ with_all given (given_in bodies (value_in env name)) →
-      foresees ≡ with_all foreseen (foreseen_in bodies (value_in env name)) → Follows bodies env first more (index + 1) gives foresees
+  pub follows-next : (given foreseen gives foresees : List ℕ → Bool) → Follows rules env first now index given foreseen → gives ≡ with_all given (given_in rules (value_in env name)) →
+      foresees ≡ with_all foreseen (foreseen_in rules (value_in env name)) → Follows rules env first more (index + 1) gives foresees
   follows-next given foreseen gives foresees so_far added foreseen_too = record {
     visited = λ rest h.
-        let after = subst (λ (n : ℕ). AreVisited bodies env more n rest) (let e : index + 1 ≡ suc index = omega arith in e) h in
-        let all = so_far.visited (name ∷ rest) (here, subst (λ ns. AreVisited bodies env ns (suc index) rest) followed after) in
-        subst (AreVisited bodies env first 0) (sym (append_assoc (take index now) (name ∷ []) rest) ∙ ap (λ (ns : List (List ℕ)). ns ++ rest) (sym next-visited)) all;
-    gives = next-set (given_in bodies) given gives so_far.gives added;
-    foresees = next-set (foreseen_in bodies) foreseen foresees so_far.foresees foreseen_too;
+        let after = subst (λ (n : ℕ). AreVisited rules env more n rest) (let e : index + 1 ≡ suc index = omega arith in e) h in
+        let all = so_far.visited (name ∷ rest) (here, subst (λ ns. AreVisited rules env ns (suc index) rest) followed after) in
+        subst (AreVisited rules env first 0) (sym (append_assoc (take index now) (name ∷ []) rest) ∙ ap (λ (ns : List (List ℕ)). ns ++ rest) (sym next-visited)) all;
+    gives = next-set (given_in rules) given gives so_far.gives added;
+    foresees = next-set (foreseen_in rules) foreseen foresees so_far.foresees foreseen_too;
   }
 
 pub no-more : (names : List (List ℕ)) (index : ℕ) (o : Option (Vec ℕ Global)) → option_map (λ v. v.items) o ≡ slice_get names index → ((v : Vec ℕ Global) → o ≡ Some v → ⊥) → slice_get names index ≡ None
 no-more names index None e none = sym e
 no-more names index (Some v) e none = absurd (none v refl)
 
-module _ (bodies : Bodies) (env : Environment) (first now : List (List ℕ)) (index : ℕ) (end : slice_get now index ≡ None) where
-  pub visited-all : (given foreseen : List ℕ → Bool) → Follows bodies env first now index given foreseen → AreVisited bodies env first 0 now
-  visited-all given foreseen f = subst (AreVisited bodies env first 0) (append-nil (take index now) ∙ take-whole now index end) (f.visited [] end)
+module _ (rules : Given) (env : Environment) (first now : List (List ℕ)) (index : ℕ) (end : slice_get now index ≡ None) where
+  pub visited-all : (given foreseen : List ℕ → Bool) → Follows rules env first now index given foreseen → AreVisited rules env first 0 now
+  visited-all given foreseen f = subst (AreVisited rules env first 0) (append-nil (take index now) ∙ take-whole now index end) (f.visited [] end)
 
   set-all : (names_in : List ℕ → List (List ℕ)) (set : List ℕ → Bool) → IsSet env names_in (take index now) set → set ≡ is_among (in_all names_in env now)
   set-all names_in set is =
       is ∙ ap (λ (ns : List (List ℕ)). with_all no_names (in_all names_in env ns)) (take-whole now index end) ∙ all-among (in_all names_in env now)
 
-  pub given-all : (given foreseen : List ℕ → Bool) → Follows bodies env first now index given foreseen → given ≡ (known_after bodies env now).given
-  given-all given foreseen f = set-all (given_in bodies) given f.gives
+  pub given-all : (given foreseen : List ℕ → Bool) → Follows rules env first now index given foreseen → given ≡ (known_after rules env now).given
+  given-all given foreseen f = set-all (given_in rules) given f.gives
 
-  pub foreseen-all : (given foreseen : List ℕ → Bool) → Follows bodies env first now index given foreseen → foreseen ≡ (known_after bodies env now).foreseen
-  foreseen-all given foreseen f = set-all (foreseen_in bodies) foreseen f.foresees
+  pub foreseen-all : (given foreseen : List ℕ → Bool) → Follows rules env first now index given foreseen → foreseen ≡ (known_after rules env now).foreseen
+  foreseen-all given foreseen f = set-all (foreseen_in rules) foreseen f.foresees

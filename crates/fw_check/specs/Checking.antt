@@ -20,9 +20,10 @@ use Rattle.fw_engines.specs.Tool.{PrintsText}
 use Rattle.fw_engines.specs.declared.tool_end.ToolEnd.{ToolEnd}
 use Rattle.fw_engines.specs.declared.tool_end.StreamFault.TheVariants as stream
 use Rattle.fw_check.specs.declared.items.Item.{Item}
+use Rattle.fw_check.specs.Called.{Given, given_with}
 use Rattle.fw_check.specs.Statements.{AreItemsOf}
 use Rattle.fw_check.specs.Naming.{foreseen_in, given_in, run_in}
-use Rattle.fw_check.specs.Findings.{Finding, Given, Known, given_with, error_at, fault_sentence, return_findings, item_findings, Report, no_lines, report_end, with_error, with_findings}
+use Rattle.fw_check.specs.Findings.{Finding, Known, error_at, fault_sentence, return_findings, item_findings, Report, no_lines, report_end, with_error, with_findings}
 
 -- ---- one script
 
@@ -94,18 +95,18 @@ abbrev pub value_in : Environment → List ℕ → List ℕ
 value_in env name = unwrap_or (get env name) []
 
 -- from the name of this index on, these names are visited: those that each one's script runs are added last
-abbrev pub AreVisited : Bodies → Environment → List (List ℕ) → ℕ → List (List ℕ) → Type 0
-AreVisited bodies env names index [] = slice_get names index ≡ None
-AreVisited bodies env names index (v ∷ vs) =
-    (slice_get names index ≡ Some v) × AreVisited bodies env (with_names env names (run_in bodies (value_in env v))) (suc index) vs
+abbrev pub AreVisited : Given → Environment → List (List ℕ) → ℕ → List (List ℕ) → Type 0
+AreVisited given env names index [] = slice_get names index ≡ None
+AreVisited given env names index (v ∷ vs) =
+    (slice_get names index ≡ Some v) × AreVisited given env (with_names env names (run_in given (value_in env v))) (suc index) vs
 
 -- the names in all these scripts, by those in a text
 abbrev pub in_all : (names_in : List ℕ → List (List ℕ)) → Environment → List (List ℕ) → List (List ℕ)
 in_all names_in env visited = flat_map (λ name. names_in (value_in env name)) visited
 
-abbrev pub known_after : Bodies → Environment → List (List ℕ) → Known
-known_after bodies env visited =
-    record { env = env; given = is_among (in_all (given_in bodies) env visited); foreseen = is_among (in_all (foreseen_in bodies) env visited) }
+abbrev pub known_after : Given → Environment → List (List ℕ) → Known
+known_after given env visited =
+    record { env = env; given = is_among (in_all (given_in given) env visited); foreseen = is_among (in_all (foreseen_in given) env visited) }
 
 -- a variable, and what its value is read as
 pub record Visit : Type 0 where
@@ -128,8 +129,8 @@ Reports env known given names report final =
 -- a check that begins with these names and this report ends with `final`
 abbrev pub ComesTo : Environment → Given → List (List ℕ) → Report → Report → Type 0
 ComesTo env given names report final =
-    (visited : List (List ℕ)) × AreVisited (bodies_of given.shell) env names 0 visited
-    × Reports env (Some (known_after (bodies_of given.shell) env visited)) given visited report final
+    (visited : List (List ℕ)) × AreVisited given env names 0 visited
+    × Reports env (Some (known_after given env visited)) given visited report final
 
 -- ---- values without their types
 

@@ -14,6 +14,7 @@ use Rattle.hush_commands.specs.Stubs.{Statuses}
 use Rattle.envimg_core.specs.Environment.{Environment}
 use Rattle.fw_engines.specs.TextPlaces.{place_of}
 use Rattle.fw_engines.specs.declared.text_places.Place.{Place}
+use Rattle.fw_check.specs.Called.{Given, called_by}
 use Rattle.fw_check.specs.Commands.{begin_in_parentheses, command_fault, command_sentence}
 use Rattle.fw_check.specs.Literals.{is_called, is_word_of, literal_of, substituted}
 use Rattle.fw_check.specs.Naming.{is_run, is_test}
@@ -186,10 +187,10 @@ after_field shell text expected word = after_word shell expected word.start (lit
 abbrev pub test_findings : Shell → Written → List Word → List Finding
 test_findings shell text words = wrong_findings shell (wrong_in (fold (after_field shell text) ATerm words))
 
-abbrev pub operator_findings : Shell → Written → List Word → List Finding
-operator_findings shell text [] = []
-operator_findings shell text (word ∷ words) =
-    if is_test (literal_of (word_atoms text word)) then test_findings shell text words else []
+abbrev pub operator_findings : Given → Written → List Word → List Finding
+operator_findings given text [] = []
+operator_findings given text (word ∷ words) =
+    if is_test (called_by given (word_atoms text word)) then test_findings given.shell text words else []
 
 abbrev pub undefined_sentence : List ℕ → List ℕ
 undefined_sentence name = codes "`run " ++ name ++ codes "` names a variable that is not defined"
@@ -203,10 +204,10 @@ abbrev pub argument_findings : Option Known → Written → Word → List Findin
 argument_findings known text word = target_findings known word.start (literal_of (word_atoms text word))
 
 -- what is found in the arguments of `run`
-abbrev pub run_findings : Option Known → Written → List Word → List Finding
-run_findings known text [] = []
-run_findings known text (word ∷ words) =
-    if is_run (literal_of (word_atoms text word)) then flat_map (argument_findings known text) words else []
+abbrev pub run_findings : Option Known → Given → Written → List Word → List Finding
+run_findings known given text [] = []
+run_findings known given text (word ∷ words) =
+    if is_run (called_by given (word_atoms text word)) then flat_map (argument_findings known text) words else []
 
 -- ---- substitutions
 
@@ -248,18 +249,10 @@ assigned_findings shell known count (Some name) =
 
 -- ---- a whole script
 
--- by whose rules, and with which stand-ins, if names of commands are looked up
-pub record Given : Type 0 where
-  pub shell : Shell
-  pub stubs : Option Statuses
-
-abbrev pub given_with : Shell → Option Statuses → Given
-given_with shell stubs = record { shell = shell; stubs = stubs }
-
 abbrev pub item_findings : Option Known → Given → Written → Item → List Finding
 item_findings known given text (item.Call words) =
-    command_findings given.shell given.stubs text words.now ++ operator_findings given.shell text words.now
-    ++ run_findings known text words.now ++ flat_map (word_findings known text) words.now
+    command_findings given.shell given.stubs text words.now ++ operator_findings given text words.now
+    ++ run_findings known given text words.now ++ flat_map (word_findings known text) words.now
 item_findings known given text (item.Assignment name value) =
     assigned_findings given.shell known name.start (literal_of (word_atoms text name)) ++ word_findings known text value
 item_findings known given text (item.Binding name words) =

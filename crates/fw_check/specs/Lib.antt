@@ -1,6 +1,7 @@
 -- What the public calls promise.
 pub mod Statements
 pub mod Literals
+pub mod Called
 pub mod Naming
 pub mod Targets
 pub mod Operators

@@ -3,7 +3,8 @@ use Rattle.std.specs.Prelude.{Bool, true, false, Option, option_map}
 use Rattle.hush_commands.specs.Stubs.{Statuses}
 use Rattle.envvars_core.specs.declared.refusals.Refusal.{Refusal}
 use Rattle.envvars_core.specs.declared.refusals.Refusal.TheVariants as refusal
-use Rattle.fw_check.specs.Findings.{Given, Known, given_with}
+use Rattle.fw_check.specs.Called.{Given, given_with}
+use Rattle.fw_check.specs.Findings.{Known}
 use Rattle.fw_check.specs.NameSets.{set_of}
 use Rattle.fw_check.specs.declared.lookups.Lookups.{Lookups}
 use Rattle.fw_check.specs.declared.lookups.Variables.{Variables}

@@ -2,7 +2,9 @@
 use Rattle.std.specs.Prelude.{ℕ, Bool, false, List, [], ◌∷◌, codes, Option, Some, None, option_to_list, if◌then◌else◌}
 use Rattle.std.specs.List.{flat_map}
 use Rattle.hush_words.specs.Words.{Atom}
-use Rattle.hush_syntax.specs.declared.nodes.Bodies.{Bodies}
+use Rattle.hush_commands.specs.declared.shell.Shell.{Shell}
+use Rattle.hush_run.specs.Meaning.{bodies_of}
+use Rattle.fw_check.specs.Called.{Given, called_by, is_after_env}
 use Rattle.fw_check.specs.Literals.{is_called, is_word_of, literal_of, substituted}
 use Rattle.fw_check.specs.Statements.{Statement, Calls, Assigns, Binds, statements_in}
 
@@ -17,18 +19,18 @@ is_test called = is_called (codes "test") called
 abbrev pub literals : List (List Atom) → List (List ℕ)
 literals words = flat_map (λ word. option_to_list (literal_of word)) words
 
-abbrev pub run_by : List (List Atom) → List (List ℕ)
-run_by [] = []
-run_by (word ∷ words) = if is_run (literal_of word) then literals words else []
+abbrev pub run_by : Given → List (List Atom) → List (List ℕ)
+run_by given [] = []
+run_by given (word ∷ words) = if is_run (called_by given word) then literals words else []
 
-abbrev pub run_names : Statement → List (List ℕ)
-run_names (Calls words) = run_by words
-run_names (Assigns name value) = []
-run_names (Binds name words) = []
+abbrev pub run_names : Given → Statement → List (List ℕ)
+run_names given (Calls words) = run_by given words
+run_names given (Assigns name value) = []
+run_names given (Binds name words) = []
 
 -- those that the script of a text runs
-abbrev pub run_in : Bodies → List ℕ → List (List ℕ)
-run_in bodies text = flat_map run_names (statements_in bodies text)
+abbrev pub run_in : Given → List ℕ → List (List ℕ)
+run_in given text = flat_map (run_names given) (statements_in (bodies_of given.shell) text)
 
 -- ---- names that are given to something
 
@@ -41,18 +43,18 @@ given_or tests word (Some name) = name ∷ []
 abbrev pub argument_names : (tests : Bool) → List Atom → List (List ℕ)
 argument_names tests word = given_or tests word (literal_of word)
 
-abbrev pub given_by : List (List Atom) → List (List ℕ)
-given_by [] = []
-given_by (word ∷ words) = flat_map (argument_names (is_test (literal_of word))) words
+abbrev pub given_by : Given → List (List Atom) → List (List ℕ)
+given_by given [] = []
+given_by given (word ∷ words) = flat_map (argument_names (is_test (called_by given word))) words
 
-abbrev pub given_names : Statement → List (List ℕ)
-given_names (Calls words) = given_by words
-given_names (Assigns name value) = name ∷ []
-given_names (Binds name words) = name ∷ []
+abbrev pub given_names : Given → Statement → List (List ℕ)
+given_names given (Calls words) = given_by given words
+given_names given (Assigns name value) = name ∷ []
+given_names given (Binds name words) = name ∷ []
 
 -- those that the script of a text gives
-abbrev pub given_in : Bodies → List ℕ → List (List ℕ)
-given_in bodies text = flat_map given_names (statements_in bodies text)
+abbrev pub given_in : Given → List ℕ → List (List ℕ)
+given_in given text = flat_map (given_names given) (statements_in (bodies_of given.shell) text)
 
 -- ---- names that are foreseen: a command sets their variables, tests them, or asks for them
 
@@ -75,31 +77,31 @@ set_by [] = []
 set_by (word ∷ words) = if is_called (codes "-f") (literal_of word) then first_name words else first_name (word ∷ words)
 
 -- by `env`, which sets as `setenv` does, or asks whether a variable is there
-abbrev pub foreseen_by_env : List (List Atom) → List (List ℕ)
-foreseen_by_env [] = []
-foreseen_by_env (word ∷ words) =
-    if is_called (codes "set") (literal_of word) then set_by words
-    else if is_called (codes "exists") (literal_of word) then first_name words
+abbrev pub foreseen_by_env : Shell → List (List Atom) → List (List ℕ)
+foreseen_by_env shell [] = []
+foreseen_by_env shell (word ∷ words) =
+    if is_after_env shell 2 (codes "set") (literal_of word) then set_by words
+    else if is_after_env shell 3 (codes "exists") (literal_of word) then first_name words
     else []
 
 -- by a command of this name with these arguments
-abbrev pub foreseen_as : (called : Option (List ℕ)) → List (List Atom) → List (List ℕ)
-foreseen_as called words =
+abbrev pub foreseen_as : Shell → (called : Option (List ℕ)) → List (List Atom) → List (List ℕ)
+foreseen_as shell called words =
     if is_test called then flat_map substituted words
     else if is_called (codes "setenv") called then set_by words
-    else if is_called (codes "env") called then foreseen_by_env words
+    else if is_called (codes "env") called then foreseen_by_env shell words
     else if is_calculation called then first_name words
     else []
 
-abbrev pub foreseen_by : List (List Atom) → List (List ℕ)
-foreseen_by [] = []
-foreseen_by (word ∷ words) = foreseen_as (literal_of word) words
+abbrev pub foreseen_by : Given → List (List Atom) → List (List ℕ)
+foreseen_by given [] = []
+foreseen_by given (word ∷ words) = foreseen_as given.shell (called_by given word) words
 
-abbrev pub foreseen_names : Statement → List (List ℕ)
-foreseen_names (Calls words) = foreseen_by words
-foreseen_names (Assigns name value) = []
-foreseen_names (Binds name words) = []
+abbrev pub foreseen_names : Given → Statement → List (List ℕ)
+foreseen_names given (Calls words) = foreseen_by given words
+foreseen_names given (Assigns name value) = []
+foreseen_names given (Binds name words) = []
 
 -- those that the script of a text foresees
-abbrev pub foreseen_in : Bodies → List ℕ → List (List ℕ)
-foreseen_in bodies text = flat_map foreseen_names (statements_in bodies text)
+abbrev pub foreseen_in : Given → List ℕ → List (List ℕ)
+foreseen_in given text = flat_map (foreseen_names given) (statements_in (bodies_of given.shell) text)

@@ -6,7 +6,8 @@ use Rattle.hush_run.specs.Meaning.{bodies_of}
 use Rattle.fw_check.specs.declared.items.Item.{Item}
 use Rattle.fw_check.specs.Statements.{AreItemsOf}
 use Rattle.fw_check.specs.Checking.{IsReading, Reading, findings, reading_findings}
-use Rattle.fw_check.specs.Findings.{Given, Known, Report, item_findings, with_findings}
+use Rattle.fw_check.specs.Called.{Given}
+use Rattle.fw_check.specs.Findings.{Known, Report, item_findings, with_findings}
 use Rattle.fw_check.specs.Found.{Found, found_more}
 
 module _ (known : Option Known) (given : Given) where

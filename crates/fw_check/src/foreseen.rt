@@ -7,6 +7,7 @@ ghost use Rattle.fw_check.specs.NameSets.{set_of, with_all};
 ghost use Rattle.fw_check.specs.Naming.{first_name, foreseen_as, foreseen_by_env, is_calculation, set_by};
 
 use crate::literals::{is_called, is_word_of, literal};
+use crate::lookups::Lookups;
 use crate::name_set::NameSet;
 use crate::substitutions::gather_substitutions;
 use hush_syntax::{Text, Word};
@@ -23,23 +24,23 @@ const CALCULATIONS: [&[u8]; 5] = [
 
 /// Adds the names that a command of this name foresees by its arguments.
 pub(crate) fn foresee(
-    alloc: Global,
+    lookups: &Lookups<'_>,
     text: &Text,
     called: &Option<Vec<u8>>,
     words: &[Word],
     foreseen: &mut NameSet,
 ) -> Result<(), AllocError>
     ensures { OnOk result (set_of foreseen.new ≡ with_all (set_of foreseen.old)
-        (foreseen_as (option_map (λ v. v.items) called.now) (words_in text.now words.now))) }
+        (foreseen_as lookups.now.shell (option_map (λ v. v.items) called.now) (words_in text.now words.now))) }
 {
     if is_called(called, b"test") {
-        foresee_tested(alloc, text, words, foreseen)
+        foresee_tested(lookups.alloc, text, words, foreseen)
     } else if is_called(called, b"setenv") {
-        foresee_set(alloc, text, words, foreseen)
+        foresee_set(lookups.alloc, text, words, foreseen)
     } else if is_called(called, b"env") {
-        foresee_env(alloc, text, words, foreseen)
+        foresee_env(lookups, text, words, foreseen)
     } else if is_calculation(called) {
-        foresee_first(alloc, text, words, foreseen)
+        foresee_first(lookups.alloc, text, words, foreseen)
     } else {
         Ok(())
     }
@@ -73,23 +74,23 @@ fn foresee_tested(
 
 /// Adds the name that `env` with these arguments sets, or asks for.
 fn foresee_env(
-    alloc: Global,
+    lookups: &Lookups<'_>,
     text: &Text,
     words: &[Word],
     foreseen: &mut NameSet,
 ) -> Result<(), AllocError>
     ensures { OnOk result (set_of foreseen.new ≡ with_all (set_of foreseen.old)
-        (foreseen_by_env (words_in text.now words.now))) }
+        (foreseen_by_env lookups.now.shell (words_in text.now words.now))) }
 {
     if words.is_empty() {
         return Ok(());
     }
-    let first = literal(alloc, text, words[0])?;
-    if is_called(&first, b"set") {
-        return foresee_set(alloc, text, &words[1..], foreseen);
+    let first = literal(lookups.alloc, text, words[0])?;
+    if lookups.is_after_env(2, b"set", &first) {
+        return foresee_set(lookups.alloc, text, &words[1..], foreseen);
     }
-    if is_called(&first, b"exists") {
-        return foresee_first(alloc, text, &words[1..], foreseen);
+    if lookups.is_after_env(3, b"exists", &first) {
+        return foresee_first(lookups.alloc, text, &words[1..], foreseen);
     }
     Ok(())
 }

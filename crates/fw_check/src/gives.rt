@@ -3,6 +3,7 @@ ghost use Rattle.std.specs.Prelude.{◌≡◌, OnOk, map, option_map};
 ghost use Rattle.std.specs.List.{flat_map};
 ghost use Rattle.hush_syntax.specs.Trees.{name_in, words_in};
 ghost use Rattle.hush_words.specs.Parts.{word_atoms};
+ghost use Rattle.fw_check.specs.Looking.{rules_in};
 ghost use Rattle.fw_check.specs.NameSets.{also, set_of, with_all};
 ghost use Rattle.fw_check.specs.Naming.{argument_names, foreseen_by, foreseen_names, given_by, given_names, given_or};
 ghost use Rattle.fw_check.specs.Statements.{statement_of};
@@ -10,6 +11,7 @@ ghost use Rattle.fw_check.specs.Statements.{statement_of};
 use crate::foreseen::foresee;
 use crate::items::Item;
 use crate::literals::{is_called, literal, name_in};
+use crate::lookups::Lookups;
 use crate::name_set::{NameSet, ScriptNames};
 use crate::substitutions::gather_substitutions;
 use hush_syntax::{Text, Word};
@@ -17,38 +19,38 @@ use std::alloc::{AllocError, Global};
 
 /// Adds the names that these items give and foresee.
 pub(crate) fn gather_items(
-    alloc: Global,
+    lookups: &Lookups<'_>,
     text: &Text,
     items: &[Item<'_>],
     names: &mut ScriptNames,
 ) -> Result<(), AllocError>
     ensures given { OnOk result (set_of names.new.given ≡ with_all (set_of names.old.given)
-        (flat_map given_names (map (statement_of text.now) items.now))) }
+        (flat_map (given_names (rules_in lookups.now)) (map (statement_of text.now) items.now))) }
     ensures foreseen { OnOk result (set_of names.new.foreseen ≡ with_all (set_of names.old.foreseen)
-        (flat_map foreseen_names (map (statement_of text.now) items.now))) }
+        (flat_map (foreseen_names (rules_in lookups.now)) (map (statement_of text.now) items.now))) }
 {
     for item in items {
-        gather_item(alloc, text, *item, names)?;
+        gather_item(lookups, text, *item, names)?;
     }
     Ok(())
 }
 
 /// Adds those of one item.
 fn gather_item(
-    alloc: Global,
+    lookups: &Lookups<'_>,
     text: &Text,
     item: Item<'_>,
     names: &mut ScriptNames,
 ) -> Result<(), AllocError>
     ensures given { OnOk result (set_of names.new.given ≡ with_all (set_of names.old.given)
-        (given_names (statement_of text.now item.entry))) }
+        (given_names (rules_in lookups.now) (statement_of text.now item.entry))) }
     ensures foreseen { OnOk result (set_of names.new.foreseen ≡ with_all (set_of names.old.foreseen)
-        (foreseen_names (statement_of text.now item.entry))) }
+        (foreseen_names (rules_in lookups.now) (statement_of text.now item.entry))) }
 {
     match item {
-        Item::Call(words) => gather_call(alloc, text, words, names),
-        Item::Assignment { name, .. } => add_name(alloc, text, name, &mut names.given),
-        Item::Binding { name, .. } => add_name(alloc, text, name, &mut names.given),
+        Item::Call(words) => gather_call(lookups, text, words, names),
+        Item::Assignment { name, .. } => add_name(lookups.alloc, text, name, &mut names.given),
+        Item::Binding { name, .. } => add_name(lookups.alloc, text, name, &mut names.given),
     }
 }
 
@@ -62,23 +64,23 @@ fn add_name(alloc: Global, text: &Text, word: Word, given: &mut NameSet) -> Resu
 
 /// Adds those of a simple command.
 fn gather_call(
-    alloc: Global,
+    lookups: &Lookups<'_>,
     text: &Text,
     words: &[Word],
     names: &mut ScriptNames,
 ) -> Result<(), AllocError>
     ensures given { OnOk result (set_of names.new.given ≡ with_all (set_of names.old.given)
-        (given_by (words_in text.now words.now))) }
+        (given_by (rules_in lookups.now) (words_in text.now words.now))) }
     ensures foreseen { OnOk result (set_of names.new.foreseen ≡ with_all (set_of names.old.foreseen)
-        (foreseen_by (words_in text.now words.now))) }
+        (foreseen_by (rules_in lookups.now) (words_in text.now words.now))) }
 {
     if words.is_empty() {
         return Ok(());
     }
-    let called = literal(alloc, text, words[0])?;
+    let called = lookups.called(text, words[0])?;
     let tests = is_called(&called, b"test");
-    gather_words(alloc, text, tests, &words[1..], &mut names.given)?;
-    foresee(alloc, text, &called, &words[1..], &mut names.foreseen)
+    gather_words(lookups.alloc, text, tests, &words[1..], &mut names.given)?;
+    foresee(lookups, text, &called, &words[1..], &mut names.foreseen)
 }
 
 /// Adds the names that its arguments give.

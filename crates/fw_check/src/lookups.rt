@@ -1,15 +1,18 @@
 //! What the names in a script are looked up in.
-ghost use Rattle.std.specs.Prelude.{◌≡◌, Some};
+ghost use Rattle.std.specs.Prelude.{◌≡◌, Some, IfOk, option_map};
 ghost use Rattle.fw_check.specs.Commands.{command_fault, has_stand_in, is_unknown};
 ghost use Rattle.fw_check.specs.Findings.{is_defined, is_lacking, is_undefined};
-ghost use Rattle.fw_check.specs.Looking.{known_in, known_view, stubs_in};
+ghost use Rattle.hush_words.specs.Parts.{word_atoms};
+ghost use Rattle.fw_check.specs.Called.{called_by, is_after_env};
+ghost use Rattle.fw_check.specs.Looking.{known_in, known_view, rules_in, stubs_in};
 
 use crate::commands::{CommandFault, lack_of};
-use crate::literals::is_word_of;
+use crate::literals::{is_word_of, literal};
 use crate::name_set::ScriptNames;
 use envvars_core::Vars;
-use hush_commands::{Shell, Stubs, names_command};
-use std::alloc::Global;
+use hush_commands::{Shell, Stubs, command_name, names_command, stands_for};
+use hush_syntax::{Text, Word};
+use std::alloc::{AllocError, Global};
 
 /// What the names of variables are looked up in.
 #[derive(Clone, Copy)]
@@ -79,6 +82,26 @@ pub(crate) struct Lookups<'k> {
 }
 
 impl<'k> Lookups<'k> {
+    /// The name of the command that a word calls; `None` if it has a substitution.
+    pub(crate) fn called(&self, text: &Text, word: Word) -> Result<Option<Vec<u8>>, AllocError>
+        ensures { IfOk result (λ name. option_map (λ v. v.items) name ≡ called_by (rules_in self.now) (word_atoms text.now word)) }
+    {
+        match literal(self.alloc, text, word)? {
+            Some(bytes) => Ok(Some(command_name(self.alloc, self.shell, self.stubs, &bytes)?)),
+            None => Ok(None),
+        }
+    }
+
+    /// Whether a word after `env` stands for a name of which a board needs so many bytes.
+    pub(crate) fn is_after_env(&self, least: usize, name: &[u8], word: &Option<Vec<u8>>) -> bool
+        ensures { result ≡ is_after_env self.now.shell least name.now (option_map (λ v. v.items) word.now) }
+    {
+        match word {
+            Some(word) => stands_for(self.shell, least, name, word),
+            None => false,
+        }
+    }
+
     /// Whether the environment has a variable of this name.
     pub(crate) fn is_defined(&self, name: &[u8]) -> bool
         ensures { result ≡ is_defined (known_in self.now) name.now }

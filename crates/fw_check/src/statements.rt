@@ -67,15 +67,17 @@ fn check_call(
 ) -> Result<(), AllocError>
     ensures { OnOk result (findings.new ≡ found_more findings.old
         (command_findings lookups.now.shell (stubs_in lookups.now) text.now words.now
-        ++ operator_findings lookups.now.shell text.now words.now ++ run_findings (known_in lookups.now) text.now words.now
+        ++ operator_findings (rules_in lookups.now) text.now words.now
+        ++ run_findings (known_in lookups.now) (rules_in lookups.now) text.now words.now
         ++ flat_map (word_findings (known_in lookups.now) text.now) words.now)) }
 {
     if words.is_empty() {
         return Ok(());
     }
-    let called = literal(lookups.alloc, text, words[0])?;
+    let first = literal(lookups.alloc, text, words[0])?;
     let opens = begin_in_parentheses(lookups.alloc, text, &words[1..])?;
-    check_called(lookups, opens, words[0], &called, findings)?;
+    check_called(lookups, opens, words[0], &first, findings)?;
+    let called = lookups.called(text, words[0])?;
     let (runs, tests) = (is_called(&called, b"run"), is_called(&called, b"test"));
     check_operators(lookups, text, tests, &words[1..], findings)?;
     check_targets(lookups, text, runs, &words[1..], findings)?;

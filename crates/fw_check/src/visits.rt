@@ -1,8 +1,7 @@
 //! What is found in the scripts of an environment.
 ghost use Rattle.std.specs.Prelude.{◌≡◌, ◌⊎◌, [], IfOk, OnOk, map, option_map};
 ghost use Rattle.fw_check.specs.Checking.{AreVisited, Checks, ComesTo, LacksMemory, PrintsReport, Reports, first_names, first_report, known_after, value_in, with_given, with_names, with_types};
-ghost use Rattle.hush_run.specs.Meaning.{bodies_of};
-ghost use Rattle.fw_check.specs.Findings.{given_with};
+ghost use Rattle.fw_check.specs.Called.{given_with};
 ghost use Rattle.fw_check.specs.Looking.{known_in, rules_in};
 ghost use Rattle.fw_check.specs.NameSets.{set_of};
 
@@ -76,15 +75,19 @@ fn check_all(
 {
     let report = report_given(alloc, vars, names)?;
     let mut visited = first_names(alloc, vars, names)?;
-    let gathered = follow_all(alloc, shell, vars, &mut visited)?;
-    let lookups = Lookups {
+    let names_alone = Lookups {
         alloc,
         shell,
+        variables: None,
+        stubs,
+    };
+    let gathered = follow_all(&names_alone, vars, &mut visited)?;
+    let lookups = Lookups {
         variables: Some(Variables {
             vars,
             names: &gathered,
         }),
-        stubs,
+        ..names_alone
     };
     report_all(&lookups, vars, visited.all(), report)
 }
@@ -138,21 +141,20 @@ fn names_in(alloc: Global, vars: &Vars, names: &[&[u8]]) -> Result<Names, AllocE
 /// Adds the names that the scripts of these names run, and those that theirs run, at the end. The answer is which names
 /// all these scripts give and foresee.
 fn follow_all(
-    alloc: Global,
-    shell: Shell,
+    lookups: &Lookups<'_>,
     vars: &Vars,
     names: &mut Names,
 ) -> Result<ScriptNames, AllocError>
-    ensures visited { OnOk result (AreVisited (bodies_of shell) vars.now.env names.old 0 names.new) }
+    ensures visited { OnOk result (AreVisited (rules_in lookups.now) vars.now.env names.old 0 names.new) }
     ensures given { IfOk result
-        (λ gathered. set_of gathered.given ≡ (known_after (bodies_of shell) vars.now.env names.new).given) }
+        (λ gathered. set_of gathered.given ≡ (known_after (rules_in lookups.now) vars.now.env names.new).given) }
     ensures foreseen { IfOk result
-        (λ gathered. set_of gathered.foreseen ≡ (known_after (bodies_of shell) vars.now.env names.new).foreseen) }
+        (λ gathered. set_of gathered.foreseen ≡ (known_after (rules_in lookups.now) vars.now.env names.new).foreseen) }
 {
-    let mut gathered = ScriptNames::new(alloc);
+    let mut gathered = ScriptNames::new(lookups.alloc);
     let mut index = 0;
-    while let Some(name) = names.copy(alloc, index)? {
-        follow_text(alloc, shell, vars, value(vars, &name), names, &mut gathered)?;
+    while let Some(name) = names.copy(lookups.alloc, index)? {
+        follow_text(lookups, vars, value(vars, &name), names, &mut gathered)?;
         index += 1;
     }
     Ok(gathered)

@@ -1,6 +1,7 @@
 -- Files that are read whole, and why one can not be used (docs/tools.md, "Subcommands over files").
-use Rattle.std.specs.Prelude.{◌≡◌, ℕ, List, [], ◌∷◌, ◌++◌, Option, Some, None, Ok, codes}
+use Rattle.std.specs.Prelude.{◌≡◌, ℕ, List, [], ◌∷◌, ◌++◌, Option, Some, None, Ok, codes, if◌then◌else◌}
 use Rattle.std.specs.FinMap as names
+use Rattle.std.specs.Str.{bytes_eq}
 use Rattle.std.specs.declared.io.ErrorKind.{ErrorKind}
 use Rattle.std.specs.declared.io.ErrorKind.TheVariants.{IsADirectory, NotFound, PermissionDenied, ReadOnlyFilesystem, StorageFull, UnexpectedEof}
 use Rattle.envcfg_core.specs.declared.entry.TextFault as texts
@@ -25,6 +26,10 @@ use Rattle.fw_engines.specs.declared.tool_end.StreamFault.TheVariants as stream
 -- the most bytes of a file that is read whole
 abbrev pub file_limit : ℕ
 file_limit = 16777216
+
+-- what is opened for a text: `-` is standard input
+abbrev pub opened_path : List ℕ → List ℕ
+opened_path path = if bytes_eq path (codes "-") then codes "/dev/stdin" else path
 
 -- the fault of a text that is refused
 abbrev pub text_fault : texts.TextFault → FileFault

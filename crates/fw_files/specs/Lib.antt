@@ -1,4 +1,5 @@
 -- What the public calls promise.
+pub mod BareLines
 pub mod Copies
 pub mod CopyReport
 pub mod Files
@@ -8,3 +9,4 @@ pub mod Opening
 pub mod Reasons
 pub mod Said
 pub mod Source
+pub mod WantedCopy

@@ -6,9 +6,11 @@ use Rattle.envimg_core.specs.declared.geometry.Layout.TheVariants.{Single}
 use Rattle.envimg_core.specs.declared.geometry.Order.{Order}
 use Rattle.envvars_core.specs.Variables.{Contents}
 use Rattle.fw_arguments.specs.Calls.{Defaults}
+use Rattle.fw_arguments.specs.declared.wanted_copy.WantedCopy.{WantedCopy}
 use Rattle.fw_engines.specs.Streams.{AppendsFront}
 use Rattle.fw_files.specs.Misread.{Spares}
 use Rattle.fw_files.specs.Source.{AreDefaultsOf, IsTaken, lacks_copy, second_bytes, warned}
+use Rattle.fw_files.specs.WantedCopy.{first_for, refusal_of, second_for}
 use Rattle.fw_files.specs.declared.source.Source.{Source}
 
 -- the copies of a session: some of a configuration, in this byte order, or an erased image of this size
@@ -17,17 +19,26 @@ AreCopies None order shape first second = shape.order ≡ order
 AreCopies (Some size) order shape first second =
     (shape ≡ record { layout = Single; size = size; order = order }) × (first ≡ replicate size 255) × (second ≡ None)
 
+-- the same with the one that is asked for by its number in the place of each; it is good
+abbrev pub AreWanted : (image : Option ℕ) → Order → WantedCopy → Shape → (first : List ℕ) → (second : Option (List ℕ)) → Type 0
+AreWanted image order wanted shape first second =
+    (read : List ℕ) × (read_second : Option (List ℕ)) × AreCopies image order shape read read_second × (refusal_of wanted shape read read_second ≡ None)
+    × (first ≡ first_for wanted read read_second) × (second ≡ second_for wanted read read_second)
+
 -- a session just opened over such copies, with the defaults of some text if its path is given, else with none; if the copies are to be
 -- spared none of them is good in another way
-abbrev pub IsOpening : (image : Option ℕ) → Order → (spares : Bool) → Defaults → Held → Type 0
-IsOpening image order spares asked session =
+abbrev pub IsOpening : (image : Option ℕ) → Order → WantedCopy → (spares : Bool) → Defaults → Held → Type 0
+IsOpening image order wanted spares asked session =
     (shape : Shape) × (first : List ℕ) × (second : Option (List ℕ)) × (defaults : Contents)
-    × AreCopies image order shape first second × AreDefaultsOf (room_of shape) asked defaults × (session ≡ opened shape first second defaults)
+    × AreWanted image order wanted shape first second × AreDefaultsOf (room_of shape) asked defaults × (session ≡ opened shape first second defaults)
     × Spares session.now.current spares shape first second
 
 -- the same copies as they were read
 abbrev pub AreCopiesIn : (image : Option ℕ) → Order → Source → Type 0
 AreCopiesIn image order source = AreCopies image order source.geometry source.first.bytes.items (second_bytes source.second)
+
+abbrev pub AreWantedIn : (image : Option ℕ) → Order → WantedCopy → Source → Type 0
+AreWantedIn image order wanted source = AreWanted image order wanted source.geometry source.first.bytes.items (second_bytes source.second)
 
 -- a session just opened over what was read
 abbrev pub OpensOver : Source → Defaults → Held → Type 0

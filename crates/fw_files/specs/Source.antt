@@ -13,6 +13,7 @@ use Rattle.envimg_core.specs.declared.choice.Choice.TheVariants.{First, Second, 
 use Rattle.envcfg_core.specs.declared.config.Config.{Config}
 use Rattle.envimg_core.specs.declared.geometry.Order.{Order}
 use Rattle.fw_arguments.specs.Calls.{Defaults}
+use Rattle.fw_files.specs.BareLines.{bare_in}
 use Rattle.fw_files.specs.declared.copies.ReadCopy.{ReadCopy}
 use Rattle.fw_files.specs.declared.source.Source.{Source}
 
@@ -63,10 +64,11 @@ abbrev pub spelled : Bool → List ℕ → List ℕ
 spelled true text = flat_map escaped_byte text
 spelled false text = text
 
--- the variables are the default environment of the entries of a text, in this room
+-- the variables are the default environment of the entries of a text, of which none lacks its `=`, in this room
 abbrev pub AreDefaultsIn : Bool → List ℕ → ℕ → Contents → Type 0
 AreDefaultsIn plain text room vars =
-    (entries : List Entry) × (import_of (spelled plain text) ≡ Ok entries) × (written room env.empty entries ≡ Ok vars.env) × (vars.room ≡ room)
+    (entries : List Entry) × (import_of (spelled plain text) ≡ Ok entries) × (bare_in plain text entries ≡ None)
+    × (written room env.empty entries ≡ Ok vars.env) × (vars.room ≡ room)
 
 abbrev pub AreDefaultsFrom : Bool → ℕ → Contents → Type 0
 AreDefaultsFrom plain room vars = (text : List ℕ) × AreDefaultsIn plain text room vars

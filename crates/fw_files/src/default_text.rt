@@ -1,20 +1,26 @@
 //! The default environment of a session: which text it is, and its variables.
-ghost use Rattle.std.specs.Prelude.{◌≡◌, ◌≤◌, ◌++◌, IfOk, Ok, map};
+ghost use Rattle.std.specs.Prelude.{◌≡◌, ◌≤◌, ◌++◌, false, IfOk, MatchOption, Ok, map};
+ghost use Rattle.std.specs.FinMap as env;
 ghost use Rattle.std.specs.List.{flat_map};
 ghost use Rattle.envcfg_core.specs.Entries.{entry_view};
 ghost use Rattle.envcfg_core.specs.Import.{import_of};
 ghost use Rattle.fw_arguments.specs.Calls.{defaults_view};
+ghost use Rattle.fw_engines.specs.Defaults.{written};
+ghost use Rattle.fw_files.specs.Said.{SaysSome};
 ghost use Rattle.fw_files.specs.Source.{AreDefaultsFrom, AreDefaultsIn, AreDefaultsOf, IsFound, escaped_byte, spelled, takes_initial};
 
-use crate::file_fault::FileFault;
+use crate::bare_lines::bare_in;
+use crate::file_fault::{FileFault, value_or_say};
 use crate::file_texts::INITIAL_ENVIRONMENT;
 use crate::files::{import_from, read_file};
+use crate::reasons::Explains;
 use envcfg_core::TextEntry;
 use envvars_core::{Refusal, Vars};
 use fw_arguments::Defaults;
 use fw_engines::defaults;
 use std::alloc::{AllocError, Global};
 use std::fs::OpenOptions;
+use std::io::Write;
 use std::rt::Files;
 
 /// The default environment that is asked for, with the text of the board's build if none is given and it is there.
@@ -59,6 +65,21 @@ pub(crate) fn given_defaults<X: Files + AllocGlobal>(
     }
 }
 
+/// The variables of the text for import at a path, in this room; a fault is reported on `errors`.
+pub fn variables_or_say<X: Files + AllocGlobal, E: Write>(
+    rt: &X,
+    room: u32,
+    path: &str,
+    errors: &mut E,
+) -> Option<Vars>
+    requires { 1 ≤ room }
+    ensures { MatchOption result (SaysSome (E.contents errors.old) (E.contents errors.new))
+        (λ vars. AreDefaultsFrom false room vars × (E.contents errors.new ≡ E.contents errors.old)) }
+{
+    let read = read_default(rt, room, path, false);
+    value_or_say(rt.alloc(), errors, Explains::Reason, path, read)
+}
+
 /// Reads the default environment.
 fn read_default<X: Files + AllocGlobal>(
     rt: &X,
@@ -79,7 +100,19 @@ fn default_from(alloc: Global, room: u32, plain: bool, text: &[u8]) -> Result<Va
     ensures { IfOk result (AreDefaultsIn plain text.now room) }
 {
     let entries = entries_in(alloc, plain, text)?;
-    match defaults(alloc, room, &entries) {
+    match bare_in(plain, text, &entries) {
+        None => written_in(alloc, room, &entries),
+        Some(line) => Err(FileFault::Bare(line)),
+    }
+}
+
+/// The default environment of these entries.
+fn written_in(alloc: Global, room: u32, entries: &[TextEntry]) -> Result<Vars, FileFault>
+    requires { 1 ≤ room }
+    ensures written { IfOk result (λ vars. written room env.empty (map entry_view entries.now) ≡ Ok vars.env) }
+    ensures room { IfOk result (λ vars. vars.room ≡ room) }
+{
+    match defaults(alloc, room, entries) {
         Ok(vars) => Ok(vars),
         Err((_line, Refusal::Memory)) => Err(FileFault::Memory),
         Err((line, refusal)) => Err(FileFault::Default(line, refusal)),

@@ -9,7 +9,7 @@ ghost use Rattle.fw_files.specs.declared.file_fault.FileFault.TheVariants.{Canno
 
 use crate::file_texts::{
     CANNOT_READ_FILE, CANNOT_WRITE_FILE, COLON, FWENV, IN_LINE, IS_UBI_VOLUME, IS_YAML, LINE,
-    NEWLINE, TOO_SHORT,
+    NEWLINE, NO_EQUALS, TOO_SHORT,
 };
 use crate::reasons::{Explains, Reason};
 use board_file::BoardFault;
@@ -44,6 +44,8 @@ pub enum FileFault {
     Stubs(StubFault),
     /// It is a board file that is refused.
     Board(BoardFault),
+    /// It is a default environment, and the entry in this line has no `=`.
+    Bare(usize),
     /// It is a default environment, and the entry in this line is refused.
     Default(usize, Refusal),
 }
@@ -119,6 +121,7 @@ pub(crate) fn say_fault<E: Write>(
             Err(_) => say(errors, OUT_OF_MEMORY),
         },
         FileFault::Board(refused) => say_place(errors, path, refused.line, refused.kind.text()),
+        FileFault::Bare(line) => say_place(errors, path, line, NO_EQUALS),
         FileFault::Default(line, refusal) => say_line(errors, path, name_of(refusal), line),
     }
 }

@@ -17,6 +17,9 @@ pub(crate) const IS_YAML: &[u8] = b" is YAML: fwenv reads lines of DEVICE OFFSET
 pub(crate) const IS_UBI_VOLUME: &[u8] =
     b" is a UBI volume by its name: fwenv reads files and block devices\n";
 
+/// What is wrong with a line of a default environment.
+pub(crate) const NO_EQUALS: &[u8] = b"no = in this line";
+
 /// Between a path and the number of a line.
 pub(crate) const LINE: &[u8] = b":";
 
@@ -31,6 +34,13 @@ pub(crate) const NEWLINE: &[u8] = b"\n";
 /// Standard error if two copies share a byte of one device.
 pub(crate) const COPIES_OVERLAP: &[u8] = b"fwenv: copies overlap\n";
 
+/// Before what is wrong with the copy that is asked for, and standard error if it isn't there.
+pub(crate) const FIRST_NOT_GOOD: &[u8] = b"fwenv: the first copy isn't good: ";
+
+pub(crate) const SECOND_NOT_GOOD: &[u8] = b"fwenv: the second copy isn't good: ";
+
+pub(crate) const NO_SECOND_COPY: &[u8] = b"fwenv: there is no second copy\n";
+
 /// Standard error if neither copy is good.
 pub(crate) const BAD_CRC_DEFAULT: &[u8] = b"Warning: Bad CRC, using default environment\n";
 
@@ -40,6 +50,9 @@ pub(crate) const FIRST_OVER_DATA: &[u8] =
 
 pub(crate) const SECOND_OVER_DATA: &[u8] =
     b"Warning: the second copy is written over data that is no environment\n";
+
+/// The file that is standard input.
+pub(crate) const DEVICE_OF_INPUT: &str = "/dev/stdin";
 
 /// The default environment of a board's build.
 pub(crate) const INITIAL_ENVIRONMENT: &str = "/etc/u-boot-initial-env";

@@ -4,14 +4,16 @@ ghost use Rattle.envcfg_core.specs.Entries.{entry_view};
 ghost use Rattle.envcfg_core.specs.Import.{import_of};
 ghost use Rattle.envcfg_core.specs.SetScript.{set_script_of};
 ghost use Rattle.board_file.specs.BoardFiles.{board_of};
-ghost use Rattle.fw_files.specs.Files.{AreRulesOf, AreStubsOf, board_fault, file_limit, text_fault};
+ghost use Rattle.fw_files.specs.Files.{AreRulesOf, AreStubsOf, board_fault, file_limit, opened_path, text_fault};
 ghost use Rattle.fw_files.specs.Said.{SaysSome};
 ghost use Rattle.hush_commands.specs.Stubs.{stand_ins_of};
 
 use crate::file_fault::{FileFault, value_or_say};
+use crate::file_texts::DEVICE_OF_INPUT;
 use crate::reasons::{Explains, Reason};
 use board_file::{BoardFault, LineFault, parse_board};
 use envcfg_core::{TextEntry, TextFault, parse_import, parse_set_script};
+use fw_arguments::STANDARD_INPUT;
 use fw_engines::StreamFault;
 use fw_engines::streams::read_up_to;
 use hush_commands::{BoardRules, StubFault, Stubs};
@@ -42,11 +44,22 @@ impl<F: Read> Read for Reading<F> {
     }
 }
 
-/// Reads a whole file of at most 16,777,216 bytes.
+/// What is opened for a text: `-` is standard input.
+fn opened_path(path: &str) -> &str
+    ensures { result.now ≡ opened_path path.now }
+{
+    if path == STANDARD_INPUT {
+        DEVICE_OF_INPUT
+    } else {
+        path
+    }
+}
+
+/// Reads a whole file of at most 16,777,216 bytes, or standard input.
 pub fn read_file<X: Files + AllocGlobal>(rt: &X, path: &str) -> Result<Vec<u8>, FileFault>
     ensures { IfOk result (λ bytes. length bytes.items ≤ file_limit) }
 {
-    let file = OpenOptions::new().read(true).open(rt, path)?;
+    let file = OpenOptions::new().read(true).open(rt, opened_path(path))?;
     let mut reading = Reading {
         file,
         reason: Reason::Unknown,

@@ -2,10 +2,11 @@
 //! over copies is opened here, copies are written back and reported on, and it is reported why a file can not be used.
 //! docs/tools.md states the rules.
 //!
-//! To read in this order: system, reasons, file_fault, files; waiting, devices, lock_file, copies, source, default_text,
-//! misread_copies, opening, changed_copies; copy_report; tool_messages, file_texts.
+//! To read in this order: system, reasons, file_fault, files, new_file; waiting, devices, lock_file, copies, source, wanted_source,
+//! bare_lines, default_text, misread_copies, opening, changed_copies; copy_report; tool_messages, file_texts.
 #![tactic(auto)]
 
+mod bare_lines;
 mod changed_copies;
 mod copies;
 mod copy_report;
@@ -16,23 +17,28 @@ mod file_texts;
 mod files;
 mod lock_file;
 mod misread_copies;
+mod new_file;
 mod opening;
 mod reasons;
 mod source;
 mod system;
 mod tool_messages;
 mod waiting;
+mod wanted_source;
 
 pub use changed_copies::{write_back, write_other_first};
 pub use copies::ReadCopy;
 pub use copy_report::run_report;
+pub use default_text::variables_or_say;
 pub use file_fault::{FileFault, value_or_say};
 pub use files::{
     entries_or_say, read_board, read_file, read_stand_in_file, read_stand_ins, script_from,
 };
 pub use lock_file::{LockedFiles, Locks, lock_copies};
+pub use new_file::write_file;
 pub use opening::open;
 pub use reasons::{Explains, Reason};
 pub use source::{Source, config_or_say, erased_or_say, read_source};
 pub use system::{Attempt, Hold, System};
 pub use tool_messages::{message_of, report};
+pub use wanted_source::wanted_or_say;

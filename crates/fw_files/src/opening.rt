@@ -185,7 +185,7 @@ fn write_second_fault<E: Write>(source: &Source, errors: &mut E) -> bool
 }
 
 /// What is wrong with a copy of the right length.
-fn fault_of_copy(state: CopyState) -> &'static [u8]
+pub(crate) fn fault_of_copy(state: CopyState) -> &'static [u8]
     ensures { result.now ≡ fault_of_copy state }
 {
     match state {

@@ -25,7 +25,7 @@ flag_small false = omega arith
 report_small : (report : Report) → status_of report ≤ 1
 report_small report = flag_small report.failed
 
-text_small : (end : ToolEnd) (old new : Option (List ℕ)) (text : List ℕ) (status : ℕ) → status ≤ 1 → PrintsText old new text status end → end.status ≤ 1
+pub text_small : (end : ToolEnd) (old new : Option (List ℕ)) (text : List ℕ) (status : ℕ) → status ≤ 1 → PrintsText old new text status end → end.status ≤ 1
 text_small end old new text status small p = by_fault end.fault p
   where
     by_fault : (f : Option StreamFault) → MatchOption f (Appends old new text × (end.status ≡ status)) (λ fault. (fault ≡ Write) × AppendsPart old new text × (end.status ≡ 1)) → end.status ≤ 1

@@ -2,6 +2,7 @@ mod SubcommandLemmas
 mod CheckLemmas
 mod EntryPointLemmas
 mod HelpLemmas
+mod NewImageLemmas
 mod SessionRunLemmas
 pub mod Rows
 pub mod SameTexts

@@ -1,5 +1,5 @@
 -- What a subcommand does, put together, and its status.
-use Rattle.std.proofs.Common.{◌≡◌, ◌≤◌, ℕ, zero, suc, Bool, true, false, List, [], ◌∷◌, ◌++◌, Option, Some, None, inl, inr, refl, sym, ap, ◌∙◌, subst, arith}
+use Rattle.std.proofs.Common.{◌≡◌, ◌⊎◌, ◌≤◌, ℕ, zero, suc, Bool, true, false, List, [], ◌∷◌, ◌++◌, Option, Some, None, inl, inr, refl, sym, ap, ◌∙◌, subst, arith}
 use Rattle.std.specs.Prelude.{◌==◌, MatchOption, if◌then◌else◌, length}
 use Rattle.env_session.specs.Requests.{refusal_in}
 use Rattle.env_session.specs.Session.{Held, written}
@@ -8,7 +8,7 @@ use Rattle.envimg_core.specs.Environment.{Environment}
 use Rattle.envimg_core.specs.Pieces.{Entry}
 use Rattle.envimg_core.specs.declared.geometry.Order.{Order}
 use Rattle.envvars_core.specs.declared.refusals.Refusal.{Refusal}
-use Rattle.fw_files.specs.Opening.{AreCopiesIn, IsAccepted, IsOpening, OpensOver}
+use Rattle.fw_files.specs.Opening.{AreCopies, AreCopiesIn, AreWantedIn, IsAccepted, IsOpening, OpensOver}
 use Rattle.fw_tools.specs.Subcommands.{Acts, Closes, DoesJob, Scene, Uses, UsesTool, printed_so}
 use Rattle.fw_arguments.specs.Calls.{Call, Checks, Defaults, Job, Runs, Task, Tool, Tries, spares}
 use Rattle.fw_tools.proofs.CheckLemmas.{check_small}
@@ -18,7 +18,12 @@ use Rattle.fw_tools.specs.ScriptRuns.{ClosesRun, RunsOver}
 use Rattle.fw_session.specs.ScriptRun.{ended_so, is_well, outcome_texts, run_texts}
 use Rattle.hush_run.specs.declared.ending.Ending.{Ending}
 use Rattle.fw_files.specs.Locks.{HasWaited}
+use Rattle.fw_arguments.specs.declared.wanted_copy.WantedCopy.{WantedCopy}
+use Rattle.fw_engines.specs.Streams.{AppendsFront}
+use Rattle.fw_files.proofs.SaidLemmas.{front_said}
 use Rattle.fw_files.specs.Misread.{Spares}
+use Rattle.fw_files.specs.Said.{SaysSome}
+use Rattle.fw_files.specs.WantedCopy.{IsWantedIn, SaysRefusal, refusal_of}
 use Rattle.fw_files.specs.Source.{IsTaken, second_bytes}
 use Rattle.fw_files.specs.declared.source.Source.{Source}
 use Rattle.fw_arguments.specs.declared.task.Printing.{Printing}
@@ -36,15 +41,33 @@ use Rattle.fw_engines.specs.declared.tool_end.StreamFault.TheVariants.{Read, Wri
 use Rattle.fw_engines.specs.declared.tool_end.ToolEnd.{ToolEnd}
 
 -- a session over what was read is one over such copies
-pub opens_so : (image : Option ℕ) (order : Order) (spares : Bool) (source : Source) (asked : Defaults) (session : Held) →
-    AreCopiesIn image order source → OpensOver source asked session →
-    Spares session.now.current spares source.geometry source.first.bytes.items (second_bytes source.second) → IsOpening image order spares asked session
-opens_so image order spares source asked session copies (defaults, are, is) spared =
+pub opens_so : (image : Option ℕ) (order : Order) (wanted : WantedCopy) (spares : Bool) (source : Source) (asked : Defaults) (session : Held) →
+    AreWantedIn image order wanted source → OpensOver source asked session →
+    Spares session.now.current spares source.geometry source.first.bytes.items (second_bytes source.second) → IsOpening image order wanted spares asked session
+opens_so image order wanted spares source asked session copies (defaults, are, is) spared =
     (source.geometry, source.first.bytes.items, second_bytes source.second, defaults, copies, are, is, spared)
+
+-- the copy that is asked for, in the place of each that was read
+pub wanted_so : (image : Option ℕ) (order : Order) (wanted : WantedCopy) (read source : Source) → AreCopiesIn image order read → IsWantedIn wanted read source →
+    AreWantedIn image order wanted source
+wanted_so image order wanted read source copies (good, placed) = (
+  read.first.bytes.items,
+  second_bytes read.second,
+  subst (λ shape. AreCopies image order shape read.first.bytes.items (second_bytes read.second)) (sym placed.geometry) copies,
+  subst (λ shape. refusal_of wanted shape read.first.bytes.items (second_bytes read.second) ≡ None) (sym placed.geometry) good,
+  placed.first,
+  placed.second,
+)
+
+-- what is said of a copy that can't be taken
+pub refusal_said : (line a b : Option (List ℕ)) (text : List ℕ) → SaysRefusal line a b ⊎ AppendsFront a b text → SaysSome a b
+refusal_said None a b text (inl never) = absurd never
+refusal_said (Some line) a b text (inl said) = front_said a b line said
+refusal_said line a b text (inr said) = front_said a b text said
 
 -- a session was opened, with or without a warning, and worked on
 pub opened_session : (call : Call) (asked : Defaults) (old : Streams) (waited : Option (List ℕ)) (session : Held) (warned : Option (List ℕ)) (new : Streams) (status : ℕ) →
-    HasWaited old.errors waited → IsTaken session.now.current call.defaults asked → IsOpening call.image call.order (spares call) asked session →
+    HasWaited old.errors waited → IsTaken session.now.current call.defaults asked → IsOpening call.image call.order call.copy (spares call) asked session →
     IsAccepted asked session waited warned →
     DoesJob call.job session (record { input = old.input; output = old.output; errors = warned }) new status → Uses call old new status
 opened_session call asked old waited session warned new status has found opening accepted does =

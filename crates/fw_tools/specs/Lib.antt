@@ -2,6 +2,8 @@
 pub mod CheckRuns
 pub mod EntryPoint
 pub mod Greeting
+pub mod NewImages
+pub mod SavedOnce
 pub mod ScriptRuns
 pub mod SessionRun
 pub mod Subcommands

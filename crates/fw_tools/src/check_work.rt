@@ -6,7 +6,7 @@ ghost use Rattle.fw_files.specs.Said.{SaysSome};
 
 use crate::task_work::bytes_or_say;
 use env_session::Session;
-use fw_arguments::{EnvironmentCheck, FileCheck, STANDARD_INPUT};
+use fw_arguments::{EnvironmentCheck, FileCheck};
 use fw_check::{check, check_text};
 use fw_files::{Explains, FileFault, System, read_file, read_stand_in_file, report, value_or_say};
 use hush_run::Stubs;
@@ -70,7 +70,7 @@ fn check_file<X: System + AllocGlobal, W: Write, E: Write>(
         errors,
         Explains::Reason,
         asked.path,
-        read_script(rt, asked.path),
+        read_file(rt, asked.path),
     )?;
     let end = check_text(
         rt.alloc(),
@@ -112,9 +112,4 @@ fn stand_ins_given<X: Files + AllocGlobal>(
         None => Ok(None),
         Some(file) => Ok(Some(read_stand_in_file(rt, file)?)),
     }
-}
-
-/// The text of a script.
-fn read_script<X: Files + AllocGlobal>(rt: &X, path: &str) -> Result<Vec<u8>, FileFault> {
-    read_file(rt, if path == "-" { STANDARD_INPUT } else { path })
 }

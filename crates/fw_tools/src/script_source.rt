@@ -7,7 +7,7 @@ ghost use Rattle.fw_arguments.specs.DryRuns.{script_view};
 ghost use Rattle.fw_files.specs.Said.{SaysSome};
 ghost use Rattle.fw_tools.specs.ScriptRuns.{IsTextOf, Refuses, name_of_script, quoted, quoted_name, starts};
 
-use fw_arguments::{GivenScript, STANDARD_INPUT};
+use fw_arguments::GivenScript;
 use fw_engines::streams::say;
 use fw_engines::{OUT_OF_MEMORY, say_syntax_fault};
 use fw_files::{Explains, FileFault, read_file, value_or_say};
@@ -63,7 +63,7 @@ fn read_text<X: Files + AllocGlobal>(
     match *given {
         GivenScript::Names(names) => Ok(starts(rt.alloc(), names)?),
         GivenScript::Words(text) => Ok(Vec::from_slice(rt.alloc(), text.as_bytes())?),
-        GivenScript::File(path) => read_file(rt, if path == "-" { STANDARD_INPUT } else { path }),
+        GivenScript::File(path) => read_file(rt, path),
     }
 }
 

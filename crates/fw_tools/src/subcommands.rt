@@ -1,6 +1,6 @@
 //! The subcommands over the files that the arguments name.
 ghost use Rattle.std.specs.Prelude.{◌≡◌, ◌≤◌, Some, None, MatchOption, if◌then◌else◌, unwrap_or};
-ghost use Rattle.fw_files.specs.Opening.{AreCopiesIn};
+ghost use Rattle.fw_files.specs.Opening.{AreCopiesIn, AreWantedIn};
 ghost use Rattle.fw_tools.specs.Subcommands.{Closes, DoesJob, Uses, UsesTool, hold_for, is_left};
 ghost use Rattle.fw_arguments.specs.Calls.{call_view, job_view, keeps_lock, task_view};
 ghost use Rattle.fw_files.specs.Locks.{HasWaited};
@@ -17,7 +17,7 @@ use fw_arguments::{Call, Job, Task};
 use fw_engines::ToolEnd;
 use fw_files::{
     Explains, Hold, Locks, Source, System, config_or_say, erased_or_say, lock_copies, open,
-    read_source, report, write_back,
+    read_source, report, wanted_or_say, write_back,
 };
 use std::io::{Read, Write};
 
@@ -63,8 +63,23 @@ fn use_files<X: System + AllocGlobal, R: Read, W: Write, E: Write>(
     work(rt, &source, session, call, input, output, errors)
 }
 
-/// The copies for a subcommand, and the locks under which it works on them, if it has any; `None` if they can't be used.
+/// The copies for a subcommand, of which it may want one, and the locks under which it works on them, if it has any; `None`
+/// if they can't be used.
 fn copies_for<X: System + AllocGlobal, E: Write>(
+    rt: &X,
+    call: &Call<'_, '_>,
+    errors: &mut E,
+) -> Option<(Source, Option<Locks<X::File>>)>
+    ensures { MatchOption result (SaysSome (E.contents errors.old) (E.contents errors.new))
+        (λ found. AreWantedIn call.now.image call.now.order call.now.copy found.0 × HasWaited (E.contents errors.old) (E.contents errors.new)) }
+{
+    let (read, locks) = copies_in(rt, call, errors)?;
+    let source = wanted_or_say(rt.alloc(), read, call.copy, errors)?;
+    Some((source, locks))
+}
+
+/// The copies as they were read.
+fn copies_in<X: System + AllocGlobal, E: Write>(
     rt: &X,
     call: &Call<'_, '_>,
     errors: &mut E,

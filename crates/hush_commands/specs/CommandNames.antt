@@ -9,7 +9,7 @@ use Rattle.hush_commands.specs.declared.shell.Shell.{Shell}
 use Rattle.hush_commands.specs.declared.shell.Shell.TheVariants.{Strict, Board}
 use Rattle.hush_commands.specs.Builtins.{builtin_of, builtins, name_of}
 use Rattle.hush_commands.specs.Stubs.{Statuses, status_of_name}
-use Rattle.hush_commands.specs.Hardware.{Hardware}
+use Rattle.hush_commands.specs.Hardware.{Hardware, hardware}
 
 -- a board reads a name up to its first `.`: what is after it is a width
 abbrev pub is_dot : ℕ → Bool
@@ -83,6 +83,10 @@ whole_name h word =
 abbrev pub name_by : Shell → Hardware → (word : List ℕ) → List ℕ
 name_by Strict h word = word
 name_by Board h word = whole_name h word
+
+-- the same among the builtins and these stand-ins, if there are some
+abbrev pub name_among : Shell → Option Statuses → (word : List ℕ) → List ℕ
+name_among shell stubs word = name_by shell (hardware [] (unwrap_or stubs names.empty)) word
 
 -- whether a word names a command, by a shell
 abbrev pub names_command : Shell → Hardware → (word : List ℕ) → Bool

@@ -1,7 +1,7 @@
 //! Which command a word names (docs/runs.md, "Boards").
-ghost use Rattle.std.specs.Prelude.{◌≡◌, [], None, false, map};
+ghost use Rattle.std.specs.Prelude.{◌≡◌, [], None, Some, IfOk, false, map, option_map};
 ghost use Rattle.hush_commands.specs.Builtins.{builtins, name_of};
-ghost use Rattle.hush_commands.specs.CommandNames.{begins_with, found_in, found_names, is_front, is_known, name_by, names_command, stands_for, whole_name, with_names, without_width};
+ghost use Rattle.hush_commands.specs.CommandNames.{begins_with, found_in, found_names, is_front, is_known, name_among, name_by, names_command, stands_for, whole_name, with_names, without_width};
 ghost use Rattle.hush_commands.specs.Hardware.{hardware};
 
 use crate::board_rules::BoardRules;
@@ -10,7 +10,7 @@ use crate::shell::Shell;
 use crate::stand_ins::Stubs;
 use hush_calc::is_text;
 use memchr::memchr;
-use std::alloc::Global;
+use std::alloc::{AllocError, Global};
 use std::marker::Model;
 
 /// What was found of the names that begin with a word: the first, and whether there are others.
@@ -121,6 +121,38 @@ pub fn names_command(alloc: Global, shell: Shell, stand_ins: &Stubs, word: &[u8]
     is_known(stand_ins, &board, name)
 }
 
+/// The name that the first word of a command stands for, in memory of its own: among the builtins and these stand-ins, if
+/// there are some.
+pub fn command_name(
+    alloc: Global,
+    shell: Shell,
+    stand_ins: Option<&Stubs>,
+    word: &[u8],
+) -> Result<Vec<u8>, AllocError>
+    ensures { IfOk result (λ name. name.items ≡ name_among shell (option_map (λ s. s.now) stand_ins.entry) word.now) }
+{
+    match stand_ins {
+        Some(stand_ins) => name_beside(alloc, shell, stand_ins, word),
+        None => {
+            let none = Stubs::empty(alloc);
+            name_beside(alloc, shell, &none, word)
+        }
+    }
+}
+
+/// The same beside these stand-ins.
+fn name_beside(
+    alloc: Global,
+    shell: Shell,
+    stand_ins: &Stubs,
+    word: &[u8],
+) -> Result<Vec<u8>, AllocError>
+    ensures { IfOk result (λ name. name.items ≡ name_among shell (Some stand_ins.now) word.now) }
+{
+    let board = BoardRules::none(alloc);
+    Vec::from_slice(alloc, name_by(shell, stand_ins, &board, word))
+}
+
 /// The name that a word stands for on a board.
 fn whole_name<'a>(stand_ins: &'a Stubs, board: &'a BoardRules, word: &'a [u8]) -> &'a [u8]
     ensures { result.now ≡ whole_name (hardware board.now stand_ins.now) word.now }
@@ -168,7 +200,7 @@ fn found_builtins<'a>(word: &[u8]) -> Found<'a>
 }
 
 /// Whether a word after `env` stands for a name of which a board needs so many bytes.
-pub(crate) fn stands_for(shell: Shell, least: usize, name: &[u8], word: &[u8]) -> bool
+pub fn stands_for(shell: Shell, least: usize, name: &[u8], word: &[u8]) -> bool
     ensures { result ≡ stands_for shell least name.now word.now }
 {
     match shell {

@@ -25,7 +25,7 @@ mod writes;
 
 pub use board_rules::{BoardRules, Bytes, Pattern, PatternWord, Reply, Rule};
 pub use builtins::is_builtin;
-pub use command_names::names_command;
+pub use command_names::{command_name, names_command, stands_for};
 pub use execution::carry_out;
 pub use expansion::{ExpansionFault, Scope};
 pub use field_buffer::FieldBuffer;

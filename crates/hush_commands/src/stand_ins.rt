@@ -122,7 +122,7 @@ impl Stubs {
     }
 
     /// No stand-ins. It takes no memory.
-    fn empty(alloc: Global) -> Stubs
+    pub(crate) fn empty(alloc: Global) -> Stubs
         ensures { result ≡ names.empty }
     {
         Stubs {

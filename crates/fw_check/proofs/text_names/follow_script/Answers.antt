@@ -1,5 +1,6 @@
 use Rattle.std.proofs.Common.{ap, map, ◌∙◌}
 use Rattle.std.specs.List.{flat_map}
+use Rattle.fw_check.specs.Looking.{rules_in}
 use Rattle.fw_check.specs.NameSets.{set_of, with_all}
 use Rattle.fw_check.specs.Naming.{foreseen_names}
 use Rattle.fw_check.specs.Statements.{statement_of}
@@ -12,5 +13,5 @@ returns-clause-foreseen c =
     let items = c.deref-2.result.now in
     let same = ap (λ t. map (statement_of t) items) c.text-2.ensures ∙ ap (map (statement_of text)) c.deref-2.ensures.value ∙ c.in_ok-items.ensures in
     ok-then c.gather_items.result _ _
-    (λ e. e ∙ ap (λ ss. with_all (set_of c.args.gathered.now.foreseen) (flat_map foreseen_names ss)) same)
+    (λ e. e ∙ ap (λ ss. with_all (set_of c.args.gathered.now.foreseen) (flat_map (foreseen_names (rules_in c.args.lookups.now)) ss)) same)
     c.gather_items.ensures.foreseen

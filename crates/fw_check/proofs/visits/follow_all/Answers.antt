@@ -1,7 +1,7 @@
 use Rattle.std.proofs.Common.{ap, sym, ◌∙◌}
 use Rattle.std.specs.Prelude.{option_map}
 use Rattle.fw_check.specs.Checking.{value_in, with_names}
-use Rattle.hush_run.specs.Meaning.{bodies_of}
+use Rattle.fw_check.specs.Looking.{rules_in}
 use Rattle.fw_check.specs.NameSets.{set_of, with_all}
 use Rattle.fw_check.specs.Naming.{foreseen_in, given_in, run_in}
 use Rattle.fw_check.proofs.VisitLemmas.{follows-none, follows-next, foreseen-all, given-all, no-more, visited-all}
@@ -9,7 +9,7 @@ use Rattle.fw_check.proofs.visits.follow_all.Goals as goal
 
 pub loop-gathered-init : goal.loop-gathered-init
 loop-gathered-init c =
-    follows-none (bodies_of c.args.shell) c.args.vars.now.env c.args.names.now (set_of c.new-gathered.result.given) (set_of c.new-gathered.result.foreseen) c.new-gathered.ensures.given c.new-gathered.ensures.foreseen
+    follows-none (rules_in c.args.lookups.now) c.args.vars.now.env c.args.names.now (set_of c.new-gathered.result.given) (set_of c.new-gathered.result.foreseen) c.new-gathered.ensures.given c.new-gathered.ensures.foreseen
 
 pub loop-gathered-preserved : goal.loop-gathered-preserved
 loop-gathered-preserved c =
@@ -20,29 +20,29 @@ loop-gathered-preserved c =
     let gathered = c.follow_text.new.gathered in
     let here = sym c.in_ok-name.ensures.name ∙ ap (option_map (λ v. v.items)) c.in-Some.is in
     let valued = c.value.ensures ∙ ap (value_in env) c.deref.ensures.value in
-    follows-next (bodies_of c.args.shell) env c.args.names.now names c.follow_text.new.names c.loop-gathered.index c.in-Some.name.items here
-    (c.in_ok-follow_text.ensures.names ∙ ap (λ v. with_names env names (run_in (bodies_of c.args.shell) v)) valued)
+    follows-next (rules_in c.args.lookups.now) env c.args.names.now names c.follow_text.new.names c.loop-gathered.index c.in-Some.name.items here
+    (c.in_ok-follow_text.ensures.names ∙ ap (λ v. with_names env names (run_in (rules_in c.args.lookups.now) v)) valued)
     given foreseen (set_of gathered.given) (set_of gathered.foreseen) c.loop-gathered.invariant
-    (c.in_ok-follow_text.ensures.given ∙ ap (λ v. with_all given (given_in (bodies_of c.args.shell) v)) valued)
-    (c.in_ok-follow_text.ensures.foreseen ∙ ap (λ v. with_all foreseen (foreseen_in (bodies_of c.args.shell) v)) valued)
+    (c.in_ok-follow_text.ensures.given ∙ ap (λ v. with_all given (given_in (rules_in c.args.lookups.now) v)) valued)
+    (c.in_ok-follow_text.ensures.foreseen ∙ ap (λ v. with_all foreseen (foreseen_in (rules_in c.args.lookups.now) v)) valued)
 
 pub returns-clause-visited : goal.returns-clause-visited
 returns-clause-visited c =
     let now = c.loop-gathered.names in
     let gathered = c.loop-gathered.gathered in
     let end = no-more now c.loop-gathered.index c.in_ok-name.field-0 c.in_ok-name.ensures.name c.in_default.not-Some in
-    visited-all (bodies_of c.args.shell) c.args.vars.now.env c.args.names.now now c.loop-gathered.index end (set_of gathered.given) (set_of gathered.foreseen) c.loop-gathered.invariant
+    visited-all (rules_in c.args.lookups.now) c.args.vars.now.env c.args.names.now now c.loop-gathered.index end (set_of gathered.given) (set_of gathered.foreseen) c.loop-gathered.invariant
 
 pub returns-clause-given : goal.returns-clause-given
 returns-clause-given c =
     let now = c.loop-gathered.names in
     let gathered = c.loop-gathered.gathered in
     let end = no-more now c.loop-gathered.index c.in_ok-name.field-0 c.in_ok-name.ensures.name c.in_default.not-Some in
-    given-all (bodies_of c.args.shell) c.args.vars.now.env c.args.names.now now c.loop-gathered.index end (set_of gathered.given) (set_of gathered.foreseen) c.loop-gathered.invariant
+    given-all (rules_in c.args.lookups.now) c.args.vars.now.env c.args.names.now now c.loop-gathered.index end (set_of gathered.given) (set_of gathered.foreseen) c.loop-gathered.invariant
 
 pub returns-clause-foreseen : goal.returns-clause-foreseen
 returns-clause-foreseen c =
     let now = c.loop-gathered.names in
     let gathered = c.loop-gathered.gathered in
     let end = no-more now c.loop-gathered.index c.in_ok-name.field-0 c.in_ok-name.ensures.name c.in_default.not-Some in
-    foreseen-all (bodies_of c.args.shell) c.args.vars.now.env c.args.names.now now c.loop-gathered.index end (set_of gathered.given) (set_of gathered.foreseen) c.loop-gathered.invariant
+    foreseen-all (rules_in c.args.lookups.now) c.args.vars.now.env c.args.names.now now c.loop-gathered.index end (set_of gathered.given) (set_of gathered.foreseen) c.loop-gathered.invariant

@@ -1,11 +1,11 @@
 use Rattle.std.proofs.Common.{◌-◌}
-use Rattle.hush_run.specs.Meaning.{bodies_of}
+use Rattle.fw_check.specs.Looking.{rules_in}
 use Rattle.fw_check.specs.NameSets.{set_of}
 use Rattle.fw_check.proofs.VisitLemmas.{Follows}
 use Rattle.fw_check.proofs.visits.follow_all.Given as goal
 
 abbrev pub invariant-loop-gathered : goal.invariant-loop-gathered
-invariant-loop-gathered l = Follows (bodies_of l.fn.shell) l.vars.env l.initial.names l.names l.index (set_of l.gathered.given) (set_of l.gathered.foreseen)
+invariant-loop-gathered l = Follows (rules_in l.lookups) l.vars.env l.initial.names l.names l.index (set_of l.gathered.given) (set_of l.gathered.foreseen)
 
 abbrev pub decreases-loop-gathered : goal.decreases-loop-gathered
 decreases-loop-gathered l = 18446744073709551615 - l.index

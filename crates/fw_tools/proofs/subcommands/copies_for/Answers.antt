@@ -1,8 +1,10 @@
-use Rattle.std.proofs.Common.{subst, sym}
-use Rattle.fw_files.specs.Opening.{AreCopiesIn}
-use Rattle.fw_files.proofs.SaidLemmas.{not_waited}
+use Rattle.fw_files.proofs.SaidLemmas.{said_then, waited_said, waited_to}
+use Rattle.fw_tools.proofs.SubcommandLemmas.{refusal_said, wanted_so}
 use Rattle.fw_tools.proofs.subcommands.copies_for.Goals as goal
 
-pub returns-in_ok-source-in-Some : goal.returns-in_ok-source-in-Some
-returns-in_ok-source-in-Some g c =
-    (subst (λ i. AreCopiesIn i c.args.call.now.order c.in_ok-source-in-Some.source) (sym c.in-Some.is) c.in_ok-source-in-Some.ensures.0, not_waited _ _ c.in_ok-source-in-Some.ensures.1)
+pub returns-in_err-source : goal.returns-in_err-source
+returns-in_err-source g c = said_then _ _ _ (waited_said _ _ c.in_ok-read.ensures.1) (refusal_said _ _ _ _ c.in_err-source.ensures)
+
+pub returns : goal.returns
+returns g c =
+    (wanted_so _ _ _ c.in_ok-read.read c.in_ok-source.source c.in_ok-read.ensures.0 c.in_ok-source.ensures.0, waited_to _ _ _ c.in_ok-read.ensures.1 c.in_ok-source.ensures.1)

@@ -18,5 +18,5 @@ returns g c =
     let session = c.in_ok-session.session in
     let opened = c.in_ok-session.ensures in
     let spared = subst (λ s. Spares session.now.current s source.geometry source.first.bytes.items (second_bytes source.second)) c.spares.ensures opened.2.spared in
-    let opening = opens_so call.image call.order (spares call) source opened.0 session c.in_ok-source.ensures.0 opened.2.opens spared in
+    let opening = opens_so call.image call.order call.copy (spares call) source opened.0 session c.in_ok-source.ensures.0 opened.2.opens spared in
     opened_session call opened.0 _ _ session _ _ _ c.in_ok-source.ensures.1 opened.1 opening opened.2.accepted c.work.ensures

@@ -1,6 +1,6 @@
 use Rattle.std.proofs.Common.{Err, ap, ◌∙◌}
 use Rattle.fw_arguments.specs.Calls.{called}
-use Rattle.fw_arguments.proofs.call.tool_job.Goals as goal
+use Rattle.fw_arguments.proofs.job.tool_job.Goals as goal
 
 pub returns-in-Ok : goal.returns-in-Ok
 returns-in-Ok c = ap called c.in-Ok.ensures

@@ -1,6 +1,6 @@
 use Rattle.std.proofs.Common.{ap}
 use Rattle.fw_arguments.specs.Calls.{checked}
-use Rattle.fw_arguments.proofs.call.check_job.Goals as goal
+use Rattle.fw_arguments.proofs.job.check_job.Goals as goal
 
 pub returns-in-Ok : goal.returns-in-Ok
 returns-in-Ok c = ap checked c.in-Ok.ensures

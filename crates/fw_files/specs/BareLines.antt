@@ -1,0 +1,22 @@
+-- Entries without `=`, which an environment can't have (docs/tools.md, "Default environment").
+use Rattle.std.specs.Prelude.{ℕ, ◌==◌, Bool, true, false, List, [], ◌∷◌, Option, Some, None, if◌then◌else◌}
+use Rattle.std.specs.List.{list_any}
+use Rattle.envcfg_core.specs.Entries.{Entry}
+use Rattle.envimg_core.specs.Environment.{is_equals}
+use Rattle.text_parts.specs.Lines.{Line, numbered_lines}
+
+-- the first of the lines in which these entries begin, one after the other, that has no `=`
+abbrev pub bare_among : List Line → List Entry → Option ℕ
+bare_among [] entries = None
+bare_among (line ∷ lines) [] = None
+bare_among (line ∷ lines) (e ∷ es) =
+    if e.line == line.0 then (if list_any is_equals line.1 then bare_among lines es else Some line.0)
+    else bare_among lines (e ∷ es)
+
+abbrev pub bare_line : List ℕ → List Entry → Option ℕ
+bare_line text entries = bare_among (numbered_lines text) entries
+
+-- a text of plain lines is not looked at
+abbrev pub bare_in : (plain : Bool) → List ℕ → List Entry → Option ℕ
+bare_in true text entries = None
+bare_in false text entries = bare_line text entries

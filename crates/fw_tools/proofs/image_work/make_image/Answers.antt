@@ -1,0 +1,21 @@
+use Rattle.std.proofs.Common.{ap, inl, refl, ◌∙◌}
+use Rattle.std.specs.Prelude.{unwrap_or}
+use Rattle.fw_arguments.specs.ImageRequests.{image_request_view}
+use Rattle.fw_files.proofs.SaidLemmas.{nothing_said, said_then}
+use Rattle.fw_tools.proofs.NewImageLemmas.{made_image}
+use Rattle.fw_tools.proofs.image_work.make_image.Goals as goal
+
+pub returns-in_err-geometry : goal.returns-in_err-geometry
+returns-in_err-geometry g c = inl ((refl, nothing_said _ _ refl), ap (λ o. unwrap_or o 1) c.from_residual-in_err-geometry.ensures)
+
+pub returns-in_err-vars : goal.returns-in_err-vars
+returns-in_err-vars g c = inl ((refl, c.in_err-vars.ensures), ap (λ o. unwrap_or o 1) c.from_residual-in_err-vars.ensures)
+
+pub returns-in_err-image : goal.returns-in_err-image
+returns-in_err-image g c =
+    inl ((refl, said_then _ _ _ (nothing_said _ _ c.in_ok-vars.ensures.1) c.in_err-image.ensures), ap (λ o. unwrap_or o 1) c.from_residual-in_err-image.ensures)
+
+pub returns : goal.returns
+returns g c =
+    made_image (image_request_view c.args.asked.now) _ _ _ c.in_ok-geometry.geometry c.in_ok-vars.vars _ _ c.in_ok-geometry.ensures c.in_ok-vars.ensures.0
+    c.in_ok-image.ensures.0 (c.in_ok-image.ensures.1 ∙ c.in_ok-vars.ensures.1) c.put_out.ensures
