@@ -136,7 +136,7 @@ ORDER = [
     ([b"-c", CONFIG, b"--stubs", b"nothing", b"a"], b"nothing"),
     ([b"--env", b"none", b"--stubs", b"nothing"], b"none"),
     ([b"--env", b"stand-ins", b"--stubs", b"nothing"], b"nothing"),
-    ([b"--env", b"-"], b"-"),
+    ([b"--env", b"./-"], b"./-"),
     ([b"-f", b"no", b"--stubs", b"nothing"], b"nothing"),
     ([b"-f", b"no", b"--stubs", b"stand-ins"], b"no"),
     ([b"-f", b"no"], b"no"),

@@ -114,7 +114,7 @@ SCRIPTS = [
     (b"false; exit", b"", exited(1, 2), *STRICT),
     (b"false; exit 0", b"", b""),
     (b"exit 255", b"", exited(255, 1)),
-    (b"exit 256", b"## Error: wrong use of 'exit'\n", finished(1, 1)),
+    (b"exit 256", b"## Error: wrong use of 'exit'\n", finished(1, 1), *STRICT),
     (b"echo a; run quits; false", b"a\na\n", b"", *STRICT),
     (b"while true; do true; done", b"", stopped(b"Steps", 100_000)),
     (b"echo a; echo b", b"", stopped(b"Steps", 0), b"--steps=0"),
@@ -138,6 +138,7 @@ SCRIPTS = [
 ]
 # The same by the board's shell, which is the usual one: what a board prints, and its status
 BOARD_SCRIPTS = [
+    (b"exit 256", b"", exited(255, 1)),
     (b"if false; then echo a; fi", b"", finished(1, 1)),
     (b"if false; then echo a; elif usb; then echo b; fi; echo $?", UNKNOWN % b"usb" + b"1\n", b""),
     (b"while false; do echo a; done", b"", finished(1, 1)),
