@@ -5,6 +5,6 @@ use Rattle.fw_tools.proofs.new_image.new_image.Goals as goal
 
 pub returns : goal.returns
 returns c =
-    let saved = c.in_ok-saved_once.ensures in
+    let saved = c.in_ok-first.ensures in
     IfOk-weaker c.placed.result _ _
     (λ image is. is ∙ ap (λ blank. placed blank c.args.both _) saved.second ∙ ap (placed (erased_second c.args.geometry) c.args.both) saved.first) c.placed.ensures
