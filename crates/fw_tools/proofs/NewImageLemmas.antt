@@ -15,7 +15,7 @@ use Rattle.fw_engines.specs.declared.tool_end.ToolEnd.{ToolEnd}
 use Rattle.fw_files.specs.Said.{Says}
 use Rattle.fw_files.specs.Source.{AreDefaultsFrom}
 use Rattle.fw_tools.proofs.CheckLemmas.{text_small}
-use Rattle.fw_tools.specs.NewImages.{MakesImage, PutsOut, PutsOutOrStops, erased_second, image_bytes, shape_for}
+use Rattle.fw_tools.specs.NewImages.{MakesImage, PutsOut, PutsOutOrStops, erased_second, image_bytes, placed, shape_for}
 use Rattle.fw_tools.specs.SavedOnce.{IsSavedBlank, IsSavedOnce}
 use Rattle.fw_arguments.specs.ImageRequests.{ImageRequest}
 
@@ -90,3 +90,9 @@ puts_small (Some path) image old new status (same, is) = omega (arith, is)
 pub image_small : (asked : ImageRequest) (old new : Writers) (status : ℕ) → MakesImage asked old new status → status ≤ 1
 image_small asked old new status (inl stopped) = omega (arith, stopped.1)
 image_small asked old new status (inr (vars, are, puts)) = puts_small asked.output _ old new status puts
+
+-- what is placed of them is the new image
+pub placed_so : (shape : Shape) (vars : Contents) (both : Bool) (stored : Stored) (image : List ℕ) → IsSavedOnce shape vars stored →
+    image ≡ placed (bytes_of stored.second) both stored.first.items → image ≡ image_bytes shape both vars.env
+placed_so shape vars both stored image saved is =
+    is ∙ ap (λ blank. placed blank both stored.first.items) saved.second ∙ ap (placed (erased_second shape) both) saved.first
