@@ -1,5 +1,5 @@
 -- What a save over erased copies leaves, and the status of a new image.
-use Rattle.std.proofs.Common.{◌≡◌, ◌⊎◌, ◌≤◌, ℕ, Bool, true, false, List, Option, Some, None, inl, inr, arith, refl, sym, ap, ◌∙◌, subst}
+use Rattle.std.proofs.Common.{Bor, option_map, ◌≡◌, ◌⊎◌, ◌≤◌, ℕ, Bool, true, false, List, Option, Some, None, inl, inr, arith, refl, sym, ap, ◌∙◌, subst}
 use Rattle.env_session.specs.Session.{Held, State, bytes_of, opened, opening_choice, opening_env, saved, saved_flag, saved_side, with_copy}
 use Rattle.env_session.specs.declared.session.Stored.{Stored}
 use Rattle.envimg_core.specs.Geometry.{Shape, room_of}
@@ -10,9 +10,12 @@ use Rattle.envimg_core.specs.declared.geometry.Layout.{Layout}
 use Rattle.envimg_core.specs.declared.geometry.Layout.TheVariants.{Single, Redundant}
 use Rattle.envvars_core.specs.Variables.{Contents}
 use Rattle.fw_engines.specs.Streams.{Writers}
+use Rattle.fw_engines.specs.Tool.{PrintsText}
+use Rattle.fw_engines.specs.declared.tool_end.ToolEnd.{ToolEnd}
+use Rattle.fw_files.specs.Said.{Says}
 use Rattle.fw_files.specs.Source.{AreDefaultsFrom}
 use Rattle.fw_tools.proofs.CheckLemmas.{text_small}
-use Rattle.fw_tools.specs.NewImages.{MakesImage, PutsOut, PutsOutOrStops, erased_second, image_bytes, shape_for}
+use Rattle.fw_tools.specs.NewImages.{MakesImage, PutsOut, PutsOutOrStops, erased_second, image_bytes, placed, shape_for}
 use Rattle.fw_tools.specs.SavedOnce.{IsSavedBlank, IsSavedOnce}
 use Rattle.fw_arguments.specs.ImageRequests.{ImageRequest}
 
@@ -73,6 +76,13 @@ made_image asked old new said shape vars image status is are made silent puts =
         let out = subst (λ bytes. PutsOut asked.output bytes old new status) (made ∙ ap (λ s. image_bytes s asked.both vars.env) is) puts in
         inr (vars, subst (λ s. AreDefaultsFrom false (room_of s) vars) is are, out)
 
+-- the image that is printed
+pub printed_out : (output : Option (Bor (List ℕ))) (image : List ℕ) (old new : Writers) (status : ℕ) (end : ToolEnd) → output ≡ None →
+    PrintsText old.output new.output image 0 end → Says end.fault old.errors new.errors → status ≡ end.status →
+    PutsOutOrStops (option_map (λ p. p.now) output) image old new status
+printed_out output image old new status end none prints says ends =
+    subst (λ (o : Option (Bor (List ℕ))). PutsOutOrStops (option_map (λ p. p.now) o) image old new status) (sym none) (inr (end, prints, says, ends))
+
 puts_small : (output : Option (List ℕ)) (image : List ℕ) (old new : Writers) (status : ℕ) → PutsOut output image old new status → status ≤ 1
 puts_small None image old new status (end, prints, says, is) = omega (arith, is, text_small end old.output new.output image 0 (omega arith) prints)
 puts_small (Some path) image old new status (same, is) = omega (arith, is)
@@ -80,3 +90,9 @@ puts_small (Some path) image old new status (same, is) = omega (arith, is)
 pub image_small : (asked : ImageRequest) (old new : Writers) (status : ℕ) → MakesImage asked old new status → status ≤ 1
 image_small asked old new status (inl stopped) = omega (arith, stopped.1)
 image_small asked old new status (inr (vars, are, puts)) = puts_small asked.output _ old new status puts
+
+-- what is placed of them is the new image
+pub placed_so : (shape : Shape) (vars : Contents) (both : Bool) (stored : Stored) (image : List ℕ) → IsSavedOnce shape vars stored →
+    image ≡ placed (bytes_of stored.second) both stored.first.items → image ≡ image_bytes shape both vars.env
+placed_so shape vars both stored image saved is =
+    is ∙ ap (λ blank. placed blank both stored.first.items) saved.second ∙ ap (placed (erased_second shape) both) saved.first

@@ -1,12 +1,13 @@
-use Rattle.std.proofs.Common.{ap, inl, refl, ◌∙◌}
-use Rattle.std.specs.Prelude.{unwrap_or}
+use Rattle.std.proofs.Common.{ap, inl, refl, subst, ◌∙◌, ℕ}
+use Rattle.std.specs.Prelude.{false, unwrap_or}
 use Rattle.fw_arguments.specs.ImageRequests.{image_request_view}
+use Rattle.fw_files.specs.Source.{AreDefaultsFrom}
 use Rattle.fw_files.proofs.SaidLemmas.{nothing_said, said_then}
 use Rattle.fw_tools.proofs.NewImageLemmas.{made_image}
 use Rattle.fw_tools.proofs.image_work.make_image.Goals as goal
 
 pub returns-in_err-geometry : goal.returns-in_err-geometry
-returns-in_err-geometry g c = inl ((refl, nothing_said _ _ refl), ap (λ o. unwrap_or o 1) c.from_residual-in_err-geometry.ensures)
+returns-in_err-geometry g c = inl ((refl, nothing_said _ _ refl), ap (λ o. unwrap_or o 1) c.from_residual.ensures)
 
 pub returns-in_err-vars : goal.returns-in_err-vars
 returns-in_err-vars g c = inl ((refl, c.in_err-vars.ensures), ap (λ o. unwrap_or o 1) c.from_residual-in_err-vars.ensures)
@@ -17,5 +18,6 @@ returns-in_err-image g c =
 
 pub returns : goal.returns
 returns g c =
-    made_image (image_request_view c.args.asked.now) _ _ _ c.in_ok-geometry.geometry c.in_ok-vars.vars _ _ c.in_ok-geometry.ensures c.in_ok-vars.ensures.0
-    c.in_ok-image.ensures.0 (c.in_ok-image.ensures.1 ∙ c.in_ok-vars.ensures.1) c.put_out.ensures
+    let are = subst (λ (room : ℕ). AreDefaultsFrom false room c.in_ok-vars.vars) c.room.ensures.value c.in_ok-vars.ensures.0 in
+    made_image (image_request_view c.args.asked.now) _ _ _ c.in_ok-geometry.geometry c.in_ok-vars.vars _ _ c.in_ok-geometry.ensures.1 are
+    (c.deref.ensures.value ∙ c.in_ok-image.ensures.0) (c.in_ok-image.ensures.1 ∙ c.in_ok-vars.ensures.1) c.put_out.ensures

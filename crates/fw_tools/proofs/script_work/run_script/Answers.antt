@@ -2,9 +2,9 @@ use Rattle.fw_tools.proofs.script_work.run_script.Goals as goal
 
 pub returns : goal.returns
 returns g c = (
-  c.run-end.new.session,
-  g.E.Write.contents c.run-end.new.errors,
-  c.run-end.result,
-  c.run-end.ensures,
+  c.run-ended.new.session,
+  g.E.Write.contents c.run-ended.new.errors,
+  c.run-ended.result,
+  c.run-ended.ensures,
   c.leave.ensures,
 )

@@ -1,9 +1,10 @@
-use Rattle.fw_files.proofs.SaidLemmas.{said_then, waited_said, waited_to}
+use Rattle.fw_files.proofs.SaidLemmas.{none_said, said_then, waited_said, waited_to}
 use Rattle.fw_tools.proofs.SubcommandLemmas.{refusal_said, wanted_so}
 use Rattle.fw_tools.proofs.subcommands.copies_for.Goals as goal
 
 pub returns-in_err-source : goal.returns-in_err-source
-returns-in_err-source g c = said_then _ _ _ (waited_said _ _ c.in_ok-read.ensures.1) (refusal_said _ _ _ _ c.in_err-source.ensures)
+returns-in_err-source g c =
+    none_said _ _ _ _ c.from_residual-in_err-source.ensures (said_then _ _ _ (waited_said _ _ c.in_ok-read.ensures.1) (refusal_said _ _ _ _ c.in_err-source.ensures))
 
 pub returns : goal.returns
 returns g c =
