@@ -7,7 +7,8 @@ use Rattle.hush_commands.specs.declared.shell.Shell.{Shell}
 use Rattle.hush_commands.specs.Stubs.{Statuses}
 use Rattle.envimg_core.specs.Environment.{Environment}
 use Rattle.fw_check.specs.Checking.{Checks, ChecksText, PrintsReport, findings, status_of, with_types}
-use Rattle.fw_check.specs.Findings.{Report, given_with, no_lines, report_end, with_findings}
+use Rattle.fw_check.specs.Called.{given_with}
+use Rattle.fw_check.specs.Findings.{Report, no_lines, report_end, with_findings}
 use Rattle.fw_engines.specs.Streams.{AppendsPart, Writers}
 use Rattle.fw_engines.specs.Tool.{PrintsText}
 use Rattle.fw_engines.specs.declared.tool_end.StreamFault.{StreamFault}
