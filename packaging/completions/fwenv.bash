@@ -56,7 +56,7 @@ _fwenv() {
             mapfile -t COMPREPLY < <(compgen -W '1 2' -- "$word")
             return
             ;;
-        --steps | --depth | --word | --output | --size | --boots | -e) return ;;
+        --steps | --depth | --word | --output | --size | --boots | --resets | -e) return ;;
     esac
     case $command in
         '') options="$commands --big-endian -h --help -V --version" ;;
@@ -66,7 +66,7 @@ _fwenv() {
         import | restore) options+=' --overwrite' ;;
         status) options='-c --big-endian -h --help' ;;
         image) options='--env --size --copies --both --output --big-endian -h --help' ;;
-        run) options+="$dry_run --boots -e -f" ;;
+        run) options+="$dry_run --boots --resets --must-boot -e -f" ;;
         check) options='-c --default --big-endian -h --help --shell --stubs --env --size -f' ;;
         session) options+=$dry_run ;;
         help) options=$commands ;;

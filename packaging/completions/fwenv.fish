@@ -60,6 +60,8 @@ complete -c fwenv -n "__fish_seen_subcommand_from image" -l output -rF -d 'File 
 complete -c fwenv -n "__fish_seen_subcommand_from run check session" -l env -rF -d 'Text that is the whole environment'
 complete -c fwenv -n "__fish_seen_subcommand_from run check session" -l size -x -d 'Size of its image, in hexadecimal'
 complete -c fwenv -n "__fish_seen_subcommand_from run" -l boots -x -d 'Command that does not come back'
+complete -c fwenv -n "__fish_seen_subcommand_from run" -l resets -x -d 'Command that resets the board'
+complete -c fwenv -n "__fish_seen_subcommand_from run" -l must-boot -d 'Status 0 only if the run ended in a boot'
 complete -c fwenv -n "__fish_seen_subcommand_from run" -s e -x -d 'Script'
 complete -c fwenv -n "__fish_seen_subcommand_from run check" -s f -rF -d 'File of a script'
 complete -c fwenv -n "__fish_seen_subcommand_from help" -a "$commands"

@@ -88,8 +88,12 @@ REFUSED = [
     (b"echo ->0", 1, "Form"),
     (b"mmc\n -> 0", 2, "NoPattern"),
     (b"->", 1, "NoPattern"),
-    (b"-setexpr", 1, "Lacks"),
-    (b"-mmc -> boots", 1, "Lacks"),
+    (b"a" + b" a" * 64 + b" -> 0", 1, "Words"),
+    (b"-" + b" a" * 64 + b" -> 0", 1, "Words"),
+    (b"-setexpr 1", 1, "Minus"),
+    (b"-setexpr.b", 1, "Minus"),
+    (b"mmc\n-dhcp", 2, "Minus"),
+    (b"-mmc -> boots", 1, "Minus"),
     (b"echo", 1, "Builtin"),
     (b"env import -> 0\nenv exists -> 0", 2, "Builtin"),
     (b"env set x -> 0", 1, "Builtin"),
@@ -100,7 +104,6 @@ REFUSED = [
     (b"test -* -> 0", 1, "Builtin"),
     (b"mmc -> \t", 1, "NoAnswer"),
     (b"mmc -> ?", 1, "Open"),
-    (b"reset -> resets", 1, "Resets"),
     (b"mmc -> if", 1, "NoScript"),
     (b"mmc -> echo $2", 1, "NoScript"),
     (b"test -e -> boots", 1, "NoStatus"),
@@ -110,13 +113,35 @@ REFUSED = [
     (b"mmc\nmmc dev 0 -> 1", 2, "Unreachable"),
     (b"l* m* -> 1\nload mmc 1:2 -> 0", 2, "Unreachable"),
     (b"*\ntest -e -> 0", 2, "Unreachable"),
+    (b"-env\nenv import -> 0", 2, "Unreachable"),
+    (b"-echo\n-echo", 2, "Unreachable"),
 ]
 # And lines that are close to these
 ACCEPTED = [
-    b"", b"\r\n \t\n", b"mmc->0 -> 1", b"mmc -> 000255", b"echo.b\nech* 1\nset.* 1\n[", b"load mmc -> 1\nload mm* -> 0\nload",
-    b"load* a -> 0\nload -> 1", b"env s* -> boots\nenv", b"setexpr.q 1\nsetexpr.* -> true\nsetexpr", b"mmc -> ? || boots", b"mmc -> exit ${1}; resets", b"test* -e -> boots",
+    b"", b"a" + b" a" * 63 + b" -> 0", b"\r\n \t\n", b"mmc->0 -> 1", b"mmc -> 000255", b"echo.b\nech* 1\nset.* 1\n[", b"load mmc -> 1\nload mm* -> 0\nload",
+    b"load* a -> 0\nload -> 1", b"env s* -> boots\nenv", b"setexpr.q 1\nsetexpr.* -> true\nsetexpr", b"mmc -> ? || boots", b"mmc -> exit ${1}; resets", b"test* -e -> boots", b"-printenv\n-exit\nenv default -> 0\n-env", b"reset -> resets\nbooti -> boots",
     b"".join(b"a%d\n" % number for number in range(512)),
 ]  # fmt: skip
+
+
+# A board without some builtins, and what scripts do on it
+LACKING = b"-setexpr\nenv import -> 0\n-env\n-test\nreset -> resets\n"
+LACKED = [
+    (b"setexpr a 1 + 1", UNKNOWN % b"setexpr", finished(1, 1)),
+    (b"setexpr.b a 1 || echo no", UNKNOWN % b"setexpr.b" + b"no\n", b""),
+    (b"env import -t 10 && echo got", b"+ env import -t 10\ngot\n", b""),
+    (b"env set a 1; setenv a 2; echo ${a}", UNKNOWN % b"env" + b"2\n", b""),
+    (b"test 1 = 1", UNKNOWN % b"test", finished(1, 1)),
+    (b"echo a; reset now; echo b", b"a\n+ reset now\n", b""),
+    (b"reset", b"+ reset\n", b'fwenv: no boot: reset by "reset" after 1 steps\n', [b"--must-boot"]),
+    (b"echo a", b"a\n", b"fwenv: no boot: run ended as Finished with status 0 after 1 steps\n", [b"--must-boot"]),
+]
+
+
+def lacked():
+    for script, output, errors, *given in LACKED:
+        for words in in_each_shell([option for options in given for option in options]):
+            yield over_text("a board that lacks builtins", [*words, b"--board", b"board", b"-e", script], output, errors, {b"board": LACKING})
 
 
 def answered():

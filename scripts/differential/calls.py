@@ -177,7 +177,8 @@ class Calls:
         if not any(option[0].startswith(b"--steps") for option in options):
             options.append([b"--steps=200"])
         given, words = self.given_script()
-        return options + given + [self.option(b"--boots", name) for name in self.some(BOOTS, 2)], words
+        left = [self.option(self.numbers.choice([b"--boots", b"--resets"]), name) for name in self.some(BOOTS, 2)]
+        return options + given + left + self.some([[b"--must-boot"]], 1), words
 
     def board_script(self):
         """A script at random, perhaps with a fault or a carriage return."""

@@ -307,7 +307,7 @@ def texts_of(case):
         return {b""}
 
     def outcome(steps):
-        return run(copy.deepcopy(session), tree, names, (steps, *limits[1:]), call.options.get("--boots", ()), shell, board)
+        return run(copy.deepcopy(session), tree, names, (steps, *limits[1:]), call.leavings(), shell, board)
 
     return {outcome(steps).text for steps in range(outcome(limits[0]).steps + 1)}
 

@@ -15,6 +15,10 @@ from model.script import UNKNOWN
 from model.variables import NOT_DEFINED
 
 
+def no_boot(how, steps):
+    return b"fwenv: no boot: %s after %d steps\n" % (how, steps)
+
+
 def absent(path):
     return b"fwenv: cannot read %s: no such file\n" % path
 
@@ -169,13 +173,27 @@ BOOTS = [
     ([b"--boots", b"mmc", b"--boots", b"booti"], b"booti; echo a", b"+ booti\n", b""),
     ([b"--boots", b"mmc", b"--boots", b"booti"], b"mmc; echo a", b"+ mmc\n", b""),
     ([b"--boots", b"booti", b"--boots", b"booti"], b"mmc; booti; echo a", b"+ mmc\n+ booti\n", b""),
-    ([b"--boots", b"boot", b"--boots", b"booti1"], b"booti; false", b"", NOT_A_STAND_IN % b"boot"),
-    ([b"--boots", b"booti", b"--boots", b"reset"], b"reset; echo a", b"", NOT_A_STAND_IN % b"reset"),
-    ([b"--boots", b"true"], b"true", b"", NOT_A_STAND_IN % b"true"),
-    ([b"--boots", b""], b"mmc; false", b"", NOT_A_STAND_IN % b""),
+    ([b"--boots", b"boot", b"--boots", b"booti1"], b"booti; false", b"", NOT_A_STAND_IN % (b"boot", b"--boots")),
+    ([b"--boots", b"booti", b"--boots", b"reset"], b"reset; echo a", b"", NOT_A_STAND_IN % (b"reset", b"--boots")),
+    ([b"--boots", b"true"], b"true", b"", NOT_A_STAND_IN % (b"true", b"--boots")),
+    ([b"--boots", b""], b"mmc; false", b"", NOT_A_STAND_IN % (b"", b"--boots")),
     ([b"--boots", b"booti", b"--steps", b"0"], b"booti", b"", stopped(b"Steps", 0)),
     ([b"--boots", b"booti", b"--steps", b"1"], b"booti; true", b"+ booti\n", b""),
     ([b"--boots", b"booti", b"--output", b"7"], b"booti", b"", stopped(b"Output", 0)),
+    ([b"--resets", b"mmc"], b"mmc; false", b"+ mmc\n", b""),
+    ([b"--resets", b"usb"], b"usb; echo a", b"+ usb\na\n", b""),
+    ([b"--resets", b"mmc", b"--resets", b"absent"], b"mmc", b"", NOT_A_STAND_IN % (b"absent", b"--resets")),
+    ([b"--resets", b"absent", b"--boots", b"other"], b"mmc", b"", NOT_A_STAND_IN % (b"other", b"--boots")),
+    ([b"--must-boot", b"--boots", b"booti"], b"mmc; booti 1 2; false", b"+ mmc\n+ booti 1 2\n", b""),
+    ([b"--must-boot"], b"booti", b"+ booti\n", no_boot(b"run ended as Finished with status 0", 1)),
+    ([b"--must-boot", b"--boots", b"booti"], b"exit 0; booti", b"", no_boot(b"run ended as Exited with status 0", 1)),
+    ([b"--must-boot", b"--boots", b"booti"], b"exit 3; booti", b"", exited(3, 1)),
+    ([b"--must-boot", b"--boots", b"booti"], b"usb", b"+ usb\n", finished(1, 1)),
+    ([b"--must-boot", b"--boots", b"usb"], b"usb; true", b"+ usb\n", no_boot(b"run ended as Finished with status 0", 2)),
+    ([b"--must-boot", b"--boots", b"booti", b"--steps", b"1"], b"mmc; booti", b"+ mmc\n", stopped(b"Steps", 1)),
+    ([b"--must-boot", b"--boots", b"booti", b"--resets", b"mmc"], b"mmc dev 1", b"+ mmc dev 1\n", no_boot(b'reset by "mmc"', 1)),
+    ([b"--must-boot", b"--boots", b"booti", b"--resets", b"mmc"], b"run boot", b"+ usb\n+ mmc dev 0\n", no_boot(b'reset by "mmc" in "boot"', 5)),
+    ([b"--must-boot", b"--boots", b"mmc", b"--resets", b"mmc"], b"mmc", b"+ mmc\n", no_boot(b'reset by "mmc"', 1)),
 ]
 # Options over two copies, of which the first is current: the text, what is reported, and both copies afterwards
 AGAIN = PAIR.image(9, b"a=b\0")
@@ -205,7 +223,7 @@ WRONG_WORDS = {
     SEVERAL_SCRIPTS: "run -e true ok / run ok -f script / run -e true -f script / run -f - -e true ok bad / run -e '' ''",
     None: (
         "run -e true -e true / run -f script -f script / run -e / run -e -x / run -f / run --boots / run -x / run -n ok / "
-        "run --env env --env env ok / session --boots booti / session -e true / printenv --env env / setenv --size 10 a b / "
+        "run --env env --env env ok / run --must-boot=1 ok / run --must-boot --must-boot ok / run --resets / session --boots booti / session -e true / printenv --env env / setenv --size 10 a b / "
         "printenv --need-copy --need-copy / --need-copy printenv / status --need-copy"
     ),
     ENV_AND % b"--write": (

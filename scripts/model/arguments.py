@@ -6,6 +6,7 @@ import pathlib
 import re
 from dataclasses import dataclass, field
 
+from model.board_file import Reply
 from model.image import LARGEST, Geometry
 from model.shells import SHELLS
 from model.texts import SIZE
@@ -26,13 +27,15 @@ FORMS = {
     "status": (set(), {"-c"}, (0, 1)),
     "image": ({"--both"}, {"--env", "--size", "--copies", "--output"}, (0, 0)),
     "session": (WRITING_FLAGS | {"--write"}, OPENING_VALUES | DRY_VALUES, (0, 0)),
-    "run": (WRITING_FLAGS | {"--write"}, OPENING_VALUES | DRY_VALUES | {"--boots", "-e", "-f"}, (0, None)),
+    "run": (WRITING_FLAGS | {"--write", "--must-boot"}, OPENING_VALUES | DRY_VALUES | {"--boots", "--resets", "-e", "-f"}, (0, None)),
     "check": (set(), OPENING_VALUES | WHOLE_VALUES | {"-f", "--shell"}, (0, None)),
 }
 # Options whose value names a text, which - takes from standard input
 TEXTS = {"-c", "--default", "--env", "--stubs", "--board", "-s", "-f"}
 # Options that may be given more than once
-REPEATED = {"--boots"}
+REPEATED = {"--boots", "--resets"}
+# How the stand-ins leave the board that these name
+LEAVINGS = {"--boots": Reply.BOOTS, "--resets": Reply.RESETS}
 # The limits of a dry run: the usual one, None for that of the shell, and the largest
 LIMITS = {
     "--steps": (100_000, 1_000_000),
@@ -183,6 +186,10 @@ class Call:
                 raise Wrong(NO_NUMBER % (text, option.encode(), most))
             found.append(int(text))
         return tuple(found)
+
+    def leavings(self):
+        """How stand-ins leave the board, by their names."""
+        return {name: reply for option, reply in LEAVINGS.items() for name in self.options.get(option, ())}
 
     def refuse_second_input(self):
         """Standard input is read once, by one text or by a session."""

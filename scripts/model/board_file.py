@@ -2,6 +2,7 @@
 
 import re
 from dataclasses import dataclass
+from enum import Enum
 
 from model.calculations import status_of_digits
 from model.grammar import parse
@@ -9,23 +10,31 @@ from model.shells import BOARD, only
 from model.texts import BUILTINS, SUBCOMMANDS, lines_of
 from model.words import Fault
 
-MOST_LINE, MOST_RULES = 4096, 512
+MOST_LINE, MOST_RULES, MOST_WORDS = 4096, 512, 64
 ARROW = re.compile(rb"(?:\A|(?<=[ \t]))->(?=[ \t]|\Z)")
 SENTENCES = {
     "Nul": b"a byte 0",
     "Long": b"more than 4096 bytes",
     "Form": b"neither a name, perhaps with a status, nor a pattern, -> and an answer",
     "NoPattern": b"no pattern before ->",
-    "Lacks": b"a first word that begins with - is not supported",
+    "Words": b"a pattern of more than 64 words",
+    "Minus": b"a - is for the name of a builtin alone",
     "Builtin": b"a builtin answers this itself",
     "NoAnswer": b"no answer after ->",
-    "Open": b"? is for fwenv boot",
-    "Resets": b"resets cannot be told from boots yet",
+    "Open": b"? is not an answer of a single run",
     "NoScript": b"what is after -> is not a script",
     "NoStatus": b"test -e is answered by a status alone",
     "Many": b"more than 512 rules",
     "Unreachable": b"an earlier line answers all of these calls",
 }
+
+
+class Reply(Enum):
+    """An answer that is neither a status nor a script."""
+
+    BOOTS = b"boots"
+    RESETS = b"resets"
+    LACKS = b"-"
 
 
 class BoardFault(Exception):
@@ -47,10 +56,10 @@ class PatternWord:
 
 @dataclass(frozen=True)
 class Rule:
-    """A pattern, and its answer: a status, None for one that boots, or the text of a script."""
+    """A pattern, and its answer: a status, the text of a script, or another reply."""
 
     pattern: list
-    answer: int | bytes | None
+    answer: int | bytes | Reply
 
     def fits(self, call):
         return len(self.pattern) <= len(call) and all(word.fits(each) for word, each in zip(self.pattern, call))
@@ -102,10 +111,10 @@ def answer_of(text):
     status = status_of_digits(text)
     if status is not None:
         return status
-    if text in (b"?", b"resets"):
-        raise BoardFault("Open" if text == b"?" else "Resets")
-    if text == b"boots":
-        return None
+    if text == b"?":
+        raise BoardFault("Open")
+    if text in (b"boots", b"resets"):
+        return Reply(text)
     try:
         parse(text, BOARD)
     except Fault:
@@ -117,10 +126,24 @@ def refuse_pattern(rule):
     """Rules that the form of a file allows and no call asks."""
     if not rule.pattern:
         raise BoardFault("NoPattern")
+    if len(rule.pattern) > MOST_WORDS:
+        raise BoardFault("Words")
     if rule.pattern[0].text.startswith(b"-"):
-        raise BoardFault("Lacks")
+        raise BoardFault("Minus")
     if is_answered(rule.pattern[0]) and not rule.is_asked():
         raise BoardFault("Builtin")
+
+
+def lacking_rule(name):
+    """The rule that a board lacks a builtin."""
+    if name not in BUILTINS or b"." in name:
+        raise BoardFault("Minus")
+    return Rule(exactly(name), Reply.LACKS)
+
+
+def lacks(rules, name):
+    """Whether a board lacks the builtin of this name, perhaps with a width."""
+    return any(rule == Rule(exactly(name.partition(b".")[0]), Reply.LACKS) for rule in rules)
 
 
 def rule_of(line):
@@ -130,6 +153,8 @@ def rule_of(line):
         words = words_of(line)
         if not words:
             return None
+        if len(words) == 1 and words[0][:1] == b"-":
+            return lacking_rule(words[0][1:])
         status = status_of_digits(words[1]) if len(words) > 1 else 0
         if len(words) > 2 or status is None:
             raise BoardFault("Form")

@@ -4,7 +4,7 @@
 from dataclasses import dataclass
 
 from model import board_file, check, report, script_run, texts
-from model.arguments import VERSION, Wrong, read_arguments
+from model.arguments import LEAVINGS, VERSION, Wrong, read_arguments
 from model.dry_run import LONGEST, DryRun
 from model.grammar import parse
 from model.image import ERASED, LARGEST, Geometry, entries
@@ -29,7 +29,7 @@ EXPLAINING = {"status", "run", "check", "restore", "image"}
 TOO_SHORT = b"fwenv: %s is too short\n"
 IS_YAML = b"fwenv: %s is YAML: fwenv reads lines of DEVICE OFFSET SIZE\n"
 IS_UBI_VOLUME = b"fwenv: %s is a UBI volume by its name: fwenv reads files and block devices\n"
-NOT_A_STAND_IN = b"""error: invalid value '%s' for '--boots <NAME>': no stand-in has this name
+NOT_A_STAND_IN = b"""error: invalid value '%s' for '%s <NAME>': no stand-in has this name
 
 For more information, try '--help'.
 """
@@ -348,20 +348,25 @@ class Program:
         call.refuse_scripts()
         session = self.opened(call)
         stand_ins = self.stand_ins(call)
-        for name in call.options.get("--boots", ()):
-            if name not in stand_ins:
-                raise Ended(NOT_A_STAND_IN % name)
+        for option in LEAVINGS:
+            for name in call.options.get(option, ()):
+                if name not in stand_ins:
+                    raise Ended(NOT_A_STAND_IN % (name, option.encode()))
         board = self.board(call)
         name, text = self.script(call)
         try:
             tree = parse(text, shell)
         except Fault as fault:
             raise Ended(script_run.fault_line(name, text, fault))
-        outcome = run(session, tree, stand_ins, limits, call.options.get("--boots", ()), shell, board)
+        outcome = run(session, tree, stand_ins, limits, call.leavings(), shell, board)
         self.output = outcome.text
         if "--write" in call.options:
             self.write_back(session)
-        return 0 if script_run.is_well(outcome) else self.say(script_run.ended(outcome))
+        if not script_run.is_well(outcome):
+            return self.say(script_run.ended(outcome))
+        if "--must-boot" in call.options and not script_run.has_booted(outcome):
+            return self.say(script_run.no_boot(outcome))
+        return 0
 
     def call_check(self, call):
         is_file = "-f" in call.options

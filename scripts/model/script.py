@@ -3,7 +3,7 @@
 import re
 from dataclasses import dataclass
 
-from model.board_file import first_rule, names_of
+from model.board_file import Reply, first_rule, lacks, names_of
 from model.calculations import setexpr
 from model.grammar import parse
 from model.shells import STRICT
@@ -39,6 +39,7 @@ class Outcome:
     steps: int
     text: bytes
     place: bytes | None = None  # the variable in whose text that was
+    departure: tuple | None = None  # how the board was left, and by which command
 
 
 def is_substituted(parts):
@@ -55,12 +56,13 @@ def option_of(words, option):
 class Run:
     """A run of a script over a session, by one of the shells."""
 
-    def __init__(self, session, stand_ins, limits, boots=frozenset(), shell=STRICT, board=()):
+    def __init__(self, session, stand_ins, limits, leavings=None, shell=STRICT, board=()):
         self.shell = shell
         self.session = session
         self.environment = session.environment
         self.stand_ins = stand_ins
-        self.boots = boots
+        self.leavings = leavings or {}  # how stand-ins leave the board
+        self.departure = None
         self.board = board  # the rules of a board file
         self.names = stand_ins.keys() | names_of(board)
         self.max_steps, self.max_depth, self.max_word, self.max_output = limits
@@ -224,24 +226,24 @@ class Run:
         self.fields = fields
         name, rest = fields[0], fields[1:]
         called = self.shell.called(name, self.names)
-        if called == b"env":
+        if called == b"env" and not lacks(self.board, called):
             second = self.shell.subcommand(rest[0]) if rest else None
             if second in SUBCOMMANDS:
                 getattr(self, SUBCOMMANDS[second])(called, rest[1:])
             else:
                 self.asked(called)
-        elif called in BUILTINS:
+        elif called in BUILTINS and not lacks(self.board, called):
             getattr(self, called.partition(b".")[0].decode())(called, rest)
         else:
             self.other(called, fields)
 
     def reply(self, called, words):
-        """What a call is answered with: a status, None for one that boots, a text; or that nothing answers it."""
+        """What a call is answered with; or that nothing answers it."""
         rule = first_rule(self.board, [called, *words])
         if rule:
-            return rule.answer
+            return NO_REPLY if rule.answer is Reply.LACKS else rule.answer
         status = self.stand_ins.get(called, NO_REPLY)
-        return None if status == 0 and called in self.boots else status
+        return self.leavings[called] if status == 0 and called in self.leavings else status
 
     def other(self, called, fields):
         """A command of hardware."""
@@ -252,10 +254,12 @@ class Run:
         elif isinstance(reply, bytes):
             self.done(self.status, line)
             self.start_answer(reply, fields)
+        elif isinstance(reply, Reply):
+            self.done(0, line)
+            self.departure = reply, fields[0]
+            raise Stop("Exited")
         else:
-            self.done(reply or 0, line)
-            if reply is None:
-                raise Stop("Exited")
+            self.done(reply, line)
 
     def asked(self, called):
         """A form of a builtin that has no meaning here."""
@@ -284,7 +288,7 @@ class Run:
 
     def is_there(self, words):
         """Whether the call `test -e` of these words is answered with status 0."""
-        return self.reply(b"test", [b"-e", *words]) in (0, None)
+        return self.reply(b"test", [b"-e", *words]) == 0
 
     def exit(self, name, words):
         status = self.shell.of_exit(words[0]) if words else self.shell.of_bare_exit(self.status)
@@ -425,9 +429,9 @@ class Run:
         self.nesting = nesting
 
 
-def run(session, tree, stand_ins, limits, boots=frozenset(), shell=STRICT, board=()):
-    """Runs a tree, and answers its outcome. A stand-in of `boots` ends the run if its status is 0."""
-    made = Run(session, stand_ins, limits, boots, shell, board)
+def run(session, tree, stand_ins, limits, leavings=None, shell=STRICT, board=()):
+    """Runs a tree, and answers its outcome. A stand-in of `leavings` ends the run if its status is 0."""
+    made = Run(session, stand_ins, limits, leavings, shell, board)
     ending = "Finished"
     try:
         made.chains(tree)
@@ -435,4 +439,4 @@ def run(session, tree, stand_ins, limits, boots=frozenset(), shell=STRICT, board
         ending = stop.args[0]
     except Leave:
         ending = "Exited"
-    return Outcome(ending, made.status, made.steps, made.text, made.running[-1] if made.running else None)
+    return Outcome(ending, made.status, made.steps, made.text, made.running[-1] if made.running else None, made.departure)

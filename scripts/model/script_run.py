@@ -1,5 +1,7 @@
 """What `fwenv run` reports of a script: how its run ended, and where a text isn't a script (docs/dry-runs.md)."""
 
+from model.board_file import Reply
+
 SENTENCES = {
     "Quote": b"a quote is not closed",
     "Backslash": b"the text ends with a backslash",
@@ -33,6 +35,18 @@ def fault_line(name, text, fault):
 
 def is_well(outcome):
     return outcome.ending in BY_ITSELF and outcome.status == 0
+
+
+def has_booted(outcome):
+    return outcome.departure is not None and outcome.departure[0] is Reply.BOOTS
+
+
+def no_boot(outcome):
+    """What is reported of a run that ended well and had to boot."""
+    if outcome.departure is None:
+        return ended(outcome).replace(b"fwenv: ", b"fwenv: no boot: ", 1)
+    place = b"" if outcome.place is None else b' in "%s"' % outcome.place
+    return b'fwenv: no boot: reset by "%s"%s after %d steps\n' % (outcome.departure[1], place, outcome.steps)
 
 
 def ended(outcome):

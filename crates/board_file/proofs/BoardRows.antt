@@ -9,10 +9,12 @@ use Rattle.hush_syntax.specs.Reading.{command, read_in}
 use Rattle.hush_commands.specs.declared.board_rules.PatternWord.{PatternWord}
 use Rattle.hush_commands.specs.declared.board_rules.Rule.{Rule}
 use Rattle.hush_commands.specs.declared.board_rules.Reply.{Reply}
-use Rattle.hush_commands.specs.declared.board_rules.Reply.TheVariants.{Status, Text}
+use Rattle.hush_commands.specs.declared.board_rules.Reply.TheVariants.{Status, Text, Lacks}
+use Rattle.hush_commands.specs.declared.departure.Leaving.TheVariants.{Boots, Resets}
 use Rattle.hush_commands.specs.Builtins.{builtin_of}
 use Rattle.board_file.specs.declared.board_fault.LineFault.{LineFault}
-use Rattle.board_file.specs.declared.board_fault.LineFault.TheVariants.{Nul, Long, Form, NoPattern, Lacks, Builtin, NoAnswer, Open, Resets, NoScript, NoStatus, Unreachable}
+use Rattle.board_file.specs.declared.board_fault.LineFault.TheVariants.{Nul, Long, Form, NoPattern, Words, Minus, Builtin, NoAnswer, Open, NoScript, NoStatus, Unreachable}
+use Rattle.board_file.specs.Patterns.{pattern_fault}
 use Rattle.board_file.specs.BoardLines.{LineOrFault, cut_at_arrow, read_line}
 use Rattle.board_file.specs.BoardFiles.{RulesOrFault, board_of}
 
@@ -33,7 +35,7 @@ cuts : map cut_at_arrow (codes "a -> b" ∷ codes "->" ∷ codes "a-> -> ->" ∷
     ≡ Some (codes "a ", codes " b") ∷ Some ([], []) ∷ Some (codes "a-> ", codes " ->") ∷ None ∷ Some (codes "a\t", codes "\tb") ∷ []
 cuts = refl
 
-status_line : read_line (codes "mmc dev 0   -> 1") ≡ holds (map exactly (codes "mmc" ∷ codes "dev" ∷ codes "0" ∷ [])) (Status 1 false)
+status_line : read_line (codes "mmc dev 0   -> 1") ≡ holds (map exactly (codes "mmc" ∷ codes "dev" ∷ codes "0" ∷ [])) (Status 1 None)
 unfolding holds rule exactly builtin_of
 status_line = refl
 
@@ -46,16 +48,25 @@ empty_body : read_line (codes "x -> if true; then else false; fi") ≡ holds (ex
 unfolding holds rule exactly opened builtin_of read_in tokens_of lexeme_at passed_at piece_at inner_at double_at inner_escape is_inner is_escaped is_bare ends_word is_special is_blank command keyword_of is_plain name_of assignment_of begins_name is_in_name dollar_at follows_dollar
 empty_body = refl
 
-boot_line : read_line (codes "booti -> boots") ≡ holds (exactly (codes "booti") ∷ []) (Status 0 true)
+boot_line : read_line (codes "booti -> boots") ≡ holds (exactly (codes "booti") ∷ []) (Status 0 (Some Boots))
 unfolding holds rule exactly builtin_of
 boot_line = refl
 
+reset_line : read_line (codes "reset -> resets") ≡ holds (exactly (codes "reset") ∷ []) (Status 0 (Some Resets))
+unfolding holds rule exactly builtin_of
+reset_line = refl
+
+-- a builtin that the board lacks
+lacking_line : read_line (codes "-setexpr") ≡ holds (exactly (codes "setexpr") ∷ []) Lacks
+unfolding holds rule exactly builtin_of
+lacking_line = refl
+
 names : map read_line (codes "dhcp" ∷ codes " dhcp 007 " ∷ codes "d* 1" ∷ codes "[" ∷ codes "echo.b" ∷ [])
-    ≡ holds (exactly (codes "dhcp") ∷ []) (Status 0 false)
-    ∷ holds (exactly (codes "dhcp") ∷ []) (Status 7 false)
-    ∷ holds (opened (codes "d") ∷ []) (Status 1 false)
-    ∷ holds (exactly (codes "[") ∷ []) (Status 0 false)
-    ∷ holds (exactly (codes "echo.b") ∷ []) (Status 0 false)
+    ≡ holds (exactly (codes "dhcp") ∷ []) (Status 0 None)
+    ∷ holds (exactly (codes "dhcp") ∷ []) (Status 7 None)
+    ∷ holds (opened (codes "d") ∷ []) (Status 1 None)
+    ∷ holds (exactly (codes "[") ∷ []) (Status 0 None)
+    ∷ holds (exactly (codes "echo.b") ∷ []) (Status 0 None)
     ∷ []
 unfolding holds rule exactly opened builtin_of
 names = refl
@@ -63,11 +74,17 @@ names = refl
 nothing : map read_line ([] ∷ codes " \t" ∷ codes "# dhcp -> ?" ∷ []) ≡ Ok None ∷ Ok None ∷ Ok None ∷ []
 nothing = refl
 
-at_fault : map read_line ((codes "#" ++ 0 ∷ []) ∷ replicate 4097 35 ∷ codes "dhcp 256" ∷ codes "dhcp 1 2" ∷ codes "echo x" ∷ codes " -> 0" ∷ codes "-setexpr" ∷ codes "-x -> " ∷ [])
-    ≡ Err Nul ∷ Err Long ∷ Err Form ∷ Err Form ∷ Err Form ∷ Err NoPattern ∷ Err Lacks ∷ Err Lacks ∷ []
+at_fault : map read_line ((codes "#" ++ 0 ∷ []) ∷ replicate 4097 35 ∷ codes "dhcp 256" ∷ codes "dhcp 1 2" ∷ codes "echo x" ∷ codes " -> 0" ∷ codes "-setexpr 1" ∷ codes "-setexpr.b" ∷ codes "-ls" ∷ codes "-x -> " ∷ [])
+    ≡ Err Nul ∷ Err Long ∷ Err Form ∷ Err Form ∷ Err Form ∷ Err NoPattern ∷ Err Minus ∷ Err Minus ∷ Err Minus ∷ Err Minus ∷ []
+unfolding builtin_of
 at_fault = refl
 
-answers_at_fault : map read_line (codes "dhcp ->" ∷ codes "dhcp -> ?" ∷ codes "reset -> resets" ∷ []) ≡ Err NoAnswer ∷ Err Open ∷ Err Resets ∷ []
+-- a pattern of 65 words
+long_pattern : pattern_fault (replicate 65 (exactly (codes "a"))) ≡ Some Words
+unfolding exactly
+long_pattern = refl
+
+answers_at_fault : map read_line (codes "dhcp ->" ∷ codes "dhcp -> ?" ∷ []) ≡ Err NoAnswer ∷ Err Open ∷ []
 unfolding builtin_of
 answers_at_fault = refl
 
@@ -83,23 +100,23 @@ builtins = refl
 
 -- these aren't, since a name is left over that is none
 no_builtins : map read_line (codes "ech* 1" ∷ codes "set.* 1" ∷ codes "cp.* 1" ∷ [])
-    ≡ holds (opened (codes "ech") ∷ []) (Status 1 false) ∷ holds (opened (codes "set.") ∷ []) (Status 1 false) ∷ holds (opened (codes "cp.") ∷ []) (Status 1 false) ∷ []
+    ≡ holds (opened (codes "ech") ∷ []) (Status 1 None) ∷ holds (opened (codes "set.") ∷ []) (Status 1 None) ∷ holds (opened (codes "cp.") ∷ []) (Status 1 None) ∷ []
 unfolding holds rule opened builtin_of
 no_builtins = refl
 
 -- forms of builtins that are asked
 asked : map read_line (codes "env 1" ∷ codes "env import -> 1" ∷ codes "env s* -> 1" ∷ codes "setexpr.l -> 1" ∷ codes "setexpr.* -> 1" ∷ [])
-    ≡ holds (exactly (codes "env") ∷ []) (Status 1 false)
-    ∷ holds (exactly (codes "env") ∷ exactly (codes "import") ∷ []) (Status 1 false)
-    ∷ holds (exactly (codes "env") ∷ opened (codes "s") ∷ []) (Status 1 false)
-    ∷ holds (exactly (codes "setexpr.l") ∷ []) (Status 1 false)
-    ∷ holds (opened (codes "setexpr.") ∷ []) (Status 1 false)
+    ≡ holds (exactly (codes "env") ∷ []) (Status 1 None)
+    ∷ holds (exactly (codes "env") ∷ exactly (codes "import") ∷ []) (Status 1 None)
+    ∷ holds (exactly (codes "env") ∷ opened (codes "s") ∷ []) (Status 1 None)
+    ∷ holds (exactly (codes "setexpr.l") ∷ []) (Status 1 None)
+    ∷ holds (opened (codes "setexpr.") ∷ []) (Status 1 None)
     ∷ []
 unfolding holds rule exactly opened builtin_of
 asked = refl
 
 -- whether a file is there has a status
-file_line : read_line (codes "test -e mmc 1:2 /boot/* -> 0") ≡ holds (map exactly (codes "test" ∷ codes "-e" ∷ codes "mmc" ∷ codes "1:2" ∷ []) ++ opened (codes "/boot/") ∷ []) (Status 0 false)
+file_line : read_line (codes "test -e mmc 1:2 /boot/* -> 0") ≡ holds (map exactly (codes "test" ∷ codes "-e" ∷ codes "mmc" ∷ codes "1:2" ∷ []) ++ opened (codes "/boot/") ∷ []) (Status 0 None)
 unfolding holds rule exactly opened builtin_of
 file_line = refl
 
@@ -112,7 +129,7 @@ unfolding builtin_of read_in tokens_of lexeme_at passed_at piece_at inner_at dou
 file_text = refl
 
 -- a whole file; a carriage return at the end of a line is dropped
-file : board_of (codes "# a card\r\nmmc dev 0 -> 1\r\nmmc\n\nbooti -> boots") ≡ Ok (rule (map exactly (codes "mmc" ∷ codes "dev" ∷ codes "0" ∷ [])) (Status 1 false) ∷ rule (exactly (codes "mmc") ∷ []) (Status 0 false) ∷ rule (exactly (codes "booti") ∷ []) (Status 0 true) ∷ [])
+file : board_of (codes "# a card\r\nmmc dev 0 -> 1\r\nmmc\n\nbooti -> boots") ≡ Ok (rule (map exactly (codes "mmc" ∷ codes "dev" ∷ codes "0" ∷ [])) (Status 1 None) ∷ rule (exactly (codes "mmc") ∷ []) (Status 0 None) ∷ rule (exactly (codes "booti") ∷ []) (Status 0 (Some Boots)) ∷ [])
 unfolding rule exactly builtin_of
 file = refl
 
@@ -120,7 +137,7 @@ file = refl
 refusal : ℕ → LineFault → RulesOrFault
 refusal line kind = Err (record { line = line; kind = kind })
 
-first_fault : board_of (codes "mmc\n-x\nmmc ->") ≡ refusal 2 Lacks
+first_fault : board_of (codes "mmc\n-x\nmmc ->") ≡ refusal 2 Minus
 unfolding refusal builtin_of
 first_fault = refl
 
@@ -131,6 +148,6 @@ unfolding refusal builtin_of
 unreachable = refl
 
 -- and lines that one can
-reachable : board_of (codes "load mmc -> 1\nload mm* -> 0") ≡ Ok (rule (exactly (codes "load") ∷ exactly (codes "mmc") ∷ []) (Status 1 false) ∷ rule (exactly (codes "load") ∷ opened (codes "mm") ∷ []) (Status 0 false) ∷ [])
+reachable : board_of (codes "load mmc -> 1\nload mm* -> 0") ≡ Ok (rule (exactly (codes "load") ∷ exactly (codes "mmc") ∷ []) (Status 1 None) ∷ rule (exactly (codes "load") ∷ opened (codes "mm") ∷ []) (Status 0 None) ∷ [])
 unfolding rule exactly opened builtin_of
 reachable = refl

@@ -1,14 +1,15 @@
 -- The answers of a board file (docs/runs.md, "Board files").
-use Rattle.std.specs.Prelude.{ℕ, Bool, true, false, not, if◌then◌else◌, List, codes, reverse, is_some, Option, Some, None, Result, Ok, Err}
+use Rattle.std.specs.Prelude.{ℕ, Bool, false, not, if◌then◌else◌, List, codes, reverse, is_some, Option, Some, None, Result, Ok, Err}
 use Rattle.std.specs.Str.{bytes_eq}
 use Rattle.text_parts.specs.Bytes.{without_blanks}
 use Rattle.hush_syntax.specs.declared.nodes.Bodies.TheVariants.{MayBeEmpty}
 use Rattle.hush_syntax.specs.Reading.{read_in}
 use Rattle.hush_commands.specs.declared.board_rules.Reply.{Reply}
-use Rattle.hush_commands.specs.declared.board_rules.Reply.TheVariants.{Status, Text}
+use Rattle.hush_commands.specs.declared.board_rules.Reply.TheVariants.{Status, Text, Lacks}
+use Rattle.hush_commands.specs.declared.departure.Leaving.TheVariants as leaving
 use Rattle.hush_commands.specs.Statuses.{status_of}
 use Rattle.board_file.specs.declared.board_fault.LineFault.{LineFault}
-use Rattle.board_file.specs.declared.board_fault.LineFault.TheVariants.{NoAnswer, Open, Resets, NoScript}
+use Rattle.board_file.specs.declared.board_fault.LineFault.TheVariants.{NoAnswer, Open, NoScript}
 
 -- a text without the blanks at both ends
 abbrev pub trimmed : List ℕ → List ℕ
@@ -25,12 +26,12 @@ abbrev pub word_answer : List ℕ → ReplyOrFault
 word_answer text =
     if bytes_eq (codes "") text then Err NoAnswer
     else if bytes_eq (codes "?") text then Err Open
-    else if bytes_eq (codes "resets") text then Err Resets
-    else if bytes_eq (codes "boots") text then Ok (Status 0 true)
+    else if bytes_eq (codes "resets") text then Ok (Status 0 (Some leaving.Resets))
+    else if bytes_eq (codes "boots") text then Ok (Status 0 (Some leaving.Boots))
     else script_answer text
 
 abbrev pub answer_by : List ℕ → Option ℕ → ReplyOrFault
-answer_by text (Some status) = Ok (Status status false)
+answer_by text (Some status) = Ok (Status status None)
 answer_by text None = word_answer text
 
 -- a status, one of the words, or a script
@@ -39,5 +40,6 @@ answer_of text = answer_by text (status_of text)
 
 -- whether it is a status, and nothing else
 abbrev pub is_status : Reply → Bool
-is_status (Status status boots) = not boots
+is_status (Status status leaves) = not (is_some leaves)
 is_status (Text text) = false
+is_status Lacks = false

@@ -1,15 +1,18 @@
 -- The lines of a board file (docs/runs.md, "Board files").
-use Rattle.std.specs.Prelude.{ℕ, ◌==◌, ◌&&◌, nat_lt, not, Bool, true, false, if◌then◌else◌, List, [], ◌∷◌, length, Option, Some, None, option_map, Result, Ok, Err}
+use Rattle.std.specs.Prelude.{ℕ, ◌==◌, ◌&&◌, nat_lt, not, Bool, true, false, if◌then◌else◌, List, [], ◌∷◌, drop, is_some, length, Option, Some, None, option_map, Result, Ok, Err}
 use Rattle.std.specs.List.{list_any}
 use Rattle.envimg_core.specs.Environment.{is_zero}
-use Rattle.text_parts.specs.Bytes.{is_blank}
+use Rattle.text_parts.specs.Bytes.{begins_with, is_blank}
+use Rattle.text_parts.specs.Numerals.{minus}
 use Rattle.hush_commands.specs.declared.board_rules.PatternWord.{PatternWord}
 use Rattle.hush_commands.specs.declared.board_rules.Rule.{Rule}
 use Rattle.hush_commands.specs.declared.board_rules.Reply.{Reply}
-use Rattle.hush_commands.specs.declared.board_rules.Reply.TheVariants.{Status}
+use Rattle.hush_commands.specs.declared.board_rules.Reply.TheVariants.{Status, Lacks}
+use Rattle.hush_commands.specs.Builtins.{builtin_of}
+use Rattle.hush_commands.specs.CommandNames.{is_dot}
 use Rattle.hush_commands.specs.StandInLines.{is_comment, rest_status, words_of}
 use Rattle.board_file.specs.declared.board_fault.LineFault.{LineFault}
-use Rattle.board_file.specs.declared.board_fault.LineFault.TheVariants.{Nul, Long, Form, NoStatus}
+use Rattle.board_file.specs.declared.board_fault.LineFault.TheVariants.{Nul, Long, Form, Minus, NoStatus}
 use Rattle.board_file.specs.Patterns.{asks_file, pattern_fault, pattern_word, pattern_words}
 use Rattle.board_file.specs.Answers.{ReplyOrFault, answer_of, is_status, trimmed}
 
@@ -75,11 +78,23 @@ holding (Err fault) = Err fault
 -- `NAME`, which is `NAME -> 0`, or `NAME STATUS`, which is `NAME -> STATUS`
 abbrev pub named_rule : (name : List ℕ) → Option ℕ → RuleOrFault
 named_rule name None = Err Form
-named_rule name (Some status) = rule_with (pattern_word name ∷ []) (Ok (Status status false))
+named_rule name (Some status) = rule_with (pattern_word name ∷ []) (Ok (Status status None))
+
+-- `-NAME`: the board lacks the builtin of this name
+abbrev pub is_lackable : List ℕ → Bool
+is_lackable name = is_some (builtin_of name) && not (list_any is_dot name)
+
+abbrev pub lacking_rule : (name : List ℕ) → RuleOrFault
+lacking_rule name =
+    if is_lackable name then Ok (record { pattern = record { text = name; begins = false } ∷ []; reply = Lacks }) else Err Minus
+
+abbrev pub word_rule : (name : List ℕ) → RuleOrFault
+word_rule name = if begins_with minus name then lacking_rule (drop 1 name) else named_rule name (Some 0)
 
 abbrev pub read_words : List (List ℕ) → LineOrFault
 read_words [] = Ok None
-read_words (name ∷ words) = holding (named_rule name (rest_status words))
+read_words (name ∷ []) = holding (word_rule name)
+read_words (name ∷ status ∷ words) = holding (named_rule name (rest_status (status ∷ words)))
 
 abbrev pub read_parts : List ℕ → Option Parts → LineOrFault
 read_parts line None = read_words (words_of line)

@@ -1,12 +1,13 @@
 //! The answers of a board file.
-ghost use Rattle.std.specs.Prelude.{◌≡◌, IfOk, IfErr, Ok};
+ghost use Rattle.std.specs.Prelude.{◌≡◌, IfOk, IfErr, Ok, Some};
+ghost use Rattle.hush_commands.specs.declared.board_rules.Reply.TheVariants.{Status};
 ghost use Rattle.hush_commands.specs.Statuses.{status_of};
 ghost use Rattle.board_file.specs.Answers.{answer_of, is_status, script_answer, word_answer};
 ghost use Rattle.board_file.specs.BoardFiles.{IsLineFaultOf};
 
 use crate::board_fault::LineFault;
 use hush_calc::is_text;
-use hush_commands::{Bytes, Reply};
+use hush_commands::{Bytes, Leaving, Reply};
 use hush_syntax::{Bodies, FaultKind, Script};
 use std::alloc::Global;
 use text_parts::{Base, numeral};
@@ -19,7 +20,7 @@ pub(crate) fn read_answer(alloc: Global, text: &[u8]) -> Result<Reply, LineFault
     match read_status(text) {
         Some(status) => Ok(Reply::Status {
             status,
-            boots: false,
+            leaves: None,
         }),
         None => word_answer(alloc, text),
     }
@@ -48,15 +49,22 @@ fn word_answer(alloc: Global, text: &[u8]) -> Result<Reply, LineFault>
         return Err(LineFault::Open);
     }
     if is_text(text, b"resets") {
-        return Err(LineFault::Resets);
+        return Ok(left(Leaving::Resets));
     }
     if is_text(text, b"boots") {
-        return Ok(Reply::Status {
-            status: 0,
-            boots: true,
-        });
+        return Ok(left(Leaving::Boots));
     }
     script_answer(alloc, text)
+}
+
+/// The answer with which the board is left.
+fn left(leaving: Leaving) -> Reply
+    ensures { result ≡ Status 0 (Some leaving) }
+{
+    Reply::Status {
+        status: 0,
+        leaves: Some(leaving),
+    }
 }
 
 /// A script, if the board's shell reads it.
@@ -79,7 +87,7 @@ pub(crate) fn is_status(reply: &Reply) -> bool
     ensures { result ≡ is_status reply.now }
 {
     match reply {
-        Reply::Status { boots, .. } => !*boots,
-        Reply::Text(_) => false,
+        Reply::Status { leaves, .. } => leaves.is_none(),
+        Reply::Text(_) | Reply::Lacks => false,
     }
 }

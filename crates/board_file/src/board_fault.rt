@@ -16,16 +16,16 @@ pub enum LineFault {
     Form,
     /// Nothing is before `->`.
     NoPattern,
-    /// Its first word begins with `-`.
-    Lacks,
+    /// Its pattern has more than 64 words.
+    Words,
+    /// Its first word begins with `-`, and it isn't `-` and the name of a builtin alone.
+    Minus,
     /// A builtin answers all of its calls.
     Builtin,
     /// Nothing is behind `->`.
     NoAnswer,
     /// Its answer is `?`.
     Open,
-    /// Its answer is `resets`.
-    Resets,
     /// Its answer isn't a script.
     NoScript,
     /// Its answer to `test -e` isn't a status.
@@ -50,11 +50,11 @@ impl LineFault {
                 b"neither a name, perhaps with a status, nor a pattern, -> and an answer"
             }
             LineFault::NoPattern => b"no pattern before ->",
-            LineFault::Lacks => b"a first word that begins with - is not supported",
+            LineFault::Words => b"a pattern of more than 64 words",
+            LineFault::Minus => b"a - is for the name of a builtin alone",
             LineFault::Builtin => b"a builtin answers this itself",
             LineFault::NoAnswer => b"no answer after ->",
-            LineFault::Open => b"? is for fwenv boot",
-            LineFault::Resets => b"resets cannot be told from boots yet",
+            LineFault::Open => b"? is not an answer of a single run",
             LineFault::NoScript => b"what is after -> is not a script",
             LineFault::NoStatus => b"test -e is answered by a status alone",
             LineFault::Many => b"more than 512 rules",

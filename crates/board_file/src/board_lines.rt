@@ -1,16 +1,17 @@
 //! The lines of a board file.
-ghost use Rattle.std.specs.Prelude.{◌≡◌, IfOk, IfErr, Ok, false};
+ghost use Rattle.std.specs.Prelude.{◌≡◌, ◌≢◌, ◌∷◌, IfOk, IfErr, Err, None, Ok};
+ghost use Rattle.board_file.specs.declared.board_fault.LineFault.TheVariants.{Memory};
 ghost use Rattle.hush_commands.specs.declared.board_rules.Reply.TheVariants.{Status};
-ghost use Rattle.hush_commands.specs.StandInLines.{rest_status, words_of};
+ghost use Rattle.hush_commands.specs.StandInLines.{words_of};
 ghost use Rattle.board_file.specs.BoardFiles.{IsLineFaultOf};
-ghost use Rattle.board_file.specs.BoardLines.{cut_at_arrow, named_rule, read_line, read_parts, read_rule, read_words, rule_of, rule_with};
+ghost use Rattle.board_file.specs.BoardLines.{cut_at_arrow, holding, lacking_rule, named_rule, read_line, read_parts, read_rule, read_words, rule_of, rule_with, word_rule};
 
 use crate::answer_texts::{is_status, read_answer, read_status};
 use crate::board_fault::LineFault;
 use crate::covering::ReadRule;
 use crate::line_parts::{cut_at_arrow, next_word, trimmed};
-use crate::patterns::{asks_file, one_word, pattern_fault, read_words};
-use hush_commands::{PatternWord, Reply};
+use crate::patterns::{asks_file, one_word, pattern_fault, read_words, word_of};
+use hush_commands::{PatternWord, Reply, is_builtin};
 use std::alloc::Global;
 use text_parts::{begins_with_byte, contains_byte};
 
@@ -54,7 +55,7 @@ fn read_name(alloc: Global, line: &[u8]) -> Result<Option<ReadRule>, LineFault>
     ensures refused { IfErr result (IsLineFaultOf (read_words (words_of line.now))) }
 {
     match next_word(line) {
-        Some((name, rest)) => match named_rule(alloc, name, read_rest(rest)) {
+        Some((name, rest)) => match rule_of_name(alloc, name, rest) {
             Ok(rule) => Ok(Some(rule)),
             Err(fault) => Err(fault),
         },
@@ -62,17 +63,42 @@ fn read_name(alloc: Global, line: &[u8]) -> Result<Option<ReadRule>, LineFault>
     }
 }
 
-/// Reads what is behind a name: a status or nothing, which is 0; `None` if it is anything else.
-fn read_rest(rest: &[u8]) -> Option<u8>
-    ensures { result ≡ rest_status (words_of rest.now) }
+/// The rule of a name with what is behind it.
+fn rule_of_name(alloc: Global, name: &[u8], rest: &[u8]) -> Result<ReadRule, LineFault>
+    ensures read { IfOk result (λ rule. read_words (name.now ∷ words_of rest.now) ≡ holding (Ok rule)) }
+    ensures refused { IfErr result (λ kind. kind ≢ Memory → read_words (name.now ∷ words_of rest.now) ≡ holding (Err kind)) }
 {
     match next_word(rest) {
         Some((digits, behind)) => match next_word(behind) {
-            Some(_) => None,
-            None => read_status(digits),
+            Some(_) => named_rule(alloc, name, None),
+            None => named_rule(alloc, name, read_status(digits)),
         },
-        None => Some(0),
+        None => word_rule(alloc, name),
     }
+}
+
+/// The rule of a name that stands alone.
+fn word_rule(alloc: Global, name: &[u8]) -> Result<ReadRule, LineFault>
+    ensures read { IfOk result (λ rule. word_rule name.now ≡ Ok rule) }
+    ensures refused { IfErr result (IsLineFaultOf (word_rule name.now)) }
+{
+    match name.split_first() {
+        Some((first, lacked)) if *first == b'-' => lacking_rule(alloc, lacked),
+        _ => named_rule(alloc, name, Some(0)),
+    }
+}
+
+/// The rule that the board lacks the builtin of this name.
+fn lacking_rule(alloc: Global, name: &[u8]) -> Result<ReadRule, LineFault>
+    ensures read { IfOk result (λ rule. lacking_rule name.now ≡ Ok rule) }
+    ensures refused { IfErr result (IsLineFaultOf (lacking_rule name.now)) }
+{
+    if !is_builtin(name) || contains_byte(b'.', name) {
+        return Err(LineFault::Minus);
+    }
+    let mut words = Vec::new(alloc);
+    words.push(word_of(alloc, name, false)?)?;
+    Ok(ReadRule::of(words, Reply::Lacks))
 }
 
 /// The rule that answers the calls of a name with a status.
@@ -88,8 +114,8 @@ fn named_rule(alloc: Global, name: &[u8], status: Option<u8>) -> Result<ReadRule
 
 /// The rule that answers the calls of a pattern with a status.
 fn status_rule(words: Vec<PatternWord>, status: u8) -> Result<ReadRule, LineFault>
-    ensures read { IfOk result (λ rule. rule_with words.items (Ok (Status status false)) ≡ Ok rule) }
-    ensures refused { IfErr result (IsLineFaultOf (rule_with words.items (Ok (Status status false)))) }
+    ensures read { IfOk result (λ rule. rule_with words.items (Ok (Status status None)) ≡ Ok rule) }
+    ensures refused { IfErr result (IsLineFaultOf (rule_with words.items (Ok (Status status None)))) }
 {
     match pattern_fault(words.as_slice()) {
         Some(fault) => Err(fault),
@@ -97,7 +123,7 @@ fn status_rule(words: Vec<PatternWord>, status: u8) -> Result<ReadRule, LineFaul
             words,
             Reply::Status {
                 status,
-                boots: false,
+                leaves: None,
             },
         ),
     }

@@ -14,6 +14,9 @@ use memchr::memchr;
 use std::alloc::{AllocError, Global};
 use text_parts::begins_with_byte;
 
+/// How many words a pattern may have.
+const MOST_WORDS: usize = 64;
+
 /// The names of the builtins.
 const BUILTINS: [&[u8]; 11] = [
     b"true",
@@ -62,7 +65,7 @@ fn pattern_word(alloc: Global, word: &[u8]) -> Result<PatternWord, AllocError>
 }
 
 /// A word of a pattern, with or without a `*` behind it.
-fn word_of(alloc: Global, text: &[u8], begins: bool) -> Result<PatternWord, AllocError>
+pub(crate) fn word_of(alloc: Global, text: &[u8], begins: bool) -> Result<PatternWord, AllocError>
     ensures { IfOk result (λ own. own ≡ record { text = text.now; begins = begins }) }
 {
     let text = Bytes::of(alloc, text)?;
@@ -75,7 +78,8 @@ pub(crate) fn pattern_fault(pattern: &[PatternWord]) -> Option<LineFault>
 {
     match pattern.split_first() {
         None => Some(LineFault::NoPattern),
-        Some((word, _)) if begins_with_byte(b'-', word.text.as_bytes()) => Some(LineFault::Lacks),
+        Some(_) if pattern.len() > MOST_WORDS => Some(LineFault::Words),
+        Some((word, _)) if begins_with_byte(b'-', word.text.as_bytes()) => Some(LineFault::Minus),
         Some((word, _)) if is_answered(word) && !is_asked(pattern) => Some(LineFault::Builtin),
         Some(_) => None,
     }

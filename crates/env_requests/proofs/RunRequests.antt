@@ -113,9 +113,9 @@ deletion_leads h name force failed = by_leaving h _ (deletion_leaves h name forc
 exiting_acts : (h : Held) (f : Follow) (e : Effect) → Acts h e → Acts h (exiting f e)
 exiting_acts h follow.Next e a = a
 exiting_acts h follow.Leaves e a = a
-exiting_acts h follow.End (Does t) a = a
-exiting_acts h follow.End (Exits t) a = a
-exiting_acts h follow.End (Stops reason) a = a
+exiting_acts h (follow.End departure) (Does t) a = a
+exiting_acts h (follow.End departure) (Exits t) a = a
+exiting_acts h (follow.End departure) (Stops reason) a = a
 exiting_acts h (follow.Starts names) e a = a
 exiting_acts h (follow.Deletes force names) e a = a
 exiting_acts h (follow.Answers words text) e a = a
@@ -181,7 +181,7 @@ module _ (rules : Rules) (begin : Begin) (starts : (x : Starting) → Changes (b
 
   follows_change : (f : Follow) → Changes (follows rules begin f)
   follows_change follow.Next = goes_changes
-  follows_change follow.End = goes_changes
+  follows_change (follow.End departure) = goes_changes
   follows_change follow.Leaves = λ s. nothing s.held
   follows_change (follow.Starts names) = in_turn_changes names
   follows_change (follow.Deletes force names) = deletions_change rules force false names

@@ -11,7 +11,7 @@ use crate::run_rules::RunRules;
 use env_session::Session;
 use envvars_core::{Memory, Vars};
 use hush_commands::BoardRules;
-use hush_run::{Limits, Outcome, Shell, Stubs, run_in};
+use hush_run::{Course, Limits, Outcome, Shell, Stubs, run_in};
 use hush_syntax::Script;
 use std::alloc::Global;
 
@@ -63,7 +63,11 @@ pub fn obey_in(
 fn ran(alloc: Global, session: &mut Session, script: &Script, rules: &RunRules<'_>) -> Outcome
     ensures { Runs (rules_of rules.now) (tree_of script.now) session.old session.new result }
 {
-    let (outcome, _place) = run_in(
+    let Course {
+        outcome,
+        place: _,
+        departure: _,
+    } = run_in(
         rules.shell,
         alloc,
         session,

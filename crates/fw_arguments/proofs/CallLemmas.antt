@@ -40,10 +40,12 @@ with_copy_is order name rows image copy config defaults locks chosen only over j
     λ i. and_then (j i) (λ k. Ok (record { config = p i; image = image; copy = copy; defaults = q i; locks = l i; order = r i; only_changes = o i; overwrite = w i; job = k }))
 
 -- the run of a script with what was found for it
-pub script_is : (shell : Shell) (rows : List Row) (dry : DryRun) (limits : Bounds) (boots : Option (List Text)) (script : GivenScript) →
+pub script_is : (shell : Shell) (rows : List Row) (dry : DryRun) (limits : Bounds) (boots resets : Option (List Text)) (must_boot : Bool) (script : GivenScript) →
     Ok script ≡ script_of rows → dry ≡ run_within shell rows limits → boots ≡ all_of (codes "boots") rows →
-    Ok (record { dry = dry; boots = unwrap_or boots []; script = script }) ≡ script_within shell rows limits
-script_is shell rows dry limits boots script p d b = λ i. and_then (p i) (λ k. Ok (record { dry = d i; boots = unwrap_or (b i) []; script = k }))
+    resets ≡ all_of (codes "resets") rows → must_boot ≡ is_given (codes "must_boot") rows →
+    Ok (record { dry = dry; boots = unwrap_or boots []; resets = unwrap_or resets []; must_boot = must_boot; script = script }) ≡ script_within shell rows limits
+script_is shell rows dry limits boots resets must_boot script p d b r m =
+    λ i. and_then (p i) (λ k. Ok (record { dry = d i; boots = unwrap_or (b i) []; resets = unwrap_or (r i) []; must_boot = m i; script = k }))
 
 pub report_is : (order chosen : Order) (rows : List Row) (subject : Subject) →
     chosen ≡ either_order order (order_by (source_in (codes "big-endian") rows)) → Ok subject ≡ subject_of rows → Ok (record { order = chosen; subject = subject }) ≡ report_of order rows

@@ -84,10 +84,12 @@ pub data GivenScript : Type 0 where
   Words : Text → GivenScript
   File : Text → GivenScript
 
--- the run of a script, and the names of commands that don't return
+-- the run of a script, the names of commands that don't return, and whether it has to boot
 pub record ScriptRun : Type 0 where
   pub dry : DryRun
   pub boots : List Text
+  pub resets : List Text
+  pub must_boot : Bool
   pub script : GivenScript
 
 -- what is wrong if there is no script, or more than one
@@ -114,9 +116,18 @@ script_by (n ∷ names) text path = if is_some text || is_some path then Err sev
 abbrev pub script_of : List Row → Result GivenScript Text
 script_of rows = script_by (all_values (codes "names") rows) (first_of (codes "text") rows) (first_of (codes "script") rows)
 
+abbrev pub script_run : Shell → List Row → Bounds → GivenScript → ScriptRun
+script_run shell rows limits script = record {
+  dry = run_within shell rows limits;
+  boots = all_values (codes "boots") rows;
+  resets = all_values (codes "resets") rows;
+  must_boot = is_given (codes "must_boot") rows;
+  script = script;
+}
+
 abbrev pub script_within : Shell → List Row → Bounds → Result ScriptRun Text
 script_within shell rows limits =
-    and_then (script_of rows) (λ script. Ok (record { dry = run_within shell rows limits; boots = all_values (codes "boots") rows; script = script }))
+    and_then (script_of rows) (λ script. Ok (script_run shell rows limits script))
 
 abbrev pub script_run_by : List Row → Shell → Result ScriptRun Text
 script_run_by rows shell = and_then (limits_of shell rows) (script_within shell rows)
@@ -144,4 +155,10 @@ script_view (code.Words text) = Words text.now
 script_view (code.File path) = File path.now
 
 abbrev pub script_run_view : script_runs.ScriptRun → ScriptRun
-script_run_view r = record { dry = dry_run_view r.dry; boots = texts r.boots; script = script_view r.script }
+script_run_view r = record {
+  dry = dry_run_view r.dry;
+  boots = texts r.boots;
+  resets = texts r.resets;
+  must_boot = r.must_boot;
+  script = script_view r.script;
+}

@@ -33,13 +33,18 @@ pub struct DryRun<'w> {
     pub limits: Limits,
 }
 
-/// The run of a script: `run [--boots NAME].. (NAMES | -e SCRIPT | -f FILE)`, with the options of a dry run.
+/// The run of a script: `run [--boots NAME].. [--resets NAME].. [--must-boot] (NAMES | -e SCRIPT | -f FILE)`, with the
+/// options of a dry run.
 #[derive(Clone, Copy, Debug)]
 pub struct ScriptRun<'m, 'w> {
     /// The options of a dry run.
     pub dry: DryRun<'w>,
     /// The names of stand-ins that boot: with status 0 the run ends there.
     pub boots: Option<&'m [&'w str]>,
+    /// The names of stand-ins that reset the board, likewise.
+    pub resets: Option<&'m [&'w str]>,
+    /// Whether the run has to end in a boot.
+    pub must_boot: bool,
     /// The script.
     pub script: GivenScript<'m, 'w>,
 }
@@ -147,6 +152,8 @@ fn with_limits<'m, 'w>(
         Ok(script) => Ok(ScriptRun {
             dry: dry_run_within(found, shell, limits),
             boots: values(found, "boots"),
+            resets: values(found, "resets"),
+            must_boot: is_given(found, "must_boot"),
             script,
         }),
         Err(fault) => Err(fault),

@@ -322,6 +322,22 @@ pub const BOOTS: Row = Row {
     help: "A stand-in that doesn't come back if its status is 0, as booti: the run ends there",
 };
 
+/// `--resets NAME`
+pub const RESETS: Row = Row {
+    id: "resets",
+    names: Names::Long("resets"),
+    takes: Takes::Many("NAME"),
+    help: "A stand-in that resets the board if its status is 0: the run ends there",
+};
+
+/// `--must-boot`
+pub const MUST_BOOT: Row = Row {
+    id: "must_boot",
+    names: Names::Long("must-boot"),
+    takes: Takes::Nothing,
+    help: "The status is 0 only if the run ended in a boot",
+};
+
 /// `-e SCRIPT`
 pub const GIVEN_TEXT: Row = Row {
     id: "text",
@@ -494,7 +510,8 @@ pub const RUN: Called = Called {
     example: "Example:\n  fwenv run --env board.txt --stubs stand-ins.txt --boots booti bootcmd",
     options: &[
         CONFIG, DEFAULT, NEED_COPY, BIG_ENDIAN, RUN_WRITE, OVERWRITE, SHELL, STUBS, BOARD, STEPS,
-        DEPTH, WORD, OUTPUT, ENV, SIZE, BOOTS, GIVEN_TEXT, GIVEN_FILE, RUN_NAMES,
+        DEPTH, WORD, OUTPUT, ENV, SIZE, BOOTS, RESETS, MUST_BOOT, GIVEN_TEXT, GIVEN_FILE,
+        RUN_NAMES,
     ],
 };
 

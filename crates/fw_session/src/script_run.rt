@@ -1,8 +1,9 @@
 //! A script that is run over a session for its own status.
-ghost use Rattle.std.specs.Prelude.{◌≡◌, MatchBool};
+ghost use Rattle.std.specs.Prelude.{◌≡◌, [], get_or, MatchBool};
 ghost use Rattle.env_requests.specs.Views.{rules_of};
 ghost use Rattle.hush_syntax.specs.Scripts.{tree_of};
-ghost use Rattle.fw_session.specs.ScriptRun.{RunsScript, ended_by_itself, ended_by_limit, ended_so, is_well, outcome_texts};
+ghost use Rattle.fw_session.specs.ScriptRun.{RunsScript, course_texts, ended_by_itself, ended_by_limit, ended_so, has_booted, is_well, no_boot, reset_line};
+ghost use Rattle.hush_run.specs.Runs.{ending_name};
 ghost use Rattle.fw_engines.specs.Streams.{AppendsPart};
 ghost use Rattle.std.specs.Io.KnownBytes.{Appends};
 ghost use Rattle.fw_engines.specs.Tool.{Prints};
@@ -11,7 +12,8 @@ use env_requests::RunRules;
 use env_session::Session;
 use fw_engines::streams::{write_parts, write_text};
 use fw_engines::{OUT_OF_MEMORY, StreamFault, ToolEnd};
-use hush_run::{Ending, Outcome, StartedName, run_in};
+use hush_commands::FieldQueue;
+use hush_run::{Course, Departure, Ending, Leaving, Outcome, StartedName, run_in};
 use hush_syntax::Script;
 use itoa::Buffer;
 use std::alloc::Global;
@@ -27,20 +29,22 @@ pub struct RunEnd {
 }
 
 /// Runs a script over a session by these rules, and prints its text on `output`. The status is 0 if it reached its end or
-/// an `exit` with status 0, else 1, and then `errors` gets a line on how it ended. docs/dry-runs.md has the texts.
+/// an `exit` with status 0, and booted if it had to; else 1, and then `errors` gets a line on how it ended.
+/// docs/dry-runs.md has the texts.
 pub fn run<W: Write, E: Write>(
     alloc: Global,
     session: &mut Session,
     script: &Script,
     rules: &RunRules<'_>,
+    must_boot: bool,
     output: &mut W,
     errors: &mut E,
 ) -> RunEnd
-    ensures { RunsScript (rules_of rules.now) (tree_of script.now) session.old session.new
+    ensures { RunsScript (rules_of rules.now) must_boot (tree_of script.now) session.old session.new
         (record { output = W.contents output.old; errors = E.contents errors.old })
         (record { output = W.contents output.new; errors = E.contents errors.new }) result }
 {
-    let (outcome, place) = run_in(
+    let course = run_in(
         rules.shell,
         alloc,
         session,
@@ -50,32 +54,37 @@ pub fn run<W: Write, E: Write>(
         rules.limits,
     );
     RunEnd {
-        ending: outcome.ending,
-        end: print_outcome(&outcome, &place, output, errors),
+        ending: course.outcome.ending,
+        end: print_course(&course, must_boot, output, errors),
     }
 }
 
-/// Prints the text of a run, and how it ended if it didn't end well.
-fn print_outcome<W: Write, E: Write>(
-    outcome: &Outcome,
-    place: &Option<StartedName>,
+/// Prints the text of a run, and how it ended if it didn't end well, or had to boot and didn't.
+fn print_course<W: Write, E: Write>(
+    course: &Course,
+    must_boot: bool,
     output: &mut W,
     errors: &mut E,
 ) -> ToolEnd
     ensures { Prints (record { output = W.contents output.old; errors = E.contents errors.old })
         (record { output = W.contents output.new; errors = E.contents errors.new })
-        (outcome_texts outcome.now place.now) result }
+        (course_texts must_boot course.now) result }
 {
-    if !write_text(output, &outcome.text) {
+    if !write_text(output, &course.outcome.text) {
         return ToolEnd::stopped(StreamFault::Write);
     }
-    if is_well(outcome.ending, outcome.status) {
+    let told = if !is_well(course.outcome.ending, course.outcome.status) {
+        write_ending(&course.outcome, &course.place, errors)
+    } else if must_boot && !has_booted(&course.departure) {
+        write_no_boot(course, errors)
+    } else {
         return ToolEnd::done(0);
+    };
+    if told {
+        ToolEnd::done(1)
+    } else {
+        ToolEnd::stopped(StreamFault::Write)
     }
-    if !write_ending(outcome.ending, place, outcome.status, outcome.steps, errors) {
-        return ToolEnd::stopped(StreamFault::Write);
-    }
-    ToolEnd::done(1)
 }
 
 /// Whether a run reached its end or an `exit`, with status 0.
@@ -88,43 +97,116 @@ fn is_well(ending: Ending, status: u8) -> bool
     }
 }
 
-/// Prints how a run ended that didn't end well.
-fn write_ending<E: Write>(
-    ending: Ending,
-    place: &Option<StartedName>,
-    status: u8,
-    steps: u32,
-    errors: &mut E,
-) -> bool
-    ensures { MatchBool result
-        (Appends (E.contents errors.old) (E.contents errors.new) (ended_so ending place.now status steps))
-        (AppendsPart (E.contents errors.old) (E.contents errors.new) (ended_so ending place.now status steps)) }
+/// Whether a run left the board as it boots.
+fn has_booted(departure: &Option<Departure>) -> bool
+    ensures { result ≡ has_booted departure.now }
 {
-    match ending {
-        Ending::Finished | Ending::Exited => write_own_ending(ending.name(), status, steps, errors),
+    match departure {
+        None => false,
+        Some(departure) => match departure.leaving {
+            Leaving::Boots => true,
+            Leaving::Resets => false,
+        },
+    }
+}
+
+/// Prints how a run ended that didn't end well.
+fn write_ending<E: Write>(outcome: &Outcome, place: &Option<StartedName>, errors: &mut E) -> bool
+    ensures { MatchBool result
+        (Appends (E.contents errors.old) (E.contents errors.new)
+        (ended_so outcome.now.ending place.now outcome.now.status outcome.now.steps))
+        (AppendsPart (E.contents errors.old) (E.contents errors.new)
+        (ended_so outcome.now.ending place.now outcome.now.status outcome.now.steps)) }
+{
+    match outcome.ending {
+        Ending::Finished | Ending::Exited => write_own_ending(b"fwenv: ", outcome, errors),
         Ending::Memory => write_text(errors, OUT_OF_MEMORY),
         Ending::Steps | Ending::Depth | Ending::Word | Ending::Output => {
-            write_limit(ending.name(), place, steps, errors)
+            write_limit(outcome.ending.name(), place, outcome.steps, errors)
         }
     }
 }
 
+/// Prints how a run ended well that had to boot and didn't.
+fn write_no_boot<E: Write>(course: &Course, errors: &mut E) -> bool
+    ensures { MatchBool result
+        (Appends (E.contents errors.old) (E.contents errors.new) (no_boot course.now.outcome.ending course.now.place
+        course.now.departure course.now.outcome.status course.now.outcome.steps))
+        (AppendsPart (E.contents errors.old) (E.contents errors.new) (no_boot course.now.outcome.ending course.now.place
+        course.now.departure course.now.outcome.status course.now.outcome.steps)) }
+{
+    match &course.departure {
+        None => write_own_ending(b"fwenv: no boot: ", &course.outcome, errors),
+        Some(departure) => write_reset(
+            called_in(&departure.words),
+            &course.place,
+            course.outcome.steps,
+            errors,
+        ),
+    }
+}
+
+/// The name in a call.
+fn called_in(words: &FieldQueue) -> &[u8]
+    ensures { result.now ≡ get_or words.now 0 [] }
+{
+    match words.fields().next() {
+        Some(called) => called,
+        None => &[],
+    }
+}
+
+/// Prints by which command a board was reset, and in which variable's text.
+fn write_reset<E: Write>(
+    called: &[u8],
+    place: &Option<StartedName>,
+    steps: u32,
+    errors: &mut E,
+) -> bool
+    ensures { MatchBool result
+        (Appends (E.contents errors.old) (E.contents errors.new) (reset_line called.now place.now steps))
+        (AppendsPart (E.contents errors.old) (E.contents errors.new) (reset_line called.now place.now steps)) }
+{
+    let mut digits = Buffer::new();
+    let steps = digits.format(steps).as_bytes();
+    let front = b"fwenv: no boot: reset by \"";
+    match place {
+        None => write_parts(errors, &[front, called, b"\" after ", steps, b" steps\n"]),
+        Some(variable) => write_parts(
+            errors,
+            &[
+                front,
+                called,
+                b"\" in \"",
+                variable.as_bytes(),
+                b"\" after ",
+                steps,
+                b" steps\n",
+            ],
+        ),
+    }
+}
+
 /// Prints how a run ended by itself.
-fn write_own_ending<E: Write>(name: &[u8], status: u8, steps: u32, errors: &mut E) -> bool
-    ensures { MatchBool result (Appends (E.contents errors.old) (E.contents errors.new) (ended_by_itself name.now status steps))
-        (AppendsPart (E.contents errors.old) (E.contents errors.new) (ended_by_itself name.now status steps)) }
+fn write_own_ending<E: Write>(front: &[u8], outcome: &Outcome, errors: &mut E) -> bool
+    ensures { MatchBool result
+        (Appends (E.contents errors.old) (E.contents errors.new)
+        (ended_by_itself front.now (ending_name outcome.now.ending) outcome.now.status outcome.now.steps))
+        (AppendsPart (E.contents errors.old) (E.contents errors.new)
+        (ended_by_itself front.now (ending_name outcome.now.ending) outcome.now.status outcome.now.steps)) }
 {
     let mut status_digits = Buffer::new();
     let mut step_digits = Buffer::new();
     write_parts(
         errors,
         &[
-            b"fwenv: run ended as ",
-            name,
+            front,
+            b"run ended as ",
+            outcome.ending.name(),
             b" with status ",
-            status_digits.format(status).as_bytes(),
+            status_digits.format(outcome.status).as_bytes(),
             b" after ",
-            step_digits.format(steps).as_bytes(),
+            step_digits.format(outcome.steps).as_bytes(),
             b" steps\n",
         ],
     )

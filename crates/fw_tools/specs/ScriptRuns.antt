@@ -8,7 +8,9 @@ use Rattle.hush_syntax.specs.FaultPlaces.{IsFaultOf}
 use Rattle.hush_syntax.specs.Reading.{read_in}
 use Rattle.hush_syntax.specs.declared.nodes.Bodies.{Bodies}
 use Rattle.hush_syntax.specs.declared.syntax_fault.SyntaxFault.{SyntaxFault}
-use Rattle.hush_commands.specs.Stubs.{Statuses, with_boot}
+use Rattle.hush_commands.specs.declared.departure.Leaving.{Leaving}
+use Rattle.hush_commands.specs.declared.departure.Leaving.TheVariants.{Boots, Resets}
+use Rattle.hush_commands.specs.Stubs.{Statuses, with_leaving}
 use Rattle.hush_commands.specs.Hardware.{Hardware}
 use Rattle.hush_run.specs.Meaning.{bodies_of}
 use Rattle.hush_run.specs.Runs.{rules_in}
@@ -73,7 +75,7 @@ ClosesRun false end old new status = Says end.fault old new × (status ≡ end.s
 abbrev pub RunsTree : ScriptRun → Hardware → Option Chains → Held → Writers → Writers → ℕ → Type 0
 RunsTree run given tree session old new status =
     (after : Held) × (between : Option (List ℕ)) × (ended : RunEnd)
-    × RunsScript (rules_in run.dry.shell given run.dry.limits) tree session after old (record { output = new.output; errors = between }) ended
+    × RunsScript (rules_in run.dry.shell given run.dry.limits) run.must_boot tree session after old (record { output = new.output; errors = between }) ended
     × ClosesRun (is_kept run.dry.write ended) ended.end between new.errors status
 
 -- a text is run, if it is a script by the rules of the shell
@@ -82,13 +84,17 @@ RunsText run given text session old new status =
     ((new.output ≡ old.output) × Refuses (bodies_of run.dry.shell) (name_of_script run.script) text old.errors new.errors × (status ≡ 1))
     ⊎ ((tree : Option Chains) × (read_in (bodies_of run.dry.shell) text ≡ Some tree) × RunsTree run given tree session old new status)
 
--- the stand-ins, with those of these names made to boot
-abbrev pub with_boots : Statuses → List Text → Statuses
-with_boots stand_ins [] = stand_ins
-with_boots stand_ins (name ∷ names) = with_boots (with_boot stand_ins name) names
+-- the stand-ins, with those of these names made to leave the board so
+abbrev pub with_leavings : Leaving → Statuses → List Text → Statuses
+with_leavings leaving stand_ins [] = stand_ins
+with_leavings leaving stand_ins (name ∷ names) = with_leavings leaving (with_leaving leaving stand_ins name) names
+
+-- with those that boot, and then those that reset it
+abbrev pub with_departures : ScriptRun → Statuses → Statuses
+with_departures run read = with_leavings Resets (with_leavings Boots read run.boots) run.resets
 
 abbrev pub AreStandInsOf : ScriptRun → Statuses → Type 0
-AreStandInsOf run stand_ins = (read : Statuses) × AreStubsOf run.dry.stand_ins read × (stand_ins ≡ with_boots read run.boots)
+AreStandInsOf run stand_ins = (read : Statuses) × AreStubsOf run.dry.stand_ins read × (stand_ins ≡ with_departures run read)
 
 -- what stands in for hardware
 abbrev pub IsHardwareOf : ScriptRun → Hardware → Type 0

@@ -3,7 +3,7 @@ ghost use Rattle.std.specs.Prelude.{◌≡◌, IfOk, MatchOption, map, unwrap_or
 ghost use Rattle.hush_syntax.specs.Scripts.{tree_of};
 ghost use Rattle.hush_commands.specs.Hardware.{hardware};
 ghost use Rattle.fw_arguments.specs.DryRuns.{script_run_view, texts};
-ghost use Rattle.fw_tools.specs.ScriptRuns.{AreStandInsOf, ClosesRun, IsHardwareOf, RunsOver, RunsText, RunsTree, is_kept, with_boots};
+ghost use Rattle.fw_tools.specs.ScriptRuns.{AreStandInsOf, ClosesRun, IsHardwareOf, RunsOver, RunsText, RunsTree, is_kept, with_leavings};
 ghost use Rattle.fw_files.specs.Said.{SaysSome};
 
 use crate::hardware::{GivenHardware, board_or_say};
@@ -17,16 +17,19 @@ use fw_files::{
     Explains, FileFault, Source, System, read_stand_ins, report, value_or_say, write_other_first,
 };
 use fw_session::{RunEnd, run};
-use hush_run::{Ending, Stubs, bodies_of};
+use hush_run::{Ending, Leaving, Stubs, bodies_of};
 use hush_syntax::Script;
 use std::alloc::{AllocError, Global};
 use std::io::Write;
 
-/// Before and after a name of `--boots` of which there is no stand-in.
+/// Before, within and after a name of `--boots` or `--resets` of which there is no stand-in.
 const INVALID_VALUE: &[u8] = b"error: invalid value '";
 
-const NO_STAND_IN: &[u8] =
+const NO_BOOT: &[u8] =
     b"' for '--boots <NAME>': no stand-in has this name\n\nFor more information, try '--help'.\n";
+
+const NO_RESET: &[u8] =
+    b"' for '--resets <NAME>': no stand-in has this name\n\nFor more information, try '--help'.\n";
 
 /// Runs the script that is asked for over a session, and leaves the session; `None` if a file can't be used before.
 pub(crate) fn run_given<X: System + AllocGlobal, W: Write, E: Write>(
@@ -60,8 +63,8 @@ fn hardware_or_say<X: System + AllocGlobal, E: Write>(
     Some(GivenHardware { stand_ins, board })
 }
 
-/// The stand-ins, with those asked for made to boot; a fault is reported on `errors`, and so is a name of which there is
-/// no stand-in.
+/// The stand-ins, with those asked for made to leave the board; a fault is reported on `errors`, and so is a name of which
+/// there is no stand-in.
 fn stand_ins_or_say<X: System + AllocGlobal, E: Write>(
     rt: &X,
     asked: &ScriptRun<'_, '_>,
@@ -73,13 +76,15 @@ fn stand_ins_or_say<X: System + AllocGlobal, E: Write>(
     let path = asked.dry.stand_ins.unwrap_or("");
     let outcome = stand_ins_of(rt, asked);
     let stand_ins = value_or_say(rt.alloc(), errors, Explains::Reason, path, outcome)?;
-    match name_without(&stand_ins, asked.boots) {
-        None => Some(stand_ins),
-        Some(name) => {
-            let _ = write_three(errors, INVALID_VALUE, name.as_bytes(), NO_STAND_IN);
-            None
-        }
+    if let Some(name) = name_without(&stand_ins, asked.boots) {
+        let _ = write_three(errors, INVALID_VALUE, name.as_bytes(), NO_BOOT);
+        return None;
     }
+    if let Some(name) = name_without(&stand_ins, asked.resets) {
+        let _ = write_three(errors, INVALID_VALUE, name.as_bytes(), NO_RESET);
+        return None;
+    }
+    Some(stand_ins)
 }
 
 /// The first of these names of which there is no stand-in.
@@ -92,7 +97,7 @@ fn name_without<'a>(stand_ins: &Stubs, names: Option<&[&'a str]>) -> Option<&'a 
     None
 }
 
-/// The stand-ins, with those asked for made to boot.
+/// The stand-ins, with those asked for made to leave the board.
 fn stand_ins_of<X: System + AllocGlobal>(
     rt: &X,
     asked: &ScriptRun<'_, '_>,
@@ -100,30 +105,37 @@ fn stand_ins_of<X: System + AllocGlobal>(
     ensures { IfOk result (AreStandInsOf (script_run_view asked.now)) }
 {
     let mut stand_ins = read_stand_ins(rt, asked.dry.stand_ins)?;
-    boot_given(rt.alloc(), &mut stand_ins, asked.boots)?;
+    leave_given(rt.alloc(), &mut stand_ins, Leaving::Boots, asked.boots)?;
+    leave_given(rt.alloc(), &mut stand_ins, Leaving::Resets, asked.resets)?;
     Ok(stand_ins)
 }
 
-/// Makes the stand-ins of these names boot.
-fn boot_given(
+/// Makes the stand-ins of these names leave the board so.
+fn leave_given(
     alloc: Global,
     stand_ins: &mut Stubs,
+    leaving: Leaving,
     names: Option<&[&str]>,
 ) -> Result<(), AllocError>
-    ensures { IfOk result (λ _. stand_ins.new ≡ with_boots stand_ins.old (texts names.entry)) }
+    ensures { IfOk result (λ _. stand_ins.new ≡ with_leavings leaving stand_ins.old (texts names.entry)) }
 {
     match names {
         None => Ok(()),
-        Some(names) => boot_all(alloc, stand_ins, names),
+        Some(names) => leave_all(alloc, stand_ins, leaving, names),
     }
 }
 
 /// The same for names that are there.
-fn boot_all(alloc: Global, stand_ins: &mut Stubs, names: &[&str]) -> Result<(), AllocError>
-    ensures { IfOk result (λ _. stand_ins.new ≡ with_boots stand_ins.old (map (λ n. n.now) names.now)) }
+fn leave_all(
+    alloc: Global,
+    stand_ins: &mut Stubs,
+    leaving: Leaving,
+    names: &[&str],
+) -> Result<(), AllocError>
+    ensures { IfOk result (λ _. stand_ins.new ≡ with_leavings leaving stand_ins.old (map (λ n. n.now) names.now)) }
 {
     for name in names {
-        stand_ins.boot(alloc, name.as_bytes())?;
+        stand_ins.leave(alloc, name.as_bytes(), leaving)?;
     }
     Ok(())
 }
@@ -174,7 +186,15 @@ fn run_script<X: System + AllocGlobal, W: Write, E: Write>(
         board: &given.board,
         limits: &asked.dry.limits,
     };
-    let ended = run(rt.alloc(), &mut session, script, &rules, output, errors);
+    let ended = run(
+        rt.alloc(),
+        &mut session,
+        script,
+        &rules,
+        asked.must_boot,
+        output,
+        errors,
+    );
     leave(rt, source, asked.dry.write, current, session, ended, errors)
 }
 

@@ -8,13 +8,14 @@ use Rattle.envimg_core.specs.Environment.{Environment}
 use Rattle.env_session.specs.Session.{Held}
 use Rattle.hush_commands.specs.declared.stand_ins.Role.{Role}
 use Rattle.hush_commands.specs.declared.command.Command.TheVariants.{Set, Delete, Exists, Calculate, WrongUse, Other}
+use Rattle.hush_commands.specs.declared.departure.Leaving.TheVariants.{Boots, Resets}
 use Rattle.hush_commands.specs.declared.follow.Follow.{Follow}
 use Rattle.hush_commands.specs.declared.follow.Follow.TheVariants.{Next, End, Leaves, Starts, Answers}
 use Rattle.hush_commands.specs.Builtins.{builtin_of}
 use Rattle.hush_commands.specs.declared.command.Command.{Command}
 use Rattle.hush_commands.specs.Commands.{command_in}
 use Rattle.hush_commands.specs.Shells.{exit_word}
-use Rattle.hush_commands.specs.Stubs.{Statuses, is_end, with_boot}
+use Rattle.hush_commands.specs.Stubs.{Statuses, leaving_of, with_leaving}
 use Rattle.hush_commands.specs.declared.board_rules.PatternWord.{PatternWord}
 use Rattle.hush_commands.specs.declared.board_rules.Rule.{Rule}
 use Rattle.hush_commands.specs.declared.board_rules.Reply.{Reply}
@@ -64,7 +65,7 @@ run_starts : follow_after (codes "run" ∷ codes "a" ∷ codes "b" ∷ []) ≡ S
 unfolding follow_after builtin_of
 run_starts = refl
 
-exit_ends : follow_after (codes "exit" ∷ codes "3" ∷ []) ≡ End
+exit_ends : follow_after (codes "exit" ∷ codes "3" ∷ []) ≡ End None
 unfolding follow_after builtin_of
 exit_ends = refl
 
@@ -130,18 +131,18 @@ exit_past_255 held = refl
 unknown_command : other_of None 7 (codes "ls") (codes "ls" ∷ codes "-l" ∷ []) ≡ answer 1 (codes "Unknown command 'ls' - try 'help'\n")
 unknown_command = refl
 
-stand_in_command : other_of (Some (Status 3 false)) 7 (codes "mmc") (codes "mmc" ∷ codes "dev" ∷ []) ≡ answer 3 (codes "+ mmc dev\n")
+stand_in_command : other_of (Some (Status 3 None)) 7 (codes "mmc") (codes "mmc" ∷ codes "dev" ∷ []) ≡ answer 3 (codes "+ mmc dev\n")
 stand_in_command = refl
 
--- a stand-in that boots ends the run if its status is 0
-boots_with_zero : map is_end (None ∷ Some (record { status = 0; boots = true }) ∷ Some (record { status = 1; boots = true }) ∷ Some (record { status = 0; boots = false }) ∷ []) ≡ false ∷ true ∷ false ∷ false ∷ []
-boots_with_zero = refl
+-- a stand-in leaves the board if its status is 0
+leaves_with_zero : map leaving_of (None ∷ Some (record { status = 0; leaves = Some Boots }) ∷ Some (record { status = 1; leaves = Some Resets }) ∷ Some (record { status = 0; leaves = Some Resets }) ∷ Some (record { status = 0; leaves = None }) ∷ []) ≡ None ∷ Some Boots ∷ None ∷ Some Resets ∷ None ∷ []
+leaves_with_zero = refl
 
 -- stand-ins if `booti` alone has one, with this status, and boots
 booti : ℕ → Hardware
-booti status = let none : Statuses = empty in hardware [] (insert none (codes "booti") (record { status = status; boots = true }))
+booti status = let none : Statuses = empty in hardware [] (insert none (codes "booti") (record { status = status; leaves = Some Boots }))
 
-boot_ends : follow_of Strict (booti 0) (codes "booti" ∷ codes "0" ∷ []) ≡ End
+boot_ends : follow_of Strict (booti 0) (codes "booti" ∷ codes "0" ∷ []) ≡ End (Some (record { leaving = Boots; words = codes "booti" ∷ codes "0" ∷ [] }))
 unfolding booti builtin_of
 boot_ends = simp (get-insert {X = Role} nat_list_cmp_total)
 
@@ -150,7 +151,7 @@ unfolding booti builtin_of
 failed_boot_goes_on = simp (get-insert {X = Role} nat_list_cmp_total)
 
 -- a name without a stand-in changes nothing
-told : with_boot (insert (let none : Statuses = empty in none) (codes "x") (record { status = 3; boots = false })) (codes "y") ≡ insert (let none : Statuses = empty in none) (codes "x") (record { status = 3; boots = false })
+told : with_leaving Boots (insert (let none : Statuses = empty in none) (codes "x") (record { status = 3; leaves = None })) (codes "y") ≡ insert (let none : Statuses = empty in none) (codes "x") (record { status = 3; leaves = None })
 told = simp (get-insert {X = Role} nat_list_cmp_total, get-empty)
 
 -- a board: a card in slot 1 with two partitions
@@ -165,17 +166,17 @@ rule pattern reply = record { pattern = pattern; reply = reply }
 
 card : List Rule
 card =
-    rule (map exactly (codes "mmc" ∷ codes "dev" ∷ codes "0" ∷ [])) (Status 1 false)
+    rule (map exactly (codes "mmc" ∷ codes "dev" ∷ codes "0" ∷ [])) (Status 1 None)
     ∷ rule (map exactly (codes "part" ∷ codes "list" ∷ codes "mmc" ∷ codes "1" ∷ []) ++ opened (codes "-boot") ∷ opened [] ∷ []) (Text (codes "setenv ${5} 2"))
-    ∷ rule (map exactly (codes "mmc" ∷ [])) (Status 0 false)
-    ∷ rule (map exactly (codes "booti" ∷ [])) (Status 0 true)
+    ∷ rule (map exactly (codes "mmc" ∷ [])) (Status 0 None)
+    ∷ rule (map exactly (codes "booti" ∷ [])) (Status 0 (Some Boots))
     ∷ []
 
-first_rule : ruled card (codes "mmc" ∷ codes "dev" ∷ codes "0" ∷ []) ≡ Some (Status 1 false)
+first_rule : ruled card (codes "mmc" ∷ codes "dev" ∷ codes "0" ∷ []) ≡ Some (Status 1 None)
 unfolding card rule exactly opened
 first_rule = refl
 
-further_words : ruled card (codes "mmc" ∷ codes "dev" ∷ codes "1" ∷ []) ≡ Some (Status 0 false)
+further_words : ruled card (codes "mmc" ∷ codes "dev" ∷ codes "1" ∷ []) ≡ Some (Status 0 None)
 unfolding card rule exactly opened
 further_words = refl
 
@@ -196,12 +197,12 @@ text_prints : (stubs : Statuses) (held : Held) → done_of Strict (hardware card
 unfolding card rule exactly opened builtin_of
 text_prints stubs held = refl
 
-rule_boots : (stubs : Statuses) → follow_of Strict (hardware card stubs) (codes "booti" ∷ codes "0" ∷ []) ≡ End
+rule_boots : (stubs : Statuses) → follow_of Strict (hardware card stubs) (codes "booti" ∷ codes "0" ∷ []) ≡ End (Some (record { leaving = Boots; words = codes "booti" ∷ codes "0" ∷ [] }))
 unfolding card rule exactly opened builtin_of
 rule_boots stubs = refl
 
 -- what no rule fits is asked of the stand-ins
-after_the_rules : answer_to (hardware card (insert (let none : Statuses = empty in none) (codes "x") (record { status = 3; boots = false }))) (codes "x") (codes "x" ∷ []) ≡ Some (Status 3 false)
+after_the_rules : answer_to (hardware card (insert (let none : Statuses = empty in none) (codes "x") (record { status = 3; leaves = None }))) (codes "x") (codes "x" ∷ []) ≡ Some (Status 3 None)
 unfolding card rule exactly opened
 after_the_rules = simp (get-insert {X = Role} nat_list_cmp_total)
 
@@ -245,7 +246,7 @@ env_beginning_of_two = refl
 
 -- the files of a board
 disk : List Rule
-disk = rule (map exactly (codes "test" ∷ codes "-e" ∷ codes "mmc" ∷ codes "1:2" ∷ []) ++ opened (codes "/boot") ∷ []) (Status 0 false) ∷ []
+disk = rule (map exactly (codes "test" ∷ codes "-e" ∷ codes "mmc" ∷ codes "1:2" ∷ []) ++ opened (codes "/boot") ∷ []) (Status 0 None) ∷ []
 
 file_there : (stubs : Statuses) (held : Held) → done_of Board (hardware disk stubs) (codes "test" ∷ codes "-e" ∷ codes "mmc" ∷ codes "1:2" ∷ codes "/boot/boot.scr" ∷ []) 7 held ≡ (answer 0 [], held)
 unfolding disk rule exactly opened builtin_of
@@ -259,8 +260,8 @@ no_file_there stubs held absent = simp absent
 forms : List Rule
 forms =
     rule (map exactly (codes "env" ∷ codes "import" ∷ [])) (Text (codes "x=a"))
-    ∷ rule (map exactly (codes "setexpr" ∷ codes "s" ∷ codes "gsub" ∷ [])) (Status 1 false)
-    ∷ rule (map exactly (codes "setexpr" ∷ codes "n" ∷ [])) (Status 0 false)
+    ∷ rule (map exactly (codes "setexpr" ∷ codes "s" ∷ codes "gsub" ∷ [])) (Status 1 None)
+    ∷ rule (map exactly (codes "setexpr" ∷ codes "n" ∷ [])) (Status 0 None)
     ∷ []
 
 asked_env : (stubs : Statuses) → follow_of Strict (hardware forms stubs) (codes "env" ∷ codes "import" ∷ codes "-t" ∷ []) ≡ Answers (codes "env" ∷ codes "import" ∷ codes "-t" ∷ []) (codes "x=a")

@@ -12,7 +12,7 @@ use Rattle.hush_commands.specs.declared.output.PrintFault.{PrintFault}
 use Rattle.hush_commands.specs.declared.output.PrintFault.TheVariants as fault
 use Rattle.hush_commands.specs.declared.writes.Complaint.{Complaint}
 use Rattle.hush_commands.specs.declared.board_rules.Reply.{Reply}
-use Rattle.hush_commands.specs.declared.board_rules.Reply.TheVariants.{Status, Text}
+use Rattle.hush_commands.specs.declared.board_rules.Reply.TheVariants.{Status, Text, Lacks}
 use Rattle.hush_commands.specs.Hardware.{Hardware, answer_to}
 use Rattle.hush_commands.specs.declared.shell.Shell.{Shell}
 use Rattle.hush_commands.specs.Shells.{kept_status, exit_status, test_by}
@@ -41,15 +41,16 @@ echo_of newline words = answer 0 (spaced words ++ line_end newline)
 abbrev pub stand_in_of : ℕ → (fields : List (List ℕ)) → Answer
 stand_in_of status fields = answer status (codes "+ " ++ (spaced fields ++ codes "\n"))
 
--- the status of an answer; a text leaves it, since its start follows
-abbrev pub reply_status : (status : ℕ) → Reply → ℕ
-reply_status status (Status own boots) = own
-reply_status status (Text text) = status
+-- a command that isn't there is told as it was written
+abbrev pub unknown : (called : List ℕ) → (fields : List (List ℕ)) → Answer
+unknown called fields = answer 1 (text_of message.UnknownCommand (get_or fields 0 called))
 
--- no builtin: what answers the call, if something does; it is told as it was written
+-- no builtin: what answers the call, if something does. A text leaves the status, since its start follows
 abbrev pub other_of : Option Reply → (status : ℕ) → (called : List ℕ) → (fields : List (List ℕ)) → Answer
-other_of (Some reply) status called fields = stand_in_of (reply_status status reply) fields
-other_of None status called fields = answer 1 (text_of message.UnknownCommand (get_or fields 0 called))
+other_of (Some (Status own leaves)) status called fields = stand_in_of own fields
+other_of (Some (Text text)) status called fields = stand_in_of status fields
+other_of (Some Lacks) status called fields = unknown called fields
+other_of None status called fields = unknown called fields
 
 -- a write, and its complaint
 abbrev pub told : Change → Done

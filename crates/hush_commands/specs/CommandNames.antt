@@ -1,10 +1,12 @@
 -- Which command a word names (docs/runs.md, "Boards").
-use Rattle.std.specs.Prelude.{ℕ, ◌==◌, ◌||◌, ◌&&◌, nat_le, not, Bool, false, if◌then◌else◌, List, [], ◌∷◌, length, take, fold, map, is_some, Option, Some, None, unwrap_or}
+use Rattle.std.specs.Prelude.{ℕ, ◌==◌, ◌||◌, ◌&&◌, nat_le, not, Bool, true, false, if◌then◌else◌, List, [], ◌∷◌, length, take, fold, map, is_some, Option, Some, None, unwrap_or}
 use Rattle.std.specs.List.{before_first}
 use Rattle.std.specs.Str.{bytes_eq}
 use Rattle.std.specs.FinMap as names
 use Rattle.hush_commands.specs.declared.board_rules.PatternWord.{PatternWord}
 use Rattle.hush_commands.specs.declared.board_rules.Rule.{Rule}
+use Rattle.hush_commands.specs.declared.board_rules.Reply.{Reply}
+use Rattle.hush_commands.specs.declared.board_rules.Reply.TheVariants.{Status, Text, Lacks}
 use Rattle.hush_commands.specs.declared.shell.Shell.{Shell}
 use Rattle.hush_commands.specs.declared.shell.Shell.TheVariants.{Strict, Board}
 use Rattle.hush_commands.specs.Builtins.{builtin_of, builtins, name_of}
@@ -54,6 +56,16 @@ is_name name (Some own) = bytes_eq name own
 abbrev pub is_ruled : List Rule → (name : List ℕ) → Bool
 is_ruled [] name = false
 is_ruled (rule ∷ rules) name = is_name name (pattern_name rule.pattern) || is_ruled rules name
+
+-- whether a board lacks the builtin of a name
+abbrev pub is_lack : Reply → Bool
+is_lack (Status status leaves) = false
+is_lack (Text text) = false
+is_lack Lacks = true
+
+abbrev pub lacks : List Rule → (name : List ℕ) → Bool
+lacks [] name = false
+lacks (rule ∷ rules) name = is_lack rule.reply && is_name name (pattern_name rule.pattern) || lacks rules name
 
 abbrev pub with_own : (word : List ℕ) → FoundNames → Option (List ℕ) → FoundNames
 with_own word so_far None = so_far

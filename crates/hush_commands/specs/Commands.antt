@@ -7,12 +7,12 @@ use Rattle.hush_commands.specs.declared.builtins.Builtin.{Builtin}
 use Rattle.hush_commands.specs.declared.builtins.Builtin.TheVariants as builtin
 use Rattle.hush_commands.specs.declared.command.Command.{Command}
 use Rattle.hush_commands.specs.declared.command.Command.TheVariants as command
-use Rattle.hush_commands.specs.Builtins.{builtin_of}
+use Rattle.hush_commands.specs.Builtins.{builtin_of, name_of}
 use Rattle.hush_commands.specs.declared.shell.Shell.{Shell}
 use Rattle.hush_commands.specs.declared.board_rules.Rule.{Rule}
 use Rattle.hush_commands.specs.declared.board_rules.Reply.{Reply}
 use Rattle.hush_commands.specs.Hardware.{Hardware, ruled}
-use Rattle.hush_commands.specs.CommandNames.{name_by, stands_for}
+use Rattle.hush_commands.specs.CommandNames.{lacks, name_by, stands_for}
 use Rattle.hush_commands.specs.Shells.{exit_word}
 
 -- an option, if it is the first word, and the words after it
@@ -120,9 +120,10 @@ builtin_command shell rules builtin.Test called fields words = command.Test word
 builtin_command shell rules builtin.SetExpr called fields words = calculate_command rules called fields words
 builtin_command shell rules builtin.Exit called fields words = exit_command shell called words
 
--- builtins come first
+-- builtins come first, unless the board lacks them
 abbrev pub named_command : Shell → List Rule → Option Builtin → (name : List ℕ) → (fields words : List (List ℕ)) → Command
-named_command shell rules (Some builtin) name fields words = builtin_command shell rules builtin name fields words
+named_command shell rules (Some builtin) name fields words =
+    if lacks rules (name_of builtin) then command.Other name fields else builtin_command shell rules builtin name fields words
 named_command shell rules None name fields words = command.Other name fields
 
 -- a command is called by the name that its first word stands for

@@ -1,20 +1,28 @@
 -- What follows a simple command (docs/runs.md, "Commands").
-use Rattle.std.specs.Prelude.{ℕ, ◌==◌, ◌&&◌, List, Option, Some, None, if◌then◌else◌}
+use Rattle.std.specs.Prelude.{ℕ, List, Option, Some, None}
+use Rattle.hush_commands.specs.declared.departure.Leaving.{Leaving}
+use Rattle.hush_commands.specs.Departures.{leaving_with}
 use Rattle.hush_commands.specs.declared.command.Command.{Command}
 use Rattle.hush_commands.specs.declared.command.Command.TheVariants as command
 use Rattle.hush_commands.specs.declared.follow.Follow.{Follow}
 use Rattle.hush_commands.specs.declared.follow.Follow.TheVariants as follow
 use Rattle.hush_commands.specs.Commands.{command_in}
 use Rattle.hush_commands.specs.declared.board_rules.Reply.{Reply}
-use Rattle.hush_commands.specs.declared.board_rules.Reply.TheVariants.{Status, Text}
+use Rattle.hush_commands.specs.declared.board_rules.Reply.TheVariants.{Status, Text, Lacks}
 use Rattle.hush_commands.specs.Hardware.{Hardware, answer_to}
 use Rattle.hush_commands.specs.declared.shell.Shell.{Shell}
 use Rattle.hush_commands.specs.declared.shell.Shell.TheVariants.{Strict, Board}
 
--- an answer that boots ends the run if its status is 0; a text is started
+-- the end of the run if the board is left by this call
+abbrev pub departing : (fields : List (List ℕ)) → Option Leaving → Follow
+departing fields None = follow.Next
+departing fields (Some leaving) = follow.End (Some (record { leaving = leaving; words = fields }))
+
+-- a command that leaves the board ends the run if its status is 0; a text is started
 abbrev pub follow_reply : (fields : List (List ℕ)) → Reply → Follow
-follow_reply fields (Status status boots) = if boots && status == 0 then follow.End else follow.Next
+follow_reply fields (Status status leaves) = departing fields (leaving_with leaves status)
 follow_reply fields (Text text) = follow.Answers fields text
+follow_reply fields Lacks = follow.Next
 
 abbrev pub follow_to : (fields : List (List ℕ)) → Option Reply → Follow
 follow_to fields None = follow.Next
@@ -22,7 +30,7 @@ follow_to fields (Some reply) = follow_reply fields reply
 
 -- an `exit` ends the run; on a board it ends the text that it is in
 abbrev pub exit_follow : Shell → Follow
-exit_follow Strict = follow.End
+exit_follow Strict = follow.End None
 exit_follow Board = follow.Leaves
 
 abbrev pub follow_by : Shell → Hardware → Command → Follow

@@ -10,7 +10,7 @@ use Rattle.hush_commands.specs.declared.stand_ins.Role.{Role}
 use Rattle.hush_commands.specs.declared.board_rules.PatternWord.{PatternWord}
 use Rattle.hush_commands.specs.declared.board_rules.Rule.{Rule}
 use Rattle.hush_commands.specs.declared.board_rules.Reply.{Reply}
-use Rattle.hush_commands.specs.declared.board_rules.Reply.TheVariants.{Status, Text}
+use Rattle.hush_commands.specs.declared.board_rules.Reply.TheVariants.{Status, Text, Lacks}
 use Rattle.hush_commands.specs.Stubs.{Statuses}
 
 -- a word of a pattern fits the word that it is; with a `*` each that begins with it
@@ -38,7 +38,7 @@ hardware rules stubs = record { rules = rules; stubs = stubs }
 
 -- what a stand-in answers each call of its name
 abbrev pub role_reply : Role → Reply
-role_reply role = Status role.status role.boots
+role_reply role = Status role.status role.leaves
 
 -- the answer to a call of this name: that of the first rule that fits it and the words after it, else of the stand-in of
 -- its name
@@ -49,8 +49,9 @@ answer_to h called fields = option_or (ruled h.rules (called ∷ drop 1 fields))
 -- status 0
 abbrev pub is_success : Option Reply → Bool
 is_success None = false
-is_success (Some (Status status boots)) = status == 0
+is_success (Some (Status status leaves)) = status == 0
 is_success (Some (Text text)) = false
+is_success (Some Lacks) = false
 
 abbrev pub is_there : Hardware → (words : List (List ℕ)) → Bool
 is_there h words = is_success (option_or (ruled h.rules (codes "test" ∷ codes "-e" ∷ words)) (option_map role_reply (names.get h.stubs (codes "test -e"))))

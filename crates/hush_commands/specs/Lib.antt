@@ -3,6 +3,7 @@ pub mod Builtins
 pub mod Statuses
 pub mod Commands
 pub mod StandInLines
+pub mod Departures
 pub mod Stubs
 pub mod Hardware
 pub mod CommandNames

@@ -5,9 +5,11 @@ use Rattle.std.specs.Cmp.Lexicographic.{slice_cmp}
 use Rattle.std.specs.declared.cmp.Ordering.{Ordering}
 use Rattle.std.specs.FinMap as names
 use Rattle.std.specs.FinMap.{FinMap}
-use Rattle.std.specs.Coded.{Coded, code_by, coded×, coded_bool, coded_list, coded_ℕ}
+use Rattle.std.specs.Coded.{Coded, code_by, coded×, coded_list, coded_option, coded_ℕ}
 use Rattle.std.specs.Str.Lines.{strip_carriage_return}
 use Rattle.text_parts.specs.Lines.{Line as NumberedLine, numbered_lines}
+use Rattle.hush_commands.specs.declared.departure.Leaving.{Leaving}
+use Rattle.hush_commands.specs.Departures.{leaving_code, leaving_with}
 use Rattle.hush_commands.specs.declared.stand_ins.Role.{Role}
 use Rattle.hush_commands.specs.declared.stand_in_line.StubFault.{StubFault}
 use Rattle.hush_commands.specs.declared.stand_in_line.StubFault.TheVariants.{Line, Builtin, Twice, Memory}
@@ -17,13 +19,13 @@ use Rattle.hush_commands.specs.StandInLines.{StandInLine, read_line}
 abbrev pub name_order : List ℕ → List ℕ → Ordering
 name_order = slice_cmp nat_cmp
 
--- what each name that has a stand-in does: the status that it answers, and whether it boots
+-- what each name that has a stand-in does: the status that it answers, and how it leaves the board
 abbrev pub Statuses : Type 0
 Statuses = FinMap name_order Role
 
 abbrev role_code : Coded Role
 role_code =
-    code_by (ℕ × Bool) (coded× coded_ℕ coded_bool) (λ r. (r.status, r.boots)) (λ p. record { status = p.0; boots = p.1 }) (λ _. refl)
+    code_by (ℕ × Option Leaving) (coded× coded_ℕ (coded_option leaving_code)) (λ r. (r.status, r.leaves)) (λ p. record { status = p.0; leaves = p.1 }) (λ _. refl)
 
 abbrev pub statuses_code : Coded Statuses
 statuses_code = names.code (coded_list coded_ℕ) role_code
@@ -32,30 +34,27 @@ statuses_code = names.code (coded_list coded_ℕ) role_code
 abbrev pub status_of_name : Statuses → List ℕ → Option ℕ
 status_of_name stand_ins name = option_map (λ role. role.status) (names.get stand_ins name)
 
--- whether a stand-in ends the run: it boots, and its status is 0
-abbrev pub is_end : Option Role → Bool
-is_end None = false
-is_end (Some role) = role.boots && role.status == 0
+-- how a stand-in leaves the board
+abbrev pub leaving_of : Option Role → Option Leaving
+leaving_of None = None
+leaving_of (Some role) = leaving_with role.leaves role.status
 
-abbrev pub ends_run : Statuses → List ℕ → Bool
-ends_run stand_ins name = is_end (names.get stand_ins name)
+-- the same when a stand-in of this name leaves the board; a name without one changes nothing
+abbrev pub leaving_by : Leaving → Statuses → List ℕ → Option ℕ → Statuses
+leaving_by leaving stand_ins name None = stand_ins
+leaving_by leaving stand_ins name (Some status) = names.insert stand_ins name (record { status = status; leaves = Some leaving })
 
--- the same when a stand-in of this name boots; a name without one changes nothing
-abbrev pub booting : Statuses → List ℕ → Option ℕ → Statuses
-booting stand_ins name None = stand_ins
-booting stand_ins name (Some status) = names.insert stand_ins name (record { status = status; boots = true })
-
-abbrev pub with_boot : Statuses → List ℕ → Statuses
-with_boot stand_ins name = booting stand_ins name (status_of_name stand_ins name)
+abbrev pub with_leaving : Leaving → Statuses → List ℕ → Statuses
+with_leaving leaving stand_ins name = leaving_by leaving stand_ins name (status_of_name stand_ins name)
 
 -- what a stand-in file is read as
 abbrev pub StubsOrFault : Type 0
 StubsOrFault = Result Statuses StubFault
 
--- the stand-ins with one more, which doesn't boot, unless the name has one already
+-- the stand-ins with one more, which comes back, unless the name has one already
 abbrev pub with_stand_in : ℕ → Statuses → List ℕ → ℕ → StubsOrFault
 with_stand_in number statuses name status =
-    if names.contains_key statuses name then Err (Twice number) else Ok (names.insert statuses name (record { status = status; boots = false }))
+    if names.contains_key statuses name then Err (Twice number) else Ok (names.insert statuses name (record { status = status; leaves = None }))
 
 -- the stand-ins with what a line holds
 abbrev pub with_read : ℕ → Statuses → StandInLine → StubsOrFault

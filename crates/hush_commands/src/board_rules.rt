@@ -1,9 +1,10 @@
 //! What a board answers: rules for calls, of which the first that fits decides (docs/runs.md, "Boards").
 ghost use Rattle.std.specs.Prelude.{◌≡◌, IfOk, [], ◌∷◌, codes, drop, if◌then◌else◌, None, Some, option_copied, option_map};
-ghost use Rattle.hush_commands.specs.CommandNames.{is_name, is_ruled, pattern_name, with_own, with_rules};
+ghost use Rattle.hush_commands.specs.CommandNames.{is_lack, is_name, is_ruled, lacks, pattern_name, with_own, with_rules};
 ghost use Rattle.hush_commands.specs.Hardware.{word_fits, pattern_fits, ruled};
 
 use crate::command_names::Found;
+use crate::departure::Leaving;
 use hush_calc::{Fields, is_text};
 use std::alloc::{AllocError, Global};
 use std::marker::Model;
@@ -174,15 +175,26 @@ fn behind_first<'a>(fields: &Fields<'a>) -> Fields<'a>
 /// What a call is answered with.
 #[derive(Drop)]
 pub enum Reply {
-    /// This status; whether the run ends with it if it is 0.
+    /// This status.
     Status {
         /// The status.
         status: u8,
-        /// Whether the command doesn't come back.
-        boots: bool,
+        /// How the board is left if the status is 0, by a command that doesn't come back then.
+        leaves: Option<Leaving>,
     },
     /// A script, started with the call's words as local variables; the status is the script's.
     Text(Bytes),
+    /// Nothing: the board lacks the command, also if it is a builtin's.
+    Lacks,
+}
+
+impl Reply {
+    /// Whether the board lacks the command.
+    fn is_lack(&self) -> bool
+        ensures { result ≡ is_lack self.now }
+    {
+        matches!(self, Reply::Lacks)
+    }
 }
 
 /// A rule: calls that the pattern fits are answered so.
@@ -261,6 +273,20 @@ impl BoardRules {
         let mut rules = self.rules.as_slice();
         while let Some((rule, others)) = rules.split_first() {
             if rule.is_called(name) {
+                return true;
+            }
+            rules = others;
+        }
+        false
+    }
+
+    /// Whether the board lacks the builtin of this name.
+    pub(crate) fn lacks(&self, name: &[u8]) -> bool
+        ensures { result ≡ lacks self.now name.now }
+    {
+        let mut rules = self.rules.as_slice();
+        while let Some((rule, others)) = rules.split_first() {
+            if rule.reply.is_lack() && rule.is_called(name) {
                 return true;
             }
             rules = others;

@@ -125,10 +125,10 @@ impl<'a> Command<'a> {
             Some(word) => {
                 let called = name_by(shell, stand_ins, board, word);
                 match Builtin::of(called) {
-                    Some(builtin) => {
+                    Some(builtin) if !board.lacks(builtin.name()) => {
                         Command::of_builtin(shell, board, builtin, called, fields, words)
                     }
-                    None => Command::Other {
+                    _ => Command::Other {
                         called: Name::of(called),
                         fields,
                     },

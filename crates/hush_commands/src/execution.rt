@@ -7,7 +7,7 @@ ghost use Rattle.hush_commands.specs.Hardware.{hardware, answer_to, role_reply};
 ghost use Rattle.text_parts.specs.Words.{spaced};
 ghost use Rattle.hush_commands.specs.Commands.{command_in};
 ghost use Rattle.hush_commands.specs.Output.{Prints, Answers, status_if};
-ghost use Rattle.hush_commands.specs.Carrying.{echo_of, line_end, stand_in_of, other_of, save_of, done_by, done_of, reply_status};
+ghost use Rattle.hush_commands.specs.Carrying.{echo_of, line_end, stand_in_of, other_of, save_of, unknown, done_by, done_of};
 ghost use Rattle.hush_commands.specs.Carrying.{Attempts, Carries, IsRefused, Tells, status_in};
 
 use crate::board_rules::{BoardRules, Reply};
@@ -159,21 +159,10 @@ fn other(
         output.old output.new result }
 {
     match board.find(called, &fields) {
-        Some(reply) => {
-            let own = reply_status(status, reply);
-            stand_in(alloc, own, fields, output)
-        }
+        Some(Reply::Status { status: own, .. }) => stand_in(alloc, *own, fields, output),
+        Some(Reply::Text(_)) => stand_in(alloc, status, fields, output),
+        Some(Reply::Lacks) => unknown(called, &fields, output),
         None => other_stub(alloc, stand_ins, called, fields, output),
-    }
-}
-
-/// The status of an answer; a text leaves it.
-fn reply_status(status: u8, reply: &Reply) -> u8
-    ensures { result ≡ reply_status status reply.now }
-{
-    match reply {
-        Reply::Status { status: own, .. } => *own,
-        Reply::Text(_) => status,
     }
 }
 
@@ -190,8 +179,15 @@ fn other_stub(
 {
     match stand_ins.status(called) {
         Some(status) => stand_in(alloc, status, fields, output),
-        None => Message::UnknownCommand.fail(written(called, &fields), output),
+        None => unknown(called, &fields, output),
     }
+}
+
+/// A command that isn't known.
+fn unknown(called: &[u8], fields: &Fields<'_>, output: &mut Output) -> Result<u8, PrintFault>
+    ensures { Answers (unknown called.now fields.now) output.old output.new result }
+{
+    Message::UnknownCommand.fail(written(called, fields), output)
 }
 
 /// The name of a command as it was written.

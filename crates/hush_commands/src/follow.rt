@@ -4,10 +4,11 @@ ghost use Rattle.hush_commands.specs.Carrying.{takes_more};
 ghost use Rattle.std.specs.FinMap as names;
 ghost use Rattle.std.specs.Prelude.{option_map};
 ghost use Rattle.hush_commands.specs.Hardware.{hardware, answer_to, role_reply};
-ghost use Rattle.hush_commands.specs.Following.{exit_follow, follow_by, follow_reply, follow_to};
+ghost use Rattle.hush_commands.specs.Following.{exit_follow, departing, follow_by, follow_reply, follow_to};
 
 use crate::board_rules::{BoardRules, Bytes, Reply};
 use crate::command::Command;
+use crate::departure::{Departure, Leaving, leaving_with};
 use crate::field_queue::FieldQueue;
 use crate::shell::Shell;
 use crate::stand_ins::Stubs;
@@ -19,8 +20,8 @@ use std::alloc::{AllocError, Global};
 pub enum Follow {
     /// What comes next in the script.
     Next,
-    /// The end of the run: it is an `exit` of the strict shell, or an answer that boots, with status 0.
-    End,
+    /// The end of the run: the board is left by this call, or it is an `exit` of the strict shell.
+    End(Option<Departure>),
     /// The end of the text that it is in: it is an `exit` of a board.
     Leaves,
     /// The starts of these names: it is a `run`.
@@ -73,7 +74,7 @@ fn exit_follow(shell: Shell) -> Follow
     ensures { result ≡ exit_follow shell }
 {
     match shell {
-        Shell::Strict => Follow::End,
+        Shell::Strict => Follow::End(None),
         Shell::Board => Follow::Leaves,
     }
 }
@@ -90,7 +91,7 @@ fn follow_other(
 {
     match board.find(called, fields) {
         Some(reply) => follow_reply(alloc, reply, fields),
-        None => Ok(follow_stub(stand_ins, called)),
+        None => departing(alloc, stand_ins.leaving(called), fields),
     }
 }
 
@@ -99,27 +100,28 @@ fn follow_reply(alloc: Global, reply: &Reply, fields: &Fields<'_>) -> Result<Fol
     ensures { IfOk result (λ follow. follow ≡ follow_reply fields.now reply.now) }
 {
     match reply {
-        Reply::Status { status, boots } => {
-            if *boots && *status == 0 {
-                Ok(Follow::End)
-            } else {
-                Ok(Follow::Next)
-            }
+        Reply::Status { status, leaves } => {
+            departing(alloc, leaving_with(*leaves, *status), fields)
         }
         Reply::Text(text) => Ok(Follow::Answers {
             words: FieldQueue::of(alloc, fields)?,
             text: Bytes::of(alloc, text.as_bytes())?,
         }),
+        Reply::Lacks => Ok(Follow::Next),
     }
 }
 
-/// What follows the stand-in of a name.
-fn follow_stub(stand_ins: &Stubs, called: &[u8]) -> Follow
-    ensures { (fields : List (List ℕ)) → result ≡ follow_to fields (option_map role_reply (names.get stand_ins.now called.now)) }
+/// What follows a call with these words that leaves the board, or comes back.
+fn departing(
+    alloc: Global,
+    leaving: Option<Leaving>,
+    fields: &Fields<'_>,
+) -> Result<Follow, AllocError>
+    ensures { IfOk result (λ follow. follow ≡ departing fields.now leaving) }
 {
-    if stand_ins.ends(called) {
-        Follow::End
-    } else {
-        Follow::Next
-    }
+    let Some(leaving) = leaving else {
+        return Ok(Follow::Next);
+    };
+    let words = FieldQueue::of(alloc, fields)?;
+    Ok(Follow::End(Some(Departure { leaving, words })))
 }

@@ -1,7 +1,7 @@
 //! One simple command of a dry run: its words are expanded to fields, and it is carried out by them. Also the stand-ins
 //! for commands that need hardware, and the messages of commands that fail. docs/runs.md states the rules.
 //!
-//! To read in this order: shell; builtins, stand_in_line, stand_ins, board_rules, command_names; locals, expansion, field_buffer, field_queue;
+//! To read in this order: shell; builtins, departure, stand_in_line, stand_ins, board_rules, command_names; locals, expansion, field_buffer, field_queue;
 //! command, follow, execution; writes, listing; messages, output.
 #![tactic(auto)]
 
@@ -9,6 +9,7 @@ mod board_rules;
 mod builtins;
 mod command;
 mod command_names;
+mod departure;
 mod execution;
 mod expansion;
 mod field_buffer;
@@ -26,6 +27,7 @@ mod writes;
 pub use board_rules::{BoardRules, Bytes, Pattern, PatternWord, Reply, Rule};
 pub use builtins::is_builtin;
 pub use command_names::{command_name, names_command, stands_for};
+pub use departure::{Departure, Leaving};
 pub use execution::carry_out;
 pub use expansion::{ExpansionFault, Scope};
 pub use field_buffer::FieldBuffer;

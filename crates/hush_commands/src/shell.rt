@@ -111,6 +111,6 @@ fn is_success(reply: &Reply) -> bool
 {
     match reply {
         Reply::Status { status, .. } => *status == 0,
-        Reply::Text(_) => false,
+        Reply::Text(_) | Reply::Lacks => false,
     }
 }

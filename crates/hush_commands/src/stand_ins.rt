@@ -1,11 +1,12 @@
-//! Stand-ins: names of commands that need hardware, each with the status that it answers and whether it boots.
+//! Stand-ins: names of commands that need hardware, each with the status that it answers and how it leaves the board.
 ghost use Rattle.hush_commands.specs.CommandNames.{stub_names, with_names};
 ghost use Rattle.std.specs.Prelude.{◌≡◌, map, Some, Ok, IfOk, IfErr, OnOk, OnErr};
 ghost use Rattle.std.specs.FinMap as names;
 ghost use Rattle.hush_commands.specs.Stubs.{stand_ins_of, with_line, with_stand_in, IsFaultOf};
-ghost use Rattle.hush_commands.specs.Stubs.{status_of_name, booting, with_boot, is_end, ends_run};
+ghost use Rattle.hush_commands.specs.Stubs.{status_of_name, leaving_by, leaving_of, with_leaving};
 
 use crate::command_names::Found;
+use crate::departure::{Leaving, leaving_with};
 use crate::stand_in_line::{StubFault, read_line};
 use std::alloc::{AllocError, Global};
 use std::collections::BTreeMap;
@@ -17,17 +18,8 @@ use text_parts::numbered_lines;
 pub(crate) struct Role {
     /// The status that it answers.
     pub(crate) status: u8,
-    /// Whether the run ends with it if its status is 0, as at a command that doesn't come back.
-    pub(crate) boots: bool,
-}
-
-impl Role {
-    /// Whether the run ends with it.
-    fn is_end(&self) -> bool
-        ensures { result ≡ is_end (Some self.now) }
-    {
-        self.boots && self.status == 0
-    }
+    /// How the board is left if the status is 0, by a command that doesn't come back then.
+    pub(crate) leaves: Option<Leaving>,
 }
 
 /// The stand-ins of a run: the commands that only hardware has, each with the status that it answers here.
@@ -56,7 +48,7 @@ impl Stubs {
     /// Reads a stand-in file: in each line a name, and perhaps a status (docs/runs.md, "Stand-ins").
     ///
     /// The first line that is at fault decides: `Line` if it has another form or holds a 0 byte, else `Builtin` if the
-    /// name is a builtin's, else `Twice` if an earlier line has it. `Memory` when a growth was refused. No stand-in boots.
+    /// name is a builtin's, else `Twice` if an earlier line has it. `Memory` when a growth was refused. Each stand-in comes back.
     pub fn parse(alloc: Global, text: &[u8]) -> Result<Stubs, StubFault>
         ensures read { IfOk result (λ stand_ins. stand_ins_of text.now ≡ Ok stand_ins) }
         ensures refused { IfErr result (IsFaultOf (stand_ins_of text.now)) }
@@ -78,39 +70,45 @@ impl Stubs {
         }
     }
 
-    /// From now on a stand-in of this name boots: it ends a run if its status is 0. If the name has no stand-in, or
-    /// a growth is refused, nothing has changed.
-    pub fn boot(&mut self, alloc: Global, name: &[u8]) -> Result<(), AllocError>
-        ensures ok { OnOk result (self.new ≡ with_boot self.old name.now) }
+    /// From now on a stand-in of this name leaves the board so if its status is 0, which ends a run. If the name has no
+    /// stand-in, or a growth is refused, nothing has changed.
+    pub fn leave(&mut self, alloc: Global, name: &[u8], leaving: Leaving) -> Result<(), AllocError>
+        ensures ok { OnOk result (self.new ≡ with_leaving leaving self.old name.now) }
         ensures err { OnErr result (self.new ≡ self.old) }
     {
         match self.status(name) {
-            Some(status) => self.set_boot(alloc, name, status),
+            Some(status) => self.set_leaving(alloc, name, status, leaving),
             None => Ok(()),
         }
     }
 
-    /// Gives a name a stand-in that boots. If a growth is refused, nothing has changed.
-    fn set_boot(&mut self, alloc: Global, name: &[u8], status: u8) -> Result<(), AllocError>
-        ensures ok { OnOk result (self.new ≡ booting self.old name.now (Some status)) }
+    /// Gives a name a stand-in that leaves the board. If a growth is refused, nothing has changed.
+    fn set_leaving(
+        &mut self,
+        alloc: Global,
+        name: &[u8],
+        status: u8,
+        leaving: Leaving,
+    ) -> Result<(), AllocError>
+        ensures ok { OnOk result (self.new ≡ leaving_by leaving self.old name.now (Some status)) }
         ensures err { OnErr result (self.new ≡ self.old) }
     {
         let name = Vec::from_slice(alloc, name)?;
         let role = Role {
             status,
-            boots: true,
+            leaves: Some(leaving),
         };
         self.roles.insert(name, role)?;
         Ok(())
     }
 
-    /// Whether a name has a stand-in that ends a run.
-    pub(crate) fn ends(&self, name: &[u8]) -> bool
-        ensures { result ≡ ends_run self.now name.now }
+    /// How the stand-in of a name leaves the board, if it does.
+    pub(crate) fn leaving(&self, name: &[u8]) -> Option<Leaving>
+        ensures { result ≡ leaving_of (names.get self.now name.now) }
     {
         match self.roles.get(name) {
-            Some(role) => role.is_end(),
-            None => false,
+            Some(role) => leaving_with(role.leaves, role.status),
+            None => None,
         }
     }
 
@@ -156,7 +154,7 @@ impl Stubs {
         let name = Vec::from_slice(alloc, name)?;
         let role = Role {
             status,
-            boots: false,
+            leaves: None,
         };
         match self.roles.insert(name, role)? {
             Some(_old) => Err(StubFault::Twice(number)),

@@ -133,7 +133,7 @@ module _ (rules : Rules) (begin : Begin) (counts : (x : Starting) → Counts rul
 
   follows-keep : (f : Follow) → Keeps rules (follows rules begin f)
   follows-keep follow.Next = goes-keeps rules
-  follows-keep follow.End = goes-keeps rules
+  follows-keep (follow.End departure) = goes-keeps rules
   follows-keep follow.Leaves = λ s le. (omega arith, le)
   follows-keep (follow.Starts names) = in_turn-keeps names
   follows-keep (follow.Deletes force names) = deletions-keep force false names

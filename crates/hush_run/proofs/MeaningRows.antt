@@ -12,6 +12,7 @@ use Rattle.hush_syntax.specs.Reading.{command, read, read_in}
 use Rattle.hush_commands.specs.Builtins.{builtin_of}
 use Rattle.hush_commands.specs.Expansion.{fields}
 use Rattle.run_limits.specs.Limits.{bounds}
+use Rattle.hush_commands.specs.declared.departure.Leaving.TheVariants.{Boots}
 use Rattle.hush_commands.specs.declared.stand_ins.Role.{Role}
 use Rattle.hush_commands.specs.Stubs.{Statuses}
 use Rattle.hush_commands.specs.declared.board_rules.Reply.TheVariants.{Status, Text}
@@ -179,7 +180,7 @@ unknown_command held = simp get-empty
 -- at most 4 steps, and `booti` with this status, which boots
 abbrev booting : ℕ → Rules
 booting status =
-    rules (let none : Statuses = empty in insert none (codes "booti") (record { status = status; boots = true })) (bounds 4 4 256 4096)
+    rules (let none : Statuses = empty in insert none (codes "booti") (record { status = status; leaves = Some Boots })) (bounds 4 4 256 4096)
 
 -- a boot in a loop
 boot_from_a_loop : (held : Held) → comes_to (booting 0) held (codes "while true; do booti 0; echo a; done; echo b") ≡ Some (Exited, 0, 2, codes "+ booti 0\n")
@@ -284,8 +285,8 @@ loads text depth =
     rules_in Strict
     (hardware
     (record { pattern = record { text = codes "load"; begins = false } ∷ record { text = codes "mm"; begins = true } ∷ []; reply = Text text }
-    ∷ record { pattern = record { text = codes "load"; begins = false } ∷ []; reply = Status 1 false }
-    ∷ record { pattern = record { text = codes "booti"; begins = false } ∷ []; reply = Status 0 true }
+    ∷ record { pattern = record { text = codes "load"; begins = false } ∷ []; reply = Status 1 None }
+    ∷ record { pattern = record { text = codes "booti"; begins = false } ∷ []; reply = Status 0 (Some Boots) }
     ∷ [])
     (let none : Statuses = empty in none))
     (bounds 1000 depth 256 4096)
@@ -358,7 +359,7 @@ board_exit_without_status held = refl
 abbrev board_mmc : Rules
 board_mmc =
     rules_in Board
-    (hardware (record { pattern = record { text = codes "mmc"; begins = false } ∷ []; reply = Status 2 false } ∷ []) (let none : Statuses = empty in none))
+    (hardware (record { pattern = record { text = codes "mmc"; begins = false } ∷ []; reply = Status 2 None } ∷ []) (let none : Statuses = empty in none))
     (bounds 1000 4 256 4096)
 
 board_run_status : (held : Held) → get held.now.env (codes "f") ≡ Some (codes "mmc") → comes_to board_mmc held (codes "run f || echo $?") ≡ Some (Finished, 0, 4, codes "+ mmc\n1\n")

@@ -6,7 +6,7 @@ use Rattle.hush_run.specs.declared.ending.Ending.{Ending}
 use Rattle.hush_run.specs.declared.outcome.Outcome.{Outcome}
 use Rattle.hush_run.specs.Meaning.{Reason, Rules, State, meaning, place, place_in, first_state, run_of, run_from, within}
 use Rattle.hush_run.specs.Advances.{Ran}
-use Rattle.hush_run.specs.Runs.{RunsBy, EndsBy}
+use Rattle.hush_run.specs.Runs.{RunsBy, DepartsBy, EndsBy}
 
 abbrev pub told : Ending → State → Vec ℕ Global → Outcome
 told ending t text = record { ending = ending; status = t.status; steps = t.steps; text = text }
@@ -24,3 +24,8 @@ pub ends_so : (rules : Rules) (tree : Option Chains) (old : Held) (s t : State) 
 unfolding place
 ends_so rules tree old s t ends_in (Some e) is ran = sym (ap (λ (x : State). place_in (run_of rules tree x)) (sym is) ∙ ran.1)
 ends_so rules tree old s t ends_in None is ran = tt
+
+pub departs_so : (rules : Rules) (tree : Option Chains) (old : Held) (s t : State) (ends_in : Option (List ℕ)) (o : Option Reason) → s ≡ first_state rules old → Ran rules tree s t ends_in o → DepartsBy o rules tree old t.departure
+unfolding meaning
+departs_so rules tree old s t ends_in (Some e) is ran = sym (ap (λ (p : Reason × State). p.1.departure) (ap (λ (x : State). run_from rules tree x) (sym is) ∙ ran.0))
+departs_so rules tree old s t ends_in None is ran = tt

@@ -3,6 +3,7 @@ use Rattle.std.proofs.Common.{◌≡◌, ℕ, zero, suc, ◌<◌, ◌≤◌, ◌
 use Rattle.std.proofs.lemmas.Bool.{lt-ltb, le-ltb}
 use Rattle.env_session.specs.Session.{Held}
 use Rattle.hush_words.specs.Words.{Atom}
+use Rattle.hush_commands.specs.declared.departure.Departure.{Departure}
 use Rattle.hush_commands.specs.declared.follow.Follow.{Follow}
 use Rattle.hush_commands.specs.declared.follow.Follow.TheVariants as follow
 use Rattle.hush_commands.specs.declared.output.PrintFault.{PrintFault}
@@ -104,15 +105,19 @@ simple_large rules begin has_value (Some fields) s lt e = absurd (let f : true �
 
 exiting-stops : (f : Follow) (e : Reason) → exiting f (Stops e) ≡ Stops e
 exiting-stops follow.Next e = refl
-exiting-stops follow.End e = refl
+exiting-stops (follow.End departure) e = refl
 exiting-stops follow.Leaves e = refl
 exiting-stops (follow.Starts names) e = refl
 exiting-stops (follow.Deletes force names) e = refl
 exiting-stops (follow.Answers words text) e = refl
 
-exiting-does : (f : Follow) (t : State) → (f ≡ follow.End → ⊥) → exiting f (Does t) ≡ Does t
+-- what doesn't end the run
+abbrev pub NoEnd : Follow → Type 0
+NoEnd f = (departure : Option Departure) → f ≡ follow.End departure → ⊥
+
+exiting-does : (f : Follow) (t : State) → NoEnd f → exiting f (Does t) ≡ Does t
 exiting-does follow.Next t h = refl
-exiting-does follow.End t h = absurd (h refl)
+exiting-does (follow.End departure) t h = absurd (h departure refl)
 exiting-does follow.Leaves t h = refl
 exiting-does (follow.Starts names) t h = refl
 exiting-does (follow.Deletes force names) t h = refl
@@ -121,7 +126,7 @@ exiting-does (follow.Answers words text) t h = refl
 -- what isn't an `exit` of a board is followed by what follows it
 pub followed-other : (has_value : Bool) (f : Follow) → (f ≡ follow.Leaves → ⊥) → f ≡ followed has_value f
 followed-other has_value follow.Next h = refl
-followed-other has_value follow.End h = refl
+followed-other has_value (follow.End departure) h = refl
 followed-other has_value follow.Leaves h = absurd (h refl)
 followed-other has_value (follow.Starts names) h = refl
 followed-other has_value (follow.Deletes force names) h = refl
@@ -131,11 +136,11 @@ module _ (rules : Rules) (words : List (List Atom)) (s : State) (fields : List (
   abbrev pub d : Done
   d = done_of rules.shell rules.stand_ins fields s.status s.held
 
-  pub simple_done : (status k : ℕ) (g f : Follow) → Carries d s.held after s.printed new (Ok status) → k ≡ suc s.steps → g ≡ follow_of rules.shell rules.stand_ins fields → (g ≡ follow.End → ⊥) → f ≡ followed (have_value words) g → Did rules (λ r begin t. simple r begin (have_value words) (fields_of r words t) t) (λ g r begin. follows r begin g) s (record { held = after; locals = s.locals; status = status; printed = new; steps = k }) (Ok f)
+  pub simple_done : (status k : ℕ) (g f : Follow) → Carries d s.held after s.printed new (Ok status) → k ≡ suc s.steps → g ≡ follow_of rules.shell rules.stand_ins fields → NoEnd g → f ≡ followed (have_value words) g → Did rules (λ r begin t. simple r begin (have_value words) (fields_of r words t) t) (λ g r begin. follows r begin g) s (record { held = after; locals = s.locals; status = status; printed = new; steps = k; departure = s.departure }) (Ok f)
   unfolding effect
   simple_done status k g f c is isg other isf =
       rw (c.1, c.2, c.3) (
-      let does : effect rules.shell rules.stand_ins fields s ≡ Does (carried d s) = ap (exiting (follow_of rules.shell rules.stand_ins fields)) (fits d s c.0) ∙ exiting-does (follow_of rules.shell rules.stand_ins fields) (carried d s) (λ e. other (isg ∙ e)) in
+      let does : effect rules.shell rules.stand_ins fields s ≡ Does (carried d s) = ap (exiting (follow_of rules.shell rules.stand_ins fields)) (fits d s c.0) ∙ exiting-does (follow_of rules.shell rules.stand_ins fields) (carried d s) (λ departure e. other departure (isg ∙ e)) in
       let did = step_done rules (effect rules.shell rules.stand_ins fields) s (carried d s) k lt does is in (
         did.0,
         λ n begin le.
@@ -145,16 +150,16 @@ module _ (rules : Rules) (words : List (List Atom)) (s : State) (fields : List (
       )
       )
 
-  pub simple_left : (status k : ℕ) → Carries d s.held after s.printed new (Ok status) → k ≡ suc s.steps → follow_of rules.shell rules.stand_ins fields ≡ follow.End → (begin : Begin) → simple rules begin (have_value words) (fields_of rules words s) s ≡ Ends Exited None (record { held = after; locals = s.locals; status = status; printed = new; steps = k })
+  pub simple_left : (status k : ℕ) (departure : Option Departure) → Carries d s.held after s.printed new (Ok status) → k ≡ suc s.steps → follow_of rules.shell rules.stand_ins fields ≡ follow.End departure → (begin : Begin) → simple rules begin (have_value words) (fields_of rules words s) s ≡ Ends Exited None (record { held = after; locals = s.locals; status = status; printed = new; steps = k; departure = departure })
   unfolding effect
-  simple_left status k c is end begin =
+  simple_left status k departure c is end begin =
       rw (c.1, c.2, c.3) (
-      let leaves : effect rules.shell rules.stand_ins fields s ≡ Exits (carried d s) = ap (exiting (follow_of rules.shell rules.stand_ins fields)) (fits d s c.0) ∙ ap (λ (g : Follow). exiting g (Does (carried d s))) end in
+      let leaves : effect rules.shell rules.stand_ins fields s ≡ Exits (record (carried d s) { departure = departure }) = ap (exiting (follow_of rules.shell rules.stand_ins fields)) (fits d s c.0) ∙ ap (λ (g : Follow). exiting g (Does (carried d s))) end in
       ap (λ (o : Option (List (List ℕ))). simple rules begin (have_value words) o s) are
-      ∙ ap (λ (o : Out). o >>= follows rules begin (followed (have_value words) (follow_of rules.shell rules.stand_ins fields))) (step_left rules (effect rules.shell rules.stand_ins fields) s (carried d s) k lt leaves is)
+      ∙ ap (λ (o : Out). o >>= follows rules begin (followed (have_value words) (follow_of rules.shell rules.stand_ins fields))) (step_left rules (effect rules.shell rules.stand_ins fields) s (record (carried d s) { departure = departure }) k lt leaves is)
       )
 
-  pub simple_unprinted : (fault : PrintFault) → Carries d s.held after s.printed new (Err fault) → Did rules (λ r begin t. simple r begin (have_value words) (fields_of r words t) t) (λ g r begin. follows r begin g) s (record { held = after; locals = s.locals; status = s.status; printed = new; steps = s.steps }) (Err (ending_of_print fault))
+  pub simple_unprinted : (fault : PrintFault) → Carries d s.held after s.printed new (Err fault) → Did rules (λ r begin t. simple r begin (have_value words) (fields_of r words t) t) (λ g r begin. follows r begin g) s (record { held = after; locals = s.locals; status = s.status; printed = new; steps = s.steps; departure = s.departure }) (Err (ending_of_print fault))
   unfolding effect
   simple_unprinted print.Output c =
       rw (c.1, c.2) (
@@ -165,12 +170,12 @@ module _ (rules : Rules) (words : List (List Atom)) (s : State) (fields : List (
   simple_unprinted print.Memory c = rw (c.0, c.1) refl
 
 -- a step that does nothing but tell a message
-pub told : (rules : Rules) (message : Message) (name : List ℕ) (s : State) (new : Printed) (k : ℕ) → s.steps < rules.limits.steps → PrintsWhole (text_of message name) s.printed new (Ok tt) → k ≡ suc s.steps → Did rules (λ r begin. step r (fails message name)) (λ (u : Unit {0}) r begin. Goes) s (record { held = s.held; locals = s.locals; status = 1; printed = new; steps = k }) (Ok tt)
+pub told : (rules : Rules) (message : Message) (name : List ℕ) (s : State) (new : Printed) (k : ℕ) → s.steps < rules.limits.steps → PrintsWhole (text_of message name) s.printed new (Ok tt) → k ≡ suc s.steps → Did rules (λ r begin. step r (fails message name)) (λ (u : Unit {0}) r begin. Goes) s (record { held = s.held; locals = s.locals; status = 1; printed = new; steps = k; departure = s.departure }) (Ok tt)
 told rules message name s new k lt p is =
     let d : Done = (answer 1 (text_of message name), s.held) in
     rw p.1 (let did = step_done rules (fails message name) s (carried d s) k lt (fits d s p.0) is in (did.0, λ n begin le. did.1 n le))
 
-pub untold : {X : Type 0} (rules : Rules) (meant : Meant) (left : X → Meant) (message : Message) (name : List ℕ) (s : State) (new : Printed) (fault : PrintFault) → PrintsWhole (text_of message name) s.printed new (Err fault) → ((begin : Begin) → fails message name s ≡ Stops Output → meant rules begin s ≡ Ends Output None s) → Did rules meant left s (record { held = s.held; locals = s.locals; status = s.status; printed = new; steps = s.steps }) (Err (ending_of_print fault))
+pub untold : {X : Type 0} (rules : Rules) (meant : Meant) (left : X → Meant) (message : Message) (name : List ℕ) (s : State) (new : Printed) (fault : PrintFault) → PrintsWhole (text_of message name) s.printed new (Err fault) → ((begin : Begin) → fails message name s ≡ Stops Output → meant rules begin s ≡ Ends Output None s) → Did rules meant left s (record { held = s.held; locals = s.locals; status = s.status; printed = new; steps = s.steps; departure = s.departure }) (Err (ending_of_print fault))
 untold rules meant left message name s new print.Output p stops = rw p.1 (λ begin. stops begin (too_long (answer 1 (text_of message name), s.held) s p.0))
 untold rules meant left message name s new print.Memory p stops = rw p.1 refl
 
@@ -277,7 +282,7 @@ assign_done rules name word s v e uncalled is =
     ∙ ap (λ (o : Option (List ℕ)). assigned_to rules.shell name o s) e
     ∙ ap (λ (b : Bool). if b then fails IsVariable name s else Does (record s { locals = map.insert s.locals name v; status = 0 })) is
 
-pub unprinted : {X : Type 0} (rules : Rules) (meant : Meant) (left : X → Meant) (d : Done) (s : State) (after : Held) (new : Printed) (fault : PrintFault) → Carries d s.held after s.printed new (Err fault) → ((begin : Begin) → carries d s ≡ Stops Output → meant rules begin s ≡ Ends Output None s) → Did rules meant left s (record { held = after; locals = s.locals; status = s.status; printed = new; steps = s.steps }) (Err (ending_of_print fault))
+pub unprinted : {X : Type 0} (rules : Rules) (meant : Meant) (left : X → Meant) (d : Done) (s : State) (after : Held) (new : Printed) (fault : PrintFault) → Carries d s.held after s.printed new (Err fault) → ((begin : Begin) → carries d s ≡ Stops Output → meant rules begin s ≡ Ends Output None s) → Did rules meant left s (record { held = after; locals = s.locals; status = s.status; printed = new; steps = s.steps; departure = s.departure }) (Err (ending_of_print fault))
 unprinted rules meant left d s after new print.Output c stops = rw (c.1, c.2) (λ begin. stops begin (too_long d s c.0))
 unprinted rules meant left d s after new print.Memory c stops = rw (c.0, c.1) refl
 
@@ -289,7 +294,7 @@ module _ (rules : Rules) (name : List ℕ) (rest : List (List ℕ)) (force faile
   pub delete_stops : (begin : Begin) → s.steps < rules.limits.steps → carries (deletion_of s.held name force failed) s ≡ Stops Output → deletions rules force failed (name ∷ rest) s ≡ Ends Output None s
   delete_stops begin lt e = ap (λ (o : Out). o >>= (λ t. deletions rules force (not (t.status == 0)) rest t)) (step_stopped rules (λ t. carries (deletion_of t.held name force failed) t) s Output lt e)
 
-  pub delete_done : (after : Held) (new : Printed) (status k : ℕ) → s.steps < rules.limits.steps → Carries (deletion_of s.held name force failed) s.held after s.printed new (Ok status) → k ≡ suc s.steps → Did rules (λ r begin. deletions r force failed (name ∷ rest)) (λ flag r begin. deletions r force flag rest) s (record { held = after; locals = s.locals; status = status; printed = new; steps = k }) (Ok (not (status == 0)))
+  pub delete_done : (after : Held) (new : Printed) (status k : ℕ) → s.steps < rules.limits.steps → Carries (deletion_of s.held name force failed) s.held after s.printed new (Ok status) → k ≡ suc s.steps → Did rules (λ r begin. deletions r force failed (name ∷ rest)) (λ flag r begin. deletions r force flag rest) s (record { held = after; locals = s.locals; status = status; printed = new; steps = k; departure = s.departure }) (Ok (not (status == 0)))
   delete_done after new status k lt c is =
       let d = deletion_of s.held name force failed in
       rw (c.1, c.2, c.3) (

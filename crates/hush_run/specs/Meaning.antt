@@ -14,6 +14,7 @@ use Rattle.hush_syntax.specs.declared.nodes.Bodies.TheVariants.{Full, MayBeEmpty
 use Rattle.hush_syntax.specs.Reading.{read_in}
 use Rattle.hush_commands.specs.declared.messages.Message.{Message}
 use Rattle.hush_commands.specs.declared.messages.Message.TheVariants.{NotDefined, UnknownCommand, IsVariable, NoScript}
+use Rattle.hush_commands.specs.declared.departure.Departure.{Departure}
 use Rattle.hush_commands.specs.declared.follow.Follow.{Follow}
 use Rattle.hush_commands.specs.declared.follow.Follow.TheVariants as follow
 use Rattle.run_limits.specs.Limits.{Bounds}
@@ -33,13 +34,15 @@ pub record Rules : Type 0 where
   pub stand_ins : Hardware
   pub limits : Bounds
 
--- what a run changes: the session, the local variables, the status, the text, and the steps that are counted
+-- what a run changes: the session, the local variables, the status, the text, the steps that are counted, and the call with
+-- which it has left the board
 pub record State : Type 0 where
   pub held : Held
   pub locals : Environment
   pub status : ℕ
   pub printed : Printed
   pub steps : ℕ
+  pub departure : Option Departure
 
 -- why a run ends, if memory isn't refused: at the end of its script, by an `exit` or a boot, or at a limit
 pub data Reason : Type 0 where
@@ -115,13 +118,13 @@ fields_after rules front word s = expanded_after (known_in s) rules.limits.word 
 abbrev pub has_variable : State → List ℕ → Bool
 has_variable s name = is_some (map.get s.held.now.env name)
 
--- an `exit` with its words ends the run, and so does a stand-in that boots, with status 0
+-- a call that leaves the board ends the run, and so does an `exit` of the strict shell
 abbrev pub exiting : Follow → Effect → Effect
 exiting follow.Next e = e
 exiting follow.Leaves e = e
-exiting follow.End (Does t) = Exits t
-exiting follow.End (Exits t) = Exits t
-exiting follow.End (Stops reason) = Stops reason
+exiting (follow.End departure) (Does t) = Exits (record t { departure = departure })
+exiting (follow.End departure) (Exits t) = Exits t
+exiting (follow.End departure) (Stops reason) = Stops reason
 exiting (follow.Starts names) e = e
 exiting (follow.Deletes force names) e = e
 exiting (follow.Answers words text) e = e
@@ -219,7 +222,7 @@ deletions rules force failed (name ∷ names) =
 -- what comes after a simple command
 abbrev pub follows : Rules → Begin → Follow → State → Out
 follows rules start follow.Next = Goes
-follows rules start follow.End = Goes
+follows rules start (follow.End departure) = Goes
 follows rules start follow.Leaves = λ s. Leaves s.status s
 follows rules start (follow.Starts names) = in_turn start names
 follows rules start (follow.Deletes force names) = deletions rules force false names
@@ -243,7 +246,7 @@ leave_of false = follow.Leaves
 
 abbrev pub followed : (has_value : Bool) → Follow → Follow
 followed has_value follow.Next = follow.Next
-followed has_value follow.End = follow.End
+followed has_value (follow.End departure) = follow.End departure
 followed has_value follow.Leaves = leave_of has_value
 followed has_value (follow.Starts names) = follow.Starts names
 followed has_value (follow.Deletes force names) = follow.Deletes force names
@@ -402,7 +405,7 @@ run_from rules tree s = ended (run_of rules tree s)
 
 -- a run begins with status 0, no local variables and no text
 abbrev pub first_state : Rules → Held → State
-first_state rules held = record { held = held; locals = map.empty; status = 0; printed = printed [] rules.limits.output; steps = 0 }
+first_state rules held = record { held = held; locals = map.empty; status = 0; printed = printed [] rules.limits.output; steps = 0; departure = None }
 
 unfoldable pub meaning : Rules → Option Chains → Held → Reason × State
 meaning rules tree held = run_from rules tree (first_state rules held)

@@ -5,6 +5,7 @@ use Rattle.hush_syntax.specs.Grammar.{Chains}
 use Rattle.run_limits.specs.Limits.{Bounds}
 use Rattle.hush_commands.specs.Stubs.{Statuses}
 use Rattle.hush_commands.specs.Hardware.{Hardware, hardware}
+use Rattle.hush_commands.specs.declared.departure.Departure.{Departure}
 use Rattle.hush_commands.specs.declared.shell.Shell.{Shell}
 use Rattle.hush_commands.specs.declared.shell.Shell.TheVariants.{Strict}
 use Rattle.hush_run.specs.declared.ending.Ending.{Ending}
@@ -69,6 +70,14 @@ Runs rules tree old new outcome = RunsBy (reason_of outcome.ending) rules tree o
 abbrev pub EndsBy : Option Reason → Rules → Option Chains → Held → (ends_in : Option (List ℕ)) → Type 0
 EndsBy (Some reason) rules tree old ends_in = ends_in ≡ place rules tree old
 EndsBy None rules tree old ends_in = Unit {0}
+
+-- the call with which the run left the board is the meaning's, if memory wasn't refused
+abbrev pub DepartsBy : Option Reason → Rules → Option Chains → Held → (departure : Option Departure) → Type 0
+DepartsBy (Some reason) rules tree old departure = departure ≡ (meaning rules tree old).1.departure
+DepartsBy None rules tree old departure = Unit {0}
+
+abbrev pub Departs : Rules → Option Chains → Held → Outcome → (departure : Option Departure) → Type 0
+Departs rules tree old outcome departure = DepartsBy (reason_of outcome.ending) rules tree old departure
 
 abbrev pub EndsIn : Rules → Option Chains → Held → Outcome → (ends_in : Option (List ℕ)) → Type 0
 EndsIn rules tree old outcome ends_in = EndsBy (reason_of outcome.ending) rules tree old ends_in

@@ -20,7 +20,7 @@ use Rattle.hush_run.specs.Meaning.{Rules, Reason, Begin, State, Out, Goes, Ends,
 
 -- what the code holds of a run
 abbrev pub state_of : Held → Progress → State
-state_of held p = record { held = held; locals = p.locals; status = p.status; printed = p.output; steps = p.steps }
+state_of held p = record { held = held; locals = p.locals; status = p.status; printed = p.output; steps = p.steps; departure = p.departure }
 
 abbrev pub rules_of : Given → Rules
 rules_of given = record { shell = given.shell; stand_ins = hardware given.board.now given.stand_ins.now; limits = given.limits }

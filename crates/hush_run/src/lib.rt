@@ -18,8 +18,8 @@ mod turns;
 mod values;
 
 pub use ending::Ending;
-pub use hush_commands::{Shell, StubFault, Stubs};
-pub use outcome::{Outcome, run, run_in, run_with_place};
+pub use hush_commands::{Departure, Leaving, Shell, StubFault, Stubs};
+pub use outcome::{Course, Outcome, run, run_in, run_with_place};
 pub use run_limits::{Limits, MOST_DEPTH, MOST_OUTPUT, MOST_STEPS, MOST_WORD};
 pub use started_name::StartedName;
 pub use steps::bodies_of;

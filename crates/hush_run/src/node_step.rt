@@ -75,7 +75,7 @@ fn after_simple(follow: Follow, status: u8) -> After
     ensures same { (rules : Rules) (begin : Begin) (at : At) (s : State) → s.status ≡ status → follows rules begin follow s ≡ after_does rules begin at result s }
 {
     match follow {
-        Follow::Next | Follow::End => After::Goes(Due::Over),
+        Follow::Next | Follow::End(_) => After::Goes(Due::Over),
         Follow::Leaves => After::Leaves(status),
         Follow::Starts(names) => {
             if names.is_empty() {

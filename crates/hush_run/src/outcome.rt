@@ -5,7 +5,7 @@ ghost use Rattle.hush_syntax.specs.Scripts.{tree_of};
 ghost use Rattle.run_limits.specs.Limits.{most_depth};
 ghost use Rattle.hush_run.specs.Advances.{Ran};
 ghost use Rattle.hush_commands.specs.Hardware.{hardware};
-ghost use Rattle.hush_run.specs.Runs.{rules, rules_in, EndsIn, Runs, reason_of};
+ghost use Rattle.hush_run.specs.Runs.{rules, rules_in, Departs, EndsIn, Runs, reason_of};
 ghost use Rattle.hush_run.specs.Steps.{state_of, rules_of};
 
 use crate::due::{Due, advance};
@@ -14,7 +14,7 @@ use crate::frames::{Calls, Frames};
 use crate::progress::{Given, Progress};
 use crate::started_name::{StartedName, running_name};
 use env_session::Session;
-use hush_commands::{BoardRules, Shell, Stubs};
+use hush_commands::{BoardRules, Departure, Shell, Stubs};
 use hush_syntax::Script;
 use run_limits::Limits;
 use std::alloc::Global;
@@ -30,6 +30,17 @@ pub struct Outcome {
     pub steps: u32,
     /// What it printed, at most as many bytes as the limit.
     pub text: Vec<u8>,
+}
+
+/// A run's course.
+#[derive(Drop)]
+pub struct Course {
+    /// Its outcome.
+    pub outcome: Outcome,
+    /// The variable in whose text it ended: `None` if that was in the script itself.
+    pub place: Option<StartedName>,
+    /// The call with which it left the board: `None` if it didn't.
+    pub departure: Option<Departure>,
 }
 
 /// Runs a script over a session under limits: what docs/runs.md, "Meaning", gives for it, whatever the session holds.
@@ -64,7 +75,11 @@ pub fn run_with_place(
         result.1 }
 {
     let board = BoardRules::none(alloc);
-    run_in(
+    let Course {
+        outcome,
+        place,
+        departure: _,
+    } = run_in(
         Shell::Strict,
         alloc,
         session,
@@ -72,10 +87,11 @@ pub fn run_with_place(
         stand_ins,
         &board,
         limits,
-    )
+    );
+    (outcome, place)
 }
 
-/// The same by the rules of a shell, and with what a board answers.
+/// The course of a run by the rules of a shell, and with what a board answers.
 pub fn run_in(
     shell: Shell,
     alloc: Global,
@@ -84,11 +100,13 @@ pub fn run_in(
     stand_ins: &Stubs,
     board: &BoardRules,
     limits: &Limits,
-) -> (Outcome, Option<StartedName>)
-    ensures runs { Runs (rules_in shell (hardware board.now stand_ins.now) limits.now) (tree_of script.now) session.old session.new
-        result.0 }
-    ensures place { EndsIn (rules_in shell (hardware board.now stand_ins.now) limits.now) (tree_of script.now) session.old result.0
-        result.1 }
+) -> Course
+    ensures runs { Runs (rules_in shell (hardware board.now stand_ins.now) limits.now) (tree_of script.now)
+        session.old session.new result.outcome }
+    ensures place { EndsIn (rules_in shell (hardware board.now stand_ins.now) limits.now) (tree_of script.now)
+        session.old result.outcome result.place }
+    ensures departure { Departs (rules_in shell (hardware board.now stand_ins.now) limits.now) (tree_of script.now)
+        session.old result.outcome result.departure }
 {
     let given = Given {
         alloc,
@@ -106,6 +124,7 @@ pub fn run_in(
         status,
         output,
         steps,
+        departure,
         fields: _,
         name: _,
     } = progress;
@@ -115,7 +134,11 @@ pub fn run_in(
         steps,
         text: output.into_text(),
     };
-    (outcome, place)
+    Course {
+        outcome,
+        place,
+        departure,
+    }
 }
 
 /// Runs a script from where the session and the progress are: how it ended, and in which variable's text.

@@ -7,7 +7,9 @@ ghost use Rattle.hush_run.specs.Meaning.{Rules, Goes, step, fails, fields_of, fi
 
 use crate::ending::Ending;
 use env_session::Session;
-use hush_commands::{BoardRules, FieldBuffer, Locals, Message, Output, Scope, Shell, Stubs};
+use hush_commands::{
+    BoardRules, Departure, FieldBuffer, Locals, Message, Output, Scope, Shell, Stubs,
+};
 use hush_syntax::{Text, Word};
 use run_limits::Limits;
 use std::alloc::Global;
@@ -30,6 +32,8 @@ pub(crate) struct Progress {
     pub(crate) output: Output,
     /// How many steps are counted.
     pub(crate) steps: u32,
+    /// The call with which the run has left the board.
+    pub(crate) departure: Option<Departure>,
     /// The fields of the step that is being done.
     pub(crate) fields: FieldBuffer,
     /// The name that it assigns to.
@@ -48,6 +52,7 @@ impl Progress {
             status: 0,
             output: Output::new(given.alloc, given.limits.output()),
             steps: 0,
+            departure: None,
             fields: FieldBuffer::new(given.alloc),
             name: Vec::new(given.alloc),
         }

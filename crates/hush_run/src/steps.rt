@@ -44,7 +44,10 @@ pub(crate) fn simple_step(
     progress.status = carried.0;
     progress.steps += 1;
     match carried.1 {
-        Follow::End => Err(Ending::Exited),
+        Follow::End(departure) => {
+            progress.departure = departure;
+            Err(Ending::Exited)
+        }
         Follow::Leaves => Ok(leave_of(have_value(text, words))),
         follow => Ok(follow),
     }

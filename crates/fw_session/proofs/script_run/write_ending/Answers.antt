@@ -9,4 +9,4 @@ pub returns-in-Steps : goal.returns-in-Steps
 returns-in-Steps g c =
     let a = g.E.Write.contents c.args.errors.now in
     let b = g.E.Write.contents c.write_limit.new.errors in
-    subst (λ text. MatchBool c.write_limit.result (Appends a b text) (AppendsPart a b text)) (limit_is c.args.ending c.args.place.now c.args.status c.args.steps _ c.in-Steps.is c.name-in-Steps.ensures.name) c.write_limit.ensures
+    subst (λ text. MatchBool c.write_limit.result (Appends a b text) (AppendsPart a b text)) (limit_is c.args.outcome.now.ending c.args.place.now c.args.outcome.now.status c.args.outcome.now.steps _ c.in-Steps.is c.name-in-Steps.ensures.name) c.write_limit.ensures

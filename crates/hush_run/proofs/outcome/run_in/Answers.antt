@@ -4,7 +4,7 @@ use Rattle.hush_commands.specs.Hardware.{hardware}
 use Rattle.hush_run.specs.Meaning.{State}
 use Rattle.hush_run.specs.Runs.{rules_in, reason_of}
 use Rattle.hush_run.specs.Steps.{state_of}
-use Rattle.hush_run.proofs.OutcomeLemmas.{runs_so, ends_so}
+use Rattle.hush_run.proofs.OutcomeLemmas.{runs_so, ends_so, departs_so}
 use Rattle.hush_run.proofs.outcome.run_in.Goals as goal
 
 pub run_script-ending-requires-clause-steps : goal.run_script-ending-requires-clause-steps
@@ -18,4 +18,9 @@ returns-clause-runs c =
 pub returns-clause-place : goal.returns-clause-place
 returns-clause-place c =
     ends_so (rules_in c.args.shell (hardware c.args.board.now c.args.stand_ins.now) c.args.limits.now) (tree_of c.args.script.now) c.args.session.now (state_of c.args.session.now c.new-progress.result) (state_of c.run_script-ending.new.session c.run_script-ending.new.progress) c.run_script-ending.result.1 (reason_of c.run_script-ending.result.0)
+    (c.new-progress.ensures c.args.session.now) c.run_script-ending.ensures
+
+pub returns-clause-departure : goal.returns-clause-departure
+returns-clause-departure c =
+    departs_so (rules_in c.args.shell (hardware c.args.board.now c.args.stand_ins.now) c.args.limits.now) (tree_of c.args.script.now) c.args.session.now (state_of c.args.session.now c.new-progress.result) (state_of c.run_script-ending.new.session c.run_script-ending.new.progress) c.run_script-ending.result.1 (reason_of c.run_script-ending.result.0)
     (c.new-progress.ensures c.args.session.now) c.run_script-ending.ensures

@@ -1,4 +1,4 @@
-use Rattle.std.proofs.Common.{false, ℕ, List, ap, subst, sym, ◌∙◌}
+use Rattle.std.proofs.Common.{None, ℕ, List, ap, subst, sym, ◌∙◌}
 use Rattle.hush_commands.specs.declared.stand_ins.Role.{Role}
 use Rattle.hush_commands.specs.Entries.{Entry, role_view}
 use Rattle.hush_commands.specs.Stubs.{with_stand_in}
@@ -10,7 +10,7 @@ use Rattle.hush_commands.proofs.stand_ins.Stubs.add.Goals.{in-Some, in-None}
 pub invariant_of-self-2 : goal.invariant_of-self-2
 invariant_of-self-2 c =
     subst (λ (es : List (Entry Role)). AreSorted role_view es) (sym c.in_ok-_old.ensures.entries)
-    (sorted-insert role_view c.self.inside.roles.entries c.in_ok-name.name (record { status = c.args.status; boots = false }) c.self.invariant)
+    (sorted-insert role_view c.self.inside.roles.entries c.in_ok-name.name (record { status = c.args.status; leaves = None }) c.self.invariant)
 
 pub returns-clause-read : goal.returns-clause-read
 returns-clause-read c =
