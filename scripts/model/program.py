@@ -3,7 +3,7 @@
 
 from dataclasses import dataclass
 
-from model import board_file, check, report, script_run, texts
+from model import board_file, check, dump, report, script_run, texts
 from model.arguments import VERSION, Wrong, read_arguments
 from model.dry_run import LONGEST, DryRun
 from model.grammar import parse
@@ -25,7 +25,7 @@ NO_SUCH_FILE, LONGER = b"no such file", b"it is longer than %d bytes" % LONGEST
 DIRECTORY, DENIED, NO_SPACE = b"it is a directory", b"permission denied", b"no space is left"
 CHANGED = b"another program changed it"
 # The subcommands that report it
-EXPLAINING = {"status", "run", "check", "restore", "image"}
+EXPLAINING = {"status", "run", "check", "restore", "image", "find"}
 TOO_SHORT = b"fwenv: %s is too short\n"
 IS_YAML = b"fwenv: %s is YAML: fwenv reads lines of DEVICE OFFSET SIZE\n"
 IS_UBI_VOLUME = b"fwenv: %s is a UBI volume by its name: fwenv reads files and block devices\n"
@@ -297,6 +297,11 @@ class Program:
         path = call.options.get("-c", CONFIG)
         geometry, read = self.found(call)
         self.output, status = report.of_copies(path, self.text(path), geometry, self.places, read)
+        return status
+
+    def call_find(self, call):
+        [path] = call.words
+        self.output, status = dump.of_dump(path, self.text(path))
         return status
 
     def call_image(self, call):

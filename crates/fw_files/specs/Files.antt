@@ -27,6 +27,10 @@ use Rattle.fw_engines.specs.declared.tool_end.StreamFault.TheVariants as stream
 abbrev pub file_limit : ℕ
 file_limit = 16777216
 
+-- the most bytes of a dump
+abbrev pub dump_limit : ℕ
+dump_limit = 1073741824
+
 -- what is opened for a text: `-` is standard input
 abbrev pub opened_path : List ℕ → List ℕ
 opened_path path = if bytes_eq path (codes "-") then codes "/dev/stdin" else path
@@ -73,6 +77,7 @@ reason_in reason.Directory = codes "it is a directory"
 reason_in reason.ReadOnly = codes "the file system is read-only"
 reason_in reason.NoSpace = codes "no space is left"
 reason_in reason.TooLong = codes "it is longer than 16777216 bytes"
+reason_in reason.LongerThanDump = codes "it is longer than 1073741824 bytes"
 reason_in reason.Changed = codes "another program changed it"
 reason_in reason.Unknown = []
 

@@ -4,7 +4,7 @@ ghost use Rattle.envcfg_core.specs.Entries.{entry_view};
 ghost use Rattle.envcfg_core.specs.Import.{import_of};
 ghost use Rattle.envcfg_core.specs.SetScript.{set_script_of};
 ghost use Rattle.board_file.specs.BoardFiles.{board_of};
-ghost use Rattle.fw_files.specs.Files.{AreRulesOf, AreStubsOf, board_fault, file_limit, opened_path, text_fault};
+ghost use Rattle.fw_files.specs.Files.{AreRulesOf, AreStubsOf, board_fault, dump_limit, file_limit, opened_path, text_fault};
 ghost use Rattle.fw_files.specs.Said.{SaysSome};
 ghost use Rattle.hush_commands.specs.Stubs.{stand_ins_of};
 
@@ -24,6 +24,9 @@ use std::rt::Files;
 
 /// The most bytes of a file that is read whole.
 const FILE_LIMIT: usize = 16_777_216;
+
+/// The most bytes of a dump.
+const DUMP_LIMIT: usize = 1_073_741_824;
 
 /// A file that is read, and why its last read failed, if it did.
 #[derive(Drop)]
@@ -59,17 +62,37 @@ fn opened_path(path: &str) -> &str
 pub fn read_file<X: Files + AllocGlobal>(rt: &X, path: &str) -> Result<Vec<u8>, FileFault>
     ensures { IfOk result (λ bytes. length bytes.items ≤ file_limit) }
 {
+    read_within(rt, path, FILE_LIMIT, Reason::TooLong)
+}
+
+/// Reads a whole dump of at most 1,073,741,824 bytes, or standard input.
+pub fn read_dump<X: Files + AllocGlobal>(rt: &X, path: &str) -> Result<Vec<u8>, FileFault>
+    ensures { IfOk result (λ bytes. length bytes.items ≤ dump_limit) }
+{
+    read_within(rt, path, DUMP_LIMIT, Reason::LongerThanDump)
+}
+
+/// Reads a whole file of at most `limit` bytes, or standard input; a longer one is refused for this reason.
+fn read_within<X: Files + AllocGlobal>(
+    rt: &X,
+    path: &str,
+    limit: usize,
+    too_long: Reason,
+) -> Result<Vec<u8>, FileFault>
+    requires { limit ≤ dump_limit }
+    ensures { IfOk result (λ bytes. length bytes.items ≤ limit) }
+{
     let file = OpenOptions::new().read(true).open(rt, opened_path(path))?;
     let mut reading = Reading {
         file,
         reason: Reason::Unknown,
     };
-    match read_up_to(rt.alloc(), &mut reading, FILE_LIMIT + 1) {
+    match read_up_to(rt.alloc(), &mut reading, limit + 1) {
         Ok(bytes) => {
-            if bytes.len() <= FILE_LIMIT {
+            if bytes.len() <= limit {
                 Ok(bytes)
             } else {
-                Err(FileFault::CannotRead(Reason::TooLong))
+                Err(FileFault::CannotRead(too_long))
             }
         }
         Err(StreamFault::Memory) => Err(FileFault::Memory),

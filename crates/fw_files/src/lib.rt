@@ -32,7 +32,8 @@ pub use copy_report::run_report;
 pub use default_text::variables_or_say;
 pub use file_fault::{FileFault, value_or_say};
 pub use files::{
-    entries_or_say, read_board, read_file, read_stand_in_file, read_stand_ins, script_from,
+    entries_or_say, read_board, read_dump, read_file, read_stand_in_file, read_stand_ins,
+    script_from,
 };
 pub use lock_file::{LockedFiles, Locks, lock_copies};
 pub use new_file::write_file;
