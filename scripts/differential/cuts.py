@@ -49,7 +49,7 @@ def script_check(script):
     return Case("check", [b"check", b"--stubs", b"stand-ins", b"-f", b"text"], FILES | {b"text": script, b"stand-ins": b"mmc\n"})
 
 
-DUMP = Geometry(1, 512).image(0, b"a=1\0")
+DUMP = Geometry(1, 512).image(0, b"a=1\0") + Geometry(2, 512).image(3, b"b=1\0")
 # What prints one text, only on standard output
 PRINTING = [
     Case("an image", [], given=ONE),
