@@ -141,8 +141,16 @@ class Program:
             raise self.unreadable(path, LONGER)
         return found
 
-    def parsed(self, path, parse):
+    def own_text(self, path):
+        """A text of variables or a script, which is nothing else."""
         text = self.text(path)
+        what = texts.foreign(text)
+        if what:
+            raise Ended(REFUSED_TEXT % (path, what))
+        return text
+
+    def parsed(self, path, parse):
+        text = self.own_text(path) if parse is texts.import_entries else self.text(path)
         try:
             return parse(text)
         except TextFault as fault:
@@ -345,7 +353,7 @@ class Program:
             return b"-e", call.options["-e"]
         if "-f" not in call.options:
             return b"run", script_run.starts(call.words)
-        return call.options["-f"], self.text(call.options["-f"])
+        return call.options["-f"], self.own_text(call.options["-f"])
 
     def call_run(self, call):
         call.size_in_memory()
