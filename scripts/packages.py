@@ -113,7 +113,7 @@ def installed(program, links, folder):
 
 def rows(folder):
     """The rows of the tools, of sessions and of the documents over the program as it is packaged."""
-    for part in ("tool_rows", "report_rows", "image_rows", "check_rows", "session_rows", "documents"):
+    for part in ("tool_rows", "report_rows", "image_rows", "find_rows", "check_rows", "session_rows", "documents"):
         words = (sys.executable, "-B", "-m", "differential", folder / "root/usr/bin/fwenv", folder, part)
         lines = run(*words, env=os.environ | {"PYTHONPATH": str(TOP / "scripts")}).stdout.decode().splitlines()
         check(f"{part} over the program of the package", lines[-1:] and lines[-1].endswith(", 0 failed"), "\n".join(lines[-6:]))
@@ -130,13 +130,13 @@ def pages(folder):
     for page in (TOP / "packaging/man").iterdir():
         found = run("groff", "-ww", "-man", "-Tutf8", "-z", page)
         same(f"the page {page.name}", found.stderr, b"")
-    calls = {"fwenv": [], **{f"fwenv {name}": [name] for name in ("printenv", "setenv", "import", "export", "restore", "status", "image", "run", "check", "session")}}
+    calls = {"fwenv": [], **{f"fwenv {name}": [name] for name in ("printenv", "setenv", "import", "export", "restore", "status", "find", "image", "run", "check", "session")}}
     listed = page_options("fwenv.1") | {f"fwenv {name}": page_options(f"fwenv-{name}.1")[""] for name in ("run", "check", "session")}
     common = listed[""] - {"-V", "--version"}
     for name, words in calls.items():
         helped = options_of_help(run(folder / "root/usr/bin/fwenv", *words, "--help").stdout.decode())
         own = {"--big-endian"} | listed[""] - {"-c", "--default", "--need-copy"} if name == "fwenv" else common | listed[name]
-        own -= {"fwenv status": {"--default", "--need-copy"}, "fwenv image": {"-c", "--default", "--need-copy"}, "fwenv check": {"--need-copy"}}.get(name, set())
+        own -= {"fwenv status": {"--default", "--need-copy"}, "fwenv image": {"-c", "--default", "--need-copy"}, "fwenv find": {"-c", "--default", "--need-copy", "--big-endian"}, "fwenv check": {"--need-copy"}}.get(name, set())
         own -= set() if name in WRITING else {"--overwrite"}
         same(f"the options of {name}, in its page and in its help", sorted(own), sorted(helped))
 
@@ -257,6 +257,8 @@ def completions(folder):
         ("fwenv run --env text boot", {"bootcmd", "bootdelay"}),
         ("fwenv session --si", {"--size"}),
         ("fwenv im", {"import", "image"}),
+        ("fwenv fi", {"find"}),
+        ("fwenv find --", {"--help"}),
         ("fwenv image --", {"--env", "--size", "--copies", "--both", "--output", "--big-endian", "--help"}),
         ("fwenv image --copies ", {"1", "2"}),
         ("fwenv che", {"check"}),

@@ -21,7 +21,7 @@ _fwenv_names() {
 
 _fwenv() {
     local word=${COMP_WORDS[COMP_CWORD]} before=${COMP_WORDS[COMP_CWORD - 1]} command='' at
-    local commands='printenv setenv import export restore status image run check session help'
+    local commands='printenv setenv import export restore status find image run check session help'
     local options='-c --default --need-copy --big-endian -h --help'
     local dry_run=' --write --overwrite --shell --stubs --board --steps --depth --word --output --env --size'
     for ((at = 1; at < COMP_CWORD; at++)); do
@@ -65,6 +65,7 @@ _fwenv() {
         setenv) options+=' -s --overwrite' ;;
         import | restore) options+=' --overwrite' ;;
         status) options='-c --big-endian -h --help' ;;
+        find) options='-h --help' ;;
         image) options='--env --size --copies --both --output --big-endian -h --help' ;;
         run) options+="$dry_run --boots --resets --must-boot -e -f" ;;
         check) options='-c --default --big-endian -h --help --shell --stubs --env --size -f' ;;
@@ -73,7 +74,7 @@ _fwenv() {
     esac
     case $command:$word in
         printenv:[^-]* | printenv: | setenv:[^-]* | setenv: | run:[^-]* | run: | check:[^-]* | check:) _fwenv_names ;;
-        import:[^-]* | import: | restore:[^-]* | restore: | status:[^-]* | status:) compopt -o default ;;
+        import:[^-]* | import: | restore:[^-]* | restore: | status:[^-]* | status: | find:[^-]* | find:) compopt -o default ;;
         *) mapfile -t COMPREPLY < <(compgen -W "$options" -- "$word") ;;
     esac
 }

@@ -19,7 +19,7 @@ function __fwenv_names
     timeout 1 fwenv $call 2>/dev/null | string replace -rf '^([^=-][^=]*)=.*' '$1'
 end
 
-set -l commands printenv setenv import export restore status image run check session help
+set -l commands printenv setenv import export restore status find image run check session help
 complete -c fwenv -f
 complete -c fwenv -n "not __fish_seen_subcommand_from $commands" -a printenv -d 'Print variables'
 complete -c fwenv -n "not __fish_seen_subcommand_from $commands" -a setenv -d 'Set or delete variables, and save'
@@ -27,6 +27,7 @@ complete -c fwenv -n "not __fish_seen_subcommand_from $commands" -a import -d 'S
 complete -c fwenv -n "not __fish_seen_subcommand_from $commands" -a export -d 'Print a text that import reads'
 complete -c fwenv -n "not __fish_seen_subcommand_from $commands" -a restore -d 'Make the variables those of a text, and save'
 complete -c fwenv -n "not __fish_seen_subcommand_from $commands" -a status -d 'Say what each copy is good for'
+complete -c fwenv -n "not __fish_seen_subcommand_from $commands" -a find -d 'Search a dump for environments'
 complete -c fwenv -n "not __fish_seen_subcommand_from $commands" -a image -d 'Make the image of a text'
 complete -c fwenv -n "not __fish_seen_subcommand_from $commands" -a run -d 'Run a boot script for its own status'
 complete -c fwenv -n "not __fish_seen_subcommand_from $commands" -a check -d 'Look for faults in boot scripts'
@@ -34,7 +35,7 @@ complete -c fwenv -n "not __fish_seen_subcommand_from $commands" -a session -d '
 complete -c fwenv -n "not __fish_seen_subcommand_from $commands" -a help -d 'Print help'
 complete -c fwenv -n "not __fish_seen_subcommand_from $commands" -s V -l version -d 'Print the version'
 complete -c fwenv -s h -l help -d 'Print help'
-complete -c fwenv -l big-endian -d 'Checksums have the highest byte first'
+complete -c fwenv -n 'not __fish_seen_subcommand_from find' -l big-endian -d 'Checksums have the highest byte first'
 complete -c fwenv -n "__fish_seen_subcommand_from printenv setenv import export restore status run check session" -s c -rF -d 'Configuration'
 complete -c fwenv -n "__fish_seen_subcommand_from printenv setenv import export restore run check session" -l default -rF -d 'Default environment'
 complete -c fwenv -n "__fish_seen_subcommand_from printenv setenv import export restore run session" -l need-copy -d 'Do nothing without a good copy'
@@ -42,7 +43,7 @@ complete -c fwenv -n "__fish_seen_subcommand_from printenv export" -l copy -xa '
 complete -c fwenv -n "__fish_seen_subcommand_from printenv" -s n -d 'Print the value alone'
 complete -c fwenv -n "__fish_seen_subcommand_from printenv setenv run check" -a "(__fwenv_names)"
 complete -c fwenv -n "__fish_seen_subcommand_from setenv" -s s -rF -d 'Script of names and values'
-complete -c fwenv -n "__fish_seen_subcommand_from import restore status" -F
+complete -c fwenv -n "__fish_seen_subcommand_from import restore status find" -F
 complete -c fwenv -n "__fish_seen_subcommand_from run session" -l write -d 'Write back the copies that changed'
 complete -c fwenv -n "__fish_seen_subcommand_from run check session" -l shell -xa 'board strict' -d 'Whose rules count'
 complete -c fwenv -n "__fish_seen_subcommand_from setenv import restore run session" -l overwrite -d 'Write even if a copy is good in another way'

@@ -49,6 +49,7 @@ def script_check(script):
     return Case("check", [b"check", b"--stubs", b"stand-ins", b"-f", b"text"], FILES | {b"text": script, b"stand-ins": b"mmc\n"})
 
 
+DUMP = Geometry(1, 512).image(0, b"a=1\0") + Geometry(2, 512).image(3, b"b=1\0")
 # What prints one text, only on standard output
 PRINTING = [
     Case("an image", [], given=ONE),
@@ -58,6 +59,7 @@ PRINTING = [
     call([b"status"], over=NEVER_WRITTEN),
     Case("a whole file", [b"status", b"image"], {b"image": ONE}),
     Case("a new image", [b"image", b"--env", b"text", b"--size", b"20", b"--copies", b"2"], FILES | {b"text": b"a=1\n"}),
+    Case("a dump", [b"find", b"dump"], {b"dump": DUMP}),
     whole_environment([b"a", b"m"]),
     whole_check([b"a", b"q"]),
     script_check(b"mmc; a\r\nb"),
@@ -94,6 +96,7 @@ READING = [
     (b"text", call([b"session", b"--write", b"--stubs", b"text"], {b"text": STAND_INS}, ASKED)),
     (b"text", call([b"run", *STRICT, b"--write", b"-f", b"text"], {b"text": b"setenv a $m; saveenv\nsaveenv; echo 'b\nc'\nfalse || exit 0\n"})),
     (b"text", Case("a new image", [b"image", b"--env", b"text", b"--size", b"20"], FILES | {b"text": b"a=1\n#q\nm=2\\\n3\n"})),
+    (b"dump", Case("a dump", [b"find", b"dump"], FILES | {b"dump": DUMP})),
     (b"text", whole_environment([b"-e", b"run a || printenv"])),
     (b"text", whole_check([b"q", b"a"])),
     (b"text", script_check(b"mmc 1; mmc2\nif true; then a\r\nfi")),

@@ -189,6 +189,7 @@ def tools():
     yield refusing(Case("an import of a type without memory", arguments(b"import", b"text"), files), WARNING)
     for options in calls("--size 40 / --size 40 --copies 2 --both / --size 40 --copies 2 --output out"):
         yield refusing(Case("an image without memory", [b"image", b"--env", b"text", *options], {b"text": b"# b\nb=1\na=2\\\n3\n"}))
+    yield refusing(Case("a dump without memory", [b"find", b"dump"], {b"dump": Geometry(2, 512).image(0, b"a=1\0b=2\0") * 2}))
     for tool in (b"printenv", b"export", b"status"):
         yield refusing(Case(f"{tool.decode()} of 2,500 variables without memory", arguments(tool), OVER_MANY))
     files = over_copies(BLANK, BLANK) | {b"default": b"p=1\n"}

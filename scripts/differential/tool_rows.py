@@ -1,13 +1,30 @@
 """The tools by hand: each row is a call over a board, what it prints, and the copies that it leaves."""
 
 from differential import text_rows
-from differential.boards import BLANK, CONFIG, EMPTIED, FIRST, PAIR, SAVED, SECOND, arguments, board
+from differential.boards import BLANK, CONFIG, EMPTIED, FIRST, PAIR, SAVED, SECOND, arguments, board, calls
 from differential.damage import turned
 from differential.running import Case
 from model.arguments import NAME_AND_SCRIPT, NO_COPY, NO_NAME, NO_SUBCOMMAND, VERSION
 from model.image import ERASED, Geometry, entries
 from model.program import WARNING, Answer
 
+SMALL = Geometry(1, 32)
+IMAGE = b"this is an image of an environment, not a text"
+# What is no text, and what is said of it
+FOREIGN = [
+    (SMALL.image(0, b"a=1\0"), IMAGE),
+    (Geometry(1, 8, "big").image(0, b""), IMAGE),
+    (Geometry(2, 9).image(0, b""), IMAGE),
+    (Geometry(2, 2**20, "big").image(7, b"a=1\0"), IMAGE),
+    (b"\x27\x05\x19\x56boot", b"this is an image of mkimage, as boot.scr is, not a text"),
+    ("a=1\n".encode("utf-16"), b"this text is in UTF-16"),
+    (b"\xfe\xff\0a\0=\0001", b"this text is in UTF-16"),
+    ("a=1\n".encode("utf-8-sig"), b"this text begins with a byte order mark"),
+]
+FOREIGN_CALLS = calls(
+    "import -c %s file / restore -c %s file / printenv -c blank --default file / run --env file -e a / check --env file / run -c %s -f file"
+    " / check -f file / image --env file --size 20".replace("%s", CONFIG.decode())
+)
 NO_ROOM_A = b'## Error: no room for "a"\n'
 NO_ROOM = b'## Error: no room for "%s" in line %d\n'
 TEN_REFUSED = b"".join(NO_ROOM % (b"q", line) for line in range(1, 11)) + b"## Error: 10 entries refused\n"
@@ -260,6 +277,16 @@ def in_big_endian():
     yield Case("big-endian", words, board(form, [image]), wanted=Answer(0, b"a=b\n", b"", board(form, [image])))
 
 
+def foreign():
+    """Files that are given in the place of a text and are none."""
+    for file, what in FOREIGN:
+        for words in FOREIGN_CALLS:
+            warning = WARNING if b"blank" in words else b""
+            files = {CONFIG: b"device 0 20\n", b"device": SMALL.image(0, b"a=1\0"), b"blank": b"erased 0 20\n", b"erased": ERASED * 32, b"file": file}
+            errors = warning + b"fwenv: file: " + what + b"\n"
+            yield Case("no text", words, files, wanted=Answer(1, b"", errors, files))
+
+
 def words():
     for given, errors in WRONG_WORDS:
         files = board(PAIR, [FIRST, SECOND]) | {b"text": b"a c\n"}
@@ -268,4 +295,4 @@ def words():
 
 
 def chunks():
-    return [over_pairs, over_input, wanted_copies, over_one_copy, over_types, restores, in_big_endian, words, *text_rows.chunks()]
+    return [over_pairs, over_input, wanted_copies, over_one_copy, over_types, restores, in_big_endian, foreign, words, *text_rows.chunks()]

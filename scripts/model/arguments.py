@@ -25,6 +25,7 @@ FORMS = {
     "export": (OPENING_FLAGS, OPENING_VALUES | {"--copy"}, (0, 0)),
     "restore": (WRITING_FLAGS, OPENING_VALUES, (1, 1)),
     "status": (set(), {"-c"}, (0, 1)),
+    "find": (set(), set(), (1, 1)),
     "image": ({"--both"}, {"--env", "--size", "--copies", "--output"}, (0, 0)),
     "session": (WRITING_FLAGS | {"--write"}, OPENING_VALUES | DRY_VALUES, (0, 0)),
     "run": (WRITING_FLAGS | {"--write", "--must-boot"}, OPENING_VALUES | DRY_VALUES | {"--boots", "--resets", "-e", "-f"}, (0, None)),
@@ -194,7 +195,7 @@ class Call:
     def refuse_second_input(self):
         """Standard input is read once, by one text or by a session."""
         texts = [self.options[option] for option in TEXTS & self.options.keys()]
-        if self.tool in ("import", "restore", "status"):
+        if self.tool in ("import", "restore", "status", "find"):
             texts += self.words
         if texts.count(b"-") + (self.tool == "session") > 1:
             raise Wrong(READ_TWICE)
@@ -281,7 +282,8 @@ def read_subcommand(tool, options, rest):
             call.words += rest
             break
         if word[:1] == b"-" and word != b"-":
-            read_option(call, word, rest, FLAGS | flags, values)
+            # (find looks for both byte orders)
+            read_option(call, word, rest, flags if tool == "find" else FLAGS | flags, values)
         else:
             call.words.append(word)
     if len(call.words) < least or (most is not None and len(call.words) > most):

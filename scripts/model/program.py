@@ -3,7 +3,7 @@
 
 from dataclasses import dataclass
 
-from model import board_file, check, report, script_run, texts
+from model import board_file, check, dump, report, script_run, texts
 from model.arguments import LEAVINGS, VERSION, Wrong, read_arguments
 from model.dry_run import LONGEST, DryRun
 from model.grammar import parse
@@ -25,7 +25,7 @@ NO_SUCH_FILE, LONGER = b"no such file", b"it is longer than %d bytes" % LONGEST
 DIRECTORY, DENIED, NO_SPACE = b"it is a directory", b"permission denied", b"no space is left"
 CHANGED = b"another program changed it"
 # The subcommands that report it
-EXPLAINING = {"status", "run", "check", "restore", "image"}
+EXPLAINING = {"status", "run", "check", "restore", "image", "find"}
 TOO_SHORT = b"fwenv: %s is too short\n"
 IS_YAML = b"fwenv: %s is YAML: fwenv reads lines of DEVICE OFFSET SIZE\n"
 IS_UBI_VOLUME = b"fwenv: %s is a UBI volume by its name: fwenv reads files and block devices\n"
@@ -141,8 +141,16 @@ class Program:
             raise self.unreadable(path, LONGER)
         return found
 
-    def parsed(self, path, parse):
+    def own_text(self, path):
+        """A text of variables or a script, which is nothing else."""
         text = self.text(path)
+        what = texts.foreign(text)
+        if what:
+            raise Ended(REFUSED_TEXT % (path, what))
+        return text
+
+    def parsed(self, path, parse):
+        text = self.own_text(path) if parse is texts.import_entries else self.text(path)
         try:
             return parse(text)
         except TextFault as fault:
@@ -299,6 +307,11 @@ class Program:
         self.output, status = report.of_copies(path, self.text(path), geometry, self.places, read)
         return status
 
+    def call_find(self, call):
+        [path] = call.words
+        self.output, status = dump.of_dump(path, self.text(path))
+        return status
+
     def call_image(self, call):
         geometry = call.new_geometry()
         copy = geometry.image(1, entries(self.defaults(call, geometry)))
@@ -340,7 +353,7 @@ class Program:
             return b"-e", call.options["-e"]
         if "-f" not in call.options:
             return b"run", script_run.starts(call.words)
-        return call.options["-f"], self.text(call.options["-f"])
+        return call.options["-f"], self.own_text(call.options["-f"])
 
     def call_run(self, call):
         call.size_in_memory()

@@ -16,6 +16,14 @@ BUILTINS = {
 SUBCOMMANDS = {b"set": "setenv", b"print": "printenv", b"save": "saveenv", b"run": "run", b"delete": "delete", b"exists": "exists"}
 
 
+FOREIGN = {
+    b"\x27\x05\x19\x56": b"this is an image of mkimage, as boot.scr is, not a text",
+    b"\xff\xfe": b"this text is in UTF-16",
+    b"\xfe\xff": b"this text is in UTF-16",
+    b"\xef\xbb\xbf": b"this text begins with a byte order mark",
+}
+
+
 class TextFault(Exception):
     """Why a text is refused, and perhaps in which line."""
 
@@ -131,6 +139,18 @@ def refuse_nul(text):
 def skipped(text, at):
     """Where the next entry begins: blanks and newlines are passed over, and `#` begins a comment there."""
     return SKIPPED.match(text, at).end()
+
+
+def foreign(text):
+    """What is given in the place of a text and is none."""
+    for beginning, what in FOREIGN.items():
+        if text.startswith(beginning):
+            return what
+    is_size = 8 <= len(text) <= LARGEST
+    shapes = [Geometry(copies, len(text), order) for copies in (1, 2) for order in ("little", "big")]
+    if is_size and any(shape.room >= 4 and shape.read(text)[0] == "Good" for shape in shapes):
+        return b"this is an image of an environment, not a text"
+    return None
 
 
 def import_entries(text):

@@ -25,12 +25,13 @@ pub record Report : Type 0 where
   pub order : Order
   pub subject : Subject
 
--- what a subcommand asks for: work over a session, a report, the check of the script in a file, or a new image
+-- what a subcommand asks for: work over a session, a report, the check of the script in a file, a new image, or the search of the dump at a path
 pub data Asked : Type 0 where
   Work : Call → Asked
   Look : Report → Asked
   Check : FileCheck → Asked
   Make : ImageRequest → Asked
+  Find : Text → Asked
 
 -- what is wrong if a configuration and a file are given
 abbrev pub config_and_file : Text
@@ -79,6 +80,7 @@ asked_once order name rows =
     if bytes_eq name (codes "status") then looked (report_of order rows)
     else if bytes_eq name (codes "check") then checked_by (first_of (codes "script") rows) order rows
     else if bytes_eq name (codes "image") then made (image_request_of order rows)
+    else if bytes_eq name (codes "find") then Ok (Find (first_or [] (codes "file") rows))
     else worked (call_of order name rows)
 
 -- what arguments that choose a byte order before the subcommand ask for, or the text for what is wrong
@@ -98,3 +100,4 @@ asked_view (answer.Work call) = Work (call_view call)
 asked_view (answer.Look report) = Look (report_view report)
 asked_view (answer.Check check) = Check (file_check_view check)
 asked_view (answer.Make image) = Make (image_request_view image)
+asked_view (answer.Find path) = Find path.now

@@ -6,7 +6,7 @@ ghost use Rattle.fw_arguments.specs.Table.{called_view, is_called, row_of};
 ghost use Rattle.std.specs.List.{find};
 
 use crate::table::{
-    CHECK, Called, EXPORT, IMAGE, IMPORT, PRINTENV, RESTORE, RUN, SESSION, SETENV, STATUS,
+    CHECK, Called, EXPORT, FIND, IMAGE, IMPORT, PRINTENV, RESTORE, RUN, SESSION, SETENV, STATUS,
 };
 use std::convert::AsStr;
 
@@ -38,6 +38,8 @@ pub enum Subcommand {
     Restore,
     /// `status`
     Status,
+    /// `find`
+    Find,
     /// `image`
     Image,
     /// `run`
@@ -61,13 +63,14 @@ impl ProgramName {
 }
 
 /// Every subcommand, in the order of the help.
-pub const SUBCOMMANDS: [Subcommand; 10] = [
+pub const SUBCOMMANDS: [Subcommand; 11] = [
     Subcommand::Printenv,
     Subcommand::Setenv,
     Subcommand::Import,
     Subcommand::Export,
     Subcommand::Restore,
     Subcommand::Status,
+    Subcommand::Find,
     Subcommand::Image,
     Subcommand::Run,
     Subcommand::Check,
@@ -86,6 +89,7 @@ impl Subcommand {
             Subcommand::Export => EXPORT,
             Subcommand::Restore => RESTORE,
             Subcommand::Status => STATUS,
+            Subcommand::Find => FIND,
             Subcommand::Image => IMAGE,
             Subcommand::Run => RUN,
             Subcommand::Check => CHECK,

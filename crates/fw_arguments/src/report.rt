@@ -28,6 +28,8 @@ pub enum Asked<'m, 'w> {
     Check(FileCheck<'w>),
     /// A new image.
     Make(ImageRequest<'w>),
+    /// A search of the dump at this path.
+    Find(&'w str),
 }
 
 /// A report: `status [-c FILE] [--big-endian] [FILE]`.
@@ -79,6 +81,9 @@ fn ask<'m, 'w>(
     }
     if name == "image" {
         return ask_to_make(order, found);
+    }
+    if name == "find" {
+        return Ok(Asked::Find(first_or(found, "file", "")));
     }
     ask_to_work(order, name, found)
 }

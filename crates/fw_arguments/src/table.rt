@@ -178,6 +178,14 @@ pub const WHOLE_FILE: Row = Row {
     help: "A file that is looked at as one image, in place of the copies",
 };
 
+/// `DUMP` of `find`
+pub const DUMP: Row = Row {
+    id: "file",
+    names: Names::Operand,
+    takes: Takes::Wanted("DUMP"),
+    help: "The dump, or - for standard input",
+};
+
 /// `--stubs FILE`
 pub const STUBS: Row = Row {
     id: "stubs",
@@ -484,6 +492,15 @@ pub const STATUS: Called = Called {
     about: "Says what each copy is good for, and which is current; writes nothing",
     example: "Example:\n  fwenv status -c fw_env.config\n  fwenv status board.img\n\nBack to the variables of the other copy, here the second:\n  fwenv export --copy 2 > before.txt\n  fwenv restore before.txt",
     options: &[CONFIG, BIG_ENDIAN, WHOLE_FILE],
+};
+
+/// `find`
+pub const FIND: Called = Called {
+    name: "find",
+    has_version: false,
+    about: "Searches a dump of a device for environments, and prints a configuration that names them",
+    example: "Example:\n  fwenv find dump.bin > fw_env.config",
+    options: &[DUMP],
 };
 
 /// `image`

@@ -20,12 +20,17 @@ use Rattle.fw_files.specs.declared.reasons.Explains.{Explains}
 use Rattle.fw_files.specs.declared.reasons.Explains.TheVariants as line
 use Rattle.fw_files.specs.declared.reasons.Reason as reasons
 use Rattle.fw_files.specs.declared.reasons.Reason.TheVariants as reason
+use Rattle.fw_files.specs.ForeignTexts.{foreign_ending}
 use Rattle.fw_files.specs.Said.{message_of}
 use Rattle.fw_engines.specs.declared.tool_end.StreamFault.TheVariants as stream
 
 -- the most bytes of a file that is read whole
 abbrev pub file_limit : ℕ
 file_limit = 16777216
+
+-- the most bytes of a dump
+abbrev pub dump_limit : ℕ
+dump_limit = 1073741824
 
 -- what is opened for a text: `-` is standard input
 abbrev pub opened_path : List ℕ → List ℕ
@@ -73,6 +78,7 @@ reason_in reason.Directory = codes "it is a directory"
 reason_in reason.ReadOnly = codes "the file system is read-only"
 reason_in reason.NoSpace = codes "no space is left"
 reason_in reason.TooLong = codes "it is longer than 16777216 bytes"
+reason_in reason.LongerThanDump = codes "it is longer than 1073741824 bytes"
 reason_in reason.Changed = codes "another program changed it"
 reason_in reason.Unknown = []
 
@@ -98,6 +104,7 @@ abbrev pub fault_line : Explains → List ℕ → FileFault → Option (List ℕ
 fault_line explains path (file.CannotRead why) = Some (codes "fwenv: cannot read " ++ path ++ ending explains why)
 fault_line explains path (file.CannotWrite why) = Some (codes "fwenv: cannot write " ++ path ++ ending explains why)
 fault_line explains path file.TooShort = Some (codes "fwenv: " ++ path ++ codes " is too short" ++ 10 ∷ [])
+fault_line explains path (file.Foreign kind) = Some (codes "fwenv: " ++ path ++ foreign_ending kind)
 fault_line explains path file.Yaml = Some (codes "fwenv: " ++ path ++ codes " is YAML: fwenv reads lines of DEVICE OFFSET SIZE" ++ 10 ∷ [])
 fault_line explains path file.UbiVolume = Some (codes "fwenv: " ++ path ++ codes " is a UBI volume by its name: fwenv reads files and block devices" ++ 10 ∷ [])
 fault_line explains path file.Memory = Some (message_of stream.Memory)

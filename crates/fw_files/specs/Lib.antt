@@ -3,6 +3,7 @@ pub mod BareLines
 pub mod Copies
 pub mod CopyReport
 pub mod Files
+pub mod ForeignTexts
 pub mod Locks
 pub mod Misread
 pub mod Opening

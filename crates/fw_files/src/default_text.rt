@@ -12,7 +12,7 @@ ghost use Rattle.fw_files.specs.Source.{AreDefaultsFrom, AreDefaultsIn, AreDefau
 use crate::bare_lines::bare_in;
 use crate::file_fault::{FileFault, value_or_say};
 use crate::file_texts::INITIAL_ENVIRONMENT;
-use crate::files::{import_from, read_file};
+use crate::files::{import_from, read_text};
 use crate::reasons::Explains;
 use envcfg_core::TextEntry;
 use envvars_core::{Refusal, Vars};
@@ -90,7 +90,7 @@ fn read_default<X: Files + AllocGlobal>(
     requires { 1 ≤ room }
     ensures { IfOk result (AreDefaultsFrom plain room) }
 {
-    let text = read_file(rt, path)?;
+    let text = read_text(rt, path)?;
     default_from(rt.alloc(), room, plain, &text)
 }
 

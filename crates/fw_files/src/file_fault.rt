@@ -11,6 +11,7 @@ use crate::file_texts::{
     CANNOT_READ_FILE, CANNOT_WRITE_FILE, COLON, FWENV, IN_LINE, IS_UBI_VOLUME, IS_YAML, LINE,
     NEWLINE, NO_EQUALS, TOO_SHORT,
 };
+use crate::foreign_texts::Foreign;
 use crate::reasons::{Explains, Reason};
 use board_file::BoardFault;
 use envcfg_core::{ConfigFault, TextFault};
@@ -34,6 +35,8 @@ pub enum FileFault {
     Memory,
     /// It is a configuration that is refused.
     Config(ConfigFault),
+    /// It is something else in the place of a text.
+    Foreign(Foreign),
     /// It is a configuration in YAML, as newer libubootenv has.
     Yaml,
     /// It is the name of a UBI volume, as U-Boot's tools have.
@@ -106,6 +109,7 @@ pub(crate) fn say_fault<E: Write>(
         }
         FileFault::TooShort => say_path(errors, FWENV, path, TOO_SHORT),
         FileFault::Memory => say(errors, OUT_OF_MEMORY),
+        FileFault::Foreign(kind) => say_path(errors, FWENV, path, kind.ending()),
         FileFault::Yaml => say_path(errors, FWENV, path, IS_YAML),
         FileFault::UbiVolume => say_path(errors, FWENV, path, IS_UBI_VOLUME),
         FileFault::Config(refused) => match refused.to_string(alloc) {

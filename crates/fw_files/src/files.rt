@@ -1,15 +1,17 @@
 //! Files that are read whole.
-ghost use Rattle.std.specs.Prelude.{◌≡◌, ◌≤◌, ℕ, List, Ok, Some, IfOk, MatchOption, length, map, option_map};
+ghost use Rattle.std.specs.Prelude.{◌≡◌, ◌≤◌, ℕ, List, None, Ok, Some, IfOk, MatchOption, length, map, option_map};
 ghost use Rattle.envcfg_core.specs.Entries.{entry_view};
 ghost use Rattle.envcfg_core.specs.Import.{import_of};
 ghost use Rattle.envcfg_core.specs.SetScript.{set_script_of};
 ghost use Rattle.board_file.specs.BoardFiles.{board_of};
-ghost use Rattle.fw_files.specs.Files.{AreRulesOf, AreStubsOf, board_fault, file_limit, opened_path, text_fault};
+ghost use Rattle.fw_files.specs.Files.{AreRulesOf, AreStubsOf, board_fault, dump_limit, file_limit, opened_path, text_fault};
+ghost use Rattle.fw_files.specs.ForeignTexts.{foreign_in};
 ghost use Rattle.fw_files.specs.Said.{SaysSome};
 ghost use Rattle.hush_commands.specs.Stubs.{stand_ins_of};
 
 use crate::file_fault::{FileFault, value_or_say};
 use crate::file_texts::DEVICE_OF_INPUT;
+use crate::foreign_texts::foreign_in;
 use crate::reasons::{Explains, Reason};
 use board_file::{BoardFault, LineFault, parse_board};
 use envcfg_core::{TextEntry, TextFault, parse_import, parse_set_script};
@@ -24,6 +26,9 @@ use std::rt::Files;
 
 /// The most bytes of a file that is read whole.
 const FILE_LIMIT: usize = 16_777_216;
+
+/// The most bytes of a dump.
+const DUMP_LIMIT: usize = 1_073_741_824;
 
 /// A file that is read, and why its last read failed, if it did.
 #[derive(Drop)]
@@ -59,17 +64,48 @@ fn opened_path(path: &str) -> &str
 pub fn read_file<X: Files + AllocGlobal>(rt: &X, path: &str) -> Result<Vec<u8>, FileFault>
     ensures { IfOk result (λ bytes. length bytes.items ≤ file_limit) }
 {
+    read_within(rt, path, FILE_LIMIT, Reason::TooLong)
+}
+
+/// Reads a text as [`read_file`] does; what is none by its first bytes, or as an image, is refused.
+pub fn read_text<X: Files + AllocGlobal>(rt: &X, path: &str) -> Result<Vec<u8>, FileFault>
+    ensures { IfOk result (λ bytes. foreign_in bytes.items ≡ None) }
+{
+    let bytes = read_file(rt, path)?;
+    match foreign_in(&bytes) {
+        None => Ok(bytes),
+        Some(foreign) => Err(FileFault::Foreign(foreign)),
+    }
+}
+
+/// Reads a whole dump of at most 1,073,741,824 bytes, or standard input.
+pub fn read_dump<X: Files + AllocGlobal>(rt: &X, path: &str) -> Result<Vec<u8>, FileFault>
+    ensures { IfOk result (λ bytes. length bytes.items ≤ dump_limit) }
+{
+    read_within(rt, path, DUMP_LIMIT, Reason::LongerThanDump)
+}
+
+/// Reads a whole file of at most `limit` bytes, or standard input; a longer one is refused for this reason.
+fn read_within<X: Files + AllocGlobal>(
+    rt: &X,
+    path: &str,
+    limit: usize,
+    too_long: Reason,
+) -> Result<Vec<u8>, FileFault>
+    requires { limit ≤ dump_limit }
+    ensures { IfOk result (λ bytes. length bytes.items ≤ limit) }
+{
     let file = OpenOptions::new().read(true).open(rt, opened_path(path))?;
     let mut reading = Reading {
         file,
         reason: Reason::Unknown,
     };
-    match read_up_to(rt.alloc(), &mut reading, FILE_LIMIT + 1) {
+    match read_up_to(rt.alloc(), &mut reading, limit + 1) {
         Ok(bytes) => {
-            if bytes.len() <= FILE_LIMIT {
+            if bytes.len() <= limit {
                 Ok(bytes)
             } else {
-                Err(FileFault::CannotRead(Reason::TooLong))
+                Err(FileFault::CannotRead(too_long))
             }
         }
         Err(StreamFault::Memory) => Err(FileFault::Memory),
@@ -97,7 +133,7 @@ pub fn entries_or_say<X: Files + AllocGlobal, E: Write>(
     ensures { MatchOption result (SaysSome (E.contents errors.old) (E.contents errors.new))
         (λ entries. ((text : List ℕ) × (import_of text ≡ Ok (map entry_view entries.items))) × (E.contents errors.new ≡ E.contents errors.old)) }
 {
-    let text = value_or_say(rt.alloc(), errors, explains, path, read_file(rt, path))?;
+    let text = value_or_say(rt.alloc(), errors, explains, path, read_text(rt, path))?;
     value_or_say(
         rt.alloc(),
         errors,

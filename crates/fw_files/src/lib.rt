@@ -2,7 +2,7 @@
 //! over copies is opened here, copies are written back and reported on, and it is reported why a file can not be used.
 //! docs/tools.md states the rules.
 //!
-//! To read in this order: system, reasons, file_fault, files, new_file; waiting, devices, lock_file, copies, source, wanted_source,
+//! To read in this order: system, reasons, foreign_texts, file_fault, files, new_file; waiting, devices, lock_file, copies, source, wanted_source,
 //! bare_lines, default_text, misread_copies, opening, changed_copies; copy_report; tool_messages, file_texts.
 #![tactic(auto)]
 
@@ -15,6 +15,7 @@ mod devices;
 mod file_fault;
 mod file_texts;
 mod files;
+mod foreign_texts;
 mod lock_file;
 mod misread_copies;
 mod new_file;
@@ -32,8 +33,10 @@ pub use copy_report::run_report;
 pub use default_text::variables_or_say;
 pub use file_fault::{FileFault, value_or_say};
 pub use files::{
-    entries_or_say, read_board, read_file, read_stand_in_file, read_stand_ins, script_from,
+    entries_or_say, read_board, read_dump, read_file, read_stand_in_file, read_stand_ins,
+    read_text, script_from,
 };
+pub use foreign_texts::Foreign;
 pub use lock_file::{LockedFiles, Locks, lock_copies};
 pub use new_file::write_file;
 pub use opening::open;

@@ -23,6 +23,8 @@ pub enum Reason {
     NoSpace,
     /// It is longer than a file that is read whole may be.
     TooLong,
+    /// It is longer than a dump may be.
+    LongerThanDump,
     /// Another program changed it between its reading and its writing.
     Changed,
     /// Something else, which is not reported.
@@ -66,6 +68,7 @@ impl Reason {
             Reason::ReadOnly => b": the file system is read-only\n",
             Reason::NoSpace => b": no space is left\n",
             Reason::TooLong => b": it is longer than 16777216 bytes\n",
+            Reason::LongerThanDump => b": it is longer than 1073741824 bytes\n",
             Reason::Changed => b": another program changed it\n",
             Reason::Unknown => NEWLINE,
         }

@@ -1,6 +1,7 @@
 mod SubcommandLemmas
 mod CheckLemmas
 mod EntryPointLemmas
+mod FindLemmas
 mod HelpLemmas
 mod NewImageLemmas
 mod SessionRunLemmas

@@ -11,7 +11,7 @@ use Rattle.fw_arguments.specs.Calls.{Call, Checks, Defaults, Job, Tool, Tries, R
 use Rattle.fw_tools.specs.CheckRuns.{ChecksFile, ChecksOver}
 use Rattle.fw_files.specs.Copies.{MayWarn}
 use Rattle.fw_files.specs.CopyReport.{ReportsOn}
-use Rattle.fw_arguments.specs.Report.{Asked, Check, Look, Make, Work}
+use Rattle.fw_arguments.specs.Report.{Asked, Check, Find, Look, Make, Work}
 use Rattle.fw_files.specs.Opening.{IsAccepted, IsOpening}
 use Rattle.fw_files.specs.Source.{IsTaken}
 use Rattle.fw_files.specs.Locks.{HasWaited}
@@ -26,6 +26,7 @@ use Rattle.fw_arguments.specs.declared.task.Printing.TheVariants.{Lines, OneValu
 use Rattle.fw_engines.specs.Changes.{Changes, Changing, Effect, LacksMemory, LacksMemoryToName, LacksMemoryToSet, named_import_effect, pair_of, script_effect, set_effect}
 use Rattle.fw_engines.specs.Restoration.{LacksMemoryToRestore, restore_effect}
 use Rattle.text_parts.specs.Words.{spaced}
+use Rattle.fw_tools.specs.Dumps.{Finds}
 use Rattle.fw_tools.specs.NewImages.{MakesImage}
 use Rattle.fw_tools.specs.SessionRun.{TriesOver}
 use Rattle.fw_tools.specs.ScriptRuns.{RunsOver}
@@ -120,4 +121,5 @@ Called (Ok (Work call)) old new status = Uses call old new status
 Called (Ok (Look report)) old new status = (new.input ≡ old.input) × ReportsOn report (writers_of old) (writers_of new) status
 Called (Ok (Check check)) old new status = (new.input ≡ old.input) × ChecksFile check (writers_of old) (writers_of new) status
 Called (Ok (Make image)) old new status = (new.input ≡ old.input) × MakesImage image (writers_of old) (writers_of new) status
+Called (Ok (Find path)) old new status = (new.input ≡ old.input) × Finds path (writers_of old) (writers_of new) status
 Called (Err text) old new status = (new.input ≡ old.input) × (new.output ≡ old.output) × AppendsFront old.errors new.errors text × (status ≡ 1)

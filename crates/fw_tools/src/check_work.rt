@@ -8,7 +8,7 @@ use crate::task_work::bytes_or_say;
 use env_session::Session;
 use fw_arguments::{EnvironmentCheck, FileCheck};
 use fw_check::{check, check_text};
-use fw_files::{Explains, FileFault, System, read_file, read_stand_in_file, report, value_or_say};
+use fw_files::{Explains, FileFault, System, read_stand_in_file, read_text, report, value_or_say};
 use hush_run::Stubs;
 use std::io::Write;
 use std::rt::Files;
@@ -70,7 +70,7 @@ fn check_file<X: System + AllocGlobal, W: Write, E: Write>(
         errors,
         Explains::Reason,
         asked.path,
-        read_file(rt, asked.path),
+        read_text(rt, asked.path),
     )?;
     let end = check_text(
         rt.alloc(),

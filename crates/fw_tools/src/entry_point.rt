@@ -11,6 +11,7 @@ ghost use Rattle.fw_arguments.specs.Words.{order_in};
 ghost use Rattle.std.specs.IoError.{error_kind};
 
 use crate::check_work::run_file_check;
+use crate::find_work::run_find;
 use crate::image_work::run_image;
 use crate::subcommands::run_call;
 use clap::error::ErrorKind;
@@ -142,6 +143,7 @@ fn run_asked<X: System + AllocGlobal, R: Read, W: Write, E: Write>(
         Asked::Look(report) => run_report(rt, report, output, errors),
         Asked::Check(check) => run_file_check(rt, check, output, errors),
         Asked::Make(image) => run_image(rt, image, output, errors),
+        Asked::Find(path) => run_find(rt, path, output, errors),
     }
 }
 

@@ -10,7 +10,7 @@ ghost use Rattle.fw_tools.specs.ScriptRuns.{IsTextOf, Refuses, name_of_script, q
 use fw_arguments::GivenScript;
 use fw_engines::streams::say;
 use fw_engines::{OUT_OF_MEMORY, say_syntax_fault};
-use fw_files::{Explains, FileFault, read_file, value_or_say};
+use fw_files::{Explains, FileFault, read_text, value_or_say};
 use hush_syntax::{Bodies, FaultKind, Script};
 use std::alloc::{AllocError, Global};
 use std::io::Write;
@@ -49,12 +49,12 @@ pub(crate) fn text_or_say<X: Files + AllocGlobal, E: Write>(
         errors,
         Explains::Reason,
         path_of_script(given),
-        read_text(rt, given),
+        read_given(rt, given),
     )
 }
 
 /// The text of a script.
-fn read_text<X: Files + AllocGlobal>(
+fn read_given<X: Files + AllocGlobal>(
     rt: &X,
     given: &GivenScript<'_, '_>,
 ) -> Result<Vec<u8>, FileFault>
@@ -63,7 +63,7 @@ fn read_text<X: Files + AllocGlobal>(
     match *given {
         GivenScript::Names(names) => Ok(starts(rt.alloc(), names)?),
         GivenScript::Words(text) => Ok(Vec::from_slice(rt.alloc(), text.as_bytes())?),
-        GivenScript::File(path) => read_file(rt, path),
+        GivenScript::File(path) => read_text(rt, path),
     }
 }
 
