@@ -53,17 +53,19 @@ def script_check(script):
 PRINTING = [
     Case("an image", [], given=ONE),
     Case("the version", [b"--version"]),
-    *map(call, calls("printenv / printenv m a / printenv -n a / status / check q a / run --write -e 'echo a; setenv a 3; saveenv'")),
+    *map(call, calls("printenv / printenv m a / printenv -n a / status / run --write -e 'echo a; setenv a 3; saveenv'")),
     call([b"export"], over=board(FORM, [FORM.image(7, b"a=b\0"), ERASED * FORM.size])),
     call([b"status"], over=NEVER_WRITTEN),
     Case("a whole file", [b"status", b"image"], {b"image": ONE}),
     Case("a new image", [b"image", b"--env", b"text", b"--size", b"20", b"--copies", b"2"], FILES | {b"text": b"a=1\n"}),
     whole_environment([b"a", b"m"]),
+]
+# What prints on both streams
+ON_BOTH = [
+    *map(call, calls("printenv q a / export / check q a / run --write -e 'saveenv; false'")),
     whole_check([b"a", b"q"]),
     script_check(b"mmc; a\r\nb"),
 ]
-# What prints on both streams
-ON_BOTH = [*map(call, calls("printenv q a / export / run --write -e 'saveenv; false'"))]
 # What prints one text on standard error
 SAYING = [
     Case("no image", []),
