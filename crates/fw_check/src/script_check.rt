@@ -73,32 +73,44 @@ pub(crate) fn print_report<W: Write, E: Write>(
 {
     match summary(alloc, report) {
         Err(_) => lacks_memory(),
-        Ok(last) => print_lines(report, &last, output, errors),
+        Ok(last) => print_lines(
+            &report.text,
+            report_end(report.cut),
+            &last,
+            status_of(report),
+            output,
+            errors,
+        ),
     }
 }
 
-/// Prints the lines of a report, and this last one on `errors`.
+/// Prints lines and their end on `output`, and a last line on `errors`; the status is this one.
 fn print_lines<W: Write, E: Write>(
-    report: &Report<'_>,
+    lines: &[u8],
+    end: &[u8],
     last: &[u8],
+    status: u8,
     output: &mut W,
     errors: &mut E,
 ) -> ToolEnd
     ensures { Prints (record { output = W.contents output.old; errors = E.contents errors.old })
         (record { output = W.contents output.new; errors = E.contents errors.new })
-        (record {
-          output = report.now.text ++ report_end report.now.cut;
-          errors = last.now;
-          status = if is_failed report.now then 1 else 0;
-        }) result }
+        (record { output = lines.now ++ end.now; errors = last.now; status = status }) result }
 {
-    if !write_two(output, &report.text, report_end(report.cut)) {
+    if !write_two(output, lines, end) {
         return ToolEnd::stopped(StreamFault::Write);
     }
     if !write_text(errors, last) {
         return ToolEnd::stopped(StreamFault::Write);
     }
-    ToolEnd::done(if is_failed(report) { 1 } else { 0 })
+    ToolEnd::done(status)
+}
+
+/// The status of a check with this report.
+fn status_of(report: &Report<'_>) -> u8
+    ensures { result ≡ (if is_failed report.now then 1 else 0) }
+{
+    if is_failed(report) { 1 } else { 0 }
 }
 
 /// Whether something was found that counts.
