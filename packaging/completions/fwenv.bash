@@ -23,6 +23,8 @@ _fwenv() {
     local word=${COMP_WORDS[COMP_CWORD]} before=${COMP_WORDS[COMP_CWORD - 1]} command='' at
     local commands='printenv setenv import export restore status find image run check session help'
     local options='-c --default --need-copy --big-endian -h --help'
+    local codes='carriage-return syntax other-shell unknown-command test-operator run-undefined hidden-assignment'
+    codes+=' undefined-name no-variable no-script value-type'
     local dry_run=' --write --overwrite --shell --stubs --board --steps --depth --word --output --env --size'
     for ((at = 1; at < COMP_CWORD; at++)); do
         case " $commands " in *" ${COMP_WORDS[at]} "*)
@@ -56,6 +58,10 @@ _fwenv() {
             mapfile -t COMPREPLY < <(compgen -W '1 2' -- "$word")
             return
             ;;
+        --ignore)
+            mapfile -t COMPREPLY < <(compgen -W "$codes" -- "$word")
+            return
+            ;;
         --steps | --depth | --word | --output | --size | --boots | --resets | -e) return ;;
     esac
     case $command in
@@ -68,7 +74,7 @@ _fwenv() {
         find) options='-h --help' ;;
         image) options='--env --size --copies --both --output --big-endian -h --help' ;;
         run) options+="$dry_run --boots --resets --must-boot -e -f" ;;
-        check) options='-c --default --big-endian -h --help --shell --stubs --env --size -f' ;;
+        check) options='-c --default --big-endian -h --help --shell --stubs --ignore --strict --env --size -f' ;;
         session) options+=$dry_run ;;
         help) options=$commands ;;
     esac

@@ -48,6 +48,8 @@ complete -c fwenv -n "__fish_seen_subcommand_from run session" -l write -d 'Writ
 complete -c fwenv -n "__fish_seen_subcommand_from run check session" -l shell -xa 'board strict' -d 'Whose rules count'
 complete -c fwenv -n "__fish_seen_subcommand_from setenv import restore run session" -l overwrite -d 'Write even if a copy is good in another way'
 complete -c fwenv -n "__fish_seen_subcommand_from run check session" -l stubs -rF -d 'Stand-ins'
+complete -c fwenv -n "__fish_seen_subcommand_from check" -l ignore -xa 'carriage-return syntax other-shell unknown-command test-operator run-undefined hidden-assignment undefined-name no-variable no-script value-type' -d 'Kind of finding that is left out'
+complete -c fwenv -n "__fish_seen_subcommand_from check" -l strict -d 'Warnings count as errors'
 complete -c fwenv -n "__fish_seen_subcommand_from run session" -l board -rF -d 'What a board answers'
 complete -c fwenv -n "__fish_seen_subcommand_from run session" -l steps -x -d 'Steps of a script'
 complete -c fwenv -n "__fish_seen_subcommand_from run session" -l depth -x -d 'Starts inside one another'

@@ -19,8 +19,8 @@ TOLD = re.compile(
     rb"^\[(Finished|Exited|Steps|Depth|Word|Output|Syntax|Marked|Full|Undone|Gone|Unknown)"
     rb"|^(?:fwenv: .*|## Error: bad image): (\w+)(?: in line \d+)?\n"
     rb"|^fwenv: run ended as (\w+)|^fwenv: .*:\d+:\d+: (\w+): "
-    rb"|^[^\n]*:\d+:\d+: error: [^\n]* \((\w+)\)$|(variable that is|nothing defines|no builtin|this shell has|carriage return|be assigned|no variable)"
-    rb"|(no room|bad name|type check|not defined|Can't \w+|too short|overlap|cannot read|no such file|no good copy|is written|copy isn't good|no second copy|possible values: 1, 2|no = in)",
+    rb"|^[^\n]*:\d+:\d+: error: [^\n]* \((\w+)\) \[syntax\]$|(variable that is|nothing defines|no builtin|this shell has|carriage return|be assigned|no variable|no script to look at)"
+    rb"|(no room|bad name|type check|not defined|Can't \w+|too short|overlap|cannot read|no such file|no good copy|is written|copy isn't good|no second copy|possible values: 1, 2|possible values: carriage-return|no = in)",
     re.M,
 )
 

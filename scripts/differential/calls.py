@@ -9,7 +9,7 @@ from differential.random_scripts import Writer, spoiled, variables
 from differential.running import Case
 from differential.scripts import SCRIPTS, TOKENS
 from differential.texts import BOARDS, IMPORTS, IMPORT_TOKENS, SET_SCRIPTS, STAND_INS
-from model.check import STARTED
+from model.check import KINDS, STARTED
 from model.image import ERASED, Geometry, entries
 
 NAMES = [b"a", b"b", b"n", b"o", b"r", b".flags", b"q", b"a=b", b"", b"#c", b" d", b"two\nlines", b"\xc3\xa9"]
@@ -48,6 +48,8 @@ RUNS = [
 ]  # fmt: skip
 GIVEN_STAND_INS = [*STAND_INS, *[b"mmc\nusb 1\n"] * 4, b"[\nmmc\nf() 1\n"]
 GIVEN_BOARDS = [*BOARDS, *[b"mmc x -> setenv a ${1}\nmmc -> 1\nusb -> boots\n"] * 6, b"m* -> run a\nusb -> exit 2\n"]
+# Those of kinds, and two that no kind has
+CODES = [*KINDS, *KINDS, b"syntax ", b""]
 BOOTS = [b"mmc", b"mmc", b"usb", b"mmcinfo", b"echo", b"", b"\xc3\xa9"]
 SIZES = [b"0x4000", b"1000", b"0X100", b"200", b"80", b"0d", b"8", b"100001", b"4k"]
 # (a board's shell is compared with boards, and by rows)
@@ -212,6 +214,12 @@ class Calls:
     def wanted_copy(self):
         return [self.option(b"--copy", self.numbers.choice([b"1", b"2", b"2", b"3"]))] if self.chance(20) else []
 
+    def counting(self):
+        """What a check leaves out, and whether its warnings count."""
+        codes = KINDS if self.chance(25) else [self.numbers.choice(CODES) for _ in range(2) if self.chance(40)]
+        left_out = [self.option(b"--ignore", code) for code in codes]
+        return left_out + [[b"--strict"]] * self.chance(20)
+
     def own(self, tool, is_whole):
         """The options and the other arguments of a subcommand."""
         if tool == b"printenv":
@@ -227,7 +235,8 @@ class Calls:
         if tool in (b"import", b"restore"):
             return [], [self.text(b"text", self.entries_text())]
         if tool == b"check":
-            return self.checked(is_whole)
+            options, words = self.checked(is_whole)
+            return options + self.counting(), words
         return self.dry_run(tool, is_whole) if tool in DRY else ([], [])
 
     def subcommand(self):

@@ -1,33 +1,36 @@
 """How rows of `fwenv check` are written: what is found, a line each, and calls over an environment and over one script."""
 
+import re
+
 from differential.boards import text_of
 from differential.running import Case
 from model.program import WARNING, Answer
 from model.script_run import SENTENCES
 
 
-def finding(said):
+def finding(said, code):
     """What makes a line of a place, and of a word that is named there."""
-    return lambda place, word="": f"{place}: {said.format(word)}"
+    return lambda place, word="": f"{place}: {said.format(word)} [{code}]"
 
 
-not_run = finding("error: `run {}` names a variable that is not defined")
-not_called = finding("error: no builtin and no stand-in is called `{}`")
-no_operator = finding("error: `test` has no operator `{}` here, and is false")
-no_operator_of_board = finding("error: `test` has no operator `{}` here")
-not_assigned = finding("warning: `{}` is an environment variable, so it can not be assigned")
-hidden = finding("warning: `{}` is an environment variable, which hides what is assigned")
-not_typed = finding("error: the value does not have the type that .flags gives it")
-returned = finding("warning: a carriage return stands in the script")
-not_defined = finding("warning: `${{{}}}` names a variable that nothing defines")
-lacked = finding("error: this shell has no `{}`")
-lacked_test = finding("error: this shell has no `{}`: write `test`")
-no_functions = finding("error: this shell has no functions")
-no_variable = finding("error: no variable of this name is defined")
+not_run = finding("error: `run {}` names a variable that is not defined", "run-undefined")
+not_called = finding("error: no builtin and no stand-in is called `{}`", "unknown-command")
+no_operator = finding("error: `test` has no operator `{}` here, and is false", "test-operator")
+no_operator_of_board = finding("error: `test` has no operator `{}` here", "test-operator")
+not_assigned = finding("warning: `{}` is an environment variable, so it can not be assigned", "hidden-assignment")
+hidden = finding("warning: `{}` is an environment variable, which hides what is assigned", "hidden-assignment")
+not_typed = finding("error: the value does not have the type that .flags gives it", "value-type")
+returned = finding("warning: a carriage return stands in the script", "carriage-return")
+not_defined = finding("warning: `${{{}}}` names a variable that nothing defines", "undefined-name")
+lacked = finding("error: this shell has no `{}`", "other-shell")
+lacked_test = finding("error: this shell has no `{}`: write `test`", "other-shell")
+no_functions = finding("error: this shell has no functions", "other-shell")
+NOTHING = "check: error: there is no script to look at [no-script]"
+no_variable = finding("error: no variable of this name is defined", "no-variable")
 
 
 def no_script(place, kind):
-    return f"{place}: error: {SENTENCES[kind].decode()} ({kind})"
+    return f"{place}: error: {SENTENCES[kind].decode()} ({kind}) [syntax]"
 
 
 def several(finding, text):
@@ -73,11 +76,27 @@ def place(text, at):
     return f"{len(before)}:{len(before[-1]) + 1}"
 
 
-def row(name, words, files, output, errors=b"", given=b"", status=None, seconds=0.25):
-    """A check; the status is 1 if an error is found or a fault is reported."""
-    if status is None:
-        status = int(b": error: " in output or errors not in (b"", WARNING))
-    return Case(name, [b"check", *words], files, given, wanted=Answer(status, output, errors, files), seconds=seconds)
+def counted(number, one):
+    return f"{number} {one}{'s' * (number != 1)}"
+
+
+def last(scripts, errors, warnings):
+    """The last line of a check, on standard error."""
+    return f"{counted(scripts, 'script')} looked at, {counted(errors, 'error')}, {counted(warnings, 'warning')}\n".encode()
+
+
+def row(name, words, files, output, errors=b"", given=b"", status=None, seconds=0.25, scripts=None, found=None):
+    """A check; the status is 1 if an error is found or a fault is reported. Unless one is, the last line has the numbers of errors and
+    warnings that are `found`, those of the lines if they aren't given; how many scripts there are, if that isn't given, is the model's."""
+    case = Case(name, [b"check", *words], files, given, seconds=seconds)
+    if errors in (b"", WARNING):
+        found = found or (output.count(b": error: "), output.count(b": warning: "))
+        scripts = scripts or int(re.search(rb"(\d+) scripts? looked at", case.answer().errors)[1])
+        errors, usual = errors + last(scripts, *found), int(found[0] > 0)
+    else:
+        usual = 1
+    case.wanted = Answer(usual if status is None else status, output, errors, files)
+    return case
 
 
 def over(variables, words, output, files=(), **rest):

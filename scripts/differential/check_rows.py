@@ -1,17 +1,19 @@
 """Faults of scripts that are found before they run, by hand: `fwenv check` over an environment and over one script. Each row is a
 call and the lines that it prints; with an error among them the status is 1. Nothing is written."""
 
+import re
+
 from differential import check_kinds
 from differential.boards import CONFIG, STRICT, arguments, board, calls, text_of
 from differential.check_kinds import STAND_INS
 from differential.check_lines import (
-    cut_off, hidden, lacked, lines, no_script, no_variable, not_assigned, not_called, not_defined, not_run, not_typed, on_board, returned,
-    row, with_stand_ins,
+    NOTHING, cut_off, hidden, lacked, last, lines, no_script, no_operator_of_board, no_variable, not_assigned, not_called, not_defined, not_run, not_typed, on_board, returned,
+    row, with_stand_ins, without,
 )  # fmt: skip
 from differential.running import Case
 from differential.script_rows import NO_ENVIRONMENTS, NO_SIZES, absent, longer
 from differential.tool_rows import FIRST, PAIR, SECOND
-from model.arguments import ENV_AND, FILE_AND, NO_SHELL, NO_SIZE, SIZE_ALONE
+from model.arguments import ENV_AND, FILE_AND, NO_CODE, NO_SHELL, NO_SIZE, SIZE_ALONE
 from model.dry_run import LONGEST
 from model.image import Geometry
 from model.program import WARNING, Answer
@@ -126,8 +128,12 @@ WRONG = {
     ENV_AND % b"--default <FILE>": "a --default=absent --env absent",
     SIZE_ALONE: "--size 4000 / --size x -c absent a",
     NO_SIZE % b"x": "--env absent --size=x a / --env absent --size=x --shell=x",
-    NO_SHELL % b"x": "--shell x / --shell=x -f absent / -c absent --shell=x a",
-    None: "--shell / --shell=board --shell=board / -f / -f a -f a / -e true / --write / --boots booti / --steps 1 / --stubs / --stubs=a --stubs=a / --env=a --env=a / -n a / -x",
+    NO_SHELL % b"x": "--shell x / --shell x --ignore y / --shell=x -f absent / -c absent --shell=x a",
+    NO_CODE % b"x": "--ignore x / --ignore=syntax --ignore x / -f absent --ignore=x --strict / -c absent --ignore=x a",
+    NO_CODE % b"": "--ignore=",
+    NO_CODE % b"[syntax]": "--ignore [syntax] --ignore=x",
+    NO_CODE % b"Syntax": "--ignore=Syntax",
+    None: "--ignore / --strict --strict / --strict=1 / --shell / --shell=board --shell=board / -f / -f a -f a / -e true / --write / --boots booti / --steps 1 / --stubs / --stubs=a --stubs=a / --env=a --env=a / -n a / -x",
 }
 # Files that aren't there, in the order in which they are used
 ORDER = [
@@ -144,8 +150,18 @@ ORDER = [
 ]
 
 
+def with_nothing(text, names, found):
+    """What is found, and after the names that aren't there that no script is, if none of the names is defined."""
+    there = {line.partition(b"=")[0] for line in text.split(b"\n") if b"=" in line}
+    if there & set(names or (b"bootcmd", b"altbootcmd", b"preboot")):
+        return found
+    lost = len([each for each in found if each.endswith("[no-variable]")])
+    return [*found[:lost], NOTHING, *found[lost:]]
+
+
 def followed():
-    for text, names, found in FOLLOWED + GIVEN + FORESEEN + TYPED:
+    for text, names, lines_of in FOLLOWED + GIVEN + FORESEEN + TYPED:
+        found = with_nothing(text, names, lines_of)
         yield row("scripts that are followed", [b"--env", b"env", *names], {b"env": text}, lines(on_board(found)))
         yield row("scripts that are followed", [*STRICT, b"--env", b"env", *names], {b"env": text}, lines(found))
     many = b"".join(b"v%d=run v%d v%d\n" % (at, at + 1, at * 7 % 500) for at in range(500))
@@ -159,30 +175,73 @@ def many(kind, count, column=1, word="a"):
 
 def limits():
     """Lines that take up to 65,536 bytes and one byte less, and what is found after them; an error without a line counts."""
-    start, files = [lines([not_called(f"{number}:1", "a")], "s") for number in range(1, 1_001)], {b"stand-ins": b""}
-    room = 65_536 - len(b"".join(start)) - len(lines([not_called("1001:1", "")], "s"))
+    start, files = [lines([not_called(f"{number}:1", "a")], "s") for number in range(1, 801)], {b"stand-ins": b""}
+    room = 65_536 - len(b"".join(start)) - len(lines([not_called("801:1", "")], "s"))
     for length in (room - 1, room, room + 1):
         for rest in ([], [b"b"], [b"b", b"c"]):
             names = [b"x" * length, *rest]
-            found = [lines([not_called(f"{number}:1", name.decode())], "s") for number, name in enumerate(names, 1_001)]
-            files[b"s"] = b"a\n" * 1_000 + b"\n".join(names)
-            yield row("many lines", with_stand_ins([b"-f", b"s"]), dict(files), cut_off(start + found), seconds=1)
+            found = [lines([not_called(f"{number}:1", name.decode())], "s") for number, name in enumerate(names, 801)]
+            files[b"s"] = b"a\n" * 800 + b"\n".join(names)
+            said = (800 + len(names), 0)
+            yield row("many lines", with_stand_ins([b"-f", b"s"]), dict(files), cut_off(start + found), seconds=1, found=said)
     for rest, flags, status in ((b"", b"s", 0), (b"run none\n", b"s", 1), (b"", b"d", 1)):
         files = {b"env": text_of({b"a": b"1", b"n": b"x", b"s": b"a=1\n" * 2_000 + rest, b".flags": b"n:" + flags})}
-        yield row("many warnings", [b"--env", b"env", b"s"], files, many(hidden, 2_000), status=status, seconds=1)
-        yield row("many warnings", [*STRICT, b"--env", b"env", b"s"], files, many(not_assigned, 2_000), status=status, seconds=1)
+        yield row("many warnings", [b"--env", b"env", b"s"], files, many(hidden, 2_000), seconds=1, found=(status, 2_000))
+        yield row("many warnings", [*STRICT, b"--env", b"env", b"s"], files, many(not_assigned, 2_000), seconds=1, found=(status, 2_000))
     in_one_word = cut_off([lines([not_defined("1:6", name)], "s") for name in "nm" * 750])
-    for script, output, status in (
-        (b"echo $n\n" * 1_500, many(not_defined, 1_500, 6, "n"), 0),
-        (b"echo $n\n" * 1_500 + b"break\n", many(not_defined, 1_500, 6, "n"), 1),
-        (b"echo " + b"$n$m" * 750, in_one_word, 0),
-        (b"echo " + b"$n" * 1_500, lines([not_defined("1:6", "n")], "s"), 0),
+    for script, output, found in (
+        (b"echo $n\n" * 1_500, many(not_defined, 1_500, 6, "n"), (0, 1_500)),
+        (b"echo $n\n" * 1_500 + b"break\n", many(not_defined, 1_500, 6, "n"), (1, 1_500)),
+        (b"echo " + b"$n$m" * 750, in_one_word, (0, 1_500)),
+        (b"echo " + b"$n" * 1_500, lines([not_defined("1:6", "n")], "s"), (0, 1)),
     ):
-        yield row("many substitutions", [b"--env", b"env", b"s"], {b"env": text_of({b"s": script})}, output, status=status, seconds=1)
-    yield row("many that are lacked", [b"-f", b"s"], {b"s": b"break\n" * 2_000}, many(lacked, 2_000, word="break"), seconds=1)
+        yield row("many substitutions", [b"--env", b"env", b"s"], {b"env": text_of({b"s": script})}, output, seconds=1, found=found)
+    yield row("many that are lacked", [b"-f", b"s"], {b"s": b"break\n" * 2_000}, many(lacked, 2_000, word="break"), seconds=1, found=(2_000, 0))
     names = [b"name%04d" % number for number in range(1_500)]
     output = cut_off([lines([no_variable(name.decode())]) for name in names])
-    yield row("many names", [b"--env", b"env", *names], {b"env": b"bootcmd=true\n"}, output, seconds=1)
+    yield row("many names", [b"--env", b"env", *names], {b"env": b"bootcmd=true\n"}, output, seconds=1, found=(1_501, 0))
+
+
+# A script in which each kind of finding of a script is, and variables beside it
+EACH_KIND = b"run none; x=$y; laod; test a == b\nbreak\r"
+EACH_FOUND = [
+    returned("2:6"), not_run("1:5", "none"), hidden("1:11", "x"), not_defined("1:13", "y"), not_called("1:17", "laod"),
+    no_operator_of_board("1:30", "=="), not_called("2:1", "break\r"),
+]  # fmt: skip
+BESIDE = {b"x": b"1", b"n": b"a", b".flags": b"n:d"}
+
+
+def code_of(line):
+    return re.search(r"\[([a-z-]+)\]\Z", line)[1]
+
+
+def counting():
+    """What is left out, and warnings that count."""
+    files = {b"env": text_of(BESIDE | {b"s": EACH_KIND}), b"stand-ins": b""}
+    found = [*(f"s:{each}" for each in EACH_FOUND), not_typed("n")]
+    words = [b"--env", b"env", *with_stand_ins([b"s"])]
+    yield row("each kind", words, files, lines(found), scripts=1)
+    codes = sorted({code_of(each) for each in found})
+    for code in codes:
+        left = [each for each in found if code_of(each) != code]
+        yield row("a kind that is left out", [*words, b"--ignore", code.encode()], files, lines(left), scripts=1)
+        yield row("a kind alone", [*words, *(b"--ignore=" + each.encode() for each in codes if each != code)], files, lines(without(found, *(f"[{each}]" for each in codes if each != code))))
+    yield row("all left out", [*words, b"--strict", *(b"--ignore=" + each.encode() for each in codes)], files, b"", scripts=1, status=0)
+    for strict in ([], [b"--strict"]):
+        hides = row("a warning", [b"--env", b"env", *strict, b"s"], {b"env": b"x=1\ns=x=2\n"}, lines([hidden("s:1:1", "x")]), scripts=1, status=len(strict))
+        yield hides
+        yield row("no warning", [b"--env", b"env", *strict, b"s"], {b"env": b"x=1\ns=y=2\n"}, b"", scripts=1, status=0)
+        left_out = [*strict, b"--ignore", b"hidden-assignment"]
+        yield row("a warning left out", [b"--env", b"env", *left_out, b"s"], {b"env": b"x=1\ns=x=2\n"}, b"", scripts=1, status=0)
+        yield row("a script alone", [*strict, b"-f", b"s"], {b"s": b"true\r"}, lines([returned("1:5")], "s"), scripts=1, status=len(strict))
+        yield row("a script left out", [*strict, b"-f", b"s", b"--ignore=carriage-return"], {b"s": b"true\r"}, b"", scripts=1, status=0)
+    yield row("no name, left out", [b"--env", b"env", b"--ignore", b"no-variable", b"a"], {b"env": b"bootcmd=true\n"}, lines([NOTHING]))
+    both = [b"--ignore", b"no-variable", b"--ignore=no-script"]
+    yield row("no name and no script, left out", [b"--env", b"env", *both, b"a"], {b"env": b"bootcmd=true\n"}, b"", status=0)
+    text = b"bootcmd=run a; run b\na=run b\nb=run c c\nx=1\n"
+    yield row("three scripts", [b"--env", b"env"], {b"env": text}, lines([not_run("b:1:5", "c"), not_run("b:1:7", "c")]), scripts=3)
+    many_left = [b"--env", b"env", b"--ignore", b"undefined-name", b"s"]
+    yield row("many that are left out", many_left, {b"env": text_of({b"s": b"echo $n\n" * 1_500 + b"break\n"})}, lines([lacked("1501:1", "break")], "s"), seconds=1)
 
 
 def opened():
@@ -197,21 +256,21 @@ def opened():
     yield row("a default text that is not used", arguments(b"check", b"--default", b"text")[1:], stored, found)
     with_names = board(single, [single.image(0, b"a=1\0preboot=$a b\0bootcmd=$b $n\0")])
     yield row("substitutions over a copy", arguments(b"check")[1:], with_names, lines([not_defined("bootcmd:1:4", "n")]))
-    yield row("no good copy", arguments(b"check")[1:], blank, b"", WARNING)
-    yield row("no good copy, and a name", arguments(b"check", b"p")[1:], blank, lines([no_variable("p")]), WARNING)
+    yield row("no good copy", arguments(b"check")[1:], blank, lines([NOTHING]), WARNING)
+    yield row("no good copy, and a name", arguments(b"check", b"p")[1:], blank, lines([no_variable("p"), NOTHING]), WARNING)
     yield row("a default text", arguments(b"check", b"--default", b"text")[1:], blank, usual, WARNING)
     strict = lines([not_run("bootcmd:1:5", "q"), not_assigned("bootcmd:1:8", "p")])
     yield row("a default text", arguments(b"check", *STRICT, b"--default", b"text")[1:], blank, strict, WARNING)
     yield row("a fault after the warning", arguments(b"check", b"--stubs", b"absent")[1:], blank, b"", WARNING + absent(b"absent"))
     big = Geometry(2, 64, "big")
     typed = board(single, [single.image(0, b".flags=n:d,o:d\0n=x\0o=1\0")])
-    yield row("types in copies", arguments(b"check")[1:], typed, lines([not_typed("n")]))
+    yield row("types in copies", arguments(b"check")[1:], typed, lines([NOTHING, not_typed("n")]))
     files = board(big, [big.image(7, b"bootcmd=run n\0"), b"\xff" * 64])
     yield row("a big-endian copy", arguments(b"check", order="big")[1:], files, found)
-    yield row("the wrong order", arguments(b"check")[1:], files, b"", WARNING)
+    yield row("the wrong order", arguments(b"check")[1:], files, lines([NOTHING]), WARNING)
     yield row("a big-endian text", [b"--big-endian", b"--env", b"env"], {b"env": b"bootcmd=run n\n"}, found)
     yield row("a big-endian script", [b"--big-endian", b"-f", b"s"], {b"s": b"'"}, lines([no_script("1:1", "Quote")], "s"))
-    yield Case("before the subcommand", [b"--big-endian", b"check", b"-c", CONFIG], files, wanted=Answer(1, found, b"", files))
+    yield Case("before the subcommand", [b"--big-endian", b"check", b"-c", CONFIG], files, wanted=Answer(1, found, last(1, 1, 0), files))
     for text, size, errors in NO_ENVIRONMENTS:
         files = {} if text is None else {b"env": text}
         sized = [b"--env", b"env"] if size is None else [b"--env", b"env", b"--size=" + size]
@@ -241,11 +300,11 @@ def words():
     yield row("a longer script", [b"-f", b"script"], {b"script": too_long}, b"", longer(b"script"), seconds=2)
     yield row("longer standard input", [b"-f", b"-"], {}, b"", longer(b"-"), given=too_long, seconds=2)
     yield row("no standard input", [b"-f", b"-"], {}, b"")
-    yield row("standard input that isn't asked for", [b"--env", b"env"], {b"env": b"a=1\n"}, b"", given=b"'")
-    case = row("a path as it is given", [b"-f", b"./script"], {b"script": b"'"}, lines([no_script("1:1", "Quote")], "./script"))
+    yield row("standard input that isn't asked for", [b"--env", b"env"], {b"env": b"a=1\n"}, lines([NOTHING]), given=b"'")
+    case = row("a path as it is given", [b"-f", b"./script"], {b"script": b"'"}, lines([no_script("1:1", "Quote")], "./script"), scripts=1)
     case.is_modelled = False
     yield case
 
 
 def chunks():
-    return [*check_kinds.chunks(), followed, limits, opened, words]
+    return [*check_kinds.chunks(), followed, limits, counting, opened, words]

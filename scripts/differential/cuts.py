@@ -54,18 +54,20 @@ DUMP = Geometry(1, 512).image(0, b"a=1\0") + Geometry(2, 512).image(3, b"b=1\0")
 PRINTING = [
     Case("an image", [], given=ONE),
     Case("the version", [b"--version"]),
-    *map(call, calls("printenv / printenv m a / printenv -n a / status / check q a / run --write -e 'echo a; setenv a 3; saveenv'")),
+    *map(call, calls("printenv / printenv m a / printenv -n a / status / run --write -e 'echo a; setenv a 3; saveenv'")),
     call([b"export"], over=board(FORM, [FORM.image(7, b"a=b\0"), ERASED * FORM.size])),
     call([b"status"], over=NEVER_WRITTEN),
     Case("a whole file", [b"status", b"image"], {b"image": ONE}),
     Case("a new image", [b"image", b"--env", b"text", b"--size", b"20", b"--copies", b"2"], FILES | {b"text": b"a=1\n"}),
     Case("a dump", [b"find", b"dump"], {b"dump": DUMP}),
     whole_environment([b"a", b"m"]),
+]
+# What prints on both streams
+ON_BOTH = [
+    *map(call, calls("printenv q a / export / check q a / run --write -e 'saveenv; false'")),
     whole_check([b"a", b"q"]),
     script_check(b"mmc; a\r\nb"),
 ]
-# What prints on both streams
-ON_BOTH = [*map(call, calls("printenv q a / export / run --write -e 'saveenv; false'"))]
 # What prints one text on standard error
 SAYING = [
     Case("no image", []),

@@ -29,12 +29,12 @@ FORMS = {
     "image": ({"--both"}, {"--env", "--size", "--copies", "--output"}, (0, 0)),
     "session": (WRITING_FLAGS | {"--write"}, OPENING_VALUES | DRY_VALUES, (0, 0)),
     "run": (WRITING_FLAGS | {"--write", "--must-boot"}, OPENING_VALUES | DRY_VALUES | {"--boots", "--resets", "-e", "-f"}, (0, None)),
-    "check": (set(), OPENING_VALUES | WHOLE_VALUES | {"-f", "--shell"}, (0, None)),
+    "check": ({"--strict"}, OPENING_VALUES | WHOLE_VALUES | {"-f", "--shell", "--ignore"}, (0, None)),
 }
 # Options whose value names a text, which - takes from standard input
 TEXTS = {"-c", "--default", "--env", "--stubs", "--board", "-s", "-f"}
 # Options that may be given more than once
-REPEATED = {"--boots", "--resets"}
+REPEATED = {"--boots", "--resets", "--ignore"}
 # How the stand-ins leave the board that these name
 LEAVINGS = {"--boots": Reply.BOOTS, "--resets": Reply.RESETS}
 # The limits of a dry run: the usual one, None for that of the shell, and the largest
@@ -65,6 +65,12 @@ For more information, try '--help'.
 """
 NO_SHELL = b"""error: invalid value '%s' for '--shell <SHELL>'
   [possible values: board, strict]
+
+For more information, try '--help'.
+"""
+NO_CODE = b"""error: invalid value '%s' for '--ignore <CODE>'
+  [possible values: carriage-return, syntax, other-shell, unknown-command, test-operator, run-undefined, hidden-assignment, undefined-name, \
+no-variable, no-script, value-type]
 
 For more information, try '--help'.
 """
@@ -191,6 +197,13 @@ class Call:
     def leavings(self):
         """How stand-ins leave the board, by their names."""
         return {name: reply for option, reply in LEAVINGS.items() for name in self.options.get(option, ())}
+
+    def ignored(self, codes):
+        """The kinds of findings that a check leaves out, of those with these codes."""
+        for code in self.options.get("--ignore", ()):
+            if code not in codes:
+                raise Wrong(NO_CODE % code)
+        return tuple(self.options.get("--ignore", ()))
 
     def refuse_second_input(self):
         """Standard input is read once, by one text or by a session."""

@@ -1,10 +1,11 @@
 """What `fwenv check` finds in scripts without running them (docs/check.md).
 
-Each kind of finding is a function of its own: of a text, or of a command and what is known. `KINDS` are those of commands that are
-looked for, in the order in which one command gets them."""
+Each kind of finding is a function of its own: of a text, or of a command and what is known. `SEARCHES` are those of commands, in the
+order in which one command gets them."""
 
 import re
-from dataclasses import dataclass
+from collections import Counter
+from dataclasses import dataclass, field
 
 from model.calculations import COMPARISONS
 from model.grammar import parse
@@ -17,8 +18,15 @@ from model.words import Fault
 # Where a check begins if it is given no names
 STARTED = (b"bootcmd", b"altbootcmd", b"preboot")
 ERROR, WARNING = b"error", b"warning"
-NOT_DEFINED = b"%s: error: no variable of this name is defined\n"
-NOT_TYPED = b"%s: error: the value does not have the type that .flags gives it\n"
+# The kinds of findings by their codes, in the order of the table
+KINDS = {
+    b"carriage-return": WARNING, b"syntax": ERROR, b"other-shell": ERROR, b"unknown-command": ERROR, b"test-operator": ERROR,
+    b"run-undefined": ERROR, b"hidden-assignment": WARNING, b"undefined-name": WARNING, b"no-variable": ERROR, b"no-script": ERROR,
+    b"value-type": ERROR,
+}  # fmt: skip
+NOT_DEFINED = b"no variable of this name is defined"
+NOTHING = b"there is no script to look at"
+NOT_TYPED = b"the value does not have the type that .flags gives it"
 NO_SCRIPT = b"%s (%s)"
 CARRIAGE_RETURN = b"a carriage return stands in the script"
 NO_TARGET = b"`run %s` names a variable that is not defined"
@@ -44,6 +52,7 @@ SETTING = {b"setenv", b"setexpr", b"setexpr.b", b"setexpr.w", b"setexpr.l", b"se
 # No further line is added once there are this many bytes; then it is reported that there is more
 MOST = 65_536
 MORE = b"more is found, and not printed\n"
+LAST = b"%s looked at, %s, %s\n"
 # How an operator is written
 WRITTEN = re.compile(rb"-[A-Za-z].*|[=!<>~]+", re.DOTALL)
 
@@ -51,11 +60,11 @@ WRITTEN = re.compile(rb"-[A-Za-z].*|[=!<>~]+", re.DOTALL)
 @dataclass
 class Finding:
     place: int
-    severity: bytes
+    kind: bytes
     sentence: bytes
 
-    def line(self, name, text):
-        return b"%s:%d:%d: %s: %s\n" % (name, *line_and_column(text, self.place), self.severity, self.sentence)
+    def where(self, name, text):
+        return b"%s:%d:%d" % (name, *line_and_column(text, self.place))
 
 
 @dataclass
@@ -72,28 +81,42 @@ class Known:
 
 @dataclass
 class Report:
-    """The lines, whether an error was found, and whether something was found that has no line."""
+    """What is asked: the codes of the kinds that are left out, and whether warnings count as errors. The lines, whether something was
+    found that has no line, how many scripts were looked at, and how many errors and warnings were found."""
 
+    ignored: tuple = ()
+    is_strict: bool = False
     text: bytes = b""
-    failed: bool = False
     is_cut: bool = False
+    scripts: int = 0
+    found: Counter = field(default_factory=Counter)
 
-    def add_line(self, line, is_error):
+    def add_line(self, where, kind, sentence):
+        if kind in self.ignored:
+            return
         if len(self.text) < MOST:
-            self.text += line
+            self.text += b"%s: %s: %s [%s]\n" % (where, KINDS[kind], sentence, kind)
         else:
             self.is_cut = True
-        self.failed |= is_error
+        self.found[KINDS[kind]] += 1
 
     def add(self, name, text, findings):
+        self.scripts += 1
         for finding in findings:
-            self.add_line(finding.line(name, text), finding.severity == ERROR)
+            self.add_line(finding.where(name, text), finding.kind, finding.sentence)
 
     def printed(self):
         return self.text + MORE * self.is_cut
 
+    def last(self):
+        return LAST % (counted(self.scripts, b"script"), counted(self.found[ERROR], b"error"), counted(self.found[WARNING], b"warning"))
+
     def status(self):
-        return int(self.failed)
+        return int(self.found[ERROR] > 0 or (self.is_strict and self.found[WARNING] > 0))
+
+
+def counted(number, one):
+    return b"%d %s%s" % (number, one, b"" if number == 1 else b"s")
 
 
 # The tree
@@ -189,12 +212,12 @@ def foreseen(command, known):
 def carriage_return(text):
     """The first one is reported."""
     at = text.find(b"\r")
-    return [] if at < 0 else [Finding(at, WARNING, CARRIAGE_RETURN)]
+    return [] if at < 0 else [Finding(at, b"carriage-return", CARRIAGE_RETURN)]
 
 
 def no_script(fault):
     kind, place = fault.args
-    return [Finding(place, ERROR, NO_SCRIPT % (SENTENCES[kind], kind.encode()))]
+    return [Finding(place, b"syntax", NO_SCRIPT % (SENTENCES[kind], kind.encode()))]
 
 
 # The kinds of findings in a command
@@ -214,7 +237,7 @@ def lacked_command(command, known):
     name = named(command)
     if lacked(command) is None or name in (known.stand_ins or {}):
         return []
-    return [Finding(command[1][0].place, ERROR, lacked(command))]
+    return [Finding(command[1][0].place, b"other-shell", lacked(command))]
 
 
 def unknown_command(command, known):
@@ -224,21 +247,21 @@ def unknown_command(command, known):
         return []
     if called(command, known) in BUILTINS | known.stand_ins.keys():
         return []
-    return [Finding(command[1][0].place, ERROR, NO_COMMAND % name)]
+    return [Finding(command[1][0].place, b"unknown-command", NO_COMMAND % name)]
 
 
 def undefined_target(command, known):
     """A start of a variable that isn't there."""
     if known.values is None:
         return []
-    return [Finding(place, ERROR, NO_TARGET % name) for place, name in targets(command, known) if name not in known.started]
+    return [Finding(place, b"run-undefined", NO_TARGET % name) for place, name in targets(command, known) if name not in known.started]
 
 
 def refused_assignment(command, known):
     """An assignment, or the head of a `for`, that the environment refuses."""
     if command[0] not in ("assign", "for") or known.values is None or command[1] not in known.values:
         return []
-    return [Finding(command[-1], WARNING, IS_VARIABLE % command[1] + (HIDES if known.shell.hides else NOT_ASSIGNED))]
+    return [Finding(command[-1], b"hidden-assignment", IS_VARIABLE % command[1] + (HIDES if known.shell.hides else NOT_ASSIGNED))]
 
 
 def written(word):
@@ -291,18 +314,18 @@ def unknown_operator(command, known):
     if called(command, known) != b"test":
         return []
     word = (no_operator if known.shell is STRICT else no_operator_of_board)(command[1][1:])
-    return [] if word is None else [Finding(word.place, ERROR, NO_OPERATOR % literal(word) + IS_FALSE * (known.shell is STRICT))]
+    return [] if word is None else [Finding(word.place, b"test-operator", NO_OPERATOR % literal(word) + IS_FALSE * (known.shell is STRICT))]
 
 
 def undefined_substitution(command, known):
     """A substitution of a name that nothing defines; the same line is not repeated."""
     if known.values is None:
         return []
-    found = [Finding(place, WARNING, NOT_GIVEN % name) for place, name in substituted(words_of(command)) if name not in known.defined]
+    found = [Finding(place, b"undefined-name", NOT_GIVEN % name) for place, name in substituted(words_of(command)) if name not in known.defined]
     return [each for each, before in zip(found, [None, *found]) if each != before]
 
 
-KINDS = (lacked_command, unknown_command, unknown_operator, undefined_target, refused_assignment, undefined_substitution)
+SEARCHES = (lacked_command, unknown_command, unknown_operator, undefined_target, refused_assignment, undefined_substitution)
 
 
 # Scripts
@@ -321,12 +344,12 @@ def findings(text, known):
     tree, fault = tree_of(text, known.shell)
     if fault:
         return found + no_script(fault)
-    return found + [each for command in commands(tree) for kind in KINDS for each in kind(command, known)]
+    return found + [each for command in commands(tree) for search in SEARCHES for each in search(command, known)]
 
 
-def of_script(shell, name, text, stand_ins):
+def of_script(shell, name, text, stand_ins, ignored, is_strict):
     """One script of a file."""
-    report = Report()
+    report = Report(ignored, is_strict)
     report.add(name, text, findings(text, Known(shell, None, stand_ins)))
     return report
 
@@ -359,18 +382,20 @@ def not_typed(values):
     return [name for name, value in sorted(values.items()) if not TYPES[given.get(name, PLAIN)[0]].fullmatch(value)]
 
 
-def of_environment(shell, values, stand_ins, names):
-    """The scripts that are named, and those that they start; then the types of all variables."""
-    report = Report()
+def of_environment(shell, values, stand_ins, names, ignored, is_strict):
+    """The scripts that are named, and those that they start; then whether there was one, and the types of all variables."""
+    report = Report(ignored, is_strict)
     for name in names:
         if name not in values:
-            report.add_line(NOT_DEFINED % name, True)
+            report.add_line(name, b"no-variable", NOT_DEFINED)
     known = Known(shell, values, stand_ins)
     scripts = visited(known, names or STARTED)
     known.defined = values.keys() | names_by(given, known, scripts) | SET_BY_UBOOT
     known.started = values.keys() | names_by(foreseen, known, scripts)
     for name in scripts:
         report.add(name, values[name], findings(values[name], known))
+    if not scripts:
+        report.add_line(b"check", b"no-script", NOTHING)
     for name in not_typed(values):
-        report.add_line(NOT_TYPED % name, True)
+        report.add_line(name, b"value-type", NOT_TYPED)
     return report

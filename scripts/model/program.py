@@ -386,14 +386,15 @@ class Program:
         if is_file:
             call.refuse_beside_file()
         call.size_in_memory()
-        shell = call.shell()
+        shell, counting = call.shell(), (call.ignored(check.KINDS), "--strict" in call.options)
         values = None if is_file else self.opened(call).environment.values
         stand_ins = self.stand_ins(call) if "--stubs" in call.options else None
         if is_file:
-            found = check.of_script(shell, *self.script(call), stand_ins)
+            found = check.of_script(shell, *self.script(call), stand_ins, *counting)
         else:
-            found = check.of_environment(shell, values, stand_ins, call.words)
+            found = check.of_environment(shell, values, stand_ins, call.words, *counting)
         self.output = found.printed()
+        self.say(found.last())
         return found.status()
 
     def call_session(self, call):

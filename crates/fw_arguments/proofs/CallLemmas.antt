@@ -6,8 +6,7 @@ use Rattle.clap.specs.Words.{AddsAliases, Row, Rule, Text, all_of, first_of, rul
 use Rattle.clap.specs.declared.builder.arg.Arg.{Arg}
 use Rattle.envimg_core.specs.declared.geometry.Order.{Order}
 use Rattle.fw_arguments.specs.Calls.{Defaults, Job, defaults_of, LockFiles, is_client, job_of, locks_of, with_copy}
-use Rattle.fw_arguments.specs.Checks.{file_alone, file_check_by, file_check_of, names_environment}
-use Rattle.fw_arguments.specs.Shells.{board_shell, shell_of}
+use Rattle.fw_arguments.specs.Checks.{file_alone, file_check_by, file_check_of, names_environment, rules_of}
 use Rattle.hush_commands.specs.declared.shell.Shell.{Shell}
 use Rattle.fw_arguments.specs.DryRuns.{DryRun, GivenScript, and_then, run_within, script_of, script_within}
 use Rattle.fw_arguments.specs.Values.{first_or, is_given}
@@ -54,7 +53,7 @@ report_is order chosen rows subject p q = λ i. in_order (p i) (q i)
 -- a check of a script in a file, if an environment is named as well
 pub refused_file : (rows : List Row) (path text : List ℕ) → text ≡ file_alone → names_environment rows ≡ true → Err text ≡ file_check_of path rows
 refused_file rows path text is named =
-    ap Err is ∙ ap (λ (b : Bool). if b then Err file_alone else and_then (shell_of board_shell rows) (λ shell. Ok (file_check_by path rows shell))) (sym named)
+    ap Err is ∙ ap (λ (b : Bool). if b then Err file_alone else and_then (rules_of rows) (λ rules. Ok (file_check_by path rows rules))) (sym named)
 
 -- ---- standard input and new images
 

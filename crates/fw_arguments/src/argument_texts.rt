@@ -112,3 +112,9 @@ pub(crate) const FILE_ALONE: &[u8] =
     b"error: the argument '-f <FILE>' cannot be used with '[NAMES]...', '-c <FILE>', \
     '--default <FILE>', '--env <FILE>' or '--size <N>'\n\nUsage: fwenv check [OPTIONS] [NAMES]...\n\n\
     For more information, try '--help'.\n";
+
+/// What is wrong with a code of a kind of finding, after it.
+pub(crate) const BAD_CODE: &[u8] =
+    b"' for '--ignore <CODE>'\n  [possible values: carriage-return, syntax, other-shell, \
+    unknown-command, test-operator, run-undefined, hidden-assignment, undefined-name, no-variable, \
+    no-script, value-type]\n\nFor more information, try '--help'.\n";

@@ -1,87 +1,175 @@
 //! What the arguments of `check` ask for.
-ghost use Rattle.std.specs.Prelude.{◌≡◌};
+ghost use Rattle.std.specs.Prelude.{◌≡◌, Ok, map, option_map};
 ghost use Rattle.clap.specs.Words.{found_of, rows_of};
-ghost use Rattle.fw_arguments.specs.Checks.{environment_check_by, environment_check_of, environment_check_view, file_check_by, file_check_of, file_check_view, names_environment};
+ghost use Rattle.finding_kinds.specs.Choices.{choice_view};
+ghost use Rattle.fw_arguments.specs.DryRuns.{and_then, texts};
+ghost use Rattle.fw_arguments.specs.Checks.{choice_by, choice_of, environment_check_by, environment_check_of, environment_check_view, file_check_by, file_check_of, file_check_view, names_environment, rules_of, rules_view, wrong_code};
 ghost use Rattle.fw_arguments.specs.WordFaults.{word_seen};
 
-use crate::argument_texts::FILE_ALONE;
+use crate::argument_texts::{BAD_CODE, FILE_ALONE, INVALID_VALUE};
 use crate::arguments::{first, is_given, values};
 use crate::shells::read_shell;
 use crate::table::BOARD_SHELL;
 use crate::word_fault::WordFault;
 use clap::ArgMatches;
+use finding_kinds::{Choice, is_code};
 use hush_commands::Shell;
 
-/// A check over an environment: `check [--shell SHELL] [--stubs FILE] [NAMES]`.
+/// A check over an environment: `check [--shell SHELL] [--stubs FILE] [--ignore CODE].. [--strict] [NAMES]`.
 #[derive(Clone, Copy, Debug)]
 pub struct EnvironmentCheck<'m, 'w> {
     /// Whose rules count where shells differ.
     pub shell: Shell,
     /// The path of the stand-ins, if there are any.
     pub stand_ins: Option<&'w str>,
+    /// What counts of what is found.
+    pub choice: Choice<'m>,
     /// The variables that it begins with.
     pub names: Option<&'m [&'w str]>,
 }
 
-/// A check of one script: `check [--shell SHELL] [--stubs FILE] -f FILE`.
+/// A check of one script: `check [--shell SHELL] [--stubs FILE] [--ignore CODE].. [--strict] -f FILE`.
 #[derive(Clone, Copy, Debug)]
-pub struct FileCheck<'w> {
+pub struct FileCheck<'m, 'w> {
     /// Whose rules count where shells differ.
     pub shell: Shell,
     /// The path of the stand-ins, if there are any.
     pub stand_ins: Option<&'w str>,
+    /// What counts of what is found.
+    pub choice: Choice<'m>,
     /// The path of the script, `-` for standard input.
     pub path: &'w str,
 }
 
-/// The check over an environment that the arguments of `check` ask for, or what is wrong with its shell.
+/// The check over an environment that the arguments of `check` ask for, or what is wrong with its shell or a code.
 pub(crate) fn read_environment_check<'m, 'w>(
     found: &'m ArgMatches<'w>,
 ) -> Result<EnvironmentCheck<'m, 'w>, WordFault<'w>>
     ensures { word_seen environment_check_view result ≡ environment_check_of (rows_of (found_of found.now)) }
 {
-    match read_shell(found, BOARD_SHELL) {
-        Ok(shell) => Ok(environment_check_by(found, shell)),
+    match read_rules(found) {
+        Ok(rules) => Ok(environment_check_by(found, rules)),
         Err(fault) => Err(fault),
     }
 }
 
-/// The same by a shell.
-fn environment_check_by<'m, 'w>(found: &'m ArgMatches<'w>, shell: Shell) -> EnvironmentCheck<'m, 'w>
-    ensures { environment_check_view result ≡ environment_check_by (rows_of (found_of found.now)) shell }
+/// The same by these rules.
+fn environment_check_by<'m, 'w>(
+    found: &'m ArgMatches<'w>,
+    rules: (Shell, Choice<'m>),
+) -> EnvironmentCheck<'m, 'w>
+    ensures { environment_check_view result
+        ≡ environment_check_by (rows_of (found_of found.now)) (rules_view rules.entry) }
 {
     EnvironmentCheck {
-        shell,
+        shell: rules.0,
         stand_ins: first(found, "stubs"),
+        choice: rules.1,
         names: values(found, "names"),
     }
 }
 
 /// The check of the script in a file, or what is wrong with its arguments.
-pub(crate) fn read_file_check<'w>(
+pub(crate) fn read_file_check<'m, 'w>(
     path: &'w str,
-    found: &ArgMatches<'w>,
-) -> Result<FileCheck<'w>, WordFault<'w>>
+    found: &'m ArgMatches<'w>,
+) -> Result<FileCheck<'m, 'w>, WordFault<'w>>
     ensures { word_seen file_check_view result ≡ file_check_of path.now (rows_of (found_of found.now)) }
 {
     if names_environment(found) {
         return Err(WordFault::of(FILE_ALONE));
     }
-    match read_shell(found, BOARD_SHELL) {
-        Ok(shell) => Ok(file_check_by(path, found, shell)),
+    match read_rules(found) {
+        Ok(rules) => Ok(file_check_by(path, found, rules)),
         Err(fault) => Err(fault),
     }
 }
 
-/// The same by a shell.
-fn file_check_by<'w>(path: &'w str, found: &ArgMatches<'w>, shell: Shell) -> FileCheck<'w>
-    ensures { file_check_view result ≡ file_check_by path.now (rows_of (found_of found.now)) shell }
+/// The same by these rules.
+fn file_check_by<'m, 'w>(
+    path: &'w str,
+    found: &'m ArgMatches<'w>,
+    rules: (Shell, Choice<'m>),
+) -> FileCheck<'m, 'w>
+    ensures { file_check_view result
+        ≡ file_check_by path.now (rows_of (found_of found.now)) (rules_view rules.entry) }
 {
     FileCheck {
-        shell,
+        shell: rules.0,
         stand_ins: first(found, "stubs"),
+        choice: rules.1,
         path,
     }
+}
+
+/// Whose rules count and what does, or what is wrong with one of them.
+fn read_rules<'m, 'w>(found: &'m ArgMatches<'w>) -> Result<(Shell, Choice<'m>), WordFault<'w>>
+    ensures { word_seen rules_view result ≡ rules_of (rows_of (found_of found.now)) }
+{
+    match read_shell(found, BOARD_SHELL) {
+        Ok(shell) => rules_with(found, shell),
+        Err(fault) => Err(fault),
+    }
+}
+
+/// The same with this shell.
+fn rules_with<'m, 'w>(
+    found: &'m ArgMatches<'w>,
+    shell: Shell,
+) -> Result<(Shell, Choice<'m>), WordFault<'w>>
+    ensures { word_seen rules_view result
+        ≡ and_then (choice_of (rows_of (found_of found.now))) (λ choice. Ok (shell, choice)) }
+{
+    match read_choice(found) {
+        Ok(choice) => Ok((shell, choice)),
+        Err(fault) => Err(fault),
+    }
+}
+
+/// What counts, or what is wrong with a code.
+fn read_choice<'m, 'w>(found: &'m ArgMatches<'w>) -> Result<Choice<'m>, WordFault<'w>>
+    ensures { word_seen choice_view result ≡ choice_of (rows_of (found_of found.now)) }
+{
+    match wrong_code(values(found, "ignore")) {
+        Some(word) => Err(WordFault {
+            front: INVALID_VALUE,
+            word,
+            back: BAD_CODE,
+        }),
+        None => Ok(choice_by(found)),
+    }
+}
+
+/// The same if each code is one.
+fn choice_by<'m, 'w>(found: &'m ArgMatches<'w>) -> Choice<'m>
+    ensures { choice_view result ≡ choice_by (rows_of (found_of found.now)) }
+{
+    Choice {
+        ignored: values(found, "ignore"),
+        strict: is_given(found, "strict"),
+    }
+}
+
+/// The first of these texts that isn't a code, if there are some.
+fn wrong_code<'m, 'w>(words: Option<&'m [&'w str]>) -> Option<&'w str>
+    ensures { option_map (λ t. t.now) result ≡ wrong_code (texts words.entry) }
+{
+    match words {
+        Some(given) => first_wrong(given),
+        None => None,
+    }
+}
+
+/// The first of these texts that isn't a code.
+fn first_wrong<'w>(texts: &[&'w str]) -> Option<&'w str>
+    ensures { option_map (λ t. t.now) result ≡ wrong_code (map (λ t. t.now) texts.now) }
+{
+    for text in texts {
+        if !is_code(text) {
+            return Some(*text);
+        }
+    }
+    None
 }
 
 /// Whether an environment is named, or variables of one.

@@ -25,7 +25,7 @@ pub enum Asked<'m, 'w> {
     /// A report of what is stored.
     Look(Report<'w>),
     /// A check of the script in a file.
-    Check(FileCheck<'w>),
+    Check(FileCheck<'m, 'w>),
     /// A new image.
     Make(ImageRequest<'w>),
     /// A search of the dump at this path.

@@ -378,6 +378,22 @@ pub const CHECK_NAMES: Row = Row {
     help: "The variables whose scripts are looked at first; without names bootcmd, altbootcmd and preboot",
 };
 
+/// `--ignore CODE`
+pub const IGNORE: Row = Row {
+    id: "ignore",
+    names: Names::Long("ignore"),
+    takes: Takes::Many("CODE"),
+    help: "A kind of finding that is left out, by its code in brackets; any number of times",
+};
+
+/// `--strict`
+pub const STRICT: Row = Row {
+    id: "strict",
+    names: Names::Long("strict"),
+    takes: Takes::Nothing,
+    help: "Warnings count as errors",
+};
+
 /// `-c FILE`, `--config FILE`
 pub const CLIENT_CONFIG: Row = Row {
     id: "config",
@@ -544,6 +560,8 @@ pub const CHECK: Called = Called {
         BIG_ENDIAN,
         SHELL,
         STUBS,
+        IGNORE,
+        STRICT,
         ENV,
         SIZE,
         GIVEN_FILE,

@@ -6,7 +6,8 @@ use Rattle.std.proofs.lemmas.Grind.{fold-append}
 use Rattle.memchr.specs.Find.{IsFirstByte}
 use Rattle.text_parts.proofs.CutLemmas.{list_any-answer, position_or_len-found}
 use Rattle.hush_commands.specs.declared.shell.Shell.{Shell}
-use Rattle.fw_check.specs.Findings.{Finding, Known, Report, assigned_findings, error_at, is_defined, is_return, is_undefined, refused_sentence, return_findings, return_sentence, target_findings, undefined_sentence, warning_at, with_finding, with_findings}
+use Rattle.finding_kinds.specs.declared.kinds.FindingKind.TheVariants as kind
+use Rattle.fw_check.specs.Findings.{Finding, Known, Report, assigned_findings, found_at, is_defined, is_return, is_undefined, refused_sentence, return_findings, return_sentence, target_findings, undefined_sentence, with_finding, with_findings}
 use Rattle.fw_check.specs.Found.{Found, found_more}
 
 pub report-none : (name text : List ℕ) (r : Report) → with_findings name text r [] ≡ r
@@ -33,34 +34,34 @@ so-no : (old new : Found) (t b : Bool) (f : Finding) → t ≡ b → t ≡ false
 so-no old new t b f same fails is = is ∙ sym (found-none old) ∙ ap (λ (x : Bool). found_more old (if-so x f)) (sym fails ∙ same)
 
 module _ (shell : Shell) (known : Option Known) (count : ℕ) (literal : Option (List ℕ)) (name : List ℕ) (named : Some name ≡ literal) (old new : Found) (t : Bool) where
-  pub assigned-yes : t ≡ is_defined known name → t ≡ true → new ≡ found_more old (warning_at count (refused_sentence shell name) ∷ []) → new ≡ found_more old (assigned_findings shell known count literal)
+  pub assigned-yes : t ≡ is_defined known name → t ≡ true → new ≡ found_more old (found_at count kind.HiddenAssignment (refused_sentence shell name) ∷ []) → new ≡ found_more old (assigned_findings shell known count literal)
   assigned-yes same holds is =
-      so-yes old new t (is_defined known name) (warning_at count (refused_sentence shell name)) same holds is ∙ ap (λ (o : Option (List ℕ)). found_more old (assigned_findings shell known count o)) named
+      so-yes old new t (is_defined known name) (found_at count kind.HiddenAssignment (refused_sentence shell name)) same holds is ∙ ap (λ (o : Option (List ℕ)). found_more old (assigned_findings shell known count o)) named
 
   pub assigned-no : t ≡ is_defined known name → t ≡ false → new ≡ old → new ≡ found_more old (assigned_findings shell known count literal)
   assigned-no same fails is =
-      so-no old new t (is_defined known name) (warning_at count (refused_sentence shell name)) same fails is ∙ ap (λ (o : Option (List ℕ)). found_more old (assigned_findings shell known count o)) named
+      so-no old new t (is_defined known name) (found_at count kind.HiddenAssignment (refused_sentence shell name)) same fails is ∙ ap (λ (o : Option (List ℕ)). found_more old (assigned_findings shell known count o)) named
 
-  pub target-yes : t ≡ is_undefined known name → t ≡ true → new ≡ found_more old (error_at count (undefined_sentence name) ∷ []) → new ≡ found_more old (target_findings known count literal)
+  pub target-yes : t ≡ is_undefined known name → t ≡ true → new ≡ found_more old (found_at count kind.RunUndefined (undefined_sentence name) ∷ []) → new ≡ found_more old (target_findings known count literal)
   target-yes same holds is =
-      so-yes old new t (is_undefined known name) (error_at count (undefined_sentence name)) same holds is ∙ ap (λ (o : Option (List ℕ)). found_more old (target_findings known count o)) named
+      so-yes old new t (is_undefined known name) (found_at count kind.RunUndefined (undefined_sentence name)) same holds is ∙ ap (λ (o : Option (List ℕ)). found_more old (target_findings known count o)) named
 
   pub target-no : t ≡ is_undefined known name → t ≡ false → new ≡ old → new ≡ found_more old (target_findings known count literal)
   target-no same fails is =
-      so-no old new t (is_undefined known name) (error_at count (undefined_sentence name)) same fails is ∙ ap (λ (o : Option (List ℕ)). found_more old (target_findings known count o)) named
+      so-no old new t (is_undefined known name) (found_at count kind.RunUndefined (undefined_sentence name)) same fails is ∙ ap (λ (o : Option (List ℕ)). found_more old (target_findings known count o)) named
 
 -- ---- the first carriage return
 
-returns-so : (b : Bool) (count n : ℕ) → true ≡ b → n ≡ count → (if b then warning_at n return_sentence ∷ [] else []) ≡ warning_at count return_sentence ∷ []
-returns-so b count n h e = λ i. if sym h i then warning_at (e i) return_sentence ∷ [] else []
+returns-so : (b : Bool) (count n : ℕ) → true ≡ b → n ≡ count → (if b then found_at n kind.CarriageReturn return_sentence ∷ [] else []) ≡ found_at count kind.CarriageReturn return_sentence ∷ []
+returns-so b count n h e = λ i. if sym h i then found_at (e i) kind.CarriageReturn return_sentence ∷ [] else []
 
-pub return-found : (text : List ℕ) (count : ℕ) → IsFirstByte is_return text (Some count) → return_findings text ≡ warning_at count return_sentence ∷ []
+pub return-found : (text : List ℕ) (count : ℕ) → IsFirstByte is_return text (Some count) → return_findings text ≡ found_at count kind.CarriageReturn return_sentence ∷ []
 return-found text count h =
     returns-so (list_any is_return text) count (position_or_len is_return text) (list_any-answer is_return text (Some count) h) (position_or_len-found is_return text count h)
 
 pub return-none : (text : List ℕ) → IsFirstByte is_return text None → return_findings text ≡ []
 return-none text h =
-    ap (λ (b : Bool). if b then warning_at (position_or_len is_return text) return_sentence ∷ [] else []) (sym (list_any-answer is_return text None h))
+    ap (λ (b : Bool). if b then found_at (position_or_len is_return text) kind.CarriageReturn return_sentence ∷ [] else []) (sym (list_any-answer is_return text None h))
 
 -- ---- what an `Ok` tells
 

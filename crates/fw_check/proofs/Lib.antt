@@ -1,5 +1,6 @@
 mod GatherLemmas
 mod FoundLemmas
+mod SummaryLemmas
 mod LiteralLemmas
 mod NameLemmas
 mod TypeLemmas

@@ -11,9 +11,10 @@ use Rattle.hush_commands.specs.Builtins.{builtin_of}
 use Rattle.hush_commands.specs.declared.shell.Shell.TheVariants.{Strict, Board}
 use Rattle.hush_commands.specs.CommandNames.{with_name}
 use Rattle.hush_commands.specs.Stubs.{Statuses}
+use Rattle.finding_kinds.specs.declared.kinds.FindingKind.TheVariants as kind
 use Rattle.fw_check.specs.Called.{Given, called_by, given_with}
 use Rattle.fw_check.specs.Checking.{is_among}
-use Rattle.fw_check.specs.Findings.{Finding, Known, called_findings, error_at, lacking_sentence, name_findings, names_findings, set_by_commands, target_findings, undefined_sentence, warning_at}
+use Rattle.fw_check.specs.Findings.{Finding, Known, called_findings, found_at, lacking_sentence, name_findings, names_findings, set_by_commands, target_findings, undefined_sentence}
 use Rattle.fw_check.specs.Literals.{is_word_of, literal_of, substituted}
 use Rattle.fw_check.specs.Naming.{foreseen_as, foreseen_names, given_names, run_names}
 use Rattle.fw_check.specs.Statements.{of_script}
@@ -107,49 +108,49 @@ known = record { env = empty; given = is_among (codes "a" ∷ []); foreseen = is
 -- by what the environment has
 abbrev found : List ℕ → Option (List ℕ) → List Finding
 found name o =
-    if not (is_some o || is_word_of set_by_commands name || is_among (codes "a" ∷ []) name) then warning_at 5 (lacking_sentence name) ∷ [] else []
+    if not (is_some o || is_word_of set_by_commands name || is_among (codes "a" ∷ []) name) then found_at 5 kind.UndefinedName (lacking_sentence name) ∷ [] else []
 
 given_name_row : name_findings (Some known) 5 (codes "a") ≡ []
 given_name_row = ap (found (codes "a")) (get-empty bytes_cmp (codes "a"))
 
-lacking_row : name_findings (Some known) 5 (codes "b") ≡ warning_at 5 (codes "`${b}` names a variable that nothing defines") ∷ []
+lacking_row : name_findings (Some known) 5 (codes "b") ≡ found_at 5 kind.UndefinedName (codes "`${b}` names a variable that nothing defines") ∷ []
 lacking_row = ap (found (codes "b")) (get-empty bytes_cmp (codes "b"))
 
 set_row : name_findings (Some known) 5 (codes "fileaddr") ≡ []
 set_row = ap (found (codes "fileaddr")) (get-empty bytes_cmp (codes "fileaddr"))
 
 -- `${b}${b}`
-again_row : names_findings (Some known) 5 None (codes "b" ∷ codes "b" ∷ []) ≡ warning_at 5 (lacking_sentence (codes "b")) ∷ []
+again_row : names_findings (Some known) 5 None (codes "b" ∷ codes "b" ∷ []) ≡ found_at 5 kind.UndefinedName (lacking_sentence (codes "b")) ∷ []
 again_row = rw (get-empty bytes_cmp (codes "b")) refl
 
 unknown_row : name_findings None 5 (codes "b") ≡ []
 unknown_row = refl
 
 abbrev missed : List ℕ → Option (List ℕ) → List Finding
-missed name o = if not (is_some o || is_among (codes "c" ∷ []) name) then error_at 5 (undefined_sentence name) ∷ [] else []
+missed name o = if not (is_some o || is_among (codes "c" ∷ []) name) then found_at 5 kind.RunUndefined (undefined_sentence name) ∷ [] else []
 
 foreseen_target_row : target_findings (Some known) 5 (Some (codes "c")) ≡ []
 foreseen_target_row = ap (missed (codes "c")) (get-empty bytes_cmp (codes "c"))
 
-given_target_row : target_findings (Some known) 5 (Some (codes "a")) ≡ error_at 5 (codes "`run a` names a variable that is not defined") ∷ []
+given_target_row : target_findings (Some known) 5 (Some (codes "a")) ≡ found_at 5 kind.RunUndefined (codes "`run a` names a variable that is not defined") ∷ []
 given_target_row = ap (missed (codes "a")) (get-empty bytes_cmp (codes "a"))
 
-set_target_row : target_findings (Some known) 5 (Some (codes "fileaddr")) ≡ error_at 5 (codes "`run fileaddr` names a variable that is not defined") ∷ []
+set_target_row : target_findings (Some known) 5 (Some (codes "fileaddr")) ≡ found_at 5 kind.RunUndefined (codes "`run fileaddr` names a variable that is not defined") ∷ []
 set_target_row = ap (missed (codes "fileaddr")) (get-empty bytes_cmp (codes "fileaddr"))
 
-bracket_row : called_findings Strict None false 3 (Some (codes "[[")) ≡ error_at 3 (codes "this shell has no `[[`: write `test`") ∷ []
+bracket_row : called_findings Strict None false 3 (Some (codes "[[")) ≡ found_at 3 kind.OtherShell (codes "this shell has no `[[`: write `test`") ∷ []
 bracket_row = refl
 
-break_row : called_findings Strict None false 3 (Some (codes "break")) ≡ error_at 3 (codes "this shell has no `break`") ∷ []
+break_row : called_findings Strict None false 3 (Some (codes "break")) ≡ found_at 3 kind.OtherShell (codes "this shell has no `break`") ∷ []
 break_row = refl
 
-function_row : called_findings Strict None false 3 (Some (codes "f()")) ≡ error_at 3 (codes "this shell has no functions") ∷ []
+function_row : called_findings Strict None false 3 (Some (codes "f()")) ≡ found_at 3 kind.OtherShell (codes "this shell has no functions") ∷ []
 function_row = refl
 
 other_row : called_findings Strict None false 3 (Some (codes "breaks")) ≡ []
 other_row = refl
 
-head_row : called_findings Strict None true 3 (Some (codes "f")) ≡ error_at 3 (codes "this shell has no functions") ∷ []
+head_row : called_findings Strict None true 3 (Some (codes "f")) ≡ found_at 3 kind.OtherShell (codes "this shell has no functions") ∷ []
 unfolding builtin_of
 head_row = refl
 

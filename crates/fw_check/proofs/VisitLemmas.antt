@@ -10,9 +10,10 @@ use Rattle.hush_syntax.specs.Reading.{read_in}
 use Rattle.hush_syntax.specs.declared.syntax_fault.FaultKind.TheVariants.{Memory}
 use Rattle.hush_syntax.specs.declared.syntax_fault.SyntaxFault.{SyntaxFault}
 use Rattle.hush_run.specs.Meaning.{bodies_of}
+use Rattle.finding_kinds.specs.declared.kinds.FindingKind.TheVariants as kind
 use Rattle.fw_check.specs.Checking.{AreVisited, Faulty, Reports, Script, Visit, after_visit, in_all, is_among, is_set, known_after, reading_findings, value_in, with_name, with_names}
 use Rattle.fw_check.specs.Called.{Given}
-use Rattle.fw_check.specs.Findings.{Known, Report, error_at, fault_sentence, return_findings}
+use Rattle.fw_check.specs.Findings.{Known, Report, fault_sentence, found_at, return_findings, with_findings, with_script}
 use Rattle.fw_check.specs.Found.{Found, found_more}
 use Rattle.fw_check.specs.NameSets.{no_names, with_all}
 use Rattle.fw_check.specs.Naming.{foreseen_in, given_in, run_in}
@@ -28,18 +29,19 @@ module _ (known : Option Known) (given : Given) where
 
   pub read-fault : {E : Type 0} (r : Result (Unit {0}) E) (source text : List ℕ) (fault : SyntaxFault) (old new : Found) → source ≡ text → (fault.kind ≢ Memory → read_in (bodies_of given.shell) source ≡ None) →
       (fault.kind ≢ Memory → IsFaultOf source fault) →
-      OnOk r ((fault.kind ≢ Memory) × (new ≡ found_more old (error_at fault.place (fault_sentence fault.kind) ∷ []))) → OnOk r (Reads known given text old new)
+      OnOk r ((fault.kind ≢ Memory) × (new ≡ found_more old (found_at fault.place kind.Syntax (fault_sentence fault.kind) ∷ []))) → OnOk r (Reads known given text old new)
   read-fault (Ok u) source text fault old new same unread first h =
       (Faulty fault, (h.0, ap (read_in (bodies_of given.shell)) (sym same) ∙ unread h.0, subst (λ t. IsFaultOf t fault) same (first h.0)), h.1)
   read-fault (Err e) source text fault old new same unread first h = tt
 
-  pub script-checked : (name text : List ℕ) (report after : Report) (first second third : Found) → first ≡ record { name = name; text = text; report = report } →
+  pub script-checked : (name text : List ℕ) (report counted after : Report) (first second third : Found) → counted ≡ with_script report → first ≡ record { name = name; text = text; report = counted } →
       second ≡ found_more first (return_findings first.text) → Reads known given text second third → after ≡ third.report → GoesOn known given name text report after
-  script-checked name text report after first second third begun returned h done =
+  script-checked name text report counted after first second third one begun returned h done =
       let ys = reading_findings known given text h.0 in
       let two = h.2 ∙ ap (λ (f : Found). found_more f ys) returned ∙ found-append first (return_findings first.text) ys
       ∙ ap (λ (f : Found). found_more f (return_findings f.text ++ ys)) begun in
-      (h.0, h.1, done ∙ ap (λ (f : Found). f.report) two)
+      let ends = λ (r : Report). with_findings name text r (return_findings text ++ ys) in
+      (h.0, h.1, done ∙ ap (λ (f : Found). f.report) two ∙ ap ends one)
 
   -- a visit, and then the others
   pub report-first : (env : Environment) (name : List ℕ) (names : List (List ℕ)) (report after final : Report) → GoesOn known given name (value_in env name) report after →

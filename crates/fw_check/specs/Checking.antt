@@ -1,9 +1,10 @@
 -- What a check of an environment, or of one script, prints (docs/check.md).
-use Rattle.std.specs.Prelude.{◌≡◌, ◌≢◌, ◌⊎◌, ℕ, suc, ◌&&◌, Bool, not, List, [], ◌∷◌, ◌++◌, map, fold, slice_get, codes, Option, Some, None, is_some, unwrap_or, if◌then◌else◌}
+use Rattle.std.specs.Prelude.{◌≡◌, ◌≢◌, ◌⊎◌, ℕ, ◌==◌, suc, ◌&&◌, ◌||◌, Bool, not, List, [], ◌∷◌, ◌++◌, map, fold, slice_get, codes, Option, Some, None, is_some, unwrap_or, if◌then◌else◌}
 use Rattle.std.specs.List.{AllByRecursion, flat_map, list_any}
 use Rattle.std.specs.Ordering.{eq_by_cmp}
 use Rattle.std.specs.FinMap.{entries, get}
-use Rattle.std.specs.Io.KnownBytes.{Keeps}
+use Rattle.finding_kinds.specs.Choices.{Choice}
+use Rattle.finding_kinds.specs.declared.kinds.FindingKind.TheVariants as kind
 use Rattle.hush_words.specs.Parts.{written}
 use Rattle.hush_syntax.specs.FaultPlaces.{IsFaultOf}
 use Rattle.hush_syntax.specs.Reading.{read_in}
@@ -16,14 +17,16 @@ use Rattle.hush_run.specs.Meaning.{bodies_of}
 use Rattle.envimg_core.specs.Environment.{Environment, Pair, bytes_cmp}
 use Rattle.envvars_core.specs.Attributes.{attributes}
 use Rattle.envvars_core.specs.Types.{has_type}
-use Rattle.fw_engines.specs.Tool.{PrintsText}
+use Rattle.fw_engines.specs.Streams.{Writers}
+use Rattle.fw_engines.specs.Tool.{Prints, Texts, WritesNothing}
 use Rattle.fw_engines.specs.declared.tool_end.ToolEnd.{ToolEnd}
 use Rattle.fw_engines.specs.declared.tool_end.StreamFault.TheVariants as stream
 use Rattle.fw_check.specs.declared.items.Item.{Item}
 use Rattle.fw_check.specs.Called.{Given, given_with}
 use Rattle.fw_check.specs.Statements.{AreItemsOf}
 use Rattle.fw_check.specs.Naming.{foreseen_in, given_in, run_in}
-use Rattle.fw_check.specs.Findings.{Finding, Known, error_at, fault_sentence, return_findings, item_findings, Report, no_lines, report_end, with_error, with_findings}
+use Rattle.fw_check.specs.Findings.{Finding, Known, fault_sentence, found_at, return_findings, item_findings, Report, no_lines, report_end, with_findings, with_named, with_script}
+use Rattle.fw_check.specs.Summaries.{summary}
 
 -- ---- one script
 
@@ -39,7 +42,7 @@ IsReading bodies text (Faulty fault) = (fault.kind ≢ Memory) × (read_in bodie
 IsReading bodies text (Script items) = AreItemsOf bodies text items
 
 abbrev pub reading_findings : Option Known → Given → List ℕ → Reading → List Finding
-reading_findings known given text (Faulty fault) = error_at fault.place (fault_sentence fault.kind) ∷ []
+reading_findings known given text (Faulty fault) = found_at fault.place kind.Syntax (fault_sentence fault.kind) ∷ []
 reading_findings known given text (Script items) = flat_map (item_findings known given (written text)) items
 
 -- the first carriage return, and what is found from the start of the script on
@@ -48,15 +51,20 @@ findings known given text reading = return_findings text ++ reading_findings kno
 
 -- ---- what is printed
 
-abbrev pub status_of : Report → ℕ
-status_of report = if report.failed then 1 else 0
+-- whether something was found that counts
+abbrev pub is_failed : Report → Bool
+is_failed report = not (report.errors == 0) || report.choice.strict && not (report.warnings == 0)
 
-abbrev pub PrintsReport : Option (List ℕ) → Option (List ℕ) → Report → ToolEnd → Type 0
-PrintsReport old new report end = PrintsText old new (report.text ++ report_end report.cut) (status_of report) end
+abbrev pub texts_of : Report → Texts
+texts_of report =
+    record { output = report.text ++ report_end report.cut; errors = summary report; status = if is_failed report then 1 else 0 }
+
+abbrev pub PrintsReport : Writers → Writers → Report → ToolEnd → Type 0
+PrintsReport old new report end = Prints old new (texts_of report) end
 
 -- memory ran out before anything was written
-abbrev pub LacksMemory : Option (List ℕ) → Option (List ℕ) → ToolEnd → Type 0
-LacksMemory old new end = (end.fault ≡ Some stream.Memory) × Keeps old new × (end.status ≡ 1)
+abbrev pub LacksMemory : Writers → Writers → ToolEnd → Type 0
+LacksMemory old new end = (end.fault ≡ Some stream.Memory) × WritesNothing old new × (end.status ≡ 1)
 
 -- ---- the scripts of an environment
 
@@ -81,15 +89,15 @@ abbrev pub first_names : Environment → List (List ℕ) → List (List ℕ)
 first_names env [] = with_names env [] usual_names
 first_names env (name ∷ names) = with_names env [] (name ∷ names)
 
-abbrev pub undefined_line : List ℕ → List ℕ
-undefined_line name = name ++ codes ": error: no variable of this name is defined\n"
+abbrev pub undefined_sentence : List ℕ
+undefined_sentence = codes "no variable of this name is defined"
 
 abbrev pub with_given : Environment → Report → List ℕ → Report
-with_given env report name = if is_set env name then report else with_error report (undefined_line name)
+with_given env report name = if is_set env name then report else with_named report kind.NoVariable name undefined_sentence
 
 -- a line for each given name that isn't defined
-abbrev pub first_report : Environment → List (List ℕ) → Report
-first_report env names = fold (with_given env) no_lines names
+abbrev pub first_report : Choice → Environment → List (List ℕ) → Report
+first_report choice env names = fold (with_given env) (no_lines choice) names
 
 abbrev pub value_in : Environment → List ℕ → List ℕ
 value_in env name = unwrap_or (get env name) []
@@ -118,7 +126,7 @@ IsVisit bodies env v = IsReading bodies (value_in env v.name) v.reading
 
 abbrev pub after_visit : Environment → Option Known → Given → Report → Visit → Report
 after_visit env known given report v =
-    with_findings v.name (value_in env v.name) report (findings known given (value_in env v.name) v.reading)
+    with_findings v.name (value_in env v.name) (with_script report) (findings known given (value_in env v.name) v.reading)
 
 -- with what is found in the scripts of these names, `report` becomes `final`
 abbrev pub Reports : Environment → Option Known → Given → List (List ℕ) → Report → Report → Type 0
@@ -132,13 +140,19 @@ ComesTo env given names report final =
     (visited : List (List ℕ)) × AreVisited given env names 0 visited
     × Reports env (Some (known_after given env visited)) given visited report final
 
--- ---- values without their types
+-- ---- no script, and values without their types
 
-abbrev pub mistyped_line : List ℕ → List ℕ
-mistyped_line name = name ++ codes ": error: the value does not have the type that .flags gives it\n"
+-- a line if no script was looked at
+abbrev pub with_none : Report → Report
+with_none report =
+    if report.scripts == 0 then with_named report kind.NoScript (codes "check") (codes "there is no script to look at") else report
+
+abbrev pub mistyped_sentence : List ℕ
+mistyped_sentence = codes "the value does not have the type that .flags gives it"
 
 abbrev pub with_typed : Environment → Report → Pair → Report
-with_typed env report p = if has_type (attributes env p.0).kind p.1 then report else with_error report (mistyped_line p.0)
+with_typed env report p =
+    if has_type (attributes env p.0).kind p.1 then report else with_named report kind.ValueType p.0 mistyped_sentence
 
 -- a line for each variable whose value doesn't have the type that `.flags` gives it, in ascending order of
 -- the names' bytes
@@ -148,15 +162,15 @@ with_types env report = fold (with_typed env) report (entries env)
 -- ---- the whole
 
 -- a check of an environment from these names on
-abbrev pub Checks : Shell → Environment → Option Statuses → List (List ℕ) → Option (List ℕ) → Option (List ℕ) → ToolEnd → Type 0
-Checks shell env stubs names old new end =
-    ((report : Report) × ComesTo env (given_with shell stubs) (first_names env names) (first_report env names) report
-    × PrintsReport old new (with_types env report) end)
+abbrev pub Checks : Shell → Environment → Option Statuses → Choice → List (List ℕ) → Writers → Writers → ToolEnd → Type 0
+Checks shell env stubs choice names old new end =
+    ((report : Report) × ComesTo env (given_with shell stubs) (first_names env names) (first_report choice env names) report
+    × PrintsReport old new (with_types env (with_none report)) end)
     ⊎ LacksMemory old new end
 
 -- a check of one script, without an environment
-abbrev pub ChecksText : Shell → Option Statuses → (name text : List ℕ) → Option (List ℕ) → Option (List ℕ) → ToolEnd → Type 0
-ChecksText shell stubs name text old new end =
+abbrev pub ChecksText : Shell → Option Statuses → Choice → (name text : List ℕ) → Writers → Writers → ToolEnd → Type 0
+ChecksText shell stubs choice name text old new end =
     ((reading : Reading) × IsReading (bodies_of shell) text reading
-    × PrintsReport old new (with_findings name text no_lines (findings None (given_with shell stubs) text reading)) end)
+    × PrintsReport old new (with_findings name text (with_script (no_lines choice)) (findings None (given_with shell stubs) text reading)) end)
     ⊎ LacksMemory old new end

@@ -7,6 +7,8 @@ use Rattle.hush_commands.specs.CommandNames.{names_command}
 use Rattle.hush_commands.specs.Hardware.{hardware}
 use Rattle.hush_commands.specs.Stubs.{Statuses, status_of_name}
 use Rattle.hush_commands.specs.declared.shell.Shell.{Shell}
+use Rattle.finding_kinds.specs.declared.kinds.FindingKind.{FindingKind}
+use Rattle.finding_kinds.specs.declared.kinds.FindingKind.TheVariants as kind
 use Rattle.fw_check.specs.Literals.{is_called, is_word_of, literal_of}
 use Rattle.fw_check.specs.declared.commands.CommandFault.{CommandFault}
 use Rattle.fw_check.specs.declared.commands.CommandFault.TheVariants as command
@@ -61,3 +63,9 @@ command_sentence command.Bracket name = codes "this shell has no `" ++ name ++ c
 command_sentence command.Word name = codes "this shell has no `" ++ name ++ codes "`"
 command_sentence command.Function name = codes "this shell has no functions"
 command_sentence command.Unknown name = codes "no builtin and no stand-in is called `" ++ name ++ codes "`"
+
+abbrev pub kind_of : CommandFault → FindingKind
+kind_of command.Bracket = kind.OtherShell
+kind_of command.Word = kind.OtherShell
+kind_of command.Function = kind.OtherShell
+kind_of command.Unknown = kind.UnknownCommand

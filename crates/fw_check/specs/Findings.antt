@@ -1,5 +1,5 @@
 -- What is found in a script, and the lines that report it (docs/check.md).
-use Rattle.std.specs.Prelude.{ℕ, ◌==◌, ◌||◌, nat_le, not, Bool, true, false, List, [], ◌∷◌, ◌++◌, length, fold, codes, Option, Some, None, is_some, if◌then◌else◌}
+use Rattle.std.specs.Prelude.{ℕ, ◌==◌, ◌+◌, ◌-◌, ◌^◌, ◌&&◌, ◌||◌, min, nat_le, not, Bool, true, false, List, [], ◌∷◌, ◌++◌, length, fold, codes, Option, Some, None, is_some, if◌then◌else◌}
 use Rattle.std.specs.Fmt.{decimal}
 use Rattle.std.specs.List.{concat, flat_map, fold, list_any, position_or_len}
 use Rattle.std.specs.FinMap.{get}
@@ -12,31 +12,32 @@ use Rattle.hush_commands.specs.declared.shell.Shell.{Shell}
 use Rattle.hush_commands.specs.declared.shell.Shell.TheVariants.{Strict, Board}
 use Rattle.hush_commands.specs.Stubs.{Statuses}
 use Rattle.envimg_core.specs.Environment.{Environment}
+use Rattle.finding_kinds.specs.Choices.{Choice, is_ignored}
+use Rattle.finding_kinds.specs.Kinds.{code_of, severity_of}
+use Rattle.finding_kinds.specs.declared.kinds.FindingKind.{FindingKind}
+use Rattle.finding_kinds.specs.declared.kinds.FindingKind.TheVariants as kind
+use Rattle.finding_kinds.specs.declared.kinds.Severity.{Severity}
+use Rattle.finding_kinds.specs.declared.kinds.Severity.TheVariants as severity
 use Rattle.fw_engines.specs.TextPlaces.{place_of}
 use Rattle.fw_engines.specs.declared.text_places.Place.{Place}
 use Rattle.fw_check.specs.Called.{Given, called_by}
-use Rattle.fw_check.specs.Commands.{begin_in_parentheses, command_fault, command_sentence}
+use Rattle.fw_check.specs.Commands.{begin_in_parentheses, command_fault, command_sentence, kind_of}
 use Rattle.fw_check.specs.Literals.{is_called, is_word_of, literal_of, substituted}
 use Rattle.fw_check.specs.Naming.{is_run, is_test}
 use Rattle.fw_check.specs.Operators.{ATerm, Expected, after_word, wrong_in}
 use Rattle.fw_check.specs.Targets.{Target}
 use Rattle.fw_check.specs.declared.commands.CommandFault.{CommandFault}
-use Rattle.fw_check.specs.declared.findings.Severity.{Severity}
-use Rattle.fw_check.specs.declared.findings.Severity.TheVariants as severity
 use Rattle.fw_check.specs.declared.items.Item.{Item}
 use Rattle.fw_check.specs.declared.items.Item.TheVariants as item
 
 -- `count` bytes of the script are before it
 pub record Finding : Type 0 where
   pub count : ℕ
-  pub severity : Severity
+  pub kind : FindingKind
   pub sentence : List ℕ
 
-abbrev pub error_at : ℕ → List ℕ → Finding
-error_at count sentence = record { count = count; severity = severity.Error; sentence = sentence }
-
-abbrev pub warning_at : ℕ → List ℕ → Finding
-warning_at count sentence = record { count = count; severity = severity.Warning; sentence = sentence }
+abbrev pub found_at : ℕ → FindingKind → List ℕ → Finding
+found_at count kind sentence = record { count = count; kind = kind; sentence = sentence }
 
 -- ---- lines
 
@@ -47,25 +48,47 @@ severity_text severity.Warning = codes ": warning: "
 abbrev pub place_text : (name : List ℕ) → Place → List ℕ
 place_text name place = concat (name ∷ codes ":" ∷ decimal place.line ∷ codes ":" ∷ decimal place.column ∷ [])
 
+-- what a line has after its place or its name: the sentence, and the code of its kind
+abbrev pub said_of : FindingKind → (sentence : List ℕ) → List ℕ
+said_of k sentence = concat (severity_text (severity_of k) ∷ sentence ∷ codes " [" ∷ code_of k ∷ codes "]\n" ∷ [])
+
 -- the line of a finding in the script of this name and text
 abbrev pub line_of : (name text : List ℕ) → Finding → List ℕ
-line_of name text f = concat (place_text name (place_of text f.count) ∷ severity_text f.severity ∷ f.sentence ∷ codes "\n" ∷ [])
+line_of name text f = place_text name (place_of text f.count) ++ said_of f.kind f.sentence
 
-abbrev pub is_severe : Severity → Bool
-is_severe severity.Error = true
-is_severe severity.Warning = false
+-- ---- the report
 
-abbrev pub is_error : Finding → Bool
-is_error f = is_severe f.severity
-
--- lines, whether an error was found, and whether something was found that has no line
+-- lines, whether something was found that has no line, how many scripts were looked at and how many errors and warnings were found
+-- in them, and what the check is asked
 pub record Report : Type 0 where
   pub text : List ℕ
-  pub failed : Bool
   pub cut : Bool
+  pub scripts : ℕ
+  pub errors : ℕ
+  pub warnings : ℕ
+  pub choice : Choice
 
-abbrev pub no_lines : Report
-no_lines = record { text = []; failed = false; cut = false }
+abbrev pub no_lines : Choice → Report
+no_lines choice = record { text = []; cut = false; scripts = 0; errors = 0; warnings = 0; choice = choice }
+
+-- one more is counted, up to the most of 64 bits
+abbrev pub one_more : ℕ → ℕ
+one_more n = min (n + 1) (2 ^ 64 - 1)
+
+abbrev pub with_script : Report → Report
+with_script report = record report { scripts = one_more report.scripts }
+
+-- so many errors and warnings after one more finding
+abbrev pub errors_after : Severity → ℕ → ℕ
+errors_after severity.Error n = one_more n
+errors_after severity.Warning n = n
+
+abbrev pub warnings_after : Severity → ℕ → ℕ
+warnings_after severity.Error n = n
+warnings_after severity.Warning n = one_more n
+
+abbrev pub counted : Report → Severity → Report
+counted report s = record report { errors = errors_after s report.errors; warnings = warnings_after s report.warnings }
 
 -- no further line is added once there are this many bytes
 abbrev pub most_text : ℕ
@@ -74,15 +97,20 @@ most_text = 65536
 abbrev pub is_full : Report → Bool
 is_full report = nat_le most_text (length report.text)
 
-abbrev pub noted : Report → (severe : Bool) → Report
-noted report severe = record report { failed = report.failed || severe; cut = report.cut || is_full report }
+-- whether what is found gets a line
+abbrev pub has_line : Report → FindingKind → Bool
+has_line report k = not (is_ignored report.choice k) && not (is_full report)
 
-abbrev pub with_line : Report → (line : List ℕ) → (severe : Bool) → Report
-with_line report line severe =
-    if is_full report then noted report severe else record (noted report severe) { text = report.text ++ line }
+abbrev pub noted : Report → FindingKind → Report
+noted report k =
+    if is_ignored report.choice k then report
+    else counted (record report { cut = report.cut || is_full report }) (severity_of k)
+
+abbrev pub with_line : Report → FindingKind → (line : List ℕ) → Report
+with_line report k line = if has_line report k then record (noted report k) { text = report.text ++ line } else noted report k
 
 abbrev pub with_finding : (name text : List ℕ) → Report → Finding → Report
-with_finding name text report f = with_line report (line_of name text f) (is_error f)
+with_finding name text report f = with_line report f.kind (line_of name text f)
 
 abbrev pub with_findings : (name text : List ℕ) → Report → List Finding → Report
 with_findings name text report fs = fold (with_finding name text) report fs
@@ -92,9 +120,9 @@ abbrev pub report_end : Bool → List ℕ
 report_end true = codes "more is found, and not printed\n"
 report_end false = []
 
--- one more line, which is an error
-abbrev pub with_error : Report → List ℕ → Report
-with_error report line = with_line report line true
+-- one more line, which has a name and no place
+abbrev pub with_named : Report → FindingKind → (name sentence : List ℕ) → Report
+with_named report k name sentence = with_line report k (name ++ said_of k sentence)
 
 -- ---- texts that aren't scripts
 
@@ -120,7 +148,7 @@ return_sentence = codes "a carriage return stands in the script"
 
 -- the first carriage return of a text
 abbrev pub return_findings : List ℕ → List Finding
-return_findings text = if list_any is_return text then warning_at (position_or_len is_return text) return_sentence ∷ [] else []
+return_findings text = if list_any is_return text then found_at (position_or_len is_return text) kind.CarriageReturn return_sentence ∷ [] else []
 
 -- ---- variables
 
@@ -157,7 +185,7 @@ is_lacking (Some known) name = not (is_some (get known.env name) || is_word_of s
 
 abbrev pub fault_findings : ℕ → (name : List ℕ) → Option CommandFault → List Finding
 fault_findings count name None = []
-fault_findings count name (Some fault) = error_at count (command_sentence fault name) ∷ []
+fault_findings count name (Some fault) = found_at count (kind_of fault) (command_sentence fault name) ∷ []
 
 abbrev pub called_findings : Shell → Option Statuses → (opens : Bool) → ℕ → Option (List ℕ) → List Finding
 called_findings shell stubs opens count None = []
@@ -178,7 +206,7 @@ operator_sentence shell name = codes "`test` has no operator `" ++ name ++ opera
 
 abbrev pub wrong_findings : Shell → Option Target → List Finding
 wrong_findings shell None = []
-wrong_findings shell (Some t) = error_at t.count (operator_sentence shell t.name) ∷ []
+wrong_findings shell (Some t) = found_at t.count kind.TestOperator (operator_sentence shell t.name) ∷ []
 
 -- each word of a test counts as one field, whatever its value
 abbrev pub after_field : Shell → Written → Expected → Word → Expected
@@ -198,7 +226,7 @@ undefined_sentence name = codes "`run " ++ name ++ codes "` names a variable tha
 abbrev pub target_findings : Option Known → ℕ → Option (List ℕ) → List Finding
 target_findings known count None = []
 target_findings known count (Some name) =
-    if is_undefined known name then error_at count (undefined_sentence name) ∷ [] else []
+    if is_undefined known name then found_at count kind.RunUndefined (undefined_sentence name) ∷ [] else []
 
 abbrev pub argument_findings : Option Known → Written → Word → List Finding
 argument_findings known text word = target_findings known word.start (literal_of (word_atoms text word))
@@ -215,7 +243,7 @@ abbrev pub lacking_sentence : List ℕ → List ℕ
 lacking_sentence name = codes "`${" ++ name ++ codes "}` names a variable that nothing defines"
 
 abbrev pub name_findings : Option Known → ℕ → List ℕ → List Finding
-name_findings known count name = if is_lacking known name then warning_at count (lacking_sentence name) ∷ [] else []
+name_findings known count name = if is_lacking known name then found_at count kind.UndefinedName (lacking_sentence name) ∷ [] else []
 
 -- the same line is not repeated: there is no finding for a name that is the last one with a finding
 abbrev pub next_findings : Option Known → ℕ → (last : Option (List ℕ)) → List ℕ → List Finding
@@ -245,7 +273,7 @@ refused_sentence shell name = codes "`" ++ name ++ refused_end shell
 abbrev pub assigned_findings : Shell → Option Known → ℕ → Option (List ℕ) → List Finding
 assigned_findings shell known count None = []
 assigned_findings shell known count (Some name) =
-    if is_defined known name then warning_at count (refused_sentence shell name) ∷ [] else []
+    if is_defined known name then found_at count kind.HiddenAssignment (refused_sentence shell name) ∷ [] else []
 
 -- ---- a whole script
 

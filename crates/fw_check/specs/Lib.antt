@@ -7,6 +7,7 @@ pub mod Targets
 pub mod Operators
 pub mod Commands
 pub mod Findings
+pub mod Summaries
 pub mod Checking
 -- What the steps of the code do: no promise mentions these.
 pub mod Gathering

@@ -7,7 +7,7 @@ use Rattle.fw_check.specs.declared.items.Item.{Item}
 use Rattle.fw_check.specs.Statements.{AreItemsOf}
 use Rattle.fw_check.specs.Checking.{IsReading, Reading, findings, reading_findings}
 use Rattle.fw_check.specs.Called.{Given}
-use Rattle.fw_check.specs.Findings.{Known, Report, item_findings, with_findings}
+use Rattle.fw_check.specs.Findings.{Known, Report, item_findings, with_findings, with_script}
 use Rattle.fw_check.specs.Found.{Found, found_more}
 
 module _ (known : Option Known) (given : Given) where
@@ -22,4 +22,4 @@ module _ (known : Option Known) (given : Given) where
 
   -- a report was continued with what is found in a script
   abbrev pub GoesOn : (name text : List ℕ) → Report → Report → Type 0
-  GoesOn name text old new = (reading : Reading) × IsReading (bodies_of given.shell) text reading × (new ≡ with_findings name text old (findings known given text reading))
+  GoesOn name text old new = (reading : Reading) × IsReading (bodies_of given.shell) text reading × (new ≡ with_findings name text (with_script old) (findings known given text reading))

@@ -1,8 +1,11 @@
 //! What is found in a script, as lines.
-ghost use Rattle.std.specs.Prelude.{◌≡◌, ◌++◌, [], ◌∷◌, not, OnOk};
-ghost use Rattle.fw_check.specs.Findings.{error_at, fault_sentence, is_full, is_severe, no_lines, noted, place_text, return_findings, severity_text, with_error};
+ghost use Rattle.std.specs.Prelude.{◌≡◌, ◌++◌, [], ◌∷◌, OnOk};
+ghost use Rattle.finding_kinds.specs.declared.kinds.FindingKind.TheVariants as kind;
+ghost use Rattle.finding_kinds.specs.Choices.{choice_view};
+ghost use Rattle.fw_check.specs.Findings.{counted, fault_sentence, found_at, has_line, no_lines, noted, place_text, return_findings, said_of, severity_text, with_named, with_script};
 ghost use Rattle.fw_check.specs.Found.{found_more};
 
+use finding_kinds::{Choice, FindingKind, Severity};
 use fw_engines::{Place, Pointer};
 use hush_syntax::{FaultKind, SyntaxFault};
 use itoa::Buffer;
@@ -10,84 +13,109 @@ use memchr::memchr;
 use std::alloc::{AllocError, Global};
 use std::marker::Model;
 
-/// How severe a finding is.
-#[derive(Clone, Copy, Debug, PartialEq, Eq)]
-pub(crate) enum Severity {
-    /// A board would run into a fault.
-    Error,
-    /// A board might do something else than the script's author thinks.
-    Warning,
-}
-
-impl Severity {
-    fn is_severe(self) -> bool
-        ensures { result ≡ is_severe self }
-    {
-        matches!(self, Severity::Error)
-    }
-
-    /// What is between the place and the sentence of a line.
-    fn text(self) -> &'static [u8]
-        ensures { result.now ≡ severity_text self }
-    {
-        match self {
-            Severity::Error => b": error: ",
-            Severity::Warning => b": warning: ",
-        }
+/// What is between the place and the sentence of a line.
+fn severity_text(severity: Severity) -> &'static [u8]
+    ensures { result.now ≡ severity_text severity }
+{
+    match severity {
+        Severity::Error => b": error: ",
+        Severity::Warning => b": warning: ",
     }
 }
 
 /// No further line is added once there are this many bytes.
 const MOST_TEXT: usize = 65_536;
 
-/// The lines of a check.
+/// The lines of a check, and what was counted.
 #[derive(Drop)]
-pub(crate) struct Report {
+pub(crate) struct Report<'c> {
     pub(crate) text: Vec<u8>,
-    /// Whether an error was found.
-    pub(crate) failed: bool,
     /// Whether something was found that has no line.
     pub(crate) cut: bool,
+    /// How many scripts were looked at.
+    pub(crate) scripts: u64,
+    /// How many errors and warnings were found.
+    pub(crate) errors: u64,
+    pub(crate) warnings: u64,
+    /// What the check is asked.
+    pub(crate) choice: Choice<'c>,
 }
 
-impl Model for Report {
+impl<'c> Model for Report<'c> {
+    ghost use Rattle.finding_kinds.specs.Choices.{choice_view};
     ghost use Rattle.fw_check.specs.Findings.{Report};
 
     ghost Value = { Report };
 
-    ghost view = { λ a. record { text = a.text.items; failed = a.failed; cut = a.cut } };
+    ghost view = { λ a. record {
+      text = a.text.items;
+      cut = a.cut;
+      scripts = a.scripts;
+      errors = a.errors;
+      warnings = a.warnings;
+      choice = choice_view a.choice;
+    } };
 }
 
-impl Report {
+impl<'c> Report<'c> {
     /// No lines. It allocates no memory.
-    pub(crate) fn new(alloc: Global) -> Report
-        ensures { result ≡ no_lines }
+    pub(crate) fn new(alloc: Global, choice: Choice<'c>) -> Report<'c>
+        ensures { result ≡ no_lines (choice_view choice.entry) }
     {
         Report {
             text: Vec::new(alloc),
-            failed: false,
             cut: false,
+            scripts: 0,
+            errors: 0,
+            warnings: 0,
+            choice,
         }
     }
 
-    /// Notes what was found, and answers whether it gets a line.
-    pub(crate) fn has_line(&mut self, severe: bool) -> bool
-        ensures full { result ≡ not (is_full self.old) }
-        ensures noted { self.new ≡ noted self.old severe }
+    /// One more script is looked at.
+    pub(crate) fn add_script(&mut self)
+        ensures { self.new ≡ with_script self.old }
     {
+        self.scripts = self.scripts.saturating_add(1);
+    }
+
+    /// Counts one more finding.
+    fn count(&mut self, severity: Severity)
+        ensures { self.new ≡ counted self.old severity }
+    {
+        match severity {
+            Severity::Error => self.errors = self.errors.saturating_add(1),
+            Severity::Warning => self.warnings = self.warnings.saturating_add(1),
+        }
+    }
+
+    /// Notes that something of this kind was found, and answers whether it gets a line.
+    fn has_line(&mut self, kind: FindingKind) -> bool
+        ensures line { result ≡ has_line self.old kind }
+        ensures noted { self.new ≡ noted self.old kind }
+        ensures text { self.new.text ≡ self.old.text }
+    {
+        if self.choice.ignores(kind) {
+            return false;
+        }
         let is_full = self.text.len() >= MOST_TEXT;
-        self.failed |= severe;
         self.cut |= is_full;
+        self.count(kind.severity());
         !is_full
     }
 
-    /// One more error, in a line that begins with a name.
-    pub(crate) fn add_error(&mut self, name: &[u8], after: &[u8]) -> Result<(), AllocError>
-        ensures { OnOk result (self.new ≡ with_error self.old (name.now ++ after.now)) }
+    /// Adds a finding in a line that begins with a name.
+    pub(crate) fn add_named(
+        &mut self,
+        kind: FindingKind,
+        name: &[u8],
+        sentence: &[u8],
+    ) -> Result<(), AllocError>
+        ensures { OnOk result (self.new ≡ with_named self.old kind name.now sentence.now) }
     {
-        if self.has_line(true) {
+        if self.has_line(kind) {
             self.text.extend_from_slice(name)?;
-            self.text.extend_from_slice(after)?;
+            push_said(&mut self.text, kind, sentence, b"", b"")?;
         }
         Ok(())
     }
@@ -95,14 +123,14 @@ impl Report {
 
 /// A report that is continued with what is found in a script of this name and text.
 #[derive(Drop)]
-pub(crate) struct Findings<'s> {
+pub(crate) struct Findings<'s, 'c> {
     name: &'s [u8],
     source: &'s [u8],
     pointer: Pointer<'s>,
-    report: Report,
+    report: Report<'c>,
 }
 
-impl<'s> Model for Findings<'s> {
+impl<'s, 'c> Model for Findings<'s, 'c> {
     ghost use Rattle.std.specs.Prelude.{◌≡◌};
     ghost use Rattle.fw_check.specs.Found.{Found};
 
@@ -113,10 +141,10 @@ impl<'s> Model for Findings<'s> {
     ghost invariant = { λ a. a.pointer ≡ a.source.now };
 }
 
-impl<'s> Findings<'s> {
+impl<'s, 'c> Findings<'s, 'c> {
     /// Nothing is found yet.
-    pub(crate) fn new(report: Report, name: &'s [u8], source: &'s [u8]) -> Findings<'s>
-        ensures { result ≡ record { name = name.now; text = source.now; report = report } }
+    pub(crate) fn new(report: Report<'c>, name: &'s [u8], source: &'s [u8]) -> Findings<'s, 'c>
+        ensures { result ≡ record { name = name.now; text = source.now; report = report.entry } }
     {
         Findings {
             name,
@@ -127,7 +155,7 @@ impl<'s> Findings<'s> {
     }
 
     /// The report with all that was found.
-    pub(crate) fn report(self) -> Report
+    pub(crate) fn report(self) -> Report<'c>
         ensures { result ≡ self.entry.report }
     {
         self.report
@@ -137,36 +165,31 @@ impl<'s> Findings<'s> {
     pub(crate) fn add(
         &mut self,
         count: usize,
-        severity: Severity,
+        kind: FindingKind,
         before: &[u8],
         name: &[u8],
         after: &[u8],
     ) -> Result<(), AllocError>
-        ensures { OnOk result (self.new ≡ found_more self.old (record {
-          count = count;
-          severity = severity;
-          sentence = before.now ++ name.now ++ after.now;
-        } ∷ [])) }
+        ensures { OnOk result (self.new ≡ found_more self.old
+            (found_at count kind (before.now ++ name.now ++ after.now) ∷ [])) }
     {
-        if !self.report.has_line(severity.is_severe()) {
+        if !self.report.has_line(kind) {
             return Ok(());
         }
         let place = self.pointer.place(count);
         let text = &mut self.report.text;
         push_place(text, self.name, place)?;
-        text.extend_from_slice(severity.text())?;
-        push_three(text, before, name, after)?;
-        text.extend_from_slice(b"\n")
+        push_said(text, kind, before, name, after)
     }
 
     /// Adds the fault of a text that isn't a script.
     pub(crate) fn add_fault(&mut self, fault: SyntaxFault) -> Result<(), AllocError>
         ensures { OnOk result
-            (self.new ≡ found_more self.old (error_at fault.place (fault_sentence fault.kind) ∷ [])) }
+            (self.new ≡ found_more self.old (found_at fault.place kind.Syntax (fault_sentence fault.kind) ∷ [])) }
     {
         self.add(
             fault.place,
-            Severity::Error,
+            FindingKind::Syntax,
             fault_sentence(fault.kind),
             b"",
             b"",
@@ -178,7 +201,7 @@ impl<'s> Findings<'s> {
         ensures { OnOk result (self.new ≡ found_more self.old (return_findings self.old.text)) }
     {
         match memchr(b'\r', self.source) {
-            Some(count) => self.add(count, Severity::Warning, RETURN, b"", b""),
+            Some(count) => self.add(count, FindingKind::CarriageReturn, RETURN, b"", b""),
             None => Ok(()),
         }
     }
@@ -195,6 +218,22 @@ fn push_place(text: &mut Vec<u8>, name: &[u8], place: Place) -> Result<(), Alloc
     push_three(text, name, b":", line.format(place.line).as_bytes())?;
     text.extend_from_slice(b":")?;
     text.extend_from_slice(column.format(place.column).as_bytes())
+}
+
+/// Appends what a line has after its place or its name, with a sentence in three parts.
+fn push_said(
+    text: &mut Vec<u8>,
+    kind: FindingKind,
+    before: &[u8],
+    name: &[u8],
+    after: &[u8],
+) -> Result<(), AllocError>
+    ensures { OnOk result
+        (text.new.items ≡ text.old.items ++ said_of kind (before.now ++ name.now ++ after.now)) }
+{
+    text.extend_from_slice(severity_text(kind.severity()))?;
+    push_three(text, before, name, after)?;
+    push_three(text, b" [", kind.code().as_bytes(), b"]\n")
 }
 
 /// Appends three texts.

@@ -1,8 +1,8 @@
 //! A check of boot scripts that runs nothing: what is wrong with a script, or with those of an environment from some
 //! names on, as lines. docs/check.md states the rules.
 //!
-//! To read in this order: items, literals, name_set, substitutions, commands, lookups; findings; operators,
-//! undefined_names, statements, script_check; followed, run_names, foreseen, gives, text_names; typed_values, visits.
+//! To read in this order: items, literals, name_set, substitutions, commands, lookups; findings, summary;
+//! operators, undefined_names, statements, script_check; followed, run_names, foreseen, gives, text_names; typed_values, visits.
 #![tactic(auto)]
 
 mod commands;
@@ -19,6 +19,7 @@ mod run_names;
 mod script_check;
 mod statements;
 mod substitutions;
+mod summary;
 mod text_names;
 mod typed_values;
 mod undefined_names;

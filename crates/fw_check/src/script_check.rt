@@ -1,12 +1,15 @@
 //! What is found in a script, and what is printed of a single script.
-ghost use Rattle.std.specs.Prelude.{◌≡◌, ◌≢◌, [], ◌∷◌, Some, IfOk, OnOk, option_map};
+ghost use Rattle.std.specs.Prelude.{◌≡◌, ◌≢◌, ◌⊎◌, [], ◌∷◌, ◌++◌, Some, IfOk, OnOk, if◌then◌else◌, option_map};
 ghost use Rattle.hush_syntax.specs.Grammar.{SpellsIn};
 ghost use Rattle.hush_syntax.specs.Scripts.{source_of, tree_of};
 ghost use Rattle.hush_run.specs.Meaning.{bodies_of};
 ghost use Rattle.hush_syntax.specs.declared.syntax_fault.FaultKind.TheVariants as kind;
 ghost use Rattle.fw_engines.specs.declared.tool_end.StreamFault.TheVariants as stream;
-ghost use Rattle.fw_check.specs.Checking.{ChecksText, PrintsReport};
-ghost use Rattle.fw_check.specs.Findings.{error_at, fault_sentence, report_end};
+ghost use Rattle.fw_engines.specs.Tool.{Prints};
+ghost use Rattle.finding_kinds.specs.declared.kinds.FindingKind.TheVariants as finding;
+ghost use Rattle.finding_kinds.specs.Choices.{choice_view};
+ghost use Rattle.fw_check.specs.Checking.{ChecksText, LacksMemory, PrintsReport, is_failed};
+ghost use Rattle.fw_check.specs.Findings.{fault_sentence, found_at, report_end};
 ghost use Rattle.fw_check.specs.Found.{found_more};
 ghost use Rattle.fw_check.specs.Looking.{known_in, rules_in};
 ghost use Rattle.fw_check.specs.Reports.{GoesOn, Reads, ReadsItems};
@@ -15,7 +18,9 @@ use crate::findings::{Findings, Report};
 use crate::items::items_of;
 use crate::lookups::Lookups;
 use crate::statements::check_items;
-use fw_engines::streams::write_two;
+use crate::summary::summary;
+use finding_kinds::Choice;
+use fw_engines::streams::{write_text, write_two};
 use fw_engines::{StreamFault, ToolEnd};
 use hush_commands::{Shell, Stubs};
 use hush_run::bodies_of;
@@ -23,21 +28,24 @@ use hush_syntax::{FaultKind, Script, SyntaxFault};
 use std::alloc::{AllocError, Global};
 use std::io::Write;
 
-/// Prints on `output` what is found in one script by the rules of a shell. No environment is used; with stand-ins a command that is
-/// neither a builtin nor one of them is an error. The status is 1 if an error was found, else 0. docs/check.md has the
-/// texts.
+/// Prints on `output` what is found in one script by the rules of a shell, and on `errors` how much that is. No environment
+/// is used; with stand-ins a command that is neither a builtin nor one of them is an error. The status is 1 if something
+/// was found that counts, else 0. docs/check.md has the texts.
 ///
 /// At the fault `Memory` nothing is printed.
-pub fn check_text<W: Write>(
+pub fn check_text<W: Write, E: Write>(
     alloc: Global,
     shell: Shell,
     stubs: Option<&Stubs>,
+    choice: Choice<'_>,
     name: &[u8],
     text: &[u8],
     output: &mut W,
+    errors: &mut E,
 ) -> ToolEnd
-    ensures { ChecksText shell (option_map (λ s. s.now) stubs.entry) name.now text.now
-        (W.contents output.old) (W.contents output.new) result }
+    ensures { ChecksText shell (option_map (λ s. s.now) stubs.entry) (choice_view choice.entry) name.now text.now
+        (record { output = W.contents output.old; errors = E.contents errors.old })
+        (record { output = W.contents output.new; errors = E.contents errors.new }) result }
 {
     let lookups = Lookups {
         alloc,
@@ -45,26 +53,71 @@ pub fn check_text<W: Write>(
         variables: None,
         stubs,
     };
-    match check_script(&lookups, Report::new(alloc), name, text) {
+    match check_script(&lookups, Report::new(alloc, choice), name, text) {
         Err(_) => lacks_memory(),
-        Ok(report) => print_report(&report, output),
+        Ok(report) => print_report(alloc, &report, output, errors),
     }
 }
 
-/// Prints the lines of a report.
-pub(crate) fn print_report<W: Write>(report: &Report, output: &mut W) -> ToolEnd
-    ensures { PrintsReport (W.contents output.old) (W.contents output.new) report.now result }
+/// Prints the lines of a report, and how much was looked at and found.
+pub(crate) fn print_report<W: Write, E: Write>(
+    alloc: Global,
+    report: &Report<'_>,
+    output: &mut W,
+    errors: &mut E,
+) -> ToolEnd
+    ensures { PrintsReport (record { output = W.contents output.old; errors = E.contents errors.old })
+        (record { output = W.contents output.new; errors = E.contents errors.new }) report.now result
+        ⊎ LacksMemory (record { output = W.contents output.old; errors = E.contents errors.old })
+        (record { output = W.contents output.new; errors = E.contents errors.new }) result }
 {
-    if !write_two(output, &report.text, report_end(report.cut)) {
-        return ToolEnd {
-            status: 1,
-            fault: Some(StreamFault::Write),
-        };
+    match summary(alloc, report) {
+        Err(_) => lacks_memory(),
+        Ok(last) => print_lines(
+            &report.text,
+            report_end(report.cut),
+            &last,
+            status_of(report),
+            output,
+            errors,
+        ),
     }
-    ToolEnd {
-        status: if report.failed { 1 } else { 0 },
-        fault: None,
+}
+
+/// Prints lines and their end on `output`, and a last line on `errors`; the status is this one.
+fn print_lines<W: Write, E: Write>(
+    lines: &[u8],
+    end: &[u8],
+    last: &[u8],
+    status: u8,
+    output: &mut W,
+    errors: &mut E,
+) -> ToolEnd
+    ensures { Prints (record { output = W.contents output.old; errors = E.contents errors.old })
+        (record { output = W.contents output.new; errors = E.contents errors.new })
+        (record { output = lines.now ++ end.now; errors = last.now; status = status }) result }
+{
+    if !write_two(output, lines, end) {
+        return ToolEnd::stopped(StreamFault::Write);
     }
+    if !write_text(errors, last) {
+        return ToolEnd::stopped(StreamFault::Write);
+    }
+    ToolEnd::done(status)
+}
+
+/// The status of a check with this report.
+fn status_of(report: &Report<'_>) -> u8
+    ensures { result ≡ (if is_failed report.now then 1 else 0) }
+{
+    if is_failed(report) { 1 } else { 0 }
+}
+
+/// Whether something was found that counts.
+fn is_failed(report: &Report<'_>) -> bool
+    ensures { result ≡ is_failed report.now }
+{
+    report.errors != 0 || (report.choice.strict && report.warnings != 0)
 }
 
 /// After the lines of a report: that there is more, if the report was cut.
@@ -89,16 +142,18 @@ pub(crate) fn lacks_memory() -> ToolEnd
 }
 
 /// Continues a report with what is found in the script of this name and text.
-pub(crate) fn check_script(
+pub(crate) fn check_script<'c>(
     lookups: &Lookups<'_>,
-    report: Report,
+    report: Report<'c>,
     name: &[u8],
     text: &[u8],
-) -> Result<Report, AllocError>
+) -> Result<Report<'c>, AllocError>
     ensures { IfOk result (λ after. GoesOn (known_in lookups.now) (rules_in lookups.now) name.now text.now
-        report after) }
+        report.entry after) }
 {
-    let mut found = Findings::new(report, name, text);
+    let mut so_far = report;
+    so_far.add_script();
+    let mut found = Findings::new(so_far, name, text);
     found.add_return()?;
     check_reading(lookups, text, &mut found)?;
     Ok(found.report())
@@ -108,7 +163,7 @@ pub(crate) fn check_script(
 fn check_reading(
     lookups: &Lookups<'_>,
     text: &[u8],
-    found: &mut Findings<'_>,
+    found: &mut Findings<'_, '_>,
 ) -> Result<(), AllocError>
     ensures { OnOk result (Reads (known_in lookups.now) (rules_in lookups.now) text.now found.old found.new) }
 {
@@ -123,7 +178,7 @@ fn check_reading(
 fn check_parsed(
     lookups: &Lookups<'_>,
     script: &Script,
-    found: &mut Findings<'_>,
+    found: &mut Findings<'_, '_>,
 ) -> Result<(), AllocError>
     requires { SpellsIn (bodies_of lookups.now.shell) (tree_of script.now) (source_of script.now) }
     ensures { OnOk result (ReadsItems (known_in lookups.now) (rules_in lookups.now) (source_of script.now)
@@ -134,9 +189,9 @@ fn check_parsed(
 }
 
 /// Adds the fault of a text that isn't a script; running out of memory is no finding.
-fn add_fault(fault: SyntaxFault, found: &mut Findings<'_>) -> Result<(), AllocError>
+fn add_fault(fault: SyntaxFault, found: &mut Findings<'_, '_>) -> Result<(), AllocError>
     ensures { OnOk result ((fault.kind ≢ kind.Memory) × (found.new ≡ found_more found.old
-        (error_at fault.place (fault_sentence fault.kind) ∷ []))) }
+        (found_at fault.place finding.Syntax (fault_sentence fault.kind) ∷ []))) }
 {
     match fault.kind {
         FaultKind::Memory => Err(AllocError),

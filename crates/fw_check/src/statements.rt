@@ -2,19 +2,20 @@
 ghost use Rattle.std.specs.Prelude.{◌≡◌, ◌++◌, [], ◌∷◌, if◌then◌else◌, OnOk, option_map};
 ghost use Rattle.std.specs.List.{flat_map};
 ghost use Rattle.hush_words.specs.Parts.{word_atoms};
-ghost use Rattle.fw_check.specs.Commands.{command_sentence};
-ghost use Rattle.fw_check.specs.Findings.{argument_findings, assigned_findings, called_findings, command_findings, error_at, item_findings, operator_end, operator_findings, refused_end, run_findings, target_findings, test_findings, word_findings};
+ghost use Rattle.fw_check.specs.Commands.{command_sentence, kind_of};
+ghost use Rattle.fw_check.specs.Findings.{argument_findings, assigned_findings, called_findings, command_findings, found_at, item_findings, operator_end, operator_findings, refused_end, run_findings, target_findings, test_findings, word_findings};
 ghost use Rattle.fw_check.specs.Found.{found_more};
 ghost use Rattle.fw_check.specs.Literals.{literal_of};
 ghost use Rattle.fw_check.specs.Looking.{known_in, rules_in, stubs_in};
 
 use crate::commands::{CommandFault, begin_in_parentheses};
-use crate::findings::{Findings, Severity};
+use crate::findings::Findings;
 use crate::items::Item;
 use crate::literals::{is_called, literal};
 use crate::lookups::Lookups;
 use crate::operators::wrong_operator;
 use crate::undefined_names::{check_word, check_words};
+use finding_kinds::FindingKind;
 use hush_commands::Shell;
 use hush_syntax::{Text, Word};
 use std::alloc::AllocError;
@@ -24,7 +25,7 @@ pub(crate) fn check_items(
     lookups: &Lookups<'_>,
     text: &Text,
     items: &[Item<'_>],
-    findings: &mut Findings<'_>,
+    findings: &mut Findings<'_, '_>,
 ) -> Result<(), AllocError>
     ensures { OnOk result (findings.new ≡ found_more findings.old
         (flat_map (item_findings (known_in lookups.now) (rules_in lookups.now) text.now) items.now)) }
@@ -40,7 +41,7 @@ fn check_item(
     lookups: &Lookups<'_>,
     text: &Text,
     item: Item<'_>,
-    findings: &mut Findings<'_>,
+    findings: &mut Findings<'_, '_>,
 ) -> Result<(), AllocError>
     ensures { OnOk result (findings.new ≡ found_more findings.old
         (item_findings (known_in lookups.now) (rules_in lookups.now) text.now item.entry)) }
@@ -63,7 +64,7 @@ fn check_call(
     lookups: &Lookups<'_>,
     text: &Text,
     words: &[Word],
-    findings: &mut Findings<'_>,
+    findings: &mut Findings<'_, '_>,
 ) -> Result<(), AllocError>
     ensures { OnOk result (findings.new ≡ found_more findings.old
         (command_findings lookups.now.shell (stubs_in lookups.now) text.now words.now
@@ -90,7 +91,7 @@ fn check_called(
     opens: bool,
     word: Word,
     called: &Option<Vec<u8>>,
-    findings: &mut Findings<'_>,
+    findings: &mut Findings<'_, '_>,
 ) -> Result<(), AllocError>
     ensures { OnOk result (findings.new ≡ found_more findings.old
         (called_findings lookups.now.shell (stubs_in lookups.now) opens word.start (option_map (λ v. v.items) called.now))) }
@@ -112,28 +113,30 @@ fn add_command(
     count: usize,
     fault: CommandFault,
     name: &[u8],
-    findings: &mut Findings<'_>,
+    findings: &mut Findings<'_, '_>,
 ) -> Result<(), AllocError>
     ensures { OnOk result (findings.new ≡ found_more findings.old
-        (error_at count (command_sentence fault name.now) ∷ [])) }
+        (found_at count (kind_of fault) (command_sentence fault name.now) ∷ [])) }
 {
     match fault {
-        CommandFault::Bracket => {
-            findings.add(count, Severity::Error, LACKING, name, b"`: write `test`")
-        }
-        CommandFault::Word => findings.add(count, Severity::Error, LACKING, name, b"`"),
-        CommandFault::Function => {
-            findings.add(
-                count,
-                Severity::Error,
-                b"this shell has no functions",
-                b"",
-                b"",
-            )
-        }
+        CommandFault::Bracket => findings.add(
+            count,
+            FindingKind::OtherShell,
+            LACKING,
+            name,
+            b"`: write `test`",
+        ),
+        CommandFault::Word => findings.add(count, FindingKind::OtherShell, LACKING, name, b"`"),
+        CommandFault::Function => findings.add(
+            count,
+            FindingKind::OtherShell,
+            b"this shell has no functions",
+            b"",
+            b"",
+        ),
         CommandFault::Unknown => findings.add(
             count,
-            Severity::Error,
+            FindingKind::UnknownCommand,
             b"no builtin and no stand-in is called `",
             name,
             b"`",
@@ -147,7 +150,7 @@ fn check_operators(
     text: &Text,
     tests: bool,
     words: &[Word],
-    findings: &mut Findings<'_>,
+    findings: &mut Findings<'_, '_>,
 ) -> Result<(), AllocError>
     ensures { OnOk result (findings.new ≡ found_more findings.old
         (if tests then test_findings lookups.now.shell text.now words.now else [])) }
@@ -158,7 +161,7 @@ fn check_operators(
     match wrong_operator(lookups.alloc, lookups.shell, text, words)? {
         Some(wrong) => findings.add(
             wrong.count,
-            Severity::Error,
+            FindingKind::TestOperator,
             b"`test` has no operator `",
             &wrong.bytes,
             operator_end(lookups.shell),
@@ -183,7 +186,7 @@ fn check_targets(
     text: &Text,
     runs: bool,
     words: &[Word],
-    findings: &mut Findings<'_>,
+    findings: &mut Findings<'_, '_>,
 ) -> Result<(), AllocError>
     ensures { OnOk result (findings.new ≡ found_more findings.old
         (if runs then flat_map (argument_findings (known_in lookups.now) text.now) words.now else [])) }
@@ -203,7 +206,7 @@ fn check_target(
     lookups: &Lookups<'_>,
     word: Word,
     target: Option<Vec<u8>>,
-    findings: &mut Findings<'_>,
+    findings: &mut Findings<'_, '_>,
 ) -> Result<(), AllocError>
     ensures { OnOk result (findings.new ≡ found_more findings.old
         (target_findings (known_in lookups.now) word.start (option_map (λ v. v.items) target))) }
@@ -214,7 +217,7 @@ fn check_target(
     if lookups.is_undefined(&name) {
         findings.add(
             word.start as usize,
-            Severity::Error,
+            FindingKind::RunUndefined,
             b"`run ",
             &name,
             b"` names a variable that is not defined",
@@ -228,7 +231,7 @@ fn check_assigned(
     lookups: &Lookups<'_>,
     text: &Text,
     word: Word,
-    findings: &mut Findings<'_>,
+    findings: &mut Findings<'_, '_>,
 ) -> Result<(), AllocError>
     ensures { OnOk result (findings.new ≡ found_more findings.old
         (assigned_findings lookups.now.shell (known_in lookups.now) word.start (literal_of (word_atoms text.now word)))) }
@@ -239,7 +242,7 @@ fn check_assigned(
     if lookups.is_defined(&name) {
         findings.add(
             word.start as usize,
-            Severity::Warning,
+            FindingKind::HiddenAssignment,
             b"`",
             &name,
             refused_end(lookups.shell),

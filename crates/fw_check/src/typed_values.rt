@@ -8,14 +8,15 @@ ghost use Rattle.fw_check.specs.Looking.{is_for_type};
 
 use crate::findings::Report;
 use envvars_core::{Refusal, Vars};
+use finding_kinds::FindingKind;
 use std::alloc::AllocError;
 
-/// After the name of a variable whose value doesn't have its type.
-const MISTYPED: &[u8] = b": error: the value does not have the type that .flags gives it\n";
+/// What is said of a variable whose value doesn't have its type.
+const MISTYPED: &[u8] = b"the value does not have the type that .flags gives it";
 
 /// Continues a report with a line for each variable whose value doesn't have its type.
-pub(crate) fn check_types(vars: &Vars, report: Report) -> Result<Report, AllocError>
-    ensures { IfOk result (λ after. after ≡ with_types vars.now.env report) }
+pub(crate) fn check_types<'c>(vars: &Vars, report: Report<'c>) -> Result<Report<'c>, AllocError>
+    ensures { IfOk result (λ after. after ≡ with_types vars.now.env report.entry) }
 {
     let mut so_far = report;
     for (name, value) in vars.iter() {
@@ -25,7 +26,12 @@ pub(crate) fn check_types(vars: &Vars, report: Report) -> Result<Report, AllocEr
 }
 
 /// Adds a line for a variable, if its value doesn't have its type.
-fn check_type(vars: &Vars, name: &[u8], value: &[u8], report: &mut Report) -> Result<(), AllocError>
+fn check_type(
+    vars: &Vars,
+    name: &[u8],
+    value: &[u8],
+    report: &mut Report<'_>,
+) -> Result<(), AllocError>
     requires name { IsTrue (is_name name.now) }
     requires value { IsTrue (is_value value.now) }
     ensures { OnOk result (report.new ≡ with_typed vars.now.env report.old (name.now, value.now)) }
@@ -33,7 +39,7 @@ fn check_type(vars: &Vars, name: &[u8], value: &[u8], report: &mut Report) -> Re
     if has_its_type(vars, name, value) {
         return Ok(());
     }
-    report.add_error(name, MISTYPED)
+    report.add_named(FindingKind::ValueType, name, MISTYPED)
 }
 
 /// Whether a value has the type of a name, that is, isn't refused for it.

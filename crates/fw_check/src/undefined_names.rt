@@ -5,9 +5,10 @@ ghost use Rattle.fw_check.specs.Findings.{last_lacking, name_findings, next_find
 ghost use Rattle.fw_check.specs.Found.{found_more};
 ghost use Rattle.fw_check.specs.Looking.{known_in};
 
-use crate::findings::{Findings, Severity};
+use crate::findings::Findings;
 use crate::lookups::Lookups;
 use crate::substitutions::substituted;
+use finding_kinds::FindingKind;
 use hush_calc::is_text;
 use hush_syntax::{Text, Word};
 use std::alloc::AllocError;
@@ -17,7 +18,7 @@ pub(crate) fn check_words(
     lookups: &Lookups<'_>,
     text: &Text,
     words: &[Word],
-    findings: &mut Findings<'_>,
+    findings: &mut Findings<'_, '_>,
 ) -> Result<(), AllocError>
     ensures { OnOk result (findings.new ≡ found_more findings.old
         (flat_map (word_findings (known_in lookups.now) text.now) words.now)) }
@@ -33,7 +34,7 @@ pub(crate) fn check_word(
     lookups: &Lookups<'_>,
     text: &Text,
     word: Word,
-    findings: &mut Findings<'_>,
+    findings: &mut Findings<'_, '_>,
 ) -> Result<(), AllocError>
     ensures { OnOk result (findings.new ≡ found_more findings.old
         (word_findings (known_in lookups.now) text.now word)) }
@@ -53,7 +54,7 @@ fn check_next(
     count: usize,
     last: Option<&[u8]>,
     name: &[u8],
-    findings: &mut Findings<'_>,
+    findings: &mut Findings<'_, '_>,
 ) -> Result<(), AllocError>
     ensures { OnOk result (findings.new ≡ found_more findings.old
         (next_findings (known_in lookups.now) count (option_map (λ l. l.now) last.entry) name.now)) }
@@ -85,7 +86,7 @@ fn check_name(
     lookups: &Lookups<'_>,
     count: usize,
     name: &[u8],
-    findings: &mut Findings<'_>,
+    findings: &mut Findings<'_, '_>,
 ) -> Result<(), AllocError>
     ensures { OnOk result (findings.new ≡ found_more findings.old
         (name_findings (known_in lookups.now) count name.now)) }
@@ -93,7 +94,7 @@ fn check_name(
     if lookups.is_lacking(name) {
         findings.add(
             count,
-            Severity::Warning,
+            FindingKind::UndefinedName,
             b"`${",
             name,
             b"}` names a variable that nothing defines",

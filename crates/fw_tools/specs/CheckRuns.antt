@@ -15,20 +15,22 @@ abbrev pub AreStandInsGiven : Option Text → Option Statuses → Type 0
 AreStandInsGiven None stand_ins = stand_ins ≡ None
 AreStandInsGiven (Some path) stand_ins = (read : Statuses) × AreStubsOf (Some path) read × (stand_ins ≡ Some read)
 
--- what stopped a check is reported, if anything did
-abbrev pub Ends : ToolEnd → Option (List ℕ) → Option (List ℕ) → ℕ → Type 0
-Ends end old new status = Says end.fault old new × (status ≡ end.status)
+-- what stopped a check is reported after what it printed, if anything did
+abbrev pub Ends : (Writers → ToolEnd → Type 0) → Writers → ℕ → Type 0
+Ends Printed new status =
+    (end : ToolEnd) × (said : Option (List ℕ)) × Printed (record { output = new.output; errors = said }) end × Says end.fault said new.errors
+    × (status ≡ end.status)
 
 -- the scripts of an environment are checked; or before that a file can't be used, or memory runs out
 abbrev pub ChecksOver : EnvironmentCheck → Held → Writers → Writers → ℕ → Type 0
 ChecksOver check session old new status =
     Stops old new status
-    ⊎ ((stand_ins : Option Statuses) × (end : ToolEnd) × AreStandInsGiven check.stand_ins stand_ins
-    × Checks check.shell session.now.env stand_ins check.names old.output new.output end × Ends end old.errors new.errors status)
+    ⊎ ((stand_ins : Option Statuses) × AreStandInsGiven check.stand_ins stand_ins
+    × Ends (Checks check.shell session.now.env stand_ins check.choice check.names old) new status)
 
 -- the same for the script in a file
 abbrev pub ChecksFile : FileCheck → Writers → Writers → ℕ → Type 0
 ChecksFile check old new status =
     Stops old new status
-    ⊎ ((stand_ins : Option Statuses) × (text : List ℕ) × (end : ToolEnd) × AreStandInsGiven check.stand_ins stand_ins
-    × ChecksText check.shell stand_ins check.path text old.output new.output end × Ends end old.errors new.errors status)
+    ⊎ ((stand_ins : Option Statuses) × (text : List ℕ) × AreStandInsGiven check.stand_ins stand_ins
+    × Ends (ChecksText check.shell stand_ins check.choice check.path text old) new status)

@@ -32,8 +32,10 @@ pub(crate) fn check_session<X: System + AllocGlobal, W: Write, E: Write>(
         asked.shell,
         session.vars(),
         stand_ins.as_ref(),
+        asked.choice,
         &names,
         output,
+        errors,
     );
     Some(report(end, errors))
 }
@@ -41,7 +43,7 @@ pub(crate) fn check_session<X: System + AllocGlobal, W: Write, E: Write>(
 /// Checks the script in a file, and answers the exit status.
 pub(crate) fn run_file_check<X: System + AllocGlobal, W: Write, E: Write>(
     rt: &X,
-    asked: &FileCheck<'_>,
+    asked: &FileCheck<'_, '_>,
     output: &mut W,
     errors: &mut E,
 ) -> u8
@@ -56,7 +58,7 @@ pub(crate) fn run_file_check<X: System + AllocGlobal, W: Write, E: Write>(
 /// The same; `None` if a file can't be used before.
 fn check_file<X: System + AllocGlobal, W: Write, E: Write>(
     rt: &X,
-    asked: &FileCheck<'_>,
+    asked: &FileCheck<'_, '_>,
     output: &mut W,
     errors: &mut E,
 ) -> Option<u8>
@@ -76,9 +78,11 @@ fn check_file<X: System + AllocGlobal, W: Write, E: Write>(
         rt.alloc(),
         asked.shell,
         stand_ins.as_ref(),
+        asked.choice,
         asked.path.as_bytes(),
         &text,
         output,
+        errors,
     );
     Some(report(end, errors))
 }

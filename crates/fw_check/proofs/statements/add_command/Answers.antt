@@ -1,6 +1,6 @@
 use Rattle.std.proofs.Common.{[], ◌∷◌, ap, ◌∙◌, sym}
-use Rattle.fw_check.specs.Commands.{command_sentence}
-use Rattle.fw_check.specs.Findings.{error_at}
+use Rattle.fw_check.specs.Commands.{command_sentence, kind_of}
+use Rattle.fw_check.specs.Findings.{found_at}
 use Rattle.fw_check.specs.Found.{found_more}
 use Rattle.fw_check.proofs.FoundLemmas.{ok-then}
 use Rattle.fw_check.proofs.statements.add_command.Goals as goal
@@ -8,5 +8,5 @@ use Rattle.fw_check.proofs.statements.add_command.Goals as goal
 pub returns-in-Function : goal.returns-in-Function
 returns-in-Function c =
     ok-then c.add-in-Function.result _ _
-    (λ e. e ∙ ap (λ f. found_more c.args.findings.now (error_at c.args.count (command_sentence f c.args.name.now) ∷ [])) (sym c.in-Function.is))
+    (λ e. e ∙ ap (λ f. found_more c.args.findings.now (found_at c.args.count (kind_of f) (command_sentence f c.args.name.now) ∷ [])) (sym c.in-Function.is))
     c.add-in-Function.ensures

@@ -1,7 +1,8 @@
 use Rattle.std.proofs.Common.{ℕ, List, [], ◌∷◌, ◌++◌, codes, ap, ◌∙◌, sym}
 use Rattle.std.specs.Prelude.{option_map}
 use Rattle.hush_words.specs.Parts.{word_atoms}
-use Rattle.fw_check.specs.Findings.{is_defined, warning_at}
+use Rattle.finding_kinds.specs.declared.kinds.FindingKind.TheVariants as kind
+use Rattle.fw_check.specs.Findings.{found_at, is_defined}
 use Rattle.fw_check.specs.Found.{found_more}
 use Rattle.fw_check.specs.Literals.{literal_of}
 use Rattle.fw_check.specs.Looking.{known_in}
@@ -22,7 +23,7 @@ returns c =
     elim c.if-is_defined.branch [
       | then-is_defined+in_ok-add w ↦ assigned-yes c.args.lookups.now.shell known count literal name named old new c.is_defined.result told w.if-is_defined.true
           (w.findings-is ∙ w.in_ok-add.ensures
-          ∙ ap (λ (n : List ℕ). found_more old (warning_at count (codes "`" ++ n ++ w.refused_end.result.now) ∷ [])) w.deref-then-is_defined.ensures.value
-          ∙ ap (λ (e : List ℕ). found_more old (warning_at count (codes "`" ++ name ++ e) ∷ [])) w.refused_end.ensures)
+          ∙ ap (λ (n : List ℕ). found_more old (found_at count kind.HiddenAssignment (codes "`" ++ n ++ w.refused_end.result.now) ∷ [])) w.deref-then-is_defined.ensures.value
+          ∙ ap (λ (e : List ℕ). found_more old (found_at count kind.HiddenAssignment (codes "`" ++ name ++ e) ∷ [])) w.refused_end.ensures)
       | else-is_defined w ↦ assigned-no c.args.lookups.now.shell known count literal name named old new c.is_defined.result told w.if-is_defined.false w.findings-is
     ]

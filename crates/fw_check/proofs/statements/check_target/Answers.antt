@@ -1,6 +1,7 @@
 use Rattle.std.proofs.Common.{[], ◌∷◌, ap, ◌∙◌, sym}
 use Rattle.std.specs.Prelude.{option_map}
-use Rattle.fw_check.specs.Findings.{error_at, is_undefined, undefined_sentence}
+use Rattle.finding_kinds.specs.declared.kinds.FindingKind.TheVariants as kind
+use Rattle.fw_check.specs.Findings.{found_at, is_undefined, undefined_sentence}
 use Rattle.fw_check.specs.Found.{found_more}
 use Rattle.fw_check.specs.Looking.{known_in}
 use Rattle.fw_check.proofs.FoundLemmas.{target-yes, target-no}
@@ -19,6 +20,6 @@ returns c =
     let told = c.is_undefined.ensures ∙ ap (is_undefined known) c.deref.ensures.value in
     elim c.if-is_undefined.branch [
       | then-is_undefined+in_ok-add w ↦ target-yes c.args.lookups.now.shell known count literal name named old new c.is_undefined.result told w.if-is_undefined.true
-          (w.findings-is ∙ w.in_ok-add.ensures ∙ ap (λ n. found_more old (error_at count (undefined_sentence n) ∷ [])) w.deref-then-is_undefined.ensures.value)
+          (w.findings-is ∙ w.in_ok-add.ensures ∙ ap (λ n. found_more old (found_at count kind.RunUndefined (undefined_sentence n) ∷ [])) w.deref-then-is_undefined.ensures.value)
       | else-is_undefined w ↦ target-no c.args.lookups.now.shell known count literal name named old new c.is_undefined.result told w.if-is_undefined.false w.findings-is
     ]

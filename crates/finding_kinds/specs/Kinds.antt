@@ -1,0 +1,46 @@
+-- The kinds of findings (docs/check.md, "What is found").
+use Rattle.std.specs.Prelude.{ℕ, Bool, List, [], ◌∷◌, codes}
+use Rattle.std.specs.List.{list_any}
+use Rattle.std.specs.Str.{bytes_eq}
+use Rattle.finding_kinds.specs.declared.kinds.FindingKind.{FindingKind}
+use Rattle.finding_kinds.specs.declared.kinds.FindingKind.TheVariants as kind
+use Rattle.finding_kinds.specs.declared.kinds.Severity.{Severity}
+use Rattle.finding_kinds.specs.declared.kinds.Severity.TheVariants as severity
+
+abbrev pub code_of : FindingKind → List ℕ
+code_of kind.CarriageReturn = codes "carriage-return"
+code_of kind.Syntax = codes "syntax"
+code_of kind.OtherShell = codes "other-shell"
+code_of kind.UnknownCommand = codes "unknown-command"
+code_of kind.TestOperator = codes "test-operator"
+code_of kind.RunUndefined = codes "run-undefined"
+code_of kind.HiddenAssignment = codes "hidden-assignment"
+code_of kind.UndefinedName = codes "undefined-name"
+code_of kind.NoVariable = codes "no-variable"
+code_of kind.NoScript = codes "no-script"
+code_of kind.ValueType = codes "value-type"
+
+abbrev pub severity_of : FindingKind → Severity
+severity_of kind.CarriageReturn = severity.Warning
+severity_of kind.Syntax = severity.Error
+severity_of kind.OtherShell = severity.Error
+severity_of kind.UnknownCommand = severity.Error
+severity_of kind.TestOperator = severity.Error
+severity_of kind.RunUndefined = severity.Error
+severity_of kind.HiddenAssignment = severity.Warning
+severity_of kind.UndefinedName = severity.Warning
+severity_of kind.NoVariable = severity.Error
+severity_of kind.NoScript = severity.Error
+severity_of kind.ValueType = severity.Error
+
+-- all of them
+abbrev pub all_kinds : List FindingKind
+all_kinds =
+    kind.CarriageReturn ∷ kind.Syntax ∷ kind.OtherShell ∷ kind.UnknownCommand ∷ kind.TestOperator ∷ kind.RunUndefined
+    ∷ kind.HiddenAssignment ∷ kind.UndefinedName ∷ kind.NoVariable ∷ kind.NoScript ∷ kind.ValueType ∷ []
+
+abbrev pub is_called : List ℕ → FindingKind → Bool
+is_called text k = bytes_eq (code_of k) text
+
+abbrev pub is_code : List ℕ → Bool
+is_code text = list_any (is_called text) all_kinds

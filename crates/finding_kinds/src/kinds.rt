@@ -1,0 +1,114 @@
+//! Kinds of findings: how severe each is, and its code.
+ghost use Rattle.std.specs.Prelude.{◌≡◌};
+ghost use Rattle.std.specs.List.{list_any};
+ghost use Rattle.finding_kinds.specs.Kinds.{code_of, is_called, is_code, severity_of};
+
+/// How severe a finding is.
+#[derive(Clone, Copy, Debug, PartialEq, Eq)]
+pub enum Severity {
+    /// A board would run into a fault.
+    Error,
+    /// A board might do something else than the script's author thinks.
+    Warning,
+}
+
+/// A kind of finding.
+#[derive(Clone, Copy, Debug, PartialEq, Eq)]
+pub enum FindingKind {
+    /// A carriage return in a script.
+    CarriageReturn,
+    /// A text that is no script.
+    Syntax,
+    /// What another shell has and this one doesn't.
+    OtherShell,
+    /// A command that is neither a builtin nor a stand-in.
+    UnknownCommand,
+    /// A word of `test` that is written as an operator, but isn't one.
+    TestOperator,
+    /// A `run` of a variable that isn't defined.
+    RunUndefined,
+    /// An assignment to a name that the environment holds.
+    HiddenAssignment,
+    /// A substitution of a name that nothing defines.
+    UndefinedName,
+    /// A name that the check was given, of no variable.
+    NoVariable,
+    /// No script to look at.
+    NoScript,
+    /// A value without the type that `.flags` gives it.
+    ValueType,
+}
+
+/// All of them, in the order of the table.
+const ALL: [FindingKind; 11] = [
+    FindingKind::CarriageReturn,
+    FindingKind::Syntax,
+    FindingKind::OtherShell,
+    FindingKind::UnknownCommand,
+    FindingKind::TestOperator,
+    FindingKind::RunUndefined,
+    FindingKind::HiddenAssignment,
+    FindingKind::UndefinedName,
+    FindingKind::NoVariable,
+    FindingKind::NoScript,
+    FindingKind::ValueType,
+];
+
+impl FindingKind {
+    /// Its code, as it is printed in brackets.
+    pub fn code(self) -> &'static str
+        ensures { result.now ≡ code_of self }
+    {
+        match self {
+            FindingKind::CarriageReturn => "carriage-return",
+            FindingKind::Syntax => "syntax",
+            FindingKind::OtherShell => "other-shell",
+            FindingKind::UnknownCommand => "unknown-command",
+            FindingKind::TestOperator => "test-operator",
+            FindingKind::RunUndefined => "run-undefined",
+            FindingKind::HiddenAssignment => "hidden-assignment",
+            FindingKind::UndefinedName => "undefined-name",
+            FindingKind::NoVariable => "no-variable",
+            FindingKind::NoScript => "no-script",
+            FindingKind::ValueType => "value-type",
+        }
+    }
+
+    /// How severe it is.
+    pub fn severity(self) -> Severity
+        ensures { result ≡ severity_of self }
+    {
+        match self {
+            FindingKind::CarriageReturn
+            | FindingKind::HiddenAssignment
+            | FindingKind::UndefinedName => Severity::Warning,
+            _ => Severity::Error,
+        }
+    }
+
+    /// Whether this text is its code.
+    pub(crate) fn is_called(self, text: &str) -> bool
+        ensures { result ≡ is_called text.now self }
+    {
+        self.code() == text
+    }
+}
+
+/// Whether a text is the code of a kind.
+pub fn is_code(text: &str) -> bool
+    ensures { result ≡ is_code text.now }
+{
+    is_code_of(&ALL, text)
+}
+
+/// Whether it is the code of one of these.
+fn is_code_of(kinds: &[FindingKind], text: &str) -> bool
+    ensures { result ≡ list_any (is_called text.now) kinds.now }
+{
+    for kind in kinds {
+        if kind.is_called(text) {
+            return true;
+        }
+    }
+    false
+}
