@@ -80,11 +80,14 @@ is_answered w = if w.begins then only_widths w.text else is_some (builtin_of w.t
 abbrev pub most_words : ℕ
 most_words = 64
 
--- what is wrong with a pattern
-abbrev pub pattern_fault : List PatternWord → Option LineFault
-pattern_fault [] = Some NoPattern
-pattern_fault (w ∷ ws) =
-    if nat_lt most_words (length (w ∷ ws)) then Some Words
-    else if begins_with minus w.text then Some Minus
+-- what is wrong with a pattern, but for its length
+abbrev pub first_fault : List PatternWord → Option LineFault
+first_fault [] = Some NoPattern
+first_fault (w ∷ ws) =
+    if begins_with minus w.text then Some Minus
     else if is_answered w && not (is_asked (w ∷ ws)) then Some Builtin
     else None
+
+-- what is wrong with a pattern
+abbrev pub pattern_fault : List PatternWord → Option LineFault
+pattern_fault pattern = if nat_lt most_words (length pattern) then Some Words else first_fault pattern

@@ -4,7 +4,7 @@ ghost use Rattle.std.specs.Str.{bytes_eq};
 ghost use Rattle.hush_commands.specs.CommandNames.{begins_with as is_beginning};
 ghost use Rattle.hush_commands.specs.StandInLines.{words_of};
 ghost use Rattle.board_file.specs.Patterns.{asks_env, asks_file, asks_setexpr, is_answered, is_asked, is_just, is_subcommand, names_builtin, names_subcommand, only_widths};
-ghost use Rattle.board_file.specs.Patterns.{pattern_fault, pattern_word, pattern_words};
+ghost use Rattle.board_file.specs.Patterns.{first_fault, pattern_fault, pattern_word, pattern_words};
 
 use crate::board_fault::LineFault;
 use crate::line_parts::next_word;
@@ -76,9 +76,18 @@ pub(crate) fn word_of(alloc: Global, text: &[u8], begins: bool) -> Result<Patter
 pub(crate) fn pattern_fault(pattern: &[PatternWord]) -> Option<LineFault>
     ensures { result ≡ pattern_fault pattern.now }
 {
+    if pattern.len() > MOST_WORDS {
+        return Some(LineFault::Words);
+    }
+    first_fault(pattern)
+}
+
+/// What is wrong with a pattern, but for its length.
+fn first_fault(pattern: &[PatternWord]) -> Option<LineFault>
+    ensures { result ≡ first_fault pattern.now }
+{
     match pattern.split_first() {
         None => Some(LineFault::NoPattern),
-        Some(_) if pattern.len() > MOST_WORDS => Some(LineFault::Words),
         Some((word, _)) if begins_with_byte(b'-', word.text.as_bytes()) => Some(LineFault::Minus),
         Some((word, _)) if is_answered(word) && !is_asked(pattern) => Some(LineFault::Builtin),
         Some(_) => None,
