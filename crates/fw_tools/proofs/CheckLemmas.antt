@@ -55,12 +55,12 @@ file_checks_small shell stand_ins choice name text old new end (inr lacks) = ome
 
 pub check_small : (check : EnvironmentCheck) (session : Held) (old new : Writers) (status : ℕ) → ChecksOver check session old new status → status ≤ 1
 check_small check session old new status (inl stopped) = omega (arith, stopped.1)
-check_small check session old new status (inr (stand_ins, given, end, said, checks, says, ended)) =
+check_small check session old new status (inr (stand_ins, given, (end, said, checks, says, ended))) =
     omega (arith, ended, checks_small check.shell session.now.env stand_ins check.choice check.names old (record { output = new.output; errors = said }) end checks)
 
 pub file_check_small : (check : FileCheck) (old new : Writers) (status : ℕ) → ChecksFile check old new status → status ≤ 1
 file_check_small check old new status (inl stopped) = omega (arith, stopped.1)
-file_check_small check old new status (inr (stand_ins, text, given, end, said, checks, says, ended)) =
+file_check_small check old new status (inr (stand_ins, text, given, (end, said, checks, says, ended))) =
     omega (arith, ended, file_checks_small check.shell stand_ins check.choice check.path text old (record { output = new.output; errors = said }) end checks)
 
 -- a check whose environment, stand-ins and names are these, with nothing printed before it
@@ -73,4 +73,14 @@ checks-over check session old new first status stand_ins seen env names end said
     let one = subst (λ e. Checks check.shell e seen check.choice names old after end) same_env zero in
     let two = subst (λ s. Checks check.shell session.now.env s check.choice names old after end) same_stubs one in
     let three = subst (λ ns. Checks check.shell session.now.env stand_ins check.choice ns old after end) same_names two in
-    inr (stand_ins, given, end, said, three, says, ended)
+    inr (stand_ins, given, (end, said, three, says, ended))
+
+-- the same of a check of one script
+pub file-checks-over : (check : FileCheck) (old new first : Writers) (status : ℕ) (stand_ins seen : Option Statuses) (text : List ℕ) (end : ToolEnd) (said : Option (List ℕ)) →
+    AreStandInsGiven check.stand_ins stand_ins → ChecksText check.shell seen check.choice check.path text first (record { output = new.output; errors = said }) end → first ≡ old → seen ≡ stand_ins →
+    status ≡ end.status → Says end.fault said new.errors → ChecksFile check old new status
+file-checks-over check old new first status stand_ins seen text end said given checks silent same_stubs ended says =
+    let after : Writers = record { output = new.output; errors = said } in
+    let one = subst (λ f. ChecksText check.shell seen check.choice check.path text f after end) silent checks in
+    let two = subst (λ s. ChecksText check.shell s check.choice check.path text old after end) same_stubs one in
+    inr (stand_ins, text, given, (end, said, two, says, ended))

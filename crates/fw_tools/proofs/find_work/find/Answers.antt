@@ -10,8 +10,10 @@ pub returns : goal.returns
 returns g c =
     inr (
       c.deref.result.now,
-      c.print_found.result,
-      c.print_found.ensures,
-      subst (λ e. Says c.print_found.result.fault e (g.E.Write.contents c.report.new.errors)) c.in_ok-dump.ensures.said c.report.ensures.said,
-      c.report.ensures.status,
+      (
+        c.print_found.result,
+        c.print_found.ensures,
+        subst (λ e. Says c.print_found.result.fault e (g.E.Write.contents c.report.new.errors)) c.in_ok-dump.ensures.said c.report.ensures.said,
+        c.report.ensures.status,
+      ),
     )
