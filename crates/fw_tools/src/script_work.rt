@@ -76,15 +76,27 @@ fn stand_ins_or_say<X: System + AllocGlobal, E: Write>(
     let path = asked.dry.stand_ins.unwrap_or("");
     let outcome = stand_ins_of(rt, asked);
     let stand_ins = value_or_say(rt.alloc(), errors, Explains::Reason, path, outcome)?;
-    if let Some(name) = name_without(&stand_ins, asked.boots) {
-        let _ = write_three(errors, INVALID_VALUE, name.as_bytes(), NO_BOOT);
-        return None;
+    match name_at_fault(&stand_ins, asked) {
+        None => Some(stand_ins),
+        Some((name, fault)) => {
+            let _ = write_three(errors, INVALID_VALUE, name.as_bytes(), fault);
+            None
+        }
     }
-    if let Some(name) = name_without(&stand_ins, asked.resets) {
-        let _ = write_three(errors, INVALID_VALUE, name.as_bytes(), NO_RESET);
-        return None;
+}
+
+/// The first name asked for of which there is no stand-in, and what is said of it.
+fn name_at_fault<'w>(
+    stand_ins: &Stubs,
+    asked: &ScriptRun<'_, 'w>,
+) -> Option<(&'w str, &'static [u8])> {
+    match name_without(stand_ins, asked.boots) {
+        Some(name) => Some((name, NO_BOOT)),
+        None => match name_without(stand_ins, asked.resets) {
+            Some(name) => Some((name, NO_RESET)),
+            None => None,
+        },
     }
-    Some(stand_ins)
 }
 
 /// The first of these names of which there is no stand-in.
