@@ -74,7 +74,13 @@ fn print_course<W: Write, E: Write>(
         return ToolEnd::stopped(StreamFault::Write);
     }
     let told = if !is_well(course.outcome.ending, course.outcome.status) {
-        write_ending(&course.outcome, &course.place, errors)
+        write_ending(
+            course.outcome.ending,
+            &course.place,
+            course.outcome.status,
+            course.outcome.steps,
+            errors,
+        )
     } else if must_boot && !has_booted(&course.departure) {
         write_no_boot(course, errors)
     } else {
@@ -111,18 +117,24 @@ fn has_booted(departure: &Option<Departure>) -> bool
 }
 
 /// Prints how a run ended that didn't end well.
-fn write_ending<E: Write>(outcome: &Outcome, place: &Option<StartedName>, errors: &mut E) -> bool
+fn write_ending<E: Write>(
+    ending: Ending,
+    place: &Option<StartedName>,
+    status: u8,
+    steps: u32,
+    errors: &mut E,
+) -> bool
     ensures { MatchBool result
-        (Appends (E.contents errors.old) (E.contents errors.new)
-        (ended_so outcome.now.ending place.now outcome.now.status outcome.now.steps))
-        (AppendsPart (E.contents errors.old) (E.contents errors.new)
-        (ended_so outcome.now.ending place.now outcome.now.status outcome.now.steps)) }
+        (Appends (E.contents errors.old) (E.contents errors.new) (ended_so ending place.now status steps))
+        (AppendsPart (E.contents errors.old) (E.contents errors.new) (ended_so ending place.now status steps)) }
 {
-    match outcome.ending {
-        Ending::Finished | Ending::Exited => write_own_ending(b"fwenv: ", outcome, errors),
+    match ending {
+        Ending::Finished | Ending::Exited => {
+            write_own_ending(b"fwenv: ", ending.name(), status, steps, errors)
+        }
         Ending::Memory => write_text(errors, OUT_OF_MEMORY),
         Ending::Steps | Ending::Depth | Ending::Word | Ending::Output => {
-            write_limit(outcome.ending.name(), place, outcome.steps, errors)
+            write_limit(ending.name(), place, steps, errors)
         }
     }
 }
@@ -136,7 +148,13 @@ fn write_no_boot<E: Write>(course: &Course, errors: &mut E) -> bool
         course.now.departure course.now.outcome.status course.now.outcome.steps)) }
 {
     match &course.departure {
-        None => write_own_ending(b"fwenv: no boot: ", &course.outcome, errors),
+        None => write_own_ending(
+            b"fwenv: no boot: ",
+            course.outcome.ending.name(),
+            course.outcome.status,
+            course.outcome.steps,
+            errors,
+        ),
         Some(departure) => write_reset(
             called_in(&departure.words),
             &course.place,
@@ -169,13 +187,21 @@ fn write_reset<E: Write>(
 {
     let mut digits = Buffer::new();
     let steps = digits.format(steps).as_bytes();
-    let front = b"fwenv: no boot: reset by \"";
     match place {
-        None => write_parts(errors, &[front, called, b"\" after ", steps, b" steps\n"]),
+        None => write_parts(
+            errors,
+            &[
+                b"fwenv: no boot: reset by \"",
+                called,
+                b"\" after ",
+                steps,
+                b" steps\n",
+            ],
+        ),
         Some(variable) => write_parts(
             errors,
             &[
-                front,
+                b"fwenv: no boot: reset by \"",
                 called,
                 b"\" in \"",
                 variable.as_bytes(),
@@ -188,12 +214,16 @@ fn write_reset<E: Write>(
 }
 
 /// Prints how a run ended by itself.
-fn write_own_ending<E: Write>(front: &[u8], outcome: &Outcome, errors: &mut E) -> bool
+fn write_own_ending<E: Write>(
+    front: &[u8],
+    name: &[u8],
+    status: u8,
+    steps: u32,
+    errors: &mut E,
+) -> bool
     ensures { MatchBool result
-        (Appends (E.contents errors.old) (E.contents errors.new)
-        (ended_by_itself front.now (ending_name outcome.now.ending) outcome.now.status outcome.now.steps))
-        (AppendsPart (E.contents errors.old) (E.contents errors.new)
-        (ended_by_itself front.now (ending_name outcome.now.ending) outcome.now.status outcome.now.steps)) }
+        (Appends (E.contents errors.old) (E.contents errors.new) (ended_by_itself front.now name.now status steps))
+        (AppendsPart (E.contents errors.old) (E.contents errors.new) (ended_by_itself front.now name.now status steps)) }
 {
     let mut status_digits = Buffer::new();
     let mut step_digits = Buffer::new();
@@ -202,11 +232,11 @@ fn write_own_ending<E: Write>(front: &[u8], outcome: &Outcome, errors: &mut E) -
         &[
             front,
             b"run ended as ",
-            outcome.ending.name(),
+            name,
             b" with status ",
-            status_digits.format(outcome.status).as_bytes(),
+            status_digits.format(status).as_bytes(),
             b" after ",
-            step_digits.format(outcome.steps).as_bytes(),
+            step_digits.format(steps).as_bytes(),
             b" steps\n",
         ],
     )
