@@ -76,11 +76,12 @@ checks-over check session old new first status stand_ins seen env names end said
     inr (stand_ins, given, (end, said, three, says, ended))
 
 -- the same of a check of one script
-pub file-checks-over : (check : FileCheck) (old new first : Writers) (status : ℕ) (stand_ins seen : Option Statuses) (text : List ℕ) (end : ToolEnd) (said : Option (List ℕ)) →
-    AreStandInsGiven check.stand_ins stand_ins → ChecksText check.shell seen check.choice check.path text first (record { output = new.output; errors = said }) end → first ≡ old → seen ≡ stand_ins →
+pub file-checks-over : (check : FileCheck) (old new first : Writers) (status : ℕ) (stand_ins seen : Option Statuses) (name text : List ℕ) (end : ToolEnd) (said : Option (List ℕ)) →
+    AreStandInsGiven check.stand_ins stand_ins → ChecksText check.shell seen check.choice name text first (record { output = new.output; errors = said }) end → first ≡ old → seen ≡ stand_ins → name ≡ check.path →
     status ≡ end.status → Says end.fault said new.errors → ChecksFile check old new status
-file-checks-over check old new first status stand_ins seen text end said given checks silent same_stubs ended says =
+file-checks-over check old new first status stand_ins seen name text end said given checks silent same_stubs same_path ended says =
     let after : Writers = record { output = new.output; errors = said } in
-    let one = subst (λ f. ChecksText check.shell seen check.choice check.path text f after end) silent checks in
-    let two = subst (λ s. ChecksText check.shell s check.choice check.path text old after end) same_stubs one in
+    let zero = subst (λ f. ChecksText check.shell seen check.choice name text f after end) silent checks in
+    let one = subst (λ s. ChecksText check.shell s check.choice name text old after end) same_stubs zero in
+    let two = subst (λ n. ChecksText check.shell stand_ins check.choice n text old after end) same_path one in
     inr (stand_ins, text, given, (end, said, two, says, ended))

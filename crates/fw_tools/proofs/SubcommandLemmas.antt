@@ -1,6 +1,6 @@
 -- What a subcommand does, put together, and its status.
 use Rattle.std.proofs.Common.{◌≡◌, ◌⊎◌, ◌≤◌, ℕ, zero, suc, Bool, true, false, List, [], ◌∷◌, ◌++◌, Option, Some, None, inl, inr, refl, sym, ap, ◌∙◌, subst, arith}
-use Rattle.std.specs.Prelude.{◌==◌, MatchOption, if◌then◌else◌, length}
+use Rattle.std.specs.Prelude.{◌==◌, ◌&&◌, not, MatchOption, if◌then◌else◌, length}
 use Rattle.env_session.specs.Requests.{refusal_in}
 use Rattle.env_session.specs.Session.{Held, written}
 use Rattle.envcfg_core.specs.Entries as text_entries
@@ -15,7 +15,8 @@ use Rattle.fw_tools.proofs.CheckLemmas.{check_small}
 use Rattle.fw_arguments.specs.DryRuns.{ScriptRun}
 use Rattle.fw_tools.specs.ScriptRuns as ScriptRuns
 use Rattle.fw_tools.specs.ScriptRuns.{ClosesRun, RunsOver}
-use Rattle.fw_session.specs.ScriptRun.{ended_so, is_well, outcome_texts, run_texts}
+use Rattle.fw_session.specs.ScriptRun.{course_texts, ended_badly, ended_so, has_booted, is_well, no_boot}
+use Rattle.hush_run.specs.declared.outcome.Course.{Course}
 use Rattle.hush_run.specs.declared.ending.Ending.{Ending}
 use Rattle.fw_files.specs.Locks.{HasWaited}
 use Rattle.fw_arguments.specs.declared.wanted_copy.WantedCopy.{WantedCopy}
@@ -172,9 +173,15 @@ either_small : (b : Bool) (x y : Texts) → x.status ≤ 1 → y.status ≤ 1 �
 either_small true x y p q = p
 either_small false x y p q = q
 
-texts_small : (e : Ending) (place : Option (List ℕ)) (status steps : ℕ) (text : List ℕ) → (run_texts e place status steps text).status ≤ 1
-texts_small e place status steps text =
-    either_small (is_well e status) (record { output = text; errors = []; status = 0 }) (record { output = text; errors = ended_so e place status steps; status = 1 }) (omega arith) (omega arith)
+texts_small : (must_boot : Bool) (course : Course) → (course_texts must_boot course).status ≤ 1
+texts_small must_boot course =
+    let outcome = course.outcome in
+    let text = outcome.text.items in
+    let badly = ended_badly text (ended_so outcome.ending course.place outcome.status outcome.steps) in
+    let without = ended_badly text (no_boot outcome.ending course.place course.departure outcome.status outcome.steps) in
+    let well : Texts = record { output = text; errors = []; status = 0 } in
+    let unbooted = must_boot && not (has_booted course.departure) in
+    either_small (not (is_well outcome.ending outcome.status)) badly (if unbooted then without else well) (omega arith) (either_small unbooted without well (omega arith) (omega arith))
 
 run_closes_small : (kept : Bool) (end : ToolEnd) (old new : Option (List ℕ)) (status : ℕ) → end.status ≤ 1 → ClosesRun kept end old new status → status ≤ 1
 run_closes_small true end old new status small (inl failed) = omega (arith, failed.1)
@@ -186,7 +193,7 @@ script_run_small run session old new status (inl stopped) = omega (arith, stoppe
 script_run_small run session old new status (inr (stand_ins, text, stand, is, inl refused)) = omega (arith, refused.2)
 script_run_small run session old new status (inr (stand_ins, text, stand, is, inr (tree, reads, r))) =
     run_closes_small (ScriptRuns.is_kept run.dry.write r.2) r.2.end r.1 new.errors status
-    (run_small r.2.end.fault r.2.end.status old (record { output = new.output; errors = r.1 }) (outcome_texts r.3.0 r.3.1) (texts_small r.3.0.ending r.3.1 r.3.0.status r.3.0.steps r.3.0.text.items) r.3.5) r.4
+    (run_small r.2.end.fault r.2.end.status old (record { output = new.output; errors = r.1 }) (course_texts run.must_boot r.3.0) (texts_small run.must_boot r.3.0) r.3.5) r.4
 
 job_small : (job : Job) (session : Held) (old new : Streams) (status : ℕ) → DoesJob job session old new status → status ≤ 1
 job_small (Tool task) session old new status (unread, uses) = tool_small task session _ _ status uses
