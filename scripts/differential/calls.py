@@ -45,11 +45,12 @@ RUNS = [
     b"true", b"false", b"exit", b"exit 3", b"exit 0", b"echo $a; false", b"setenv a 5; saveenv", b"saveenv; false", b"saveenv; saveenv",
     b"mmc; echo $?; usb", b"usb || mmc", b"mmc; false", b"saveenv; mmc x; echo a", b"run q", b"run a b", b"printenv -a", b"setenv o 2; setenv n x; saveenv",
     b"echo a\n  'b", b"true\n\nif false; then", b"a=1; fi", b"\xc3\xa9 ${a", b"a & b",
+    b"echo a; echo ${o:-1}", b"echo b", b"test -n a && echo a", b"setenv n; printenv n || true", b"for i in a b; do echo $i; done",
 ]  # fmt: skip
 GIVEN_STAND_INS = [*STAND_INS, *[b"mmc\nusb 1\n"] * 4, b"[\nmmc\nf() 1\n"]
 GIVEN_BOARDS = [*BOARDS, *[b"mmc x -> setenv a ${1}\nmmc -> 1\nusb -> boots\n"] * 6, b"m* -> run a\nusb -> exit 2\n"]
 # Those of kinds, and two that no kind has
-CODES = [*KINDS, *KINDS, b"syntax ", b""]
+CODES = [*[*KINDS] * 6, b"syntax ", b""]
 BOOTS = [b"mmc", b"mmc", b"usb", b"mmcinfo", b"echo", b"", b"\xc3\xa9"]
 SIZES = [b"0x4000", b"1000", b"0X100", b"200", b"80", b"0d", b"8", b"100001", b"4k"]
 # (a board's shell is compared with boards, and by rows)
@@ -180,7 +181,7 @@ class Calls:
             options.append([b"--steps=200"])
         given, words = self.given_script()
         left = [self.option(self.numbers.choice([b"--boots", b"--resets"]), name) for name in self.some(BOOTS, 2)]
-        return options + given + left + self.some([[b"--must-boot"]], 1), words
+        return options + given + left + [[b"--must-boot"]] * self.chance(6), words
 
     def board_script(self):
         """A script at random, perhaps with a fault or a carriage return."""
@@ -193,7 +194,7 @@ class Calls:
         """An environment of scripts, as a text for import."""
         found = variables(self.numbers, self.chance(50))
         for name in STARTED:
-            if self.chance(60):
+            if self.chance(85):
                 found[name] = self.board_script().replace(b"\0", b"")
         return text_of(found)
 
@@ -218,7 +219,7 @@ class Calls:
         """What a check leaves out, and whether its warnings count."""
         codes = KINDS if self.chance(25) else [self.numbers.choice(CODES) for _ in range(2) if self.chance(40)]
         left_out = [self.option(b"--ignore", code) for code in codes]
-        return left_out + [[b"--strict"]] * self.chance(20)
+        return left_out + [[b"--strict"]] * self.chance(10)
 
     def own(self, tool, is_whole):
         """The options and the other arguments of a subcommand."""
