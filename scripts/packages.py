@@ -262,7 +262,7 @@ def completions(folder):
         ("fwenv image --", {"--env", "--size", "--copies", "--both", "--output", "--big-endian", "--help"}),
         ("fwenv image --copies ", {"1", "2"}),
         ("fwenv che", {"check"}),
-        ("fwenv check --", {"--default", "--big-endian", "--shell", "--stubs", "--env", "--size", "--help"}),
+        ("fwenv check --", {"--default", "--big-endian", "--shell", "--stubs", "--ignore", "--strict", "--env", "--size", "--help"}),
         ("fwenv run --shell b", {"board"}),
         ("fwenv session --shell ", {"board", "strict"}),
         ("fwenv check --env text boot", {"bootcmd", "bootdelay"}),

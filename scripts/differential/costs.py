@@ -113,9 +113,10 @@ def orders():
     yield bounded(Case("names that rise and then fall", [], given=LARGE.image(0, area), wanted=wanted), 2, 65_536)
 
 
-def check(name, words, files, found, scripts=1):
+def check(name, words, files, found, scripts=1, unseen=0):
+    """`unseen`: errors behind those that are printed."""
     errors = sum(b": error: " in each for each in found)
-    wanted = Answer(int(errors > 0), cut_off(found), last(scripts, errors, len(found) - errors), files)
+    wanted = Answer(int(errors > 0), cut_off(found), last(scripts, errors + unseen, len(found) - errors), files)
     return bounded(Case(name, [b"check", *words], files, wanted=wanted), 2, 262_144)
 
 
@@ -148,7 +149,7 @@ def checks():
     long = b"a" * 300_000
     text = b"bootcmd=run %s\n%s=%s\n" % (long, long, script[:300_000])
     found = [unknown % (long, 2 * at + 1) for at in range(2)]
-    yield check("150,000 commands in a script of a long name", [*whole, b"--stubs", b"none"], {b"env": text, b"none": b""}, found, 2)
+    yield check("150,000 commands in a script of a long name", [*whole, b"--stubs", b"none"], {b"env": text, b"none": b""}, found, 2, 149_998)
     text = b"bootcmd=" + b"$a;" * 300_000 + b"\n"
     found = [b"bootcmd:1:%d: warning: `${a}` names a variable that nothing defines [undefined-name]\n" % (3 * at + 1) for at in range(300_000)]
     yield check("300,000 substitutions of one name", whole, {b"env": text}, found)
