@@ -13,8 +13,7 @@ use Rattle.hush_commands.specs.declared.board_rules.Reply.TheVariants.{Status, T
 use Rattle.hush_commands.specs.declared.departure.Leaving.TheVariants.{Boots, Resets}
 use Rattle.hush_commands.specs.Builtins.{builtin_of}
 use Rattle.board_file.specs.declared.board_fault.LineFault.{LineFault}
-use Rattle.board_file.specs.declared.board_fault.LineFault.TheVariants.{Nul, Long, Form, NoPattern, Words, Minus, Builtin, NoAnswer, Open, NoScript, NoStatus, Unreachable}
-use Rattle.board_file.specs.Patterns.{pattern_fault}
+use Rattle.board_file.specs.declared.board_fault.LineFault.TheVariants.{Nul, Long, Form, NoPattern, Minus, Builtin, NoAnswer, Open, NoScript, NoStatus, Unreachable}
 use Rattle.board_file.specs.BoardLines.{LineOrFault, cut_at_arrow, read_line}
 use Rattle.board_file.specs.BoardFiles.{RulesOrFault, board_of}
 
@@ -78,11 +77,6 @@ at_fault : map read_line ((codes "#" ++ 0 ∷ []) ∷ replicate 4097 35 ∷ code
     ≡ Err Nul ∷ Err Long ∷ Err Form ∷ Err Form ∷ Err Form ∷ Err NoPattern ∷ Err Minus ∷ Err Minus ∷ Err Minus ∷ Err Minus ∷ []
 unfolding builtin_of
 at_fault = refl
-
--- a pattern of 65 words
-long_pattern : pattern_fault (replicate 65 (exactly (codes "a"))) ≡ Some Words
-unfolding exactly
-long_pattern = refl
 
 answers_at_fault : map read_line (codes "dhcp ->" ∷ codes "dhcp -> ?" ∷ []) ≡ Err NoAnswer ∷ Err Open ∷ []
 unfolding builtin_of

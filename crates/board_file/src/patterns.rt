@@ -4,7 +4,7 @@ ghost use Rattle.std.specs.Str.{bytes_eq};
 ghost use Rattle.hush_commands.specs.CommandNames.{begins_with as is_beginning};
 ghost use Rattle.hush_commands.specs.StandInLines.{words_of};
 ghost use Rattle.board_file.specs.Patterns.{asks_env, asks_file, asks_setexpr, is_answered, is_asked, is_just, is_subcommand, names_builtin, names_subcommand, only_widths};
-ghost use Rattle.board_file.specs.Patterns.{first_fault, pattern_fault, pattern_word, pattern_words};
+ghost use Rattle.board_file.specs.Patterns.{pattern_fault, pattern_word, pattern_words};
 
 use crate::board_fault::LineFault;
 use crate::line_parts::next_word;
@@ -13,9 +13,6 @@ use hush_commands::{Bytes, PatternWord, is_builtin};
 use memchr::memchr;
 use std::alloc::{AllocError, Global};
 use text_parts::begins_with_byte;
-
-/// How many words a pattern may have.
-const MOST_WORDS: usize = 64;
 
 /// The names of the builtins.
 const BUILTINS: [&[u8]; 11] = [
@@ -75,16 +72,6 @@ pub(crate) fn word_of(alloc: Global, text: &[u8], begins: bool) -> Result<Patter
 /// What is wrong with a pattern.
 pub(crate) fn pattern_fault(pattern: &[PatternWord]) -> Option<LineFault>
     ensures { result ≡ pattern_fault pattern.now }
-{
-    if pattern.len() > MOST_WORDS {
-        return Some(LineFault::Words);
-    }
-    first_fault(pattern)
-}
-
-/// What is wrong with a pattern, but for its length.
-fn first_fault(pattern: &[PatternWord]) -> Option<LineFault>
-    ensures { result ≡ first_fault pattern.now }
 {
     match pattern.split_first() {
         None => Some(LineFault::NoPattern),
