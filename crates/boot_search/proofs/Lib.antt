@@ -1,0 +1,5 @@
+pub mod Lists
+pub mod EndingsLemmas
+pub mod ReportLemmas
+pub mod PlaceLemmas
+pub mod BootableLemmas

@@ -1,0 +1,4 @@
+pub mod Outcomes
+pub mod Endings
+pub mod Reports
+pub mod Bootable
