@@ -1,8 +1,8 @@
 -- Lists: what is in them, and what they begin with.
-use Rattle.std.proofs.Common.{◌≡◌, ◌⊎◌, ℕ, zero, suc, ◌+◌, ◌<◌, List, [], ◌∷◌, ◌++◌, length, Some, refl, ap, sym, ◌∙◌, subst, inl, inr, arith}
+use Rattle.std.proofs.Common.{◌≡◌, ◌⊎◌, ℕ, zero, suc, ◌+◌, ◌<◌, List, [], ◌∷◌, ◌++◌, length, Some, refl, ap, sym, ◌∙◌, subst, inl, inr, arith, append_assoc, map}
 use Rattle.std.specs.Prelude.{All, Contains, slice_get}
 use Rattle.std.proofs.lemmas.Bool.{cases_lt}
-use Rattle.std.proofs.lemmas.List.{get_or_append_left, length-append}
+use Rattle.std.proofs.lemmas.List.{get_or_append_left, length-append, map-append}
 use Rattle.std.proofs.lemmas.List.Elements.{All-contains, Contains-push}
 use Rattle.std.proofs.lemmas.Option.{same_Some, none-some, slice_get_within, slice_get-get_or, get_or_from_slice_get}
 
@@ -57,3 +57,12 @@ get_cases xs y i x e =
           let here : i ≡ length xs = omega arith in
           inr (here, same_Some y x (sym (get_last xs y) ∙ ap (λ (k : ℕ). slice_get (xs ++ y ∷ []) k) (sym here) ∙ e))
     ]
+
+-- the images of a list with one more element behind it
+pub map_push : {A B : Type 0} (f : A → B) (old : List A) (x : A) (new : List A) → new ≡ old ++ x ∷ [] → map f new ≡ map f old ++ f x ∷ []
+map_push f old x new e = ap (map f) e ∙ map-append f old (x ∷ [])
+
+-- what is appended in three steps
+pub three_parts : {X : Type 0} (a x y z b c d : List X) → b ≡ a ++ x → c ≡ b ++ y → d ≡ c ++ z → d ≡ a ++ (x ++ y ++ z)
+three_parts a x y z b c d first second third =
+    third ∙ ap (λ t. t ++ z) (second ∙ ap (λ t. t ++ y) first ∙ append_assoc a x y) ∙ append_assoc a (x ++ y) z

@@ -13,6 +13,7 @@ use Rattle.boot_search.specs.declared.exploring.Stored.{Stored}
 use Rattle.boot_search.specs.declared.endings.Ending.{Ending}
 use Rattle.boot_search.specs.Endings.{Ended, ending_view, IsEnding, AreAllEndings}
 use Rattle.boot_search.specs.Reports.{Meaning, Step, bytes_of, AreSteps, Grows, Adds, IsListed, Covers}
+use Rattle.boot_search.specs.Reports.{steps_of}
 use Rattle.boot_search.proofs.Lists.{Contains_from_get}
 use Rattle.boot_search.proofs.ReportLemmas.{grows_state, grows_listed, grows_covers, grows_on, adds_grows, adds_listed, adds_steps}
 
@@ -86,3 +87,6 @@ ways_long v = length-map v.items step_of ∙ sym v.ok.0
 
 pub way_is : (ways : List Way) (k : ℕ) (x : Way) (w : Step) → k < length ways → x ≡ get_or ways k x → slice_get (map step_of ways) k ≡ Some w → step_of x ≡ w
 way_is ways k x w l e at = same_Some (step_of x) w (sym (viewed step_of ways k x l e) ∙ at)
+
+pub steps_long : (ways : List Way) → length (steps_of ways) ≡ length ways
+steps_long ways = length-map ways step_of

@@ -1,9 +1,9 @@
 use Rattle.std.proofs.Common.{◌≡◌, List, ℕ, ◌++◌, map, sym, ◌∙◌, ap, subst}
 use Rattle.std.proofs.lemmas.Result.{on_ok_weaker}
-use Rattle.std.proofs.lemmas.List.{map-append}
 use Rattle.boot_search.specs.declared.board.Answer.{Answer}
 use Rattle.boot_search.specs.Outcomes.{Given, given_of, outcome_of, asks, ended}
 use Rattle.boot_search.specs.Endings.{Ended, answers_of, ending_view, Searching, with_answers}
+use Rattle.boot_search.proofs.Lists.{map_push}
 use Rattle.boot_search.proofs.EndingsLemmas.{asked, ended_so}
 use Rattle.boot_search.proofs.endings.take_turn.Goals as goal
 
@@ -31,4 +31,4 @@ returns-in_ok-push-in-Ends-clause-search g c =
     let is : run answers ≡ ended c.in-Ends.end c.in-Ends.by.items c.in-Ends.next.items =
     ap (λ (v : List Answer). run (map given_of v)) (sym c.deref.ensures.value) ∙ sym c.in_ok-question.ensures.turn ∙ ap outcome_of c.in-Ends.is in
     let shown = ended_so run pending answers found c.in-Ends.end c.in-Ends.by.items c.in-Ends.next.items is c.requires in
-    subst (λ (f : List Ended). Searching run pending f) (sym (ap (map ending_view) c.in_ok-push-in-Ends.ensures.items ∙ map-append ending_view c.args.found.now.items _)) shown
+    subst (λ (f : List Ended). Searching run pending f) (sym (map_push ending_view _ _ _ c.in_ok-push-in-Ends.ensures.items)) shown
