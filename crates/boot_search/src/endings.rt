@@ -1,5 +1,5 @@
 //! All ways in which one power-on can end, by a search in depth over the answers.
-ghost use Rattle.std.specs.Prelude.{◌≡◌, [], ◌∷◌, ◌++◌, map, IfOk, OnOk, IsTrue};
+ghost use Rattle.std.specs.Prelude.{◌≡◌, ◌≤◌, ◌+◌, [], ◌∷◌, ◌++◌, length, map, IfOk, OnOk, IsTrue};
 ghost use Rattle.boot_search.specs.Outcomes.{given_of};
 ghost use Rattle.boot_search.specs.Endings.{answer_to, answers_of, ending_view, with_answers};
 ghost use Rattle.boot_search.specs.Endings.{AreAllEndings, AreEndings, Searching};
@@ -40,11 +40,12 @@ pub fn endings_of<P: Powered>(
         AreEndings (P.run board.old) (map ending_view endings.found.items)) }
     ensures complete { IfOk result (λ endings. IsTrue endings.complete →
         AreAllEndings (P.run board.old) (map ending_view endings.found.items)) }
+    ensures few { IfOk result (λ endings. length endings.found.items ≤ limit) }
 {
     let mut pending = Vec::new(alloc);
     pending.push(Vec::new(alloc))?;
     let mut found = Vec::new(alloc);
-    for _ in 0..limit {
+    for turn in 0..limit {
         match pending.pop() {
             None => return Ok(Endings {
                 found,
@@ -70,6 +71,7 @@ fn take_turn<P: Powered>(
     ensures search { OnOk result (Searching (P.run board.old) (map answers_of pending.new.items)
         (map ending_view found.new.items)) }
     ensures same { OnOk result (P.run board.new ≡ P.run board.old) }
+    ensures few { OnOk result (length found.new.items ≤ length found.old.items + 1) }
 {
     match board.power_on(alloc, &answers)? {
         Turn::Asks { question, choices } => ask(alloc, pending, &answers, &question, choices),

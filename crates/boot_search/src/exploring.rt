@@ -1,5 +1,5 @@
 //! All environments that a board can come to store, in breadth, and all ways between them.
-ghost use Rattle.std.specs.Prelude.{◌≡◌, ◌<◌, Some, length, slice_get, IfOk, OnOk, MatchOption, IsTrue, Contains};
+ghost use Rattle.std.specs.Prelude.{◌≡◌, ◌<◌, ◌≤◌, ◌+◌, Some, length, slice_get, IfOk, OnOk, MatchOption, IsTrue, Contains};
 ghost use Rattle.boot_search.specs.Endings.{ending_view};
 ghost use Rattle.boot_search.specs.Reports.{steps_of, texts_of};
 ghost use Rattle.boot_search.specs.Reports.{AreListed, BytesPlaced, Covers, HaveGrown, WayAdded};
@@ -62,8 +62,10 @@ pub fn explore<B: Board>(
     limits: Limits,
 ) -> Result<Report, AllocError>
     ensures report { IfOk result (IsReport (B.runs board.now) start.now) }
-    ensures all { IfOk result (λ report. IsTrue report.complete → ListsAll (B.runs board.now) start.now report) }
+    ensures all { IfOk result (λ report. IsTrue report.complete →
+        ListsAll (B.runs board.now) start.now report) }
     ensures only { IfOk result (ListsOnly (B.runs board.now) start.now) }
+    ensures few { IfOk result (λ report. length report.ways.items ≤ limits.ways) }
 {
     let mut stored = Vec::new(alloc);
     stored.push(Stored {
@@ -107,6 +109,7 @@ fn explore_stored<B: Board>(
     ensures grows { OnOk result (HaveGrown stored.old.items ways.old.items stored.new.items ways.new.items) }
     ensures covers { IfOk result (λ all. IsTrue all →
         Covers (B.runs board.now) (texts_of stored.new.items) (steps_of ways.new.items) from) }
+    ensures few { OnOk result (length ways.new.items ≤ length ways.old.items + power_ons) }
 {
     let mut powered = board.with(alloc, bytes_at(stored, from))?;
     let endings = endings_of(alloc, &mut powered, power_ons)?;
@@ -132,8 +135,9 @@ fn add_way(
     from: usize,
     ending: &Ending,
 ) -> Result<(), AllocError>
-    ensures { OnOk result (WayAdded stored.old.items ways.old.items from (ending_view ending.now)
+    ensures added { OnOk result (WayAdded stored.old.items ways.old.items from (ending_view ending.now)
         stored.new.items ways.new.items) }
+    ensures one { OnOk result (length ways.new.items ≡ length ways.old.items + 1) }
 {
     let to = place(alloc, stored, ending.next.as_slice(), ways.len())?;
     ways.push(Way {

@@ -38,6 +38,7 @@ loop-from-preserved g c =
       first = grows_state e.grows 0 c.args.start.now c.loop-from.invariant.first;
       steps = e.listed;
       covers = λ whole. covers_more runs c.loop-from.from within e.grows (c.loop-from.invariant.covers (and_parts _ _ whole).0) (e.covers (and_parts _ _ whole).1);
+      few = omega (arith, e.few, c.saturating_sub-left.ensures, c.loop-from.invariant.few);
     }
 
 pub returns-clause-report : goal.returns-clause-report

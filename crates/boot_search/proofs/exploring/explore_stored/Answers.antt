@@ -1,4 +1,4 @@
-use Rattle.std.proofs.Common.{◌≡◌, List, subst, sym, Some, map}
+use Rattle.std.proofs.Common.{arith, ◌≡◌, List, subst, sym, Some, map}
 use Rattle.std.specs.Prelude.{slice_get, All}
 use Rattle.boot_search.specs.declared.exploring.Stored.{Stored}
 use Rattle.boot_search.specs.declared.endings.Ending.{Ending}
@@ -22,9 +22,10 @@ loop-ending-preserved g c =
     let x = c.ending-item.result in
     let l = c.loop-ending-test.true in
     record {
-      steps = one_more_steps runs c.args.from found i x state l c.ending-item.is at c.loop-ending.invariant.grows c.in_ok-add_way.ensures sound c.loop-ending.invariant.steps;
-      grows = one_more_grows runs c.args.from found i x state l c.ending-item.is at c.loop-ending.invariant.grows c.in_ok-add_way.ensures;
-      listed = one_more_listed runs c.args.from found i x state l c.ending-item.is at c.loop-ending.invariant.grows c.in_ok-add_way.ensures c.loop-ending.invariant.listed;
+      steps = one_more_steps runs c.args.from found i x state l c.ending-item.is at c.loop-ending.invariant.grows c.in_ok-add_way.ensures.added sound c.loop-ending.invariant.steps;
+      grows = one_more_grows runs c.args.from found i x state l c.ending-item.is at c.loop-ending.invariant.grows c.in_ok-add_way.ensures.added;
+      listed = one_more_listed runs c.args.from found i x state l c.ending-item.is at c.loop-ending.invariant.grows c.in_ok-add_way.ensures.added c.loop-ending.invariant.listed;
+      few = omega (arith, c.in_ok-add_way.ensures.one, c.loop-ending.invariant.few);
     }
 
 pub returns-clause-covers : goal.returns-clause-covers
