@@ -17,7 +17,7 @@ pub enum End {
     Unknown,
 }
 
-/// An answer that the hardware gave to a question.
+/// An answer that the hardware gives to a question (docs/boot.md).
 #[derive(Drop)]
 pub struct Answer {
     /// The words of the call that it is given to, a 0 byte after each.
@@ -47,7 +47,8 @@ pub enum Turn {
     },
 }
 
-/// A board with a stored environment in it, on which a power-on can be tried again and again: a try leaves no trace.
+/// A board with an environment stored on it, on which a power-on can be tried again and again: a try leaves no trace
+/// (docs/boot.md).
 pub trait Powered: Drop {
     /// What a power-on comes to, with the answers to its questions in the order in which they come up.
     ghost run: { Self → List Given → Outcome };
@@ -58,7 +59,7 @@ pub trait Powered: Drop {
         ensures same { OnOk result (run self.new ≡ run self.old) };
 }
 
-/// A board, which any environment can be stored on.
+/// A board, on which any environment can be stored (docs/boot.md).
 pub trait Board {
     /// The board with an environment stored on it.
     type With: Powered;

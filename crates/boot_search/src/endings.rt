@@ -20,7 +20,7 @@ pub struct Ending {
     pub next: Vec<u8>,
 }
 
-/// The ways in which a power-on over one stored environment ended.
+/// The ways in which a power-on over one stored environment can end (docs/boot.md).
 #[derive(Drop)]
 pub struct Endings {
     /// Those that were found.

@@ -18,7 +18,7 @@ pub struct Limits {
     pub ways: usize,
 }
 
-/// An environment that can be stored.
+/// An environment that can be stored (docs/boot.md).
 #[derive(Drop)]
 pub struct Stored {
     /// The environment.
@@ -42,7 +42,7 @@ pub struct Way {
     pub to: usize,
 }
 
-/// What a board can come to.
+/// What a board can come to (docs/boot.md).
 #[derive(Drop)]
 pub struct Report {
     /// The environments that can be stored, the one that the search began with first.

@@ -16,7 +16,7 @@ use crate::verdicts::{push_summary, push_verdict};
 use crate::way_text::{push_all, push_stored_name, push_way};
 use std::alloc::{AllocError, Global};
 
-/// What is printed of a survey, and the exit status.
+/// What is printed of a survey, and the exit status (docs/boot.md).
 #[derive(Drop)]
 pub struct BootText {
     /// Whole lines.

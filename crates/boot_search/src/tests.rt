@@ -24,12 +24,15 @@ fn one_power_on_has_three_endings(rt: HostRuntime) -> Result<(), Fail> {
     let endings = endings_of(alloc, &mut powered, 100)?;
     assert!(rt; endings.complete);
     assert_eq!(rt; endings.found.len(), 3);
+    let ending = &endings.found[1];
+    assert_eq!(rt; ending.by.as_slice(), b"reset\0".as_slice());
+    assert_eq!(rt; ending.answers.len(), 2);
+    let answer = &ending.answers[1];
     assert_eq!(rt;
-        endings.found[1].answers[1].question.as_slice(),
+        answer.question.as_slice(),
         b"bootm\00x42000000\0".as_slice()
     );
-    assert_eq!(rt; endings.found[1].answers[1].choice, 1);
-    assert_eq!(rt; endings.found[1].by.as_slice(), b"reset\0".as_slice());
+    assert_eq!(rt; answer.choice, 1);
     let few = endings_of(alloc, &mut powered, 4)?;
     assert!(rt; !few.complete);
     Ok(())
