@@ -20,7 +20,7 @@ TOP = pathlib.Path(__file__).resolve().parent.parent
 BLOCK = re.compile(r"^```console\n(.*?)^```$", re.M | re.S)
 # What is there before the first block of a document: the files of an example, and commands
 STAGES = {
-    "docs/check.md": ("bootcmd", "true"),
+    "docs/boot.md": ("two-slots", "true"),
     "docs/guide.md": ("booting", "rm broken.txt stand-ins.txt"),
     "docs/dry-runs.md": (
         "bootcmd",

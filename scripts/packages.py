@@ -130,8 +130,8 @@ def pages(folder):
     for page in (TOP / "packaging/man").iterdir():
         found = run("groff", "-ww", "-man", "-Tutf8", "-z", page)
         same(f"the page {page.name}", found.stderr, b"")
-    calls = {"fwenv": [], **{f"fwenv {name}": [name] for name in ("printenv", "setenv", "import", "export", "restore", "status", "find", "image", "run", "check", "session")}}
-    listed = page_options("fwenv.1") | {f"fwenv {name}": page_options(f"fwenv-{name}.1")[""] for name in ("run", "check", "session")}
+    calls = {"fwenv": [], **{f"fwenv {name}": [name] for name in ("printenv", "setenv", "import", "export", "restore", "status", "find", "image", "run", "boot", "check", "session")}}
+    listed = page_options("fwenv.1") | {f"fwenv {name}": page_options(f"fwenv-{name}.1")[""] for name in ("run", "boot", "check", "session")}
     common = listed[""] - {"-V", "--version"}
     for name, words in calls.items():
         helped = options_of_help(run(folder / "root/usr/bin/fwenv", *words, "--help").stdout.decode())
@@ -256,6 +256,11 @@ def completions(folder):
         ("fwenv run --b", {"--board", "--boots", "--big-endian"}),
         ("fwenv run --env text boot", {"bootcmd", "bootdelay"}),
         ("fwenv session --si", {"--size"}),
+        ("fwenv boo", {"boot"}),
+        ("fwenv boot --st", {"--stubs", "--steps", "--stored"}),
+        ("fwenv boot --w", {"--word", "--ways"}),
+        ("fwenv boot --copy ", {"1", "2"}),
+        ("fwenv session --w", {"--word", "--write"}),
         ("fwenv im", {"import", "image"}),
         ("fwenv fi", {"find"}),
         ("fwenv find --", {"--help"}),
@@ -312,6 +317,7 @@ def completions(folder):
             ("fwenv printenv -c of-copy bootc", "md"),
             ("fwenv setenv -c of\\ copy bootd", "elay"),
             ("fwenv check --stu", "bs"),
+            ("fwenv boot --wa", "ys"),
             ("fwenv check --shell st", "rict"),
             ("fwenv check --env text bootc", "md"),
             ("fwenv check -f te", "xt"),

@@ -21,11 +21,11 @@ _fwenv_names() {
 
 _fwenv() {
     local word=${COMP_WORDS[COMP_CWORD]} before=${COMP_WORDS[COMP_CWORD - 1]} command='' at
-    local commands='printenv setenv import export restore status find image run check session help'
+    local commands='printenv setenv import export restore status find image run boot check session help'
     local options='-c --default --need-copy --big-endian -h --help'
     local codes='carriage-return syntax other-shell unknown-command test-operator run-undefined hidden-assignment'
     codes+=' undefined-name no-variable no-script value-type'
-    local dry_run=' --write --overwrite --shell --stubs --board --steps --depth --word --output --env --size'
+    local dry_run=' --shell --stubs --board --steps --depth --word --output --env --size'
     for ((at = 1; at < COMP_CWORD; at++)); do
         case " $commands " in *" ${COMP_WORDS[at]} "*)
             command=${COMP_WORDS[at]}
@@ -62,7 +62,7 @@ _fwenv() {
             mapfile -t COMPREPLY < <(compgen -W "$codes" -- "$word")
             return
             ;;
-        --steps | --depth | --word | --output | --size | --boots | --resets | -e) return ;;
+        --steps | --depth | --word | --output | --size | --boots | --resets | --stored | --ways | -e) return ;;
     esac
     case $command in
         '') options="$commands --big-endian -h --help -V --version" ;;
@@ -73,9 +73,10 @@ _fwenv() {
         status) options='-c --big-endian -h --help' ;;
         find) options='-h --help' ;;
         image) options='--env --size --copies --both --output --big-endian -h --help' ;;
-        run) options+="$dry_run --boots --resets --must-boot -e -f" ;;
+        run) options+="$dry_run --write --overwrite --boots --resets --must-boot -e -f" ;;
+        boot) options+="$dry_run --copy --boots --resets --stored --ways" ;;
         check) options='-c --default --big-endian -h --help --shell --stubs --ignore --strict --env --size -f' ;;
-        session) options+=$dry_run ;;
+        session) options+="$dry_run --write --overwrite" ;;
         help) options=$commands ;;
     esac
     case $command:$word in

@@ -20,7 +20,7 @@ TOLD = re.compile(
     rb"|^(?:fwenv: .*|## Error: bad image): (\w+)(?: in line \d+)?\n"
     rb"|^fwenv: run ended as (\w+)|^fwenv: .*:\d+:\d+: (\w+): "
     rb"|^[^\n]*:\d+:\d+: error: [^\n]* \((\w+)\) \[syntax\]$|(variable that is|nothing defines|no builtin|this shell has|carriage return|be assigned|no variable|no script to look at)"
-    rb"|(no room|bad name|type check|not defined|Can't \w+|too short|overlap|cannot read|no such file|no good copy|is written|copy isn't good|no second copy|possible values: 1, 2|possible values: carriage-return|no = in)",
+    rb"|(no room|bad name|type check|not defined|Can't \w+|too short|overlap|cannot read|no such file|no good copy|is written|copy isn't good|no second copy|possible values: 1, 2|possible values: carriage-return|no = in|never boot|only if a limit|a limit was met)",
     re.M,
 )
 

@@ -31,7 +31,7 @@ WRONG = [
     [b"frob"], [b""], [b"--frob"], [b"-x"], [b"printenv", b"-z"], [b"\xff"], [b"export", b"a"], [b"import"], [b"session", b"a"],
     [b"run"], [b"run", b"-e", b"true", b"a"], [b"run", b"-f", b"text", b"-e", b"a"], [b"run", b"-n", b"a"], [b"printenv", b"--env", b"a"],
     [b"session", b"--size", b"9"], [b"session", b"-f", b"text"], [b"status", b"--need-copy"], [b"check", b"--write"], [b"check", b"-e", b"a"],
-    [b"check", b"-f", b"text", b"a"], [b"check", b"--size", b"9"],
+    [b"check", b"-f", b"text", b"a"], [b"check", b"--size", b"9"], [b"boot", b"--write"], [b"boot", b"a"], [b"boot", b"--size", b"9"],
 ]  # fmt: skip
 NUMBERS = {
     b"--steps": [b"0", b"1", b"3", b"007", b"1000000", b"1000001", b"-1", b"", b"1x", b"99999999999999999999"],
@@ -49,14 +49,22 @@ RUNS = [
 ]  # fmt: skip
 GIVEN_STAND_INS = [*STAND_INS, *[b"mmc\nusb 1\n"] * 4, b"[\nmmc\nf() 1\n"]
 GIVEN_BOARDS = [*BOARDS, *[b"mmc x -> setenv a ${1}\nmmc -> 1\nusb -> boots\n"] * 6, b"m* -> run a\nusb -> exit 2\n"]
+# Environments that are powered on from, and board files that may ask
+BOOTED = [
+    {b"bootcmd": b"mmc x && usb; setenv a 1; saveenv; run a; usb", b"preboot": b"test -e mmc 0 a && a=1", b"a": b"usb"},
+    {b"bootcmd": b"mmc || usb; test $b = 1 && setenv b 2; saveenv; mmc x; usb", b"b": b"1"},
+    {b"bootcmd": b"mmc x || usb $a; setenv a; saveenv; usb", b"a": b"two\nlines", b"bootdelay": b"3"},
+]
+ASKING = [b"mmc -> ?\nusb -> boots\n", b"mmc x -> ?\nm* -> 1\nusb -> boots\n", b"test -e -> ?\nmmc -> resets\nusb -> boots\n", b"mmc -> ?\nmmc x -> 0\n"]
 # Those of kinds, and two that no kind has
 CODES = [*[*KINDS] * 6, b"syntax ", b""]
+COUNTS = [b"1", b"2", b"2", b"007", b"100000", b"0100000", b"10000001"]
 BOOTS = [b"mmc", b"mmc", b"usb", b"mmcinfo", b"echo", b"", b"\xc3\xa9"]
 SIZES = [b"0x4000", b"1000", b"0X100", b"200", b"80", b"0d", b"8", b"100001", b"4k"]
 # (a board's shell is compared with boards, and by rows)
 SHELLS = [*[b"board", b"strict"] * 10, b"Strict"]
-DRY, WHOLE = (b"session", b"run"), (b"session", b"run", b"check")
-WRITING = (b"setenv", b"import", b"restore", *DRY)
+DRY, WHOLE = (b"session", b"run", b"boot"), (b"session", b"run", b"boot", b"check")
+WRITING = (b"setenv", b"import", b"restore", b"session", b"run")
 CHECKED = [b"r", b"s", b"t", *STARTED, *NAMES]
 OFTEN = {
     **{name: 0.003 for name in ("too short", "overlap", "cannot read", "no such file", "no room", "bad name", "type check", "not defined")},
@@ -163,25 +171,37 @@ class Calls:
 
     def dry_run(self, tool, is_whole):
         """The options of a dry run, and the script of one."""
-        numbers, often = (NUMBERS, 20) if tool == b"session" else (NUMBERS | {b"--steps": STEPS}, 8)
+        numbers, often = (NUMBERS, 20) if tool == b"session" else (NUMBERS | {b"--steps": STEPS}, 3 if tool == b"boot" else 8)
         options = [self.option(name, self.numbers.choice(values)) for name, values in numbers.items() if self.chance(often)]
-        if self.chance(50):
+        if self.chance(15 if tool == b"boot" else 50):
             options.append(self.option(b"--stubs", self.text(b"stand-ins", self.numbers.choice(GIVEN_STAND_INS))))
-        if self.chance(30):
-            options.append(self.option(b"--board", self.text(b"board", self.numbers.choice(GIVEN_BOARDS))))
+        if self.chance(90 if tool == b"boot" else 30):
+            boards = ASKING if tool == b"boot" and self.chance(90) else GIVEN_BOARDS
+            options.append(self.option(b"--board", self.text(b"board", self.numbers.choice(boards))))
         if is_whole:
-            options.append(self.option(b"--env", self.text(b"env", self.entries_text(95))))
-        if self.chance(30 if is_whole else 2):
+            text = text_of(self.numbers.choice(BOOTED)) if tool == b"boot" else self.entries_text(95)
+            options.append(self.option(b"--env", self.text(b"env", text)))
+        if self.chance((4 if tool == b"boot" else 30) if is_whole else 2):
             options.append(self.option(b"--size", self.numbers.choice(SIZES)))
-        options += [[b"--write"]] * self.chance(5 if is_whole else 60)
         if tool == b"session":
-            return options, []
+            return options + self.write(is_whole), []
         options.append(self.option(b"--shell", self.numbers.choice(SHELLS)))
         if not any(option[0].startswith(b"--steps") for option in options):
             options.append([b"--steps=200"])
+        often = self.chance(8) if tool == b"boot" else 1
+        left = [self.option(self.numbers.choice([b"--boots", b"--resets"]), name) for name in self.some(BOOTS, 2 * often)]
+        if tool == b"boot":
+            return options + left + self.power_ons(is_whole), []
         given, words = self.given_script()
-        left = [self.option(self.numbers.choice([b"--boots", b"--resets"]), name) for name in self.some(BOOTS, 2)]
-        return options + given + left + [[b"--must-boot"]] * self.chance(6), words
+        return options + self.write(is_whole) + given + left + [[b"--must-boot"]] * self.chance(6), words
+
+    def write(self, is_whole):
+        return [[b"--write"]] * self.chance(5 if is_whole else 60)
+
+    def power_ons(self, is_whole):
+        """The options of power-ons alone."""
+        limits = [self.option(name, self.numbers.choice(COUNTS)) for name in (b"--stored", b"--ways") if self.chance(8)]
+        return limits + (self.wanted_copy() if not is_whole or self.chance(5) else [])
 
     def board_script(self):
         """A script at random, perhaps with a fault or a carriage return."""
@@ -241,9 +261,9 @@ class Calls:
         return self.dry_run(tool, is_whole) if tool in DRY else ([], [])
 
     def subcommand(self):
-        tools = [b"printenv", b"setenv", b"setenv", b"import", b"export", b"restore", b"status", b"session", b"run", b"run", b"check", b"check"]
+        tools = [b"printenv", b"setenv", b"setenv", b"import", b"export", b"restore", b"status", b"session", b"run", b"run", b"boot", b"check", b"check"]
         tool = self.numbers.choice(tools)
-        is_whole = tool in WHOLE and self.chance(70 if tool == b"check" else 35)
+        is_whole = tool in WHOLE and self.chance({b"check": 70, b"boot": 95}.get(tool, 35))
         self.board()
         own, words = self.own(tool, is_whole)
         options = self.shared(tool, words, is_whole) + own

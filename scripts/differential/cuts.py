@@ -45,6 +45,10 @@ def whole_check(words, text=b"a=run m x\nm=true\\\n'\nq=a=1; run m\n"):
     return Case("check", [b"check", b"--env", b"text", *words], FILES | {b"text": text})
 
 
+def power_ons(environment, board):
+    return Case("power-ons", [b"boot", b"--env", b"text", b"--board", b"board"], FILES | {b"text": environment, b"board": board})
+
+
 def script_check(script):
     return Case("check", [b"check", b"--stubs", b"stand-ins", b"-f", b"text"], FILES | {b"text": script, b"stand-ins": b"mmc\n"})
 
@@ -60,6 +64,7 @@ PRINTING = [
     Case("a whole file", [b"status", b"image"], {b"image": ONE}),
     Case("a new image", [b"image", b"--env", b"text", b"--size", b"20", b"--copies", b"2"], FILES | {b"text": b"a=1\n"}),
     Case("a dump", [b"find", b"dump"], {b"dump": DUMP}),
+    power_ons(b"bootcmd=mmc && setenv x 1; saveenv; booti\n", b"mmc -> ?\nbooti -> boots\n"),
     whole_environment([b"a", b"m"]),
 ]
 # What prints on both streams
@@ -99,6 +104,7 @@ READING = [
     (b"text", call([b"run", *STRICT, b"--write", b"-f", b"text"], {b"text": b"setenv a $m; saveenv\nsaveenv; echo 'b\nc'\nfalse || exit 0\n"})),
     (b"text", Case("a new image", [b"image", b"--env", b"text", b"--size", b"20"], FILES | {b"text": b"a=1\n#q\nm=2\\\n3\n"})),
     (b"dump", Case("a dump", [b"find", b"dump"], FILES | {b"dump": DUMP})),
+    (b"board", power_ons(b"bootcmd=mmc || booti\n", b"mmc 1 -> 0\nmmc -> ?\nbooti -> boots\n")),
     (b"text", whole_environment([b"-e", b"run a || printenv"])),
     (b"text", whole_check([b"q", b"a"])),
     (b"text", script_check(b"mmc 1; mmc2\nif true; then a\r\nfi")),

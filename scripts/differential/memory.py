@@ -26,7 +26,7 @@ WITHOUT_FILES = [
     ([], ONE_VARIABLE), ([], OVER_MANY[b"device"]), ([], b""),
     *((words, b"") for words in calls(
         "--help / session --help / --version / session --depth 17 / run --help / run --env text --size 7 a / run --env text -e true a / "
-        "check --help / check -f text a"
+        "check --help / check -f text a / boot --help / boot --stored=100001"
     )),
 ]  # fmt: skip
 # Tools over two copies: their arguments, and perhaps the file `text`
@@ -334,7 +334,14 @@ def checks():
         yield refusing(Case(f"{name} without memory", words, files))
 
 
+def power_ons():
+    """Nor before every power-on was tried."""
+    files = {b"text": b"a=1\nb=2\npreboot=a=2\nbootcmd=mmc $a && booti; setenv a; setenv b 3; saveenv; test -e mmc 0 b || run none\n"}
+    for board, given in ((b"mmc -> ?\ntest -e -> ?\nbooti -> boots\n", []), (b"mmc -> usb\nusb -> ?\n", [b"--stored=1"]), (b"mmc -> ?\nmmc 1\n", [])):
+        yield refusing(Case("power-ons without memory", [b"boot", b"--env=text", b"--board=board", *given], files | {b"board": board}))
+
+
 def chunks():
     again = [(size, text, given + b".print\n.undo\n.print\n.undo\n.print\n" + given + b".print\n", steps) for size, text, given, steps in AGAIN]
     small = [functools.partial(small_session, *row) for row in again + ONCE]
-    return [without_files, tools, over_pair, runs, checks, *(functools.partial(one_session, row) for row in SESSIONS), *small]
+    return [without_files, tools, over_pair, runs, checks, power_ons, *(functools.partial(one_session, row) for row in SESSIONS), *small]

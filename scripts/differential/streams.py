@@ -136,6 +136,7 @@ HELPS = {
     b"restore": b"Makes the variables those of a text and no others, read-only ones too, and saves\n",
     b"status": b"Says what each copy is good for, and which is current; writes nothing\n",
     b"run": b"Runs a script and prints its text; the status is 0 if it ended well, and nothing is written without --write\n",
+    b"boot": b"Tries every power-on of a board and prints how each ends; the status is 0 if it can always boot, and nothing is written\n",
     b"check": b"Looks for faults in boot scripts and runs nothing; the status is 1 if there is an error\n",
     b"session": b"Tries boot scripts: runs the blocks and dot lines of standard input, and writes nothing without --write\n",
 }

@@ -29,6 +29,7 @@ FORMS = {
     "image": ({"--both"}, {"--env", "--size", "--copies", "--output"}, (0, 0)),
     "session": (WRITING_FLAGS | {"--write"}, OPENING_VALUES | DRY_VALUES, (0, 0)),
     "run": (WRITING_FLAGS | {"--write", "--must-boot"}, OPENING_VALUES | DRY_VALUES | {"--boots", "--resets", "-e", "-f"}, (0, None)),
+    "boot": (OPENING_FLAGS, OPENING_VALUES | DRY_VALUES | {"--copy", "--boots", "--resets", "--stored", "--ways"}, (0, 0)),
     "check": ({"--strict"}, OPENING_VALUES | WHOLE_VALUES | {"-f", "--shell", "--ignore"}, (0, None)),
 }
 # Options whose value names a text, which - takes from standard input
@@ -44,6 +45,8 @@ LIMITS = {
     "--word": (4096, 65_536),
     "--output": (1_048_576, 16_777_216),
 }
+# Those of power-ons
+POWER_ON_LIMITS = {"--stored": (1000, 100_000), "--ways": (100_000, 10_000_000)}
 # The version that the changelog gives for the program
 [VERSION, *_] = re.findall(rb"^## (\S+) ", (pathlib.Path(__file__).parent.parent.parent / "CHANGELOG.md").read_bytes(), re.M)
 VERSION = b"fwenv %s\n" % VERSION
@@ -106,7 +109,7 @@ ENV_AND = b"""error: the argument '--env <FILE>' cannot be used with '%s'
 For more information, try '--help'.
 """
 # What only a board has, in the order in which it is reported
-NOT_WITH_ENV = {"-c": b"-c <FILE>", "--default": b"--default <FILE>", "--need-copy": b"--need-copy", "--write": b"--write"}
+NOT_WITH_ENV = {"-c": b"-c <FILE>", "--default": b"--default <FILE>", "--need-copy": b"--need-copy", "--copy": b"--copy <N>", "--write": b"--write"}
 SIZE_ALONE = b"""error: the argument '--size <N>' is only for '--env <FILE>'
 
 For more information, try '--help'.
@@ -186,13 +189,19 @@ class Call:
 
     def limits(self):
         """The limits on steps, depth, word and output; the first that isn't a number within its limit is a fault."""
-        shell, found = self.shell(), []
-        for option, (usual, most) in LIMITS.items():
-            text = self.options.get(option, b"%d" % (shell.depth if usual is None else usual))
-            if not re.fullmatch(rb"[0-9]+", text) or int(text) > most:
-                raise Wrong(NO_NUMBER % (text, option.encode(), most))
-            found.append(int(text))
-        return tuple(found)
+        depth = self.shell().depth
+        return tuple(self.number(option, usual or depth, most) for option, (usual, most) in LIMITS.items())
+
+    def power_on_limits(self):
+        """How many stored environments are powered on from, and how many power-ons there may be."""
+        return tuple(self.number(option, *limits) for option, limits in POWER_ON_LIMITS.items())
+
+    def number(self, option, usual, most):
+        """The number that an option gives, which is at most this one."""
+        text = self.options.get(option, b"%d" % usual)
+        if not re.fullmatch(rb"[0-9]+", text) or int(text) > most:
+            raise Wrong(NO_NUMBER % (text, option.encode(), most))
+        return int(text)
 
     def leavings(self):
         """How stand-ins leave the board, by their names."""

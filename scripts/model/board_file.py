@@ -29,11 +29,12 @@ SENTENCES = {
 
 
 class Reply(Enum):
-    """An answer that is neither a status nor a script."""
+    """An answer that is neither a status nor a script. `ASKS` is open: both statuses are tried."""
 
     BOOTS = b"boots"
     RESETS = b"resets"
     LACKS = b"-"
+    ASKS = b"?"
 
 
 class BoardFault(Exception):
@@ -110,9 +111,7 @@ def answer_of(text):
     status = status_of_digits(text)
     if status is not None:
         return status
-    if text == b"?":
-        raise BoardFault("Open")
-    if text in (b"boots", b"resets"):
+    if text in (b"boots", b"resets", b"?"):
         return Reply(text)
     try:
         parse(text, BOARD)
@@ -161,12 +160,12 @@ def rule_of(line):
     pattern = pattern_of(words_of(line[: arrow.start()]))
     refuse_pattern(Rule(pattern, 0))
     rule = Rule(pattern, answer_of(line[arrow.end() :].strip(b" \t")))
-    if rule.asks_file() and not isinstance(rule.answer, int):
+    if rule.asks_file() and not (isinstance(rule.answer, int) or rule.answer is Reply.ASKS):
         raise BoardFault("NoStatus")
     return rule
 
 
-def read_line(line, rules):
+def read_line(line, rules, may_ask):
     """Adds the rule of a line."""
     if b"\0" in line:
         raise BoardFault("Nul")
@@ -175,6 +174,8 @@ def read_line(line, rules):
     rule = None if line[:1] == b"#" else rule_of(line)
     if rule is None:
         return
+    if rule.answer is Reply.ASKS and not may_ask:
+        raise BoardFault("Open")
     if len(rules) == MOST_RULES:
         raise BoardFault("Many")
     if any(earlier.covers(rule) for earlier in rules):
@@ -182,12 +183,12 @@ def read_line(line, rules):
     rules.append(rule)
 
 
-def rules_of(text):
-    """The rules, in order; a fault has its line and its kind."""
+def rules_of(text, may_ask=False):
+    """The rules, in order; a fault has its line and its kind. Whether answers may be open."""
     rules = []
     for number, line in lines_of(text):
         try:
-            read_line(line.removesuffix(b"\r"), rules)
+            read_line(line.removesuffix(b"\r"), rules, may_ask)
         except BoardFault as fault:
             raise BoardFault(number, *fault.args)
     return rules

@@ -3,7 +3,7 @@
 
 from dataclasses import dataclass
 
-from model import board_file, check, dump, report, script_run, texts
+from model import board_file, boots, check, dump, report, script_run, texts
 from model.arguments import LEAVINGS, VERSION, Wrong, read_arguments
 from model.dry_run import LONGEST, DryRun
 from model.grammar import parse
@@ -25,7 +25,7 @@ NO_SUCH_FILE, LONGER = b"no such file", b"it is longer than %d bytes" % LONGEST
 DIRECTORY, DENIED, NO_SPACE = b"it is a directory", b"permission denied", b"no space is left"
 CHANGED = b"another program changed it"
 # The subcommands that report it
-EXPLAINING = {"status", "run", "check", "restore", "image", "find"}
+EXPLAINING = {"status", "run", "boot", "check", "restore", "image", "find"}
 TOO_SHORT = b"fwenv: %s is too short\n"
 IS_YAML = b"fwenv: %s is YAML: fwenv reads lines of DEVICE OFFSET SIZE\n"
 IS_UBI_VOLUME = b"fwenv: %s is a UBI volume by its name: fwenv reads files and block devices\n"
@@ -336,13 +336,22 @@ class Program:
         path = call.options.get("--stubs")
         return {} if path is None else self.parsed(path, texts.stand_ins)
 
+    def leaving_stand_ins(self, call):
+        """The stand-ins, among them those that leave the board."""
+        stand_ins = self.stand_ins(call)
+        for option in LEAVINGS:
+            for name in call.options.get(option, ()):
+                if name not in stand_ins:
+                    raise Ended(NOT_A_STAND_IN % (name, option.encode()))
+        return stand_ins
+
     def board(self, call):
         """The rules of a board file."""
         path = call.options.get("--board")
         if path is None:
             return []
         try:
-            return board_file.rules_of(self.text(path))
+            return board_file.rules_of(self.text(path), call.tool == "boot")
         except board_file.BoardFault as fault:
             line, kind = fault.args
             raise Ended(b"fwenv: %s:%d: %s\n" % (path, line, board_file.SENTENCES[kind]))
@@ -360,11 +369,7 @@ class Program:
         limits, shell = call.limits(), call.shell()
         call.refuse_scripts()
         session = self.opened(call)
-        stand_ins = self.stand_ins(call)
-        for option in LEAVINGS:
-            for name in call.options.get(option, ()):
-                if name not in stand_ins:
-                    raise Ended(NOT_A_STAND_IN % (name, option.encode()))
+        stand_ins = self.leaving_stand_ins(call)
         board = self.board(call)
         name, text = self.script(call)
         try:
@@ -380,6 +385,15 @@ class Program:
         if "--must-boot" in call.options and not script_run.has_booted(outcome):
             return self.say(script_run.no_boot(outcome))
         return 0
+
+    def call_boot(self, call):
+        call.size_in_memory(), call.wanted_copy()
+        limits, shell, (stored, ways) = call.limits(), call.shell(), call.power_on_limits()
+        session = self.opened(call)
+        stand_ins = self.leaving_stand_ins(call)
+        board = boots.Board(session, stand_ins, limits, call.leavings(), shell, self.board(call))
+        self.output, status = boots.report(board, stored, ways)
+        return status
 
     def call_check(self, call):
         is_file = "-f" in call.options

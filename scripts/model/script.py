@@ -18,6 +18,10 @@ class Stop(Exception):
     """The run ends here."""
 
 
+class Question(Exception):
+    """A call whose answer is open: the words of it."""
+
+
 class Leave(Exception):
     """The text ends here that `run` started."""
 
@@ -39,7 +43,7 @@ class Outcome:
     steps: int
     text: bytes
     place: bytes | None = None  # the variable in whose text that was
-    departure: tuple | None = None  # how the board was left, and by which command
+    departure: tuple | None = None  # how the board was left, and the words of that call
 
 
 def is_substituted(parts):
@@ -56,7 +60,7 @@ def option_of(words, option):
 class Run:
     """A run of a script over a session, by one of the shells."""
 
-    def __init__(self, session, stand_ins, limits, leavings=None, shell=STRICT, board=()):
+    def __init__(self, session, stand_ins, limits, leavings=None, shell=STRICT, board=(), answers=None):
         self.shell = shell
         self.session = session
         self.environment = session.environment
@@ -64,6 +68,7 @@ class Run:
         self.leavings = leavings or {}  # how stand-ins leave the board
         self.departure = None
         self.board = board  # the rules of a board file
+        self.answers = answers  # to calls whose answer is open
         self.names = stand_ins.keys() | names_of(board)
         self.max_steps, self.max_depth, self.max_word, self.max_output = limits
         self.locals = {}
@@ -240,15 +245,27 @@ class Run:
     def reply(self, called, words):
         """What a call is answered with; or that nothing answers it."""
         rule = first_rule(self.board, [called, *words])
+        if rule and rule.answer is Reply.ASKS:
+            return self.answered((called, *words))
         if rule:
             return NO_REPLY if rule.answer is Reply.LACKS else rule.answer
         status = self.stand_ins.get(called, NO_REPLY)
         return self.leavings[called] if status == 0 and called in self.leavings else status
 
+    def answered(self, call):
+        """The status that an open call has in this power-on."""
+        if call not in self.answers:
+            raise Question(call)
+        return self.answers[call]
+
     def other(self, called, fields):
         """A command of hardware."""
-        reply = self.reply(called, fields[1:])
         line = b"+" + b"".join(b" " + each for each in fields) + b"\n"
+        try:
+            reply = self.reply(called, fields[1:])
+        except Question:
+            self.done(0, line)
+            raise
         if reply is NO_REPLY:
             self.done(1, UNKNOWN % fields[0])
         elif isinstance(reply, bytes):
@@ -256,7 +273,7 @@ class Run:
             self.start_answer(reply, fields)
         elif isinstance(reply, Reply):
             self.done(0, line)
-            self.departure = reply, fields[0]
+            self.departure = reply, [called, *fields[1:]]
             raise Stop("Exited")
         else:
             self.done(reply, line)
@@ -284,7 +301,15 @@ class Run:
             self.done(0, b" ".join(words) + b"\n")
 
     def test(self, _name, words):
+        if self.shell is not STRICT:
+            self.ask(words)
         self.done(0 if self.shell.test(words, self.is_there) else 1)
+
+    def ask(self, words):
+        """Each file behind a `-e` is asked for, also where the other words decide."""
+        for at, word in enumerate(words):
+            if word == b"-e" and len(words) > at + 3:
+                self.is_there(words[at + 1 : at + 4])
 
     def is_there(self, words):
         """Whether the call `test -e` of these words is answered with status 0."""

@@ -46,7 +46,7 @@ def no_boot(outcome):
     if outcome.departure is None:
         return ended(outcome).replace(b"fwenv: ", b"fwenv: no boot: ", 1)
     place = b"" if outcome.place is None else b' in "%s"' % outcome.place
-    return b'fwenv: no boot: reset by "%s"%s after %d steps\n' % (outcome.departure[1], place, outcome.steps)
+    return b'fwenv: no boot: reset by "%s"%s after %d steps\n' % (outcome.departure[1][0], place, outcome.steps)
 
 
 def ended(outcome):

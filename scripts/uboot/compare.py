@@ -1,4 +1,5 @@
-"""Compares fwenv with U-Boot itself: scripts in a dry run by a board's shell and at its prompt, and stored environments both ways.
+"""Compares fwenv with U-Boot itself: scripts in a dry run by a board's shell and at its prompt, power-ons, and stored environments both
+ways.
 
     compare.py PROGRAM                compares; the last line is 'N passed, M failed'
     compare.py PROGRAM --only TEXT    only the rows, scripts and environments whose name has this text
@@ -25,6 +26,7 @@ from cases import answers_of, cases, typed
 from counted import check, end
 from dry_run import ANSWER, TOP, Pair, answer_of
 from images import COUNT, MANY, answers_to_many, answers_to_row, faults_of_environment
+from power_ons import POWER_ONS, answers_to_power_ons
 from rows import Row, fault_of, read_rows
 
 HERE = Path(__file__).resolve().parent
@@ -124,6 +126,12 @@ def work_on_images(rows, pair):
         yield Row(f"environment {number}"), lambda number=number: (faults_of_environment(number, pair), b"")
 
 
+def work_on_power_ons(pair):
+    for name, variables in POWER_ONS:
+        copy = pair.copy(f"power-on {name}")
+        yield Row(f"power-on: {name}"), functools.partial(answers_to_power_ons, variables, copy)
+
+
 def work_at_random(pair, seed, scripts, tests):
     """The comparisons of scripts and of tests at random, in chunks: each has names with faults."""
     for kind, count in (("script", scripts), ("test", tests)):
@@ -135,7 +143,7 @@ def compare(rows, only, pair, pool):
     """Runs the comparisons that have the text `only` in their names, several at once."""
     plain = [row for row in rows if row.script and not row.variables and only in row.name]
     plain_answers = pool.submit(with_default_environment, plain, pair)
-    work = [*work_on_scripts(rows, pair), *work_on_images(rows, pair)]
+    work = [*work_on_scripts(rows, pair), *work_on_images(rows, pair), *work_on_power_ons(pair)]
     work = [(row, pool.submit(answers)) for row, answers in work if only in row.name]
     at_random = [] if only else [pool.submit(faults) for faults in work_at_random(pair, SEED, SCRIPTS, TESTS)]
     for index, row in enumerate(plain):

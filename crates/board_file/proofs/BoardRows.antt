@@ -6,11 +6,11 @@ use Rattle.hush_words.specs.Reading.{dollar_at, inner_escape, inner_at, double_a
 use Rattle.hush_words.specs.Forms.{is_plain, name_of, assignment_of}
 use Rattle.hush_syntax.specs.Keywords.{keyword_of}
 use Rattle.hush_syntax.specs.Reading.{command, read_in}
-use Rattle.hush_commands.specs.declared.board_rules.PatternWord.{PatternWord}
+use Rattle.hush_commands.specs.declared.pattern.PatternWord.{PatternWord}
 use Rattle.hush_commands.specs.declared.board_rules.Rule.{Rule}
 use Rattle.hush_commands.specs.declared.board_rules.Reply.{Reply}
 use Rattle.hush_commands.specs.declared.board_rules.Reply.TheVariants.{Status, Text, Lacks}
-use Rattle.hush_commands.specs.declared.departure.Leaving.TheVariants.{Boots, Resets}
+use Rattle.hush_commands.specs.declared.departure.Leaving.TheVariants.{Boots, Resets, Asks}
 use Rattle.hush_commands.specs.Builtins.{builtin_of}
 use Rattle.board_file.specs.declared.board_fault.LineFault.{LineFault}
 use Rattle.board_file.specs.declared.board_fault.LineFault.TheVariants.{Nul, Long, Form, NoPattern, Minus, Builtin, NoAnswer, Open, NoScript, NoStatus, Unreachable}
@@ -24,7 +24,7 @@ opened : List ℕ → PatternWord
 opened text = record { text = text; begins = true }
 
 rule : List PatternWord → Reply → Rule
-rule pattern reply = record { pattern = pattern; reply = reply }
+rule pattern reply = record { pattern = pattern; whole = false; reply = reply }
 
 holds : List PatternWord → Reply → LineOrFault
 holds pattern reply = Ok (Some (rule pattern reply))
@@ -78,9 +78,15 @@ at_fault : map read_line ((codes "#" ++ 0 ∷ []) ∷ replicate 4097 35 ∷ code
 unfolding builtin_of
 at_fault = refl
 
-answers_at_fault : map read_line (codes "dhcp ->" ∷ codes "dhcp -> ?" ∷ []) ≡ Err NoAnswer ∷ Err Open ∷ []
+answer_at_fault : read_line (codes "dhcp ->") ≡ Err NoAnswer
 unfolding builtin_of
-answers_at_fault = refl
+answer_at_fault = refl
+
+-- open answers
+open_answers : map read_line (codes "dhcp -> ?" ∷ codes "test -e mmc -> ?" ∷ [])
+    ≡ holds (exactly (codes "dhcp") ∷ []) (Status 0 (Some Asks)) ∷ holds (map exactly (codes "test" ∷ codes "-e" ∷ codes "mmc" ∷ [])) (Status 0 (Some Asks)) ∷ []
+unfolding holds rule exactly builtin_of
+open_answers = refl
 
 no_script : read_line (codes "dhcp -> if") ≡ Err NoScript
 unfolding builtin_of read_in tokens_of lexeme_at passed_at piece_at inner_at double_at inner_escape is_inner is_escaped is_bare ends_word is_special is_blank command keyword_of is_plain name_of assignment_of begins_name is_in_name dollar_at follows_dollar
@@ -123,7 +129,7 @@ unfolding builtin_of read_in tokens_of lexeme_at passed_at piece_at inner_at dou
 file_text = refl
 
 -- a whole file; a carriage return at the end of a line is dropped
-file : board_of (codes "# a card\r\nmmc dev 0 -> 1\r\nmmc\n\nbooti -> boots") ≡ Ok (rule (map exactly (codes "mmc" ∷ codes "dev" ∷ codes "0" ∷ [])) (Status 1 None) ∷ rule (exactly (codes "mmc") ∷ []) (Status 0 None) ∷ rule (exactly (codes "booti") ∷ []) (Status 0 (Some Boots)) ∷ [])
+file : board_of false (codes "# a card\r\nmmc dev 0 -> 1\r\nmmc\n\nbooti -> boots") ≡ Ok (rule (map exactly (codes "mmc" ∷ codes "dev" ∷ codes "0" ∷ [])) (Status 1 None) ∷ rule (exactly (codes "mmc") ∷ []) (Status 0 None) ∷ rule (exactly (codes "booti") ∷ []) (Status 0 (Some Boots)) ∷ [])
 unfolding rule exactly builtin_of
 file = refl
 
@@ -131,17 +137,26 @@ file = refl
 refusal : ℕ → LineFault → RulesOrFault
 refusal line kind = Err (record { line = line; kind = kind })
 
-first_fault : board_of (codes "mmc\n-x\nmmc ->") ≡ refusal 2 Minus
+first_fault : board_of false (codes "mmc\n-x\nmmc ->") ≡ refusal 2 Minus
 unfolding refusal builtin_of
 first_fault = refl
 
+-- an open answer, if the board may not be asked and if it may
+not_asked : board_of false (codes "mmc -> ?") ≡ refusal 1 Open
+unfolding refusal builtin_of
+not_asked = refl
+
+is_asked : board_of true (codes "mmc -> ?") ≡ Ok (rule (exactly (codes "mmc") ∷ []) (Status 0 (Some Asks)) ∷ [])
+unfolding rule exactly builtin_of
+is_asked = refl
+
 -- lines that no call can reach
-unreachable : map board_of (codes "x\nx 1" ∷ codes "mmc\nmmc dev 0 -> 1" ∷ codes "load mm* -> 1\nload mmc -> 0" ∷ codes "l* 1\nload* x 1" ∷ codes "*\ntest -e -> 0" ∷ [])
+unreachable : map (board_of false) (codes "x\nx 1" ∷ codes "mmc\nmmc dev 0 -> 1" ∷ codes "load mm* -> 1\nload mmc -> 0" ∷ codes "l* 1\nload* x 1" ∷ codes "*\ntest -e -> 0" ∷ [])
     ≡ refusal 2 Unreachable ∷ refusal 2 Unreachable ∷ refusal 2 Unreachable ∷ refusal 2 Form ∷ refusal 2 Unreachable ∷ []
 unfolding refusal builtin_of
 unreachable = refl
 
 -- and lines that one can
-reachable : board_of (codes "load mmc -> 1\nload mm* -> 0") ≡ Ok (rule (exactly (codes "load") ∷ exactly (codes "mmc") ∷ []) (Status 1 None) ∷ rule (exactly (codes "load") ∷ opened (codes "mm") ∷ []) (Status 0 None) ∷ [])
+reachable : board_of false (codes "load mmc -> 1\nload mm* -> 0") ≡ Ok (rule (exactly (codes "load") ∷ exactly (codes "mmc") ∷ []) (Status 1 None) ∷ rule (exactly (codes "load") ∷ opened (codes "mm") ∷ []) (Status 0 None) ∷ [])
 unfolding rule exactly opened builtin_of
 reachable = refl

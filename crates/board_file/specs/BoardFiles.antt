@@ -1,11 +1,12 @@
 -- Board files (docs/runs.md, "Board files").
-use Rattle.std.specs.Prelude.{◌≡◌, ◌≢◌, ℕ, nat_le, if◌then◌else◌, List, [], ◌∷◌, ◌++◌, codes, length, Some, None, Result, Ok, Err}
+use Rattle.std.specs.Prelude.{◌≡◌, ◌≢◌, ◌&&◌, not, Bool, ℕ, nat_le, if◌then◌else◌, List, [], ◌∷◌, ◌++◌, codes, length, Some, None, Result, Ok, Err}
 use Rattle.std.specs.Str.Lines.{strip_carriage_return}
 use Rattle.text_parts.specs.Lines.{Line as NumberedLine, numbered_lines}
 use Rattle.hush_commands.specs.declared.board_rules.Rule.{Rule}
 use Rattle.board_file.specs.declared.board_fault.BoardFault.{BoardFault}
 use Rattle.board_file.specs.declared.board_fault.LineFault.{LineFault}
 use Rattle.board_file.specs.declared.board_fault.LineFault.TheVariants as fault
+use Rattle.board_file.specs.Answers.{asks}
 use Rattle.board_file.specs.Covering.{is_covered}
 use Rattle.board_file.specs.BoardLines.{LineOrFault, read_line}
 
@@ -23,10 +24,14 @@ with_rule rules rule =
     else if is_covered rules rule.pattern then Err fault.Unreachable
     else Ok (rules ++ rule ∷ [])
 
-abbrev pub with_read : List Rule → LineOrFault → RulesOrLineFault
-with_read rules (Err fault) = Err fault
-with_read rules (Ok None) = Ok rules
-with_read rules (Ok (Some rule)) = with_rule rules rule
+-- an open answer is a fault unless the board may be asked
+abbrev pub with_answer : (may_ask : Bool) → List Rule → Rule → RulesOrLineFault
+with_answer may_ask rules rule = if not may_ask && asks rule.reply then Err fault.Open else with_rule rules rule
+
+abbrev pub with_read : (may_ask : Bool) → List Rule → LineOrFault → RulesOrLineFault
+with_read may_ask rules (Err fault) = Err fault
+with_read may_ask rules (Ok None) = Ok rules
+with_read may_ask rules (Ok (Some rule)) = with_answer may_ask rules rule
 
 abbrev pub RulesOrFault : Type 0
 RulesOrFault = Result (List Rule) BoardFault
@@ -36,21 +41,21 @@ at_line number (Ok rules) = Ok rules
 at_line number (Err kind) = Err (record { line = number; kind = kind })
 
 -- the rules with what a line holds
-abbrev pub with_line : List Rule → NumberedLine → RulesOrFault
-with_line rules line = at_line line.0 (with_read rules (read_line (strip_carriage_return line.1)))
+abbrev pub with_line : (may_ask : Bool) → List Rule → NumberedLine → RulesOrFault
+with_line may_ask rules line = at_line line.0 (with_read may_ask rules (read_line (strip_carriage_return line.1)))
 
 abbrev pub and_then : RulesOrFault → (List Rule → RulesOrFault) → RulesOrFault
 and_then (Ok rules) next = next rules
 and_then (Err fault) next = Err fault
 
 -- line by line, as far as the first that is at fault
-abbrev pub with_lines : List Rule → List NumberedLine → RulesOrFault
-with_lines rules [] = Ok rules
-with_lines rules (line ∷ lines) = and_then (with_line rules line) (λ more. with_lines more lines)
+abbrev pub with_lines : (may_ask : Bool) → List Rule → List NumberedLine → RulesOrFault
+with_lines may_ask rules [] = Ok rules
+with_lines may_ask rules (line ∷ lines) = and_then (with_line may_ask rules line) (λ more. with_lines may_ask more lines)
 
 -- what a whole board file is read as
-abbrev pub board_of : List ℕ → RulesOrFault
-board_of text = with_lines [] (numbered_lines text)
+abbrev pub board_of : (may_ask : Bool) → List ℕ → RulesOrFault
+board_of may_ask text = with_lines may_ask [] (numbered_lines text)
 
 -- the fault is the definition's, unless memory was refused
 abbrev pub IsFaultOf : RulesOrFault → BoardFault → Type 0

@@ -4,7 +4,7 @@ use Rattle.std.specs.List.{list_any}
 use Rattle.envimg_core.specs.Environment.{is_zero}
 use Rattle.text_parts.specs.Bytes.{begins_with, is_blank}
 use Rattle.text_parts.specs.Numerals.{minus}
-use Rattle.hush_commands.specs.declared.board_rules.PatternWord.{PatternWord}
+use Rattle.hush_commands.specs.declared.pattern.PatternWord.{PatternWord}
 use Rattle.hush_commands.specs.declared.board_rules.Rule.{Rule}
 use Rattle.hush_commands.specs.declared.board_rules.Reply.{Reply}
 use Rattle.hush_commands.specs.declared.board_rules.Reply.TheVariants.{Status, Lacks}
@@ -14,7 +14,7 @@ use Rattle.hush_commands.specs.StandInLines.{is_comment, rest_status, words_of}
 use Rattle.board_file.specs.declared.board_fault.LineFault.{LineFault}
 use Rattle.board_file.specs.declared.board_fault.LineFault.TheVariants.{Nul, Long, Form, Minus, NoStatus}
 use Rattle.board_file.specs.Patterns.{asks_file, pattern_fault, pattern_word, pattern_words}
-use Rattle.board_file.specs.Answers.{ReplyOrFault, answer_of, is_status, trimmed}
+use Rattle.board_file.specs.Answers.{ReplyOrFault, answer_of, answers_file, trimmed}
 
 -- a blank, or the end of the line
 abbrev pub ends_here : List ℕ → Bool
@@ -49,10 +49,10 @@ cut_at_arrow line = cut_from true line
 abbrev pub RuleOrFault : Type 0
 RuleOrFault = Result Rule LineFault
 
--- `test -e` takes a status
+-- `test -e` takes a status or an open answer
 abbrev pub rule_of : List PatternWord → Reply → RuleOrFault
 rule_of pattern reply =
-    if asks_file pattern && not (is_status reply) then Err NoStatus else Ok (record { pattern = pattern; reply = reply })
+    if asks_file pattern && not (answers_file reply) then Err NoStatus else Ok (record { pattern = pattern; whole = false; reply = reply })
 
 -- a rule, or what is at fault in it, from the left
 abbrev pub rule_by : List PatternWord → Option LineFault → ReplyOrFault → RuleOrFault
@@ -86,7 +86,7 @@ is_lackable name = is_some (builtin_of name) && not (list_any is_dot name)
 
 abbrev pub lacking_rule : (name : List ℕ) → RuleOrFault
 lacking_rule name =
-    if is_lackable name then Ok (record { pattern = record { text = name; begins = false } ∷ []; reply = Lacks }) else Err Minus
+    if is_lackable name then Ok (record { pattern = record { text = name; begins = false } ∷ []; whole = false; reply = Lacks }) else Err Minus
 
 abbrev pub word_rule : (name : List ℕ) → RuleOrFault
 word_rule name = if begins_with minus name then lacking_rule (drop 1 name) else named_rule name (Some 0)

@@ -2,7 +2,7 @@
 use Rattle.std.specs.Prelude.{◌≡◌, ◌&&◌, not, Bool, true, false, if◌then◌else◌, ℕ, List, [], ◌∷◌, ◌++◌, is_some}
 use Rattle.std.specs.List.{list_any}
 use Rattle.std.specs.Str.{bytes_eq}
-use Rattle.hush_commands.specs.declared.board_rules.PatternWord.{PatternWord}
+use Rattle.hush_commands.specs.declared.pattern.PatternWord.{PatternWord}
 use Rattle.hush_commands.specs.declared.board_rules.Rule.{Rule}
 use Rattle.hush_commands.specs.CommandNames.{begins_with as is_beginning}
 use Rattle.hush_commands.specs.Hardware.{pattern_fits, ruled}
@@ -17,9 +17,13 @@ covers [] vs = true
 covers (w ∷ ws) [] = false
 covers (w ∷ ws) (v ∷ vs) = word_covers w v && covers ws vs
 
--- whether one of these rules answers all calls that a pattern fits
+-- whether a rule answers all calls that a pattern fits
+abbrev pub rule_covers : Rule → List PatternWord → Bool
+rule_covers rule pattern = not rule.whole && covers rule.pattern pattern
+
+-- whether one of these rules does
 abbrev pub is_covered : List Rule → List PatternWord → Bool
-is_covered rules pattern = list_any (λ rule. covers rule.pattern pattern) rules
+is_covered rules pattern = list_any (λ rule. rule_covers rule pattern) rules
 
 -- what a rule fits, an earlier one answers
 abbrev pub CoveredIsAnswered : Type 0

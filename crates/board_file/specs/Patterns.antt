@@ -4,7 +4,7 @@ use Rattle.std.specs.List.{list_any}
 use Rattle.std.specs.Str.{bytes_eq}
 use Rattle.text_parts.specs.Bytes.{begins_with}
 use Rattle.text_parts.specs.Numerals.{minus}
-use Rattle.hush_commands.specs.declared.board_rules.PatternWord.{PatternWord}
+use Rattle.hush_commands.specs.declared.pattern.PatternWord.{PatternWord}
 use Rattle.hush_commands.specs.Builtins.{builtin_of, builtins, name_of}
 use Rattle.hush_commands.specs.CommandNames.{is_dot, without_width}
 use Rattle.hush_commands.specs.CommandNames.{begins_with as is_beginning}

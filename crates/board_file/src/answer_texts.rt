@@ -2,7 +2,7 @@
 ghost use Rattle.std.specs.Prelude.{◌≡◌, IfOk, IfErr, Ok, Some};
 ghost use Rattle.hush_commands.specs.declared.board_rules.Reply.TheVariants.{Status};
 ghost use Rattle.hush_commands.specs.Statuses.{status_of};
-ghost use Rattle.board_file.specs.Answers.{answer_of, is_status, script_answer, word_answer};
+ghost use Rattle.board_file.specs.Answers.{answer_of, answers_file, asks, script_answer, word_answer};
 ghost use Rattle.board_file.specs.BoardFiles.{IsLineFaultOf};
 
 use crate::board_fault::LineFault;
@@ -46,7 +46,7 @@ fn word_answer(alloc: Global, text: &[u8]) -> Result<Reply, LineFault>
         return Err(LineFault::NoAnswer);
     }
     if is_text(text, b"?") {
-        return Err(LineFault::Open);
+        return Ok(left(Leaving::Asks));
     }
     if is_text(text, b"resets") {
         return Ok(left(Leaving::Resets));
@@ -82,12 +82,25 @@ fn script_answer(alloc: Global, text: &[u8]) -> Result<Reply, LineFault>
     }
 }
 
-/// Whether an answer is a status, and nothing else.
-pub(crate) fn is_status(reply: &Reply) -> bool
-    ensures { result ≡ is_status reply.now }
+/// Whether an answer is one to `test -e`: a status, and nothing else, or an open one.
+pub(crate) fn answers_file(reply: &Reply) -> bool
+    ensures { result ≡ answers_file reply.now }
 {
     match reply {
-        Reply::Status { leaves, .. } => leaves.is_none(),
-        Reply::Text(_) | Reply::Lacks => false,
+        Reply::Status { leaves: None, .. } => true,
+        _ => asks(reply),
+    }
+}
+
+/// Whether an answer is open.
+pub(crate) fn asks(reply: &Reply) -> bool
+    ensures { result ≡ asks reply.now }
+{
+    match reply {
+        Reply::Status {
+            leaves: Some(Leaving::Asks),
+            ..
+        } => true,
+        _ => false,
     }
 }

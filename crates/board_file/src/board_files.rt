@@ -1,8 +1,9 @@
 //! Board files.
 ghost use Rattle.std.specs.Prelude.{◌≡◌, IfOk, IfErr, Ok};
-ghost use Rattle.board_file.specs.BoardFiles.{board_of, with_line, with_read, with_rule, IsFaultOf, IsLineFaultOf};
+ghost use Rattle.board_file.specs.BoardFiles.{board_of, with_answer, with_line, with_read, with_rule, IsFaultOf, IsLineFaultOf};
 ghost use Rattle.board_file.specs.BoardLines.{read_line};
 
+use crate::answer_texts::asks;
 use crate::board_fault::{BoardFault, LineFault};
 use crate::board_lines::read_line;
 use crate::covering::ReadRule;
@@ -15,15 +16,15 @@ const MOST_RULES: usize = 512;
 
 /// Reads a board file: a rule in each line, of which the first that fits a call answers it (docs/runs.md, "Board files").
 ///
-/// The first line that is at fault decides, and of its faults the first that `LineFault` lists. `Memory` when a growth was
-/// refused.
-pub fn parse_board(alloc: Global, text: &[u8]) -> Result<BoardRules, BoardFault>
-    ensures read { IfOk result (λ board. board_of text.now ≡ Ok board) }
-    ensures refused { IfErr result (IsFaultOf (board_of text.now)) }
+/// An open answer is a fault unless the board may be asked (`may_ask`). The first line that is at fault decides, and of its
+/// faults the first that `LineFault` lists. `Memory` when a growth was refused.
+pub fn parse_board(alloc: Global, text: &[u8], may_ask: bool) -> Result<BoardRules, BoardFault>
+    ensures read { IfOk result (λ board. board_of may_ask text.now ≡ Ok board) }
+    ensures refused { IfErr result (IsFaultOf (board_of may_ask text.now)) }
 {
     let mut rules = Vec::new(alloc);
     for (number, line) in numbered_lines(text) {
-        add_line(alloc, &mut rules, number, line)?;
+        add_line(alloc, may_ask, &mut rules, number, line)?;
     }
     Ok(board_rules(alloc, rules)?)
 }
@@ -31,28 +32,45 @@ pub fn parse_board(alloc: Global, text: &[u8]) -> Result<BoardRules, BoardFault>
 /// Adds what a line holds.
 fn add_line(
     alloc: Global,
+    may_ask: bool,
     rules: &mut Vec<ReadRule>,
     number: usize,
     line: &[u8],
 ) -> Result<(), BoardFault>
-    ensures read { IfOk result (λ _. with_line rules.old.items (number, line.now) ≡ Ok rules.new.items) }
-    ensures refused { IfErr result (IsFaultOf (with_line rules.old.items (number, line.now))) }
+    ensures read { IfOk result (λ _. with_line may_ask rules.old.items (number, line.now) ≡ Ok rules.new.items) }
+    ensures refused { IfErr result (IsFaultOf (with_line may_ask rules.old.items (number, line.now))) }
 {
-    match add_read(alloc, rules, strip_carriage_return(line)) {
+    match add_read(alloc, may_ask, rules, strip_carriage_return(line)) {
         Ok(()) => Ok(()),
         Err(kind) => Err(BoardFault { line: number, kind }),
     }
 }
 
 /// Adds what a line holds that has no carriage return behind it.
-fn add_read(alloc: Global, rules: &mut Vec<ReadRule>, line: &[u8]) -> Result<(), LineFault>
-    ensures read { IfOk result (λ _. with_read rules.old.items (read_line line.now) ≡ Ok rules.new.items) }
-    ensures refused { IfErr result (IsLineFaultOf (with_read rules.old.items (read_line line.now))) }
+fn add_read(
+    alloc: Global,
+    may_ask: bool,
+    rules: &mut Vec<ReadRule>,
+    line: &[u8],
+) -> Result<(), LineFault>
+    ensures read { IfOk result (λ _. with_read may_ask rules.old.items (read_line line.now) ≡ Ok rules.new.items) }
+    ensures refused { IfErr result (IsLineFaultOf (with_read may_ask rules.old.items (read_line line.now))) }
 {
     match read_line(alloc, line)? {
-        Some(rule) => add_rule(rules, rule),
+        Some(rule) => add_answer(may_ask, rules, rule),
         None => Ok(()),
     }
+}
+
+/// Adds a rule, if its answer may be open or isn't.
+fn add_answer(may_ask: bool, rules: &mut Vec<ReadRule>, rule: ReadRule) -> Result<(), LineFault>
+    ensures read { IfOk result (λ _. with_answer may_ask rules.old.items rule ≡ Ok rules.new.items) }
+    ensures refused { IfErr result (IsLineFaultOf (with_answer may_ask rules.old.items rule)) }
+{
+    if !may_ask && asks(&rule.reply) {
+        return Err(LineFault::Open);
+    }
+    add_rule(rules, rule)
 }
 
 /// Adds a rule, if a call can reach it.

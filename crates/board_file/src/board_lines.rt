@@ -6,7 +6,7 @@ ghost use Rattle.hush_commands.specs.StandInLines.{words_of};
 ghost use Rattle.board_file.specs.BoardFiles.{IsLineFaultOf};
 ghost use Rattle.board_file.specs.BoardLines.{cut_at_arrow, holding, lacking_rule, named_rule, read_line, read_parts, read_rule, read_words, rule_of, rule_with, word_rule};
 
-use crate::answer_texts::{is_status, read_answer, read_status};
+use crate::answer_texts::{answers_file, read_answer, read_status};
 use crate::board_fault::LineFault;
 use crate::covering::ReadRule;
 use crate::line_parts::{cut_at_arrow, next_word, trimmed};
@@ -146,7 +146,7 @@ fn rule_of(words: Vec<PatternWord>, reply: Reply) -> Result<ReadRule, LineFault>
     ensures read { IfOk result (λ rule. rule_of words.items reply ≡ Ok rule) }
     ensures refused { IfErr result (IsLineFaultOf (rule_of words.items reply)) }
 {
-    if asks_file(words.as_slice()) && !is_status(&reply) {
+    if asks_file(words.as_slice()) && !answers_file(&reply) {
         return Err(LineFault::NoStatus);
     }
     Ok(ReadRule::of(words, reply))

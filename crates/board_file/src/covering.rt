@@ -1,6 +1,6 @@
 //! A rule as it was read, and which rules can't be reached.
-ghost use Rattle.std.specs.Prelude.{◌≡◌};
-ghost use Rattle.board_file.specs.Covering.{covers, is_covered, word_covers};
+ghost use Rattle.std.specs.Prelude.{◌≡◌, false};
+ghost use Rattle.board_file.specs.Covering.{covers, is_covered, rule_covers, word_covers};
 
 use crate::patterns::is_beginning;
 use hush_calc::is_text;
@@ -17,17 +17,18 @@ pub(crate) struct ReadRule {
 }
 
 impl Model for ReadRule {
+    ghost use Rattle.std.specs.Prelude.{false};
     ghost use Rattle.hush_commands.specs.declared.board_rules.Rule.{Rule};
 
     ghost Value = { Rule };
 
-    ghost view = { λ a. record { pattern = a.words.items; reply = a.reply } };
+    ghost view = { λ a. record { pattern = a.words.items; whole = false; reply = a.reply } };
 }
 
 impl ReadRule {
     /// A rule of these words and this answer.
     pub(crate) fn of(words: Vec<PatternWord>, reply: Reply) -> ReadRule
-        ensures { result ≡ record { pattern = words.items; reply = reply } }
+        ensures { result ≡ record { pattern = words.items; whole = false; reply = reply } }
     {
         ReadRule { words, reply }
     }
@@ -39,6 +40,7 @@ impl ReadRule {
         let ReadRule { words, reply } = self;
         Rule {
             pattern: Pattern::of(words),
+            whole: false,
             reply,
         }
     }
@@ -52,7 +54,7 @@ impl ReadRule {
 
     /// Whether it answers all calls that a pattern fits.
     fn covers(&self, pattern: &[PatternWord]) -> bool
-        ensures { result ≡ covers self.now.pattern pattern.now }
+        ensures { result ≡ rule_covers self.now pattern.now }
     {
         covers(self.words.as_slice(), pattern)
     }

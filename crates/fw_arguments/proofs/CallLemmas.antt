@@ -11,6 +11,7 @@ use Rattle.hush_commands.specs.declared.shell.Shell.{Shell}
 use Rattle.fw_arguments.specs.DryRuns.{DryRun, GivenScript, and_then, run_within, script_of, script_within}
 use Rattle.fw_arguments.specs.Values.{first_or, is_given}
 use Rattle.run_limits.specs.Limits.{Bounds}
+use Rattle.fw_arguments.specs.PowerOns.{with_stored, ways_of}
 use Rattle.fw_arguments.specs.Report.{Subject, asked_of, asked_once, in_order, report_of, subject_of}
 use Rattle.fw_arguments.specs.StandardInput.{read_twice, reads_twice}
 use Rattle.fw_arguments.specs.ImageRequests.{ImageRequest, both_alone, is_both_alone, request_by, request_in, size_of}
@@ -45,6 +46,13 @@ pub script_is : (shell : Shell) (rows : List Row) (dry : DryRun) (limits : Bound
     Ok (record { dry = dry; boots = unwrap_or boots []; resets = unwrap_or resets []; must_boot = must_boot; script = script }) ≡ script_within shell rows limits
 script_is shell rows dry limits boots resets must_boot script p d b r m =
     λ i. and_then (p i) (λ k. Ok (record { dry = d i; boots = unwrap_or (b i) []; resets = unwrap_or (r i) []; must_boot = m i; script = k }))
+
+-- power-ons with what was found for them
+pub power_ons_are : (shell : Shell) (rows : List Row) (dry : DryRun) (limits : Bounds) (boots resets : Option (List Text)) (stored ways : ℕ) →
+    Ok ways ≡ ways_of rows → dry ≡ run_within shell rows limits → boots ≡ all_of (codes "boots") rows → resets ≡ all_of (codes "resets") rows →
+    Ok (record { dry = dry; boots = unwrap_or boots []; resets = unwrap_or resets []; stored = stored; ways = ways }) ≡ with_stored shell rows limits stored
+power_ons_are shell rows dry limits boots resets stored ways p d b r =
+    λ i. and_then (p i) (λ k. Ok (record { dry = d i; boots = unwrap_or (b i) []; resets = unwrap_or (r i) []; stored = stored; ways = k }))
 
 pub report_is : (order chosen : Order) (rows : List Row) (subject : Subject) →
     chosen ≡ either_order order (order_by (source_in (codes "big-endian") rows)) → Ok subject ≡ subject_of rows → Ok (record { order = chosen; subject = subject }) ≡ report_of order rows

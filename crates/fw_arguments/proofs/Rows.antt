@@ -162,6 +162,19 @@ pub boots_nowhere_else : faults (codes "fwenv" ∷ codes "session" ∷ codes "--
 unfolding clap_on_literals
 boots_nowhere_else = refl
 
+-- power-ons
+pub boot_limited : faults (codes "fwenv" ∷ codes "boot" ∷ codes "--board" ∷ codes "f" ∷ codes "--stored" ∷ codes "5" ∷ codes "--ways=9" ∷ codes "--copy" ∷ codes "1" ∷ codes "--boots=a" ∷ codes "--boots=b" ∷ []) ≡ []
+unfolding clap_on_literals
+boot_limited = refl
+
+pub no_write_of_a_boot : faults (codes "fwenv" ∷ codes "boot" ∷ codes "--write" ∷ []) ≡ UnknownArgument ∷ []
+unfolding clap_on_literals
+no_write_of_a_boot = refl
+
+pub ways_nowhere_else : faults (codes "fwenv" ∷ codes "run" ∷ codes "--ways" ∷ codes "5" ∷ codes "a" ∷ []) ≡ UnknownArgument ∷ []
+unfolding clap_on_literals
+ways_nowhere_else = refl
+
 -- the name that the program is called by, and the subcommand after it
 pub link_named : name_in (codes "/usr/bin/fw_printenv" ∷ codes "export" ∷ []) ≡ Printenv
 link_named = refl

@@ -6,6 +6,7 @@ use Rattle.clap.specs.Words.{Row, Text, first_of}
 use Rattle.envimg_core.specs.declared.geometry.Order.{Order}
 use Rattle.fw_arguments.specs.DryRuns.{DryRun, ScriptRun, and_then, dry_run_of, dry_run_view, script_run_of, script_run_view}
 pub use Rattle.fw_arguments.specs.DryRuns.{texts}
+use Rattle.fw_arguments.specs.PowerOns.{PowerOns, power_ons_of, power_ons_view}
 use Rattle.fw_arguments.specs.Checks.{EnvironmentCheck, environment_check_of, environment_check_view}
 use Rattle.fw_arguments.specs.ImageSizes.{image_of, whole_text}
 use Rattle.fw_arguments.specs.Values.{all_values, first_or, is_given}
@@ -34,11 +35,12 @@ pub data Task : Type 0 where
   Restore : Text → Task
 
 -- what a subcommand does over its session: a tool works on it; blocks of script and dot lines are tried; a
--- script is run; its scripts are checked
+-- script is run; a board is powered on from it and from what it stores then; its scripts are checked
 pub data Job : Type 0 where
   Tool : Task → Job
   Tries : DryRun → Job
   Runs : ScriptRun → Job
+  Boots : PowerOns → Job
   Checks : EnvironmentCheck → Job
 
 -- the default environment: its text's path, if there is one; whether the text has plain lines, and is
@@ -84,6 +86,7 @@ abbrev pub writes : Job → Bool
 writes (Tool task) = changes task
 writes (Tries run) = run.write
 writes (Runs run) = run.dry.write
+writes (Boots power_ons) = false
 writes (Checks check) = false
 
 -- whether it works under the lock under which the copies are read; a session takes that lock again to write
@@ -91,6 +94,7 @@ abbrev pub keeps_lock : Job → Bool
 keeps_lock (Tool task) = changes task
 keeps_lock (Tries run) = false
 keeps_lock (Runs run) = run.dry.write
+keeps_lock (Boots power_ons) = false
 keeps_lock (Checks check) = false
 
 -- whether a call writes copies back, and none that is good in another way than the configuration has it
@@ -165,6 +169,10 @@ abbrev pub ran : Result ScriptRun Text → Result Job Text
 ran (Ok run) = Ok (Runs run)
 ran (Err text) = Err text
 
+abbrev pub booted : Result PowerOns Text → Result Job Text
+booted (Ok power_ons) = Ok (Boots power_ons)
+booted (Err text) = Err text
+
 abbrev pub checked : Result EnvironmentCheck Text → Result Job Text
 checked (Ok check) = Ok (Checks check)
 checked (Err text) = Err text
@@ -178,6 +186,7 @@ abbrev pub job_of : Text → List Row → Result Job Text
 job_of name rows =
     if bytes_eq name (codes "session") then tried (dry_run_of rows)
     else if bytes_eq name (codes "run") then ran (script_run_of rows)
+    else if bytes_eq name (codes "boot") then booted (power_ons_of rows)
     else if bytes_eq name (codes "check") then checked (environment_check_of rows)
     else called (task_of name rows)
 
@@ -244,6 +253,7 @@ abbrev pub job_view : jobs.Job → Job
 job_view (job.Tool task) = Tool (task_view task)
 job_view (job.DryRun run) = Tries (dry_run_view run)
 job_view (job.Script run) = Runs (script_run_view run)
+job_view (job.Boot power_ons) = Boots (power_ons_view power_ons)
 job_view (job.Check check) = Checks (environment_check_view check)
 
 abbrev pub defaults_view : defaults.Defaults → Defaults

@@ -9,7 +9,8 @@ use Rattle.fw_arguments.specs.Words.{usual_size}
 
 -- the subcommands whose environment may be only a text
 abbrev pub takes_text : Text → Bool
-takes_text name = bytes_eq name (codes "session") || (bytes_eq name (codes "run") || bytes_eq name (codes "check"))
+takes_text name =
+    bytes_eq name (codes "session") || (bytes_eq name (codes "run") || (bytes_eq name (codes "boot") || bytes_eq name (codes "check")))
 
 abbrev pub whole_text : Text → List Row → Option Text
 whole_text name rows = if takes_text name then first_of (codes "env") rows else None
@@ -48,6 +49,7 @@ in_memory rows =
     if is_given (codes "config") rows then Err (env_and (codes "-c <FILE>"))
     else if is_given (codes "default") rows then Err (env_and (codes "--default <FILE>"))
     else if is_given (codes "need-copy") rows then Err (env_and (codes "--need-copy"))
+    else if is_given (codes "copy") rows then Err (env_and (codes "--copy <N>"))
     else if is_given (codes "write") rows then Err (env_and (codes "--write"))
     else if overwrites_alone rows then Err overwrite_alone
     else sized (first_or usual_size (codes "size") rows)

@@ -4,6 +4,7 @@ pub mod Checks
 pub mod DryRuns
 pub mod ImageRequests
 pub mod ImageSizes
+pub mod PowerOns
 pub mod ProgramNames
 pub mod Report
 pub mod Shells

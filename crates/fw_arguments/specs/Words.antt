@@ -21,7 +21,7 @@ use Rattle.fw_arguments.specs.declared.table.Names.{Names}
 use Rattle.fw_arguments.specs.declared.table.Names.TheVariants.{Operand, Letter, Long, Both, More}
 use Rattle.fw_arguments.specs.declared.table.Takes.{Takes}
 use Rattle.fw_arguments.specs.declared.table.Takes.TheVariants.{Nothing, Version, One, Wanted, Any, Many, Usual}
-use Rattle.fw_arguments.specs.declared.table.TheConstants.{FWENV, USUAL_STEPS, USUAL_WORD, USUAL_OUTPUT, USUAL_SIZE}
+use Rattle.fw_arguments.specs.declared.table.TheConstants.{FWENV, USUAL_STEPS, USUAL_WORD, USUAL_OUTPUT, USUAL_STORED, USUAL_WAYS, USUAL_SIZE}
 use Rattle.envimg_core.specs.declared.geometry.Order.{Order}
 use Rattle.envimg_core.specs.declared.geometry.Order.TheVariants.{Little, Big}
 
@@ -61,7 +61,8 @@ fwenv_with subcommands = fold with_called (app_of_row (seen FWENV)) subcommands
 abbrev pub fwenv : App
 fwenv = fwenv_with SUBCOMMANDS
 
--- the limits of a run if none are given: steps, bytes of a word, bytes of the text; and the size of an image in memory
+-- the limits of a run if none are given: steps, bytes of a word, bytes of the text; those of power-ons: environments and ways;
+-- and the size of an image in memory
 abbrev pub usual_steps : Text
 usual_steps = USUAL_STEPS.now
 
@@ -70,6 +71,12 @@ usual_word = USUAL_WORD.now
 
 abbrev pub usual_output : Text
 usual_output = USUAL_OUTPUT.now
+
+abbrev pub usual_stored : Text
+usual_stored = USUAL_STORED.now
+
+abbrev pub usual_ways : Text
+usual_ways = USUAL_WAYS.now
 
 abbrev pub usual_size : Text
 usual_size = USUAL_SIZE.now

@@ -49,6 +49,12 @@ pub(crate) const BAD_WORD: &[u8] =
 pub(crate) const BAD_OUTPUT: &[u8] =
     b"' for '--output <N>': not a number from 0 to 16777216\n\nFor more information, try '--help'.\n";
 
+pub(crate) const BAD_STORED: &[u8] =
+    b"' for '--stored <N>': not a number from 0 to 100000\n\nFor more information, try '--help'.\n";
+
+pub(crate) const BAD_WAYS: &[u8] =
+    b"' for '--ways <N>': not a number from 0 to 10000000\n\nFor more information, try '--help'.\n";
+
 pub(crate) const BAD_SHELL: &[u8] =
     b"' for '--shell <SHELL>'\n  [possible values: board, strict]\n\n\
       For more information, try '--help'.\n";
@@ -82,6 +88,10 @@ pub(crate) const ENV_AND_DEFAULT: &[u8] =
 
 pub(crate) const ENV_AND_COPY: &[u8] =
     b"error: the argument '--env <FILE>' cannot be used with '--need-copy'\n\n\
+      For more information, try '--help'.\n";
+
+pub(crate) const ENV_AND_WANTED_COPY: &[u8] =
+    b"error: the argument '--env <FILE>' cannot be used with '--copy <N>'\n\n\
       For more information, try '--help'.\n";
 
 pub(crate) const ENV_AND_WRITE: &[u8] =

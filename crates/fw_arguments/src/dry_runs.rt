@@ -81,7 +81,7 @@ fn dry_run_by<'w>(found: &ArgMatches<'w>, shell: Shell) -> Result<DryRun<'w>, Wo
 }
 
 /// The dry run by a shell within these limits.
-fn dry_run_within<'w>(found: &ArgMatches<'w>, shell: Shell, limits: Limits) -> DryRun<'w>
+pub(crate) fn dry_run_within<'w>(found: &ArgMatches<'w>, shell: Shell, limits: Limits) -> DryRun<'w>
     ensures { dry_run_view result ≡ run_within shell (rows_of (found_of found.now)) limits }
 {
     DryRun {
@@ -94,7 +94,7 @@ fn dry_run_within<'w>(found: &ArgMatches<'w>, shell: Shell, limits: Limits) -> D
 }
 
 /// The limits of each run by a shell. The first number that is wrong is answered.
-fn read_limits<'w>(found: &ArgMatches<'w>, shell: Shell) -> Result<Limits, WordFault<'w>>
+pub(crate) fn read_limits<'w>(found: &ArgMatches<'w>, shell: Shell) -> Result<Limits, WordFault<'w>>
     ensures { word_seen (λ l. l) result ≡ limits_of shell (rows_of (found_of found.now)) }
 {
     let steps = number(found, "steps", USUAL_STEPS, MOST_STEPS, BAD_STEPS)?;
@@ -209,7 +209,7 @@ fn text_by<'m, 'w>(
 }
 
 /// The number that an option gives, or what it is without the option, which is at most `most`.
-fn number<'w>(
+pub(crate) fn number<'w>(
     found: &ArgMatches<'w>,
     id: &str,
     usual: &'static str,

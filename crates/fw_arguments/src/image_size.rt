@@ -5,8 +5,8 @@ ghost use Rattle.fw_arguments.specs.ImageSizes.{image_of, in_devices, in_memory,
 ghost use Rattle.fw_arguments.specs.WordFaults.{word_seen};
 
 use crate::argument_texts::{
-    BAD_SIZE, ENV_AND_CONFIG, ENV_AND_COPY, ENV_AND_DEFAULT, ENV_AND_WRITE, INVALID_VALUE,
-    OVERWRITE_ALONE, SIZE_ALONE,
+    BAD_SIZE, ENV_AND_CONFIG, ENV_AND_COPY, ENV_AND_DEFAULT, ENV_AND_WANTED_COPY, ENV_AND_WRITE,
+    INVALID_VALUE, OVERWRITE_ALONE, SIZE_ALONE,
 };
 use crate::arguments::{first, first_or, is_given};
 use crate::table::USUAL_SIZE;
@@ -47,7 +47,7 @@ pub(crate) fn whole_text<'w>(name: &str, found: &ArgMatches<'w>) -> Option<&'w s
 fn takes_text(name: &str) -> bool
     ensures { result ≡ takes_text name.now }
 {
-    name == "session" || name == "run" || name == "check"
+    name == "session" || name == "run" || name == "boot" || name == "check"
 }
 
 /// `None`: the copies are those of a configuration.
@@ -82,6 +82,9 @@ fn in_memory<'w>(found: &ArgMatches<'w>) -> Result<Option<u32>, WordFault<'w>>
     }
     if is_given(found, "need-copy") {
         return Err(WordFault::of(ENV_AND_COPY));
+    }
+    if is_given(found, "copy") {
+        return Err(WordFault::of(ENV_AND_WANTED_COPY));
     }
     if is_given(found, "write") {
         return Err(WordFault::of(ENV_AND_WRITE));

@@ -1,13 +1,15 @@
 //! What a subcommand does over its session, as the arguments ask for it.
 ghost use Rattle.std.specs.Prelude.{◌≡◌};
 ghost use Rattle.clap.specs.Words.{found_of, rows_of};
-ghost use Rattle.fw_arguments.specs.Calls.{called, checked, job_of, job_view, keeps_lock, ran, task_of, tried, writes};
+ghost use Rattle.fw_arguments.specs.Calls.{booted, called, checked, job_of, job_view, keeps_lock, ran, task_of, tried, writes};
 ghost use Rattle.fw_arguments.specs.Checks.{environment_check_of};
 ghost use Rattle.fw_arguments.specs.DryRuns.{dry_run_of, script_run_of};
+ghost use Rattle.fw_arguments.specs.PowerOns.{power_ons_of};
 ghost use Rattle.fw_arguments.specs.WordFaults.{word_seen};
 
 use crate::check_requests::{EnvironmentCheck, read_environment_check};
 use crate::dry_runs::{DryRun, ScriptRun, read_dry_run, read_script_run};
+use crate::power_ons::{PowerOns, read_power_ons};
 use crate::task::{Task, read_task};
 use crate::word_fault::WordFault;
 use clap::ArgMatches;
@@ -21,6 +23,8 @@ pub enum Job<'m, 'w> {
     DryRun(DryRun<'w>),
     /// A script is run over it.
     Script(ScriptRun<'m, 'w>),
+    /// A board is powered on from it and from what it stores then.
+    Boot(PowerOns<'m, 'w>),
     /// Its scripts are checked.
     Check(EnvironmentCheck<'m, 'w>),
 }
@@ -34,6 +38,7 @@ impl Job<'_, '_> {
             Job::Tool(task) => task.changes(),
             Job::DryRun(run) => run.write,
             Job::Script(run) => run.dry.write,
+            Job::Boot(_) => false,
             Job::Check(_) => false,
         }
     }
@@ -46,7 +51,7 @@ impl Job<'_, '_> {
             Job::Tool(task) => task.changes(),
             Job::DryRun(_) => false,
             Job::Script(run) => run.dry.write,
-            Job::Check(_) => false,
+            Job::Boot(_) | Job::Check(_) => false,
         }
     }
 }
@@ -63,6 +68,9 @@ pub(crate) fn read_job<'m, 'w>(
     }
     if name == "run" {
         return script_job(found);
+    }
+    if name == "boot" {
+        return boot_job(found);
     }
     if name == "check" {
         return check_job(found);
@@ -86,6 +94,16 @@ fn script_job<'m, 'w>(found: &'m ArgMatches<'w>) -> Result<Job<'m, 'w>, WordFaul
 {
     match read_script_run(found) {
         Ok(run) => Ok(Job::Script(run)),
+        Err(fault) => Err(fault),
+    }
+}
+
+/// The power-ons that the arguments of `boot` ask for.
+fn boot_job<'m, 'w>(found: &'m ArgMatches<'w>) -> Result<Job<'m, 'w>, WordFault<'w>>
+    ensures { word_seen job_view result ≡ booted (power_ons_of (rows_of (found_of found.now))) }
+{
+    match read_power_ons(found) {
+        Ok(power_ons) => Ok(Job::Boot(power_ons)),
         Err(fault) => Err(fault),
     }
 }

@@ -1,7 +1,7 @@
 //! What the program's arguments ask for. docs/tools.md and docs/dry-runs.md state the rules.
 //!
 //! To read in this order: program_name; table, command_line; arguments, call, wanted_copy, job,
-//! task, shells, dry_runs, check_requests, image_size, image_request, standard_input, report;
+//! task, shells, dry_runs, power_ons, check_requests, image_size, image_request, standard_input, report;
 //! word_fault, argument_texts.
 #![tactic(auto)]
 
@@ -14,6 +14,7 @@ mod dry_runs;
 mod image_request;
 mod image_size;
 mod job;
+mod power_ons;
 mod program_name;
 mod report;
 mod shells;
@@ -30,6 +31,7 @@ pub use command_line::read_words;
 pub use dry_runs::{DryRun, GivenScript, ScriptRun};
 pub use image_request::ImageRequest;
 pub use job::Job;
+pub use power_ons::PowerOns;
 pub use program_name::{ProgramName, Subcommand};
 pub use report::{Asked, Report, Subject, read_asked};
 pub use table::STANDARD_INPUT;

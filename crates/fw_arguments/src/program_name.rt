@@ -6,7 +6,8 @@ ghost use Rattle.fw_arguments.specs.Table.{called_view, is_called, row_of};
 ghost use Rattle.std.specs.List.{find};
 
 use crate::table::{
-    CHECK, Called, EXPORT, FIND, IMAGE, IMPORT, PRINTENV, RESTORE, RUN, SESSION, SETENV, STATUS,
+    BOOT, CHECK, Called, EXPORT, FIND, IMAGE, IMPORT, PRINTENV, RESTORE, RUN, SESSION, SETENV,
+    STATUS,
 };
 use std::convert::AsStr;
 
@@ -44,6 +45,8 @@ pub enum Subcommand {
     Image,
     /// `run`
     Run,
+    /// `boot`
+    Boot,
     /// `check`
     Check,
     /// `session`
@@ -63,7 +66,7 @@ impl ProgramName {
 }
 
 /// Every subcommand, in the order of the help.
-pub const SUBCOMMANDS: [Subcommand; 11] = [
+pub const SUBCOMMANDS: [Subcommand; 12] = [
     Subcommand::Printenv,
     Subcommand::Setenv,
     Subcommand::Import,
@@ -73,6 +76,7 @@ pub const SUBCOMMANDS: [Subcommand; 11] = [
     Subcommand::Find,
     Subcommand::Image,
     Subcommand::Run,
+    Subcommand::Boot,
     Subcommand::Check,
     Subcommand::Session,
 ];
@@ -92,6 +96,7 @@ impl Subcommand {
             Subcommand::Find => FIND,
             Subcommand::Image => IMAGE,
             Subcommand::Run => RUN,
+            Subcommand::Boot => BOOT,
             Subcommand::Check => CHECK,
             Subcommand::Session => SESSION,
         }

@@ -60,6 +60,10 @@ pub const USUAL_WORD: &str = "4096";
 
 pub const USUAL_OUTPUT: &str = "1048576";
 
+pub const USUAL_STORED: &str = "1000";
+
+pub const USUAL_WAYS: &str = "100000";
+
 /// The path of a text that is standard input.
 pub const STANDARD_INPUT: &str = "-";
 
@@ -202,7 +206,7 @@ pub const BOARD: Row = Row {
     help: "What a board answers, a line PATTERN -> ANSWER for calls of commands that only hardware has",
 };
 
-/// `--shell SHELL` of `run` and `check`
+/// `--shell SHELL` of `run`, `boot` and `check`
 pub const SHELL: Row = Row {
     id: "shell",
     names: Names::Long("shell"),
@@ -344,6 +348,22 @@ pub const MUST_BOOT: Row = Row {
     names: Names::Long("must-boot"),
     takes: Takes::Nothing,
     help: "The status is 0 only if the run ended in a boot",
+};
+
+/// `--stored N`
+pub const STORED: Row = Row {
+    id: "stored",
+    names: Names::Long("stored"),
+    takes: Takes::Usual("N", USUAL_STORED),
+    help: "How many stored environments are powered on from, at most 100000",
+};
+
+/// `--ways N`
+pub const WAYS: Row = Row {
+    id: "ways",
+    names: Names::Long("ways"),
+    takes: Takes::Usual("N", USUAL_WAYS),
+    help: "How many power-ons there may be in all, at most 10000000",
 };
 
 /// `-e SCRIPT`
@@ -545,6 +565,18 @@ pub const RUN: Called = Called {
         CONFIG, DEFAULT, NEED_COPY, BIG_ENDIAN, RUN_WRITE, OVERWRITE, SHELL, STUBS, BOARD, STEPS,
         DEPTH, WORD, OUTPUT, ENV, SIZE, BOOTS, RESETS, MUST_BOOT, GIVEN_TEXT, GIVEN_FILE,
         RUN_NAMES,
+    ],
+};
+
+/// `boot`
+pub const BOOT: Called = Called {
+    name: "boot",
+    has_version: false,
+    about: "Tries every power-on of a board and prints how each ends; the status is 0 if it can always boot, and nothing is written",
+    example: "Example:\n  fwenv boot -c fw_env.config --board board.txt",
+    options: &[
+        CONFIG, DEFAULT, NEED_COPY, COPY, BIG_ENDIAN, SHELL, STUBS, BOARD, STEPS, DEPTH, WORD,
+        OUTPUT, ENV, SIZE, BOOTS, RESETS, STORED, WAYS,
     ],
 };
 

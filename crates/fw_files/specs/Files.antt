@@ -1,5 +1,5 @@
 -- Files that are read whole, and why one can not be used (docs/tools.md, "Subcommands over files").
-use Rattle.std.specs.Prelude.{◌≡◌, ℕ, List, [], ◌∷◌, ◌++◌, Option, Some, None, Ok, codes, if◌then◌else◌}
+use Rattle.std.specs.Prelude.{◌≡◌, Bool, ℕ, List, [], ◌∷◌, ◌++◌, Option, Some, None, Ok, codes, if◌then◌else◌}
 use Rattle.std.specs.FinMap as names
 use Rattle.std.specs.Str.{bytes_eq}
 use Rattle.std.specs.declared.io.ErrorKind.{ErrorKind}
@@ -55,9 +55,9 @@ abbrev pub board_fault : BoardFault → FileFault
 board_fault fault = fault_by fault fault.kind
 
 -- the rules are those of some text, or there are none
-abbrev pub AreRulesOf : Option (List ℕ) → List Rule → Type 0
-AreRulesOf None rules = rules ≡ []
-AreRulesOf (Some path) rules = (text : List ℕ) × (board_of text ≡ Ok rules)
+abbrev pub AreRulesOf : (may_ask : Bool) → Option (List ℕ) → List Rule → Type 0
+AreRulesOf may_ask None rules = rules ≡ []
+AreRulesOf may_ask (Some path) rules = (text : List ℕ) × (board_of may_ask text ≡ Ok rules)
 
 -- ---- why
 

@@ -1,6 +1,6 @@
 -- Which subcommands report why a file can't be used (docs/tools.md, "Subcommands over files").
 use Rattle.std.specs.Prelude.{if◌then◌else◌}
-use Rattle.fw_arguments.specs.Calls.{Call, Checks, Job, Runs, Task, Tool, Tries}
+use Rattle.fw_arguments.specs.Calls.{Boots, Call, Checks, Job, Runs, Task, Tool, Tries}
 use Rattle.fw_arguments.specs.Calls as calls
 use Rattle.fw_files.specs.declared.reasons.Explains.{Explains}
 use Rattle.fw_files.specs.declared.reasons.Explains.TheVariants as line
@@ -14,6 +14,7 @@ abbrev pub explains_job : Job → Explains
 explains_job (Tool task) = explains_task task
 explains_job (Tries run) = line.Nothing
 explains_job (Runs run) = line.Reason
+explains_job (Boots power_ons) = line.Reason
 explains_job (Checks check) = line.Reason
 
 -- and each tool under the names fw_printenv and fw_setenv, the only ones that save nothing but changes

@@ -185,32 +185,37 @@ fn stand_ins_from(alloc: Global, text: &[u8]) -> Result<Stubs, FileFault>
     }
 }
 
-/// Reads a board file; without one there are no rules.
+/// Reads a board file, of which answers may be open if the board may be asked (`may_ask`); without one there are no rules.
 pub fn read_board<X: Files + AllocGlobal>(
     rt: &X,
     path: Option<&str>,
+    may_ask: bool,
 ) -> Result<BoardRules, FileFault>
-    ensures { IfOk result (AreRulesOf (option_map (λ p. p.now) path.entry)) }
+    ensures { IfOk result (AreRulesOf may_ask (option_map (λ p. p.now) path.entry)) }
 {
     match path {
         None => Ok(BoardRules::none(rt.alloc())),
-        Some(path) => read_board_file(rt, path),
+        Some(path) => read_board_file(rt, path, may_ask),
     }
 }
 
 /// Reads the rules in a file.
-fn read_board_file<X: Files + AllocGlobal>(rt: &X, path: &str) -> Result<BoardRules, FileFault>
-    ensures { IfOk result (AreRulesOf (Some path.now)) }
+fn read_board_file<X: Files + AllocGlobal>(
+    rt: &X,
+    path: &str,
+    may_ask: bool,
+) -> Result<BoardRules, FileFault>
+    ensures { IfOk result (AreRulesOf may_ask (Some path.now)) }
 {
     let text = read_file(rt, path)?;
-    board_from(rt.alloc(), &text)
+    board_from(rt.alloc(), &text, may_ask)
 }
 
 /// The rules in a text.
-fn board_from(alloc: Global, text: &[u8]) -> Result<BoardRules, FileFault>
-    ensures { IfOk result (λ rules. board_of text.now ≡ Ok rules) }
+fn board_from(alloc: Global, text: &[u8], may_ask: bool) -> Result<BoardRules, FileFault>
+    ensures { IfOk result (λ rules. board_of may_ask text.now ≡ Ok rules) }
 {
-    match parse_board(alloc, text) {
+    match parse_board(alloc, text, may_ask) {
         Ok(board) => Ok(board),
         Err(fault) => Err(board_fault(fault)),
     }

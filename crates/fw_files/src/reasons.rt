@@ -107,6 +107,7 @@ impl Explains {
             Job::Tool(task) => Explains::by_task(task),
             Job::DryRun(_) => Explains::Nothing,
             Job::Script(_) => Explains::Reason,
+            Job::Boot(_) => Explains::Reason,
             Job::Check(_) => Explains::Reason,
         }
     }

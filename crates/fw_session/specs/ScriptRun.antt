@@ -10,7 +10,7 @@ use Rattle.hush_run.specs.declared.ending.Ending.{Ending}
 use Rattle.hush_run.specs.declared.ending.Ending.TheVariants as ending
 use Rattle.hush_commands.specs.declared.departure.Departure.{Departure}
 use Rattle.hush_commands.specs.declared.departure.Leaving.{Leaving}
-use Rattle.hush_commands.specs.declared.departure.Leaving.TheVariants.{Boots, Resets}
+use Rattle.hush_commands.specs.declared.departure.Leaving.TheVariants.{Boots, Resets, Asks}
 use Rattle.hush_run.specs.declared.outcome.Course.{Course}
 use Rattle.fw_engines.specs.Streams.{Writers}
 use Rattle.fw_engines.specs.Tool.{Prints, Texts}
@@ -26,6 +26,7 @@ is_well e status = false
 abbrev pub is_boots : Leaving → Bool
 is_boots Boots = true
 is_boots Resets = false
+is_boots Asks = false
 
 abbrev pub has_booted : Option Departure → Bool
 has_booted None = false

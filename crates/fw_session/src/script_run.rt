@@ -111,7 +111,7 @@ fn has_booted(departure: &Option<Departure>) -> bool
         None => false,
         Some(departure) => match departure.leaving {
             Leaving::Boots => true,
-            Leaving::Resets => false,
+            Leaving::Resets | Leaving::Asks => false,
         },
     }
 }

@@ -4,6 +4,7 @@ mod EntryPointLemmas
 mod FindLemmas
 mod HelpLemmas
 mod NewImageLemmas
+mod PowerOnLemmas
 mod SessionRunLemmas
 pub mod Rows
 pub mod SameTexts

@@ -20,7 +20,7 @@ use Rattle.fw_engines.specs.Streams.{AppendsFront, Streams}
 use Rattle.fw_tools.proofs.WarnLemmas.{may_warn, no_warning}
 
 pub tried_over : {E : Type 0} (run : DryRun) (session : Held) (old : Streams) (outcome : Result Statuses E) (stand_ins : Statuses) (rules : List Rule) (errors : Option (List ℕ)) (new : Streams) (status : ℕ) →
-    Some stand_ins ≡ result_ok outcome → IfOk outcome (AreStubsOf run.stand_ins) → AreRulesOf run.board rules → errors ≡ old.errors →
+    Some stand_ins ≡ result_ok outcome → IfOk outcome (AreStubsOf run.stand_ins) → AreRulesOf false run.board rules → errors ≡ old.errors →
     TriesWith run (hardware rules stand_ins) session (record { input = old.input; output = old.output; errors = errors }) new status → TriesOver run session old new status
 tried_over run session old (Ok s) stand_ins rules errors new status is stands reads same tries =
     inr (

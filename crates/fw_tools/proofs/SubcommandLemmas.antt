@@ -10,8 +10,9 @@ use Rattle.envimg_core.specs.declared.geometry.Order.{Order}
 use Rattle.envvars_core.specs.declared.refusals.Refusal.{Refusal}
 use Rattle.fw_files.specs.Opening.{AreCopies, AreCopiesIn, AreWantedIn, IsAccepted, IsOpening, OpensOver}
 use Rattle.fw_tools.specs.Subcommands.{Acts, Closes, DoesJob, Scene, Uses, UsesTool, printed_so}
-use Rattle.fw_arguments.specs.Calls.{Call, Checks, Defaults, Job, Runs, Task, Tool, Tries, spares}
+use Rattle.fw_arguments.specs.Calls.{Boots, Call, Checks, Defaults, Job, Runs, Task, Tool, Tries, spares}
 use Rattle.fw_tools.proofs.CheckLemmas.{check_small}
+use Rattle.fw_tools.proofs.PowerOnLemmas.{boots_small}
 use Rattle.fw_arguments.specs.DryRuns.{ScriptRun}
 use Rattle.fw_tools.specs.ScriptRuns as ScriptRuns
 use Rattle.fw_tools.specs.ScriptRuns.{ClosesRun, RunsOver}
@@ -200,6 +201,7 @@ job_small (Tool task) session old new status (unread, uses) = tool_small task se
 job_small (Tries run) session old new status (inl stopped) = omega (arith, stopped.1.1)
 job_small (Tries run) session old new status (inr (stand_ins, stand, tries)) = leaves_small (is_kept run.write tries.0) tries.0 _ _ status tries.5
 job_small (Runs run) session old new status (unread, runs) = script_run_small run session _ _ status runs
+job_small (Boots power_ons) session old new status (unread, boots) = boots_small power_ons session _ _ status boots
 job_small (Checks check) session old new status (unread, checks) = check_small check session _ _ status checks
 
 pub uses_small : (call : Call) (old new : Streams) (status : ℕ) → Uses call old new status → status ≤ 1

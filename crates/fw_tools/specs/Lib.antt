@@ -4,7 +4,9 @@ pub mod Dumps
 pub mod EntryPoint
 pub mod Greeting
 pub mod NewImages
+pub mod PowerOns
 pub mod SavedOnce
 pub mod ScriptRuns
 pub mod SessionRun
 pub mod Subcommands
+pub mod WantedHardware

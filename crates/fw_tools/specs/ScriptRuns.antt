@@ -8,9 +8,6 @@ use Rattle.hush_syntax.specs.FaultPlaces.{IsFaultOf}
 use Rattle.hush_syntax.specs.Reading.{read_in}
 use Rattle.hush_syntax.specs.declared.nodes.Bodies.{Bodies}
 use Rattle.hush_syntax.specs.declared.syntax_fault.SyntaxFault.{SyntaxFault}
-use Rattle.hush_commands.specs.declared.departure.Leaving.{Leaving}
-use Rattle.hush_commands.specs.declared.departure.Leaving.TheVariants.{Boots, Resets}
-use Rattle.hush_commands.specs.Stubs.{Statuses, with_leaving}
 use Rattle.hush_commands.specs.Hardware.{Hardware}
 use Rattle.hush_run.specs.Meaning.{bodies_of}
 use Rattle.hush_run.specs.Runs.{rules_in}
@@ -25,7 +22,7 @@ use Rattle.fw_engines.specs.declared.tool_end.StreamFault.TheVariants.{Memory}
 use Rattle.fw_arguments.specs.DryRuns.{GivenScript, Names, Words, File, ScriptRun}
 use Rattle.fw_files.specs.Copies.{MayWarn}
 use Rattle.fw_files.specs.Said.{Says, SaysSome, Stops, message_of}
-use Rattle.fw_files.specs.Files.{AreRulesOf, AreStubsOf}
+use Rattle.fw_tools.specs.WantedHardware.{IsHardwareOf, Wanted}
 
 -- a byte of a name in quotes; a quote is outside of them
 abbrev pub quoted : ℕ → List ℕ
@@ -84,25 +81,13 @@ RunsText run given text session old new status =
     ((new.output ≡ old.output) × Refuses (bodies_of run.dry.shell) (name_of_script run.script) text old.errors new.errors × (status ≡ 1))
     ⊎ ((tree : Option Chains) × (read_in (bodies_of run.dry.shell) text ≡ Some tree) × RunsTree run given tree session old new status)
 
--- the stand-ins, with those of these names made to leave the board so
-abbrev pub with_leavings : Leaving → Statuses → List Text → Statuses
-with_leavings leaving stand_ins [] = stand_ins
-with_leavings leaving stand_ins (name ∷ names) = with_leavings leaving (with_leaving leaving stand_ins name) names
-
--- with those that boot, and then those that reset it
-abbrev pub with_departures : ScriptRun → Statuses → Statuses
-with_departures run read = with_leavings Resets (with_leavings Boots read run.boots) run.resets
-
-abbrev pub AreStandInsOf : ScriptRun → Statuses → Type 0
-AreStandInsOf run stand_ins = (read : Statuses) × AreStubsOf run.dry.stand_ins read × (stand_ins ≡ with_departures run read)
-
--- what stands in for hardware
-abbrev pub IsHardwareOf : ScriptRun → Hardware → Type 0
-IsHardwareOf run given = AreStandInsOf run given.stubs × AreRulesOf run.dry.board given.rules
+-- what is wanted to stand in for hardware: no board is asked
+abbrev pub wanted_for : ScriptRun → Wanted
+wanted_for run = record { stand_ins = run.dry.stand_ins; board = run.dry.board; may_ask = false; boots = run.boots; resets = run.resets }
 
 -- or before that a file can't be used, or memory runs out
 abbrev pub RunsOver : ScriptRun → Held → Writers → Writers → ℕ → Type 0
 RunsOver run session old new status =
     Stops old new status
-    ⊎ ((given : Hardware) × (text : List ℕ) × IsHardwareOf run given × IsTextOf run.script text
+    ⊎ ((given : Hardware) × (text : List ℕ) × IsHardwareOf (wanted_for run) given × IsTextOf run.script text
     × RunsText run given text session old new status)

@@ -55,7 +55,7 @@ TriesWith run given session old new status =
 
 -- what stands in for hardware
 abbrev pub IsHardwareOf : DryRun → Hardware → Type 0
-IsHardwareOf run given = AreStubsOf run.stand_ins given.stubs × AreRulesOf run.board given.rules
+IsHardwareOf run given = AreStubsOf run.stand_ins given.stubs × AreRulesOf false run.board given.rules
 
 -- or before that a file of these can't be used, or memory runs out
 abbrev pub TriesOver : DryRun → Held → Streams → Streams → ℕ → Type 0

@@ -7,7 +7,7 @@ use Rattle.envimg_core.specs.declared.choice.Choice.TheVariants.{Neither}
 use Rattle.envcfg_core.specs.Entries as text_entries
 use Rattle.envcfg_core.specs.Import.{import_of}
 use Rattle.clap.specs.Words.{Text}
-use Rattle.fw_arguments.specs.Calls.{Call, Checks, Defaults, Job, Tool, Tries, Runs, Task, spares, writes}
+use Rattle.fw_arguments.specs.Calls.{Boots, Call, Checks, Defaults, Job, Tool, Tries, Runs, Task, spares, writes}
 use Rattle.fw_tools.specs.CheckRuns.{ChecksFile, ChecksOver}
 use Rattle.fw_files.specs.Copies.{MayWarn}
 use Rattle.fw_files.specs.CopyReport.{ReportsOn}
@@ -29,6 +29,7 @@ use Rattle.text_parts.specs.Words.{spaced}
 use Rattle.fw_tools.specs.Dumps.{Finds}
 use Rattle.fw_tools.specs.NewImages.{MakesImage}
 use Rattle.fw_tools.specs.SessionRun.{TriesOver}
+use Rattle.fw_tools.specs.PowerOns.{BootsOver}
 use Rattle.fw_tools.specs.ScriptRuns.{RunsOver}
 use Rattle.fw_engines.specs.Streams.{AppendsFront, Streams, Writers, writers_of}
 use Rattle.fw_engines.specs.Tool.{Printed, Texts}
@@ -100,6 +101,7 @@ abbrev pub DoesJob : Job → Held → Streams → Streams → ℕ → Type 0
 DoesJob (Tool task) session old new status = (new.input ≡ old.input) × UsesTool task session (writers_of old) (writers_of new) status
 DoesJob (Tries run) session old new status = TriesOver run session old new status
 DoesJob (Runs run) session old new status = (new.input ≡ old.input) × RunsOver run session (writers_of old) (writers_of new) status
+DoesJob (Boots power_ons) session old new status = (new.input ≡ old.input) × BootsOver power_ons session (writers_of old) (writers_of new) status
 DoesJob (Checks check) session old new status = (new.input ≡ old.input) × ChecksOver check session (writers_of old) (writers_of new) status
 
 -- locks may be waited for, then a session is opened, with a warning if no copy is good, and worked on; what writes

@@ -1,12 +1,41 @@
 //! What stands in for the hardware of a dry run.
-ghost use Rattle.std.specs.Prelude.{◌≡◌, MatchOption, option_map};
+ghost use Rattle.std.specs.Prelude.{◌≡◌, IfOk, MatchOption, map, option_map};
+ghost use Rattle.fw_arguments.specs.DryRuns.{texts};
 ghost use Rattle.fw_files.specs.Files.{AreRulesOf};
 ghost use Rattle.fw_files.specs.Said.{SaysSome};
+ghost use Rattle.hush_commands.specs.Hardware.{hardware};
+ghost use Rattle.fw_tools.specs.WantedHardware.{AreStandInsOf, IsHardwareOf, wanted_view, with_leavings};
 
-use fw_files::{Explains, System, read_board, value_or_say};
+use fw_engines::streams::write_three;
+use fw_files::{Explains, FileFault, System, read_board, read_stand_ins, value_or_say};
 use hush_commands::BoardRules;
-use hush_run::Stubs;
+use hush_run::{Leaving, Stubs};
+use std::alloc::{AllocError, Global};
 use std::io::Write;
+
+/// Before, within and after a name of `--boots` or `--resets` of which there is no stand-in.
+const INVALID_VALUE: &[u8] = b"error: invalid value '";
+
+const NO_BOOT: &[u8] =
+    b"' for '--boots <NAME>': no stand-in has this name\n\nFor more information, try '--help'.\n";
+
+const NO_RESET: &[u8] =
+    b"' for '--resets <NAME>': no stand-in has this name\n\nFor more information, try '--help'.\n";
+
+/// What is wanted to stand in for hardware.
+#[derive(Clone, Copy)]
+pub(crate) struct WantedHardware<'m, 'w> {
+    /// The path of the stand-ins, if there are any.
+    pub(crate) stand_ins: Option<&'w str>,
+    /// The path of the board file, if there is one.
+    pub(crate) board: Option<&'w str>,
+    /// Whether answers of it may be open.
+    pub(crate) may_ask: bool,
+    /// The names of stand-ins that boot.
+    pub(crate) boots: Option<&'m [&'w str]>,
+    /// The names of stand-ins that reset the board.
+    pub(crate) resets: Option<&'m [&'w str]>,
+}
 
 /// What stands in for the hardware of a dry run.
 #[derive(Drop)]
@@ -17,21 +46,125 @@ pub(crate) struct GivenHardware {
     pub(crate) board: BoardRules,
 }
 
-/// The rules of a board file; a fault is reported on `errors`.
+/// The rules of a board file, of which answers may be open if the board may be asked; a fault is reported on `errors`.
 pub(crate) fn board_or_say<X: System + AllocGlobal, E: Write>(
     rt: &X,
     path: Option<&str>,
+    may_ask: bool,
     explains: Explains,
     errors: &mut E,
 ) -> Option<BoardRules>
     ensures { MatchOption result (SaysSome (E.contents errors.old) (E.contents errors.new))
-        (λ rules. AreRulesOf (option_map (λ p. p.now) path.entry) rules × (E.contents errors.new ≡ E.contents errors.old)) }
+        (λ rules. AreRulesOf may_ask (option_map (λ p. p.now) path.entry) rules × (E.contents errors.new ≡ E.contents errors.old)) }
 {
     value_or_say(
         rt.alloc(),
         errors,
         explains,
         path.unwrap_or(""),
-        read_board(rt, path),
+        read_board(rt, path, may_ask),
     )
+}
+
+/// What stands in for hardware; a fault is reported on `errors`.
+pub(crate) fn hardware_or_say<X: System + AllocGlobal, E: Write>(
+    rt: &X,
+    wanted: &WantedHardware<'_, '_>,
+    errors: &mut E,
+) -> Option<GivenHardware>
+    ensures { MatchOption result (SaysSome (E.contents errors.old) (E.contents errors.new))
+        (λ given. IsHardwareOf (wanted_view wanted.now) (hardware given.board given.stand_ins) × (E.contents errors.new ≡ E.contents errors.old)) }
+{
+    let stand_ins = stand_ins_or_say(rt, wanted, errors)?;
+    let board = board_or_say(rt, wanted.board, wanted.may_ask, Explains::Reason, errors)?;
+    Some(GivenHardware { stand_ins, board })
+}
+
+/// The stand-ins, with those wanted made to leave the board; a fault is reported on `errors`, and so is a name of which
+/// there is no stand-in.
+fn stand_ins_or_say<X: System + AllocGlobal, E: Write>(
+    rt: &X,
+    wanted: &WantedHardware<'_, '_>,
+    errors: &mut E,
+) -> Option<Stubs>
+    ensures { MatchOption result (SaysSome (E.contents errors.old) (E.contents errors.new))
+        (λ stand_ins. AreStandInsOf (wanted_view wanted.now) stand_ins × (E.contents errors.new ≡ E.contents errors.old)) }
+{
+    let path = wanted.stand_ins.unwrap_or("");
+    let outcome = stand_ins_of(rt, wanted);
+    let stand_ins = value_or_say(rt.alloc(), errors, Explains::Reason, path, outcome)?;
+    match name_at_fault(&stand_ins, wanted) {
+        None => Some(stand_ins),
+        Some((name, fault)) => {
+            let _ = write_three(errors, INVALID_VALUE, name.as_bytes(), fault);
+            None
+        }
+    }
+}
+
+/// The first name wanted of which there is no stand-in, and what is said of it.
+fn name_at_fault<'w>(
+    stand_ins: &Stubs,
+    wanted: &WantedHardware<'_, 'w>,
+) -> Option<(&'w str, &'static [u8])> {
+    match name_without(stand_ins, wanted.boots) {
+        Some(name) => Some((name, NO_BOOT)),
+        None => match name_without(stand_ins, wanted.resets) {
+            Some(name) => Some((name, NO_RESET)),
+            None => None,
+        },
+    }
+}
+
+/// The first of these names of which there is no stand-in.
+fn name_without<'a>(stand_ins: &Stubs, names: Option<&[&'a str]>) -> Option<&'a str> {
+    for name in names.unwrap_or(&[]) {
+        if stand_ins.status(name.as_bytes()).is_none() {
+            return Some(*name);
+        }
+    }
+    None
+}
+
+/// The stand-ins, with those wanted made to leave the board.
+fn stand_ins_of<X: System + AllocGlobal>(
+    rt: &X,
+    wanted: &WantedHardware<'_, '_>,
+) -> Result<Stubs, FileFault>
+    ensures { IfOk result (AreStandInsOf (wanted_view wanted.now)) }
+{
+    let mut stand_ins = read_stand_ins(rt, wanted.stand_ins)?;
+    leave_given(rt.alloc(), &mut stand_ins, Leaving::Boots, wanted.boots)?;
+    leave_given(rt.alloc(), &mut stand_ins, Leaving::Resets, wanted.resets)?;
+    Ok(stand_ins)
+}
+
+/// Makes the stand-ins of these names leave the board so.
+fn leave_given(
+    alloc: Global,
+    stand_ins: &mut Stubs,
+    leaving: Leaving,
+    names: Option<&[&str]>,
+) -> Result<(), AllocError>
+    ensures { IfOk result (λ _. stand_ins.new ≡ with_leavings leaving stand_ins.old (texts names.entry)) }
+{
+    match names {
+        None => Ok(()),
+        Some(names) => leave_all(alloc, stand_ins, leaving, names),
+    }
+}
+
+/// The same for names that are there.
+fn leave_all(
+    alloc: Global,
+    stand_ins: &mut Stubs,
+    leaving: Leaving,
+    names: &[&str],
+) -> Result<(), AllocError>
+    ensures { IfOk result (λ _. stand_ins.new ≡ with_leavings leaving stand_ins.old (map (λ n. n.now) names.now)) }
+{
+    for name in names {
+        stand_ins.leave(alloc, name.as_bytes(), leaving)?;
+    }
+    Ok(())
 }

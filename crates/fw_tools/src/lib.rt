@@ -2,9 +2,10 @@
 //! the rules; fw_arguments reads the arguments, fw_files reads and writes the files.
 //!
 //! To read in this order: entry_point, greeting; subcommands, task_work, hardware, session_run, script_source,
-//! script_work, check_work, new_image, image_work, find_work.
+//! script_work, check_work, new_image, image_work, find_work, boot_work.
 #![tactic(auto)]
 
+mod boot_work;
 mod check_work;
 mod entry_point;
 mod find_work;

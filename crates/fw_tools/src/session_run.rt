@@ -47,7 +47,7 @@ pub(crate) fn talk<X: System + AllocGlobal, R: Read, W: Write, E: Write>(
         run.stand_ins.unwrap_or(""),
         read_stand_ins(rt, run.stand_ins),
     )?;
-    let board = board_or_say(rt, run.board, Explains::Nothing, errors)?;
+    let board = board_or_say(rt, run.board, false, Explains::Nothing, errors)?;
     let given = GivenHardware { stand_ins, board };
     let end = answer(rt, opened, run, &given, input, output);
     Some(leave(rt, source, run.write, locks, end, errors))

@@ -6,6 +6,7 @@ ghost use Rattle.fw_arguments.specs.Calls.{call_view, job_view, keeps_lock, task
 ghost use Rattle.fw_files.specs.Locks.{HasWaited};
 ghost use Rattle.fw_files.specs.Said.{SaysSome};
 
+use crate::boot_work::boot_given;
 use crate::check_work::check_session;
 use crate::script_work::run_given;
 use crate::session_run::talk;
@@ -179,6 +180,7 @@ fn work<X: System + AllocGlobal, R: Read, W: Write, E: Write>(
         }
         Job::DryRun(run) => talk(rt, source, opened, run, call.locks, input, output, errors),
         Job::Script(run) => run_given(rt, source, opened, run, output, errors),
+        Job::Boot(power_ons) => boot_given(rt, &opened, power_ons, output, errors),
         Job::Check(check) => check_session(rt, &opened, check, output, errors),
     }
 }

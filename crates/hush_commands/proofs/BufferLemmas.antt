@@ -1,5 +1,5 @@
 -- Fields in one buffer.
-use Rattle.std.proofs.Common.{◌≡◌, ℕ, ◌+◌, ◌-◌, ◌≤◌, Bool, true, false, List, [], ◌∷◌, ◌++◌, take, drop, length, sum, Some, refl, sym, ap, ◌∙◌, arith, length-drop}
+use Rattle.std.proofs.Common.{◌≡◌, ℕ, zero, suc, ◌+◌, ◌-◌, ◌≤◌, Bool, true, false, List, [], ◌∷◌, ◌++◌, take, drop, length, sum, Some, refl, sym, ap, ◌∙◌, arith, length-drop}
 use Rattle.std.proofs.lemmas.List.{drop-append-le, take-append-le, drop-drop}
 use Rattle.std.proofs.lemmas.List.Sums.{sum_by-cons}
 use Rattle.std.proofs.Math.ListN.{drop_of_length-le}
@@ -43,3 +43,24 @@ pub made-end : (bytes lengths : List ℕ) (start : ℕ) → IsBuffer bytes lengt
 made-end bytes lengths start is =
     ap (λ (x : List (List ℕ)). whole x)
     (pieces-end bytes lengths (length bytes - start) ∙ ap (λ (x : List ℕ). pieces bytes lengths ++ x ∷ []) (ap (λ (k : ℕ). take (length bytes - start) (drop k bytes)) is.0 ∙ ap (λ (k : ℕ). take k (drop start bytes)) (sym (length-drop start bytes)) ∙ take-length (drop start bytes)))
+
+pub length-pieces : (bs ls : List ℕ) → length (pieces bs ls) ≡ length ls
+length-pieces bs [] = refl
+length-pieces bs (n ∷ ns) = ap suc (length-pieces (drop n bs) ns)
+
+pieces-take : (n : ℕ) (bs ls : List ℕ) → pieces bs (take n ls) ≡ take n (pieces bs ls)
+pieces-take zero bs ls = refl
+pieces-take (suc n) bs [] = refl
+pieces-take (suc n) bs (l ∷ ls) = ap (λ (x : List (List ℕ)). take l bs ∷ x) (pieces-take n (drop l bs) ls)
+
+take-all : (n : ℕ) (xs : List (List ℕ)) → length xs ≤ n → take n xs ≡ xs
+take-all zero [] h = refl
+take-all zero (x ∷ xs) h = absurd (omega (arith, h))
+take-all (suc n) [] h = refl
+take-all (suc n) (x ∷ xs) h = ap (λ (ys : List (List ℕ)). x ∷ ys) (take-all n xs (omega (arith, h)))
+
+pub all-pieces : (n : ℕ) (bs ls : List ℕ) (fields : List (List ℕ)) → pieces bs ls ≡ fields → length ls ≤ n → fields ≡ take n fields
+all-pieces n bs ls fields is few = sym (take-all n fields (omega (arith, few, ap length is, length-pieces bs ls)))
+
+pub first-pieces : (n : ℕ) (bs ls : List ℕ) (fields : List (List ℕ)) → pieces bs ls ≡ fields → pieces bs (take n ls) ≡ take n fields
+first-pieces n bs ls fields is = pieces-take n bs ls ∙ ap (take n) is

@@ -22,7 +22,7 @@ wrong_use shell stand_ins c called name status held old new r is same answers =
     subst (λ (d : Command). Attempts (done_by shell stand_ins d status held) held held old new r) (sym is)
     (subst (λ (n : List ℕ). Attempts (answer 1 (text_of message.WrongUse n), held) held held old new r) same wrong)
 
-pub wrong_use_refused : (shell : Shell) (stand_ins : Hardware) (c : Command) (called name : List ℕ) (status : ℕ) (held : Held) (old : Printed) (r : Result ℕ PrintFault) → c ≡ command.WrongUse called → name ≡ called → OnMemory r (LacksRoom (text_of message.WrongUse name) old) → IsRefused c (done_by shell stand_ins c status held) old r
+pub wrong_use_refused : (shell : Shell) (stand_ins : Hardware) (c : Command) (called name : List ℕ) (status : ℕ) (held : Held) (old : Printed) (r : Result ℕ PrintFault) → c ≡ command.WrongUse called → name ≡ called → OnMemory r (LacksRoom (text_of message.WrongUse name) old) → IsRefused shell stand_ins c (done_by shell stand_ins c status held) old r
 wrong_use_refused shell stand_ins c called name status held old r is same lacks =
-    subst (λ (d : Command). IsRefused d (done_by shell stand_ins d status held) old r) (sym is)
+    subst (λ (d : Command). IsRefused shell stand_ins d (done_by shell stand_ins d status held) old r) (sym is)
     (subst (λ (n : List ℕ). OnMemory r (LacksRoom (text_of message.WrongUse n) old)) same lacks)

@@ -16,7 +16,7 @@ use Rattle.hush_commands.specs.declared.command.Command.{Command}
 use Rattle.hush_commands.specs.Commands.{command_in}
 use Rattle.hush_commands.specs.Shells.{exit_word}
 use Rattle.hush_commands.specs.Stubs.{Statuses, leaving_of, with_leaving}
-use Rattle.hush_commands.specs.declared.board_rules.PatternWord.{PatternWord}
+use Rattle.hush_commands.specs.declared.pattern.PatternWord.{PatternWord}
 use Rattle.hush_commands.specs.declared.board_rules.Rule.{Rule}
 use Rattle.hush_commands.specs.declared.board_rules.Reply.{Reply}
 use Rattle.hush_commands.specs.declared.board_rules.Reply.TheVariants.{Status, Text}
@@ -162,7 +162,7 @@ opened : List ℕ → PatternWord
 opened text = record { text = text; begins = true }
 
 rule : List PatternWord → Reply → Rule
-rule pattern reply = record { pattern = pattern; reply = reply }
+rule pattern reply = record { pattern = pattern; whole = false; reply = reply }
 
 card : List Rule
 card =

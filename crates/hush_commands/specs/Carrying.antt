@@ -19,6 +19,7 @@ use Rattle.hush_commands.specs.Shells.{kept_status, exit_status, test_by}
 use Rattle.hush_commands.specs.Messages.{text_of}
 use Rattle.hush_commands.specs.Output.{Printed, printed, Answer, answer, Answers, LacksRoom, OnMemory, status_if}
 use Rattle.hush_commands.specs.Commands.{command_in}
+use Rattle.hush_commands.specs.Following.{asked_file}
 use Rattle.hush_commands.specs.Listing.{listed}
 use Rattle.hush_commands.specs.Saving.{saved_line}
 use Rattle.hush_commands.specs.Writing.{Change, write_of, calculated_of}
@@ -110,31 +111,31 @@ Carries done held after old new (Err fault.Output) =
     (old.limit < length (old.text ++ done.0.text)) × (after ≡ held) × (new ≡ old)
 Carries done held after old new (Err fault.Memory) = (after ≡ held) × (new ≡ old)
 
--- whether a command takes memory for more than its text
-abbrev pub takes_more : Command → Bool
-takes_more command.Nothing = false
-takes_more command.True = false
-takes_more command.False = false
-takes_more (command.Echo newline words) = true
-takes_more (command.Set force name words) = true
-takes_more (command.Print all names) = true
-takes_more command.Save = true
-takes_more (command.Run names) = true
-takes_more (command.Delete force names) = true
-takes_more (command.Exists name) = false
-takes_more (command.Test words) = false
-takes_more (command.Calculate called words) = true
-takes_more (command.Exit own) = false
-takes_more (command.WrongUse called) = false
-takes_more (command.Other called fields) = true
+-- whether a command takes memory for more than its text; a `test` does only for a file of which the board has to be asked
+abbrev pub takes_more : Shell → Hardware → Command → Bool
+takes_more shell stand_ins command.Nothing = false
+takes_more shell stand_ins command.True = false
+takes_more shell stand_ins command.False = false
+takes_more shell stand_ins (command.Echo newline words) = true
+takes_more shell stand_ins (command.Set force name words) = true
+takes_more shell stand_ins (command.Print all names) = true
+takes_more shell stand_ins command.Save = true
+takes_more shell stand_ins (command.Run names) = true
+takes_more shell stand_ins (command.Delete force names) = true
+takes_more shell stand_ins (command.Exists name) = false
+takes_more shell stand_ins (command.Test words) = is_some (asked_file shell stand_ins words)
+takes_more shell stand_ins (command.Calculate called words) = true
+takes_more shell stand_ins (command.Exit own) = false
+takes_more shell stand_ins (command.WrongUse called) = false
+takes_more shell stand_ins (command.Other called fields) = true
 
 -- if memory is refused to a command that takes it for its text alone, it has a text, and the text fits
 abbrev pub RefusedBy : (more : Bool) → (text : List ℕ) → Printed → Result ℕ PrintFault → Type 0
 RefusedBy true text old result = Unit {0}
 RefusedBy false text old result = OnMemory result (LacksRoom text old)
 
-abbrev pub IsRefused : Command → Done → Printed → Result ℕ PrintFault → Type 0
-IsRefused command done old result = RefusedBy (takes_more command) done.0.text old result
+abbrev pub IsRefused : Shell → Hardware → Command → Done → Printed → Result ℕ PrintFault → Type 0
+IsRefused shell stand_ins command done old result = RefusedBy (takes_more shell stand_ins command) done.0.text old result
 
 -- the status that a command answers, without what follows it
 abbrev pub status_in : Result (ℕ × Follow) PrintFault → Result ℕ PrintFault

@@ -3,7 +3,7 @@ use Rattle.std.specs.Prelude.{ℕ, ◌==◌, ◌||◌, ◌&&◌, nat_le, not, Bo
 use Rattle.std.specs.List.{before_first}
 use Rattle.std.specs.Str.{bytes_eq}
 use Rattle.std.specs.FinMap as names
-use Rattle.hush_commands.specs.declared.board_rules.PatternWord.{PatternWord}
+use Rattle.hush_commands.specs.declared.pattern.PatternWord.{PatternWord}
 use Rattle.hush_commands.specs.declared.board_rules.Rule.{Rule}
 use Rattle.hush_commands.specs.declared.board_rules.Reply.{Reply}
 use Rattle.hush_commands.specs.declared.board_rules.Reply.TheVariants.{Status, Text, Lacks}
@@ -49,13 +49,17 @@ abbrev pub pattern_name : List PatternWord → Option (List ℕ)
 pattern_name [] = None
 pattern_name (word ∷ words) = if word.begins then None else Some word.text
 
+-- a whole rule names no command
+abbrev pub rule_name : Rule → Option (List ℕ)
+rule_name rule = if rule.whole then None else pattern_name rule.pattern
+
 abbrev pub is_name : (name : List ℕ) → Option (List ℕ) → Bool
 is_name name None = false
 is_name name (Some own) = bytes_eq name own
 
 abbrev pub is_ruled : List Rule → (name : List ℕ) → Bool
 is_ruled [] name = false
-is_ruled (rule ∷ rules) name = is_name name (pattern_name rule.pattern) || is_ruled rules name
+is_ruled (rule ∷ rules) name = is_name name (rule_name rule) || is_ruled rules name
 
 -- whether a board lacks the builtin of a name
 abbrev pub is_lack : Reply → Bool
@@ -65,7 +69,7 @@ is_lack Lacks = true
 
 abbrev pub lacks : List Rule → (name : List ℕ) → Bool
 lacks [] name = false
-lacks (rule ∷ rules) name = is_lack rule.reply && is_name name (pattern_name rule.pattern) || lacks rules name
+lacks (rule ∷ rules) name = is_lack rule.reply && is_name name (rule_name rule) || lacks rules name
 
 abbrev pub with_own : (word : List ℕ) → FoundNames → Option (List ℕ) → FoundNames
 with_own word so_far None = so_far
@@ -73,7 +77,7 @@ with_own word so_far (Some name) = with_name word so_far name
 
 abbrev pub with_rules : (word : List ℕ) → FoundNames → List Rule → FoundNames
 with_rules word so_far [] = so_far
-with_rules word so_far (rule ∷ rules) = with_rules word (with_own word so_far (pattern_name rule.pattern)) rules
+with_rules word so_far (rule ∷ rules) = with_rules word (with_own word so_far (rule_name rule)) rules
 
 abbrev pub stub_names : Statuses → List (List ℕ)
 stub_names stubs = map (λ entry. entry.0) (names.entries stubs)

@@ -1,176 +1,14 @@
 //! What a board answers: rules for calls, of which the first that fits decides (docs/runs.md, "Boards").
-ghost use Rattle.std.specs.Prelude.{◌≡◌, IfOk, [], ◌∷◌, codes, drop, if◌then◌else◌, None, Some, option_copied, option_map};
-ghost use Rattle.hush_commands.specs.CommandNames.{is_lack, is_name, is_ruled, lacks, pattern_name, with_own, with_rules};
-ghost use Rattle.hush_commands.specs.Hardware.{word_fits, pattern_fits, ruled};
+ghost use Rattle.std.specs.Prelude.{◌≡◌, ◌==◌, ◌||◌, ◌++◌, not, IfOk, OnOk, [], ◌∷◌, codes, drop, take, length, Some, option_copied, option_map};
+ghost use Rattle.hush_commands.specs.CommandNames.{is_lack, is_name, is_ruled, lacks, rule_name, with_own, with_rules};
+ghost use Rattle.hush_commands.specs.Hardware.{is_open, rule_fits, ruled};
 
 use crate::command_names::Found;
-use crate::departure::Leaving;
+use crate::departure::{Leaving, is_asking, leaving_with};
+use crate::pattern::{Bytes, Pattern, behind_first, count, front};
 use hush_calc::{Fields, is_text};
 use std::alloc::{AllocError, Global};
 use std::marker::Model;
-
-/// Bytes that it owns.
-#[derive(Drop)]
-pub struct Bytes {
-    items: Vec<u8>,
-}
-
-impl Model for Bytes {
-    ghost use Rattle.std.specs.Prelude.{ℕ, List};
-
-    ghost Value = { List ℕ };
-
-    ghost view = { λ a. a.items.items };
-}
-
-impl Bytes {
-    /// These bytes, in memory of their own.
-    pub fn of(alloc: Global, bytes: &[u8]) -> Result<Bytes, AllocError>
-        ensures { IfOk result (λ own. own ≡ bytes.now) }
-    {
-        let items = Vec::from_slice(alloc, bytes)?;
-        Ok(Bytes { items })
-    }
-
-    /// The bytes.
-    pub fn as_bytes(&self) -> &[u8]
-        ensures { result.now ≡ self.now }
-    {
-        self.items.as_slice()
-    }
-
-    /// The bytes, given away.
-    pub fn into_vec(self) -> Vec<u8>
-        ensures { result.items ≡ self }
-    {
-        self.items
-    }
-}
-
-/// A word of a pattern.
-#[derive(Drop)]
-pub struct PatternWord {
-    /// Its bytes.
-    pub text: Bytes,
-    /// Whether a `*` comes after these: it fits each word that begins with them.
-    pub begins: bool,
-}
-
-impl PatternWord {
-    /// The word, if nothing comes after it.
-    fn whole(&self) -> Option<&[u8]>
-        ensures { option_map (λ name. name.now) result ≡ (if self.now.begins then None else Some self.now.text) }
-    {
-        if self.begins {
-            None
-        } else {
-            Some(self.text.as_bytes())
-        }
-    }
-
-    /// Whether it fits a word of a call.
-    fn fits(&self, word: &[u8]) -> bool
-        ensures { result ≡ word_fits self.now word.now }
-    {
-        let text = self.text.as_bytes();
-        if self.begins {
-            let (front, _back) = word.split_at(text.len().min(word.len()));
-            is_text(front, text)
-        } else {
-            is_text(word, text)
-        }
-    }
-}
-
-/// The words of a pattern.
-#[derive(Drop)]
-pub struct Pattern {
-    words: Vec<PatternWord>,
-}
-
-impl Model for Pattern {
-    ghost use Rattle.std.specs.Prelude.{List};
-    ghost use Rattle.hush_commands.specs.declared.board_rules.PatternWord.{PatternWord};
-
-    ghost Value = { List PatternWord };
-
-    ghost view = { λ a. a.words.items };
-}
-
-impl Pattern {
-    /// The pattern of these words.
-    pub fn of(words: Vec<PatternWord>) -> Pattern
-        ensures { result ≡ words.items }
-    {
-        Pattern { words }
-    }
-
-    /// Whether it fits a call of this name with these words.
-    fn fits(&self, called: &[u8], words: Fields<'_>) -> bool
-        ensures { result ≡ pattern_fits self.now (called.now ∷ words.entry) }
-    {
-        fit_call(self.words.as_slice(), called, words)
-    }
-
-    /// Whether it fits the call `test -e` of these words.
-    fn fits_file(&self, words: Fields<'_>) -> bool
-        ensures { result ≡ pattern_fits self.now (codes "test" ∷ codes "-e" ∷ words.entry) }
-    {
-        match self.words.as_slice().split_first() {
-            Some((word, others)) => word.fits(b"test") && fit_call(others, b"-e", words),
-            None => true,
-        }
-    }
-
-    /// The name of the calls that it fits, if its first word is one.
-    fn name(&self) -> Option<&[u8]>
-        ensures { option_map (λ name. name.now) result ≡ pattern_name self.now }
-    {
-        match self.words.as_slice().split_first() {
-            Some((word, _others)) => word.whole(),
-            None => None,
-        }
-    }
-}
-
-/// Whether the words of a pattern fit a call of this name with these words.
-fn fit_call(pattern: &[PatternWord], called: &[u8], words: Fields<'_>) -> bool
-    ensures { result ≡ pattern_fits pattern.now (called.now ∷ words.entry) }
-{
-    match pattern.split_first() {
-        Some((word, others)) => word.fits(called) && fit_words(others, words),
-        None => true,
-    }
-}
-
-/// Whether the words of a pattern fit the words of a call: one by one, and the call may have further words.
-fn fit_words(pattern: &[PatternWord], fields: Fields<'_>) -> bool
-    ensures { result ≡ pattern_fits pattern.now fields.entry }
-{
-    let mut words = pattern;
-    let mut rest = fields;
-    while let Some((word, others)) = words.split_first() {
-        let Some(field) = rest.next() else {
-            return false;
-        };
-        if !word.fits(field) {
-            return false;
-        }
-        words = others;
-    }
-    true
-}
-
-/// The fields behind the first.
-fn behind_first<'a>(fields: &Fields<'a>) -> Fields<'a>
-    ensures { result ≡ drop 1 fields.now }
-{
-    let mut rest = fields.again();
-    match rest.next() {
-        Some(_first) => rest,
-        None => rest,
-    }
-}
 
 /// What a call is answered with.
 #[derive(Drop)]
@@ -189,6 +27,30 @@ pub enum Reply {
 }
 
 impl Reply {
+    /// The same answer in memory of its own.
+    fn copy(&self, alloc: Global) -> Result<Reply, AllocError>
+        ensures { IfOk result (λ copy. copy ≡ self.now) }
+    {
+        match self {
+            Reply::Status { status, leaves } => Ok(Reply::Status {
+                status: *status,
+                leaves: *leaves,
+            }),
+            Reply::Text(text) => Ok(Reply::Text(text.copy(alloc)?)),
+            Reply::Lacks => Ok(Reply::Lacks),
+        }
+    }
+
+    /// Whether it is open.
+    pub(crate) fn is_open(&self) -> bool
+        ensures { result ≡ is_open (Some self.now) }
+    {
+        match self {
+            Reply::Status { status, leaves } => is_asking(leaving_with(*leaves, *status)),
+            Reply::Text(_) | Reply::Lacks => false,
+        }
+    }
+
     /// Whether the board lacks the command.
     fn is_lack(&self) -> bool
         ensures { result ≡ is_lack self.now }
@@ -202,6 +64,8 @@ impl Reply {
 pub struct Rule {
     /// The pattern.
     pub pattern: Pattern,
+    /// Whether it answers no call with further words, and names no command: it is the answer of one call.
+    pub whole: bool,
     /// The answer.
     pub reply: Reply,
 }
@@ -238,13 +102,24 @@ impl BoardRules {
         BoardRules { rules }
     }
 
+    /// Other rules, and these behind them, in memory of their own.
+    pub fn behind(&self, alloc: Global, first: Vec<Rule>) -> Result<BoardRules, AllocError>
+        ensures { IfOk result (λ rules. rules ≡ first.items ++ self.now) }
+    {
+        let mut rules = first;
+        for rule in &self.rules {
+            rules.push(rule.copy(alloc)?)?;
+        }
+        Ok(BoardRules { rules })
+    }
+
     /// The answer of the first rule that fits a call of this name with the words of these fields, if one does.
     pub(crate) fn find(&self, called: &[u8], fields: &Fields<'_>) -> Option<&Reply>
         ensures { option_copied result ≡ ruled self.now (called.now ∷ drop 1 fields.now) }
     {
         let mut rules = self.rules.as_slice();
         while let Some((rule, others)) = rules.split_first() {
-            if rule.pattern.fits(called, behind_first(fields)) {
+            if rule.fits(called, behind_first(fields)) {
                 return Some(&rule.reply);
             }
             rules = others;
@@ -252,13 +127,14 @@ impl BoardRules {
         None
     }
 
-    /// The answer of the first rule that fits the call `test -e` of these words, if one does.
+    /// The answer of the first rule that fits the call `test -e` of the first three of these words, if one does.
     pub(crate) fn find_file(&self, words: &Fields<'_>) -> Option<&Reply>
-        ensures { option_copied result ≡ ruled self.now (codes "test" ∷ codes "-e" ∷ words.now) }
+        ensures { option_copied result ≡ ruled self.now (codes "test" ∷ codes "-e" ∷ take 3 words.now) }
     {
+        let file = front(3, words);
         let mut rules = self.rules.as_slice();
         while let Some((rule, others)) = rules.split_first() {
-            if rule.pattern.fits_file(words.again()) {
+            if rule.fits_file(file.again()) {
                 return Some(&rule.reply);
             }
             rules = others;
@@ -309,11 +185,54 @@ impl BoardRules {
 }
 
 impl Rule {
+    /// The same rule in memory of its own.
+    fn copy(&self, alloc: Global) -> Result<Rule, AllocError>
+        ensures { IfOk result (λ copy. copy ≡ self.now) }
+    {
+        Ok(Rule {
+            pattern: self.pattern.copy(alloc)?,
+            whole: self.whole,
+            reply: self.reply.copy(alloc)?,
+        })
+    }
+
+    /// Whether it answers a call of this name with these words.
+    fn fits(&self, called: &[u8], words: Fields<'_>) -> bool
+        ensures { result ≡ rule_fits self.now (called.now ∷ words.entry) }
+    {
+        self.pattern.fits(called, words.again()) && self.takes(count(&words) + 1)
+    }
+
+    /// Whether it answers the call `test -e` of these words.
+    fn fits_file(&self, words: Fields<'_>) -> bool
+        ensures { result ≡ rule_fits self.now (codes "test" ∷ codes "-e" ∷ words.entry) }
+    {
+        self.pattern.fits_file(words.again()) && self.takes(count(&words) + 2)
+    }
+
+    /// Whether it answers calls of so many words.
+    fn takes(&self, count: usize) -> bool
+        ensures { result ≡ (not self.now.whole || count == length self.now.pattern) }
+    {
+        !self.whole || count == self.pattern.len()
+    }
+
+    /// The name of the calls that it answers, if it names a command.
+    fn name(&self) -> Option<&[u8]>
+        ensures { option_map (λ name. name.now) result ≡ rule_name self.now }
+    {
+        if self.whole {
+            None
+        } else {
+            self.pattern.name()
+        }
+    }
+
     /// Whether it answers calls of this name.
     fn is_called(&self, name: &[u8]) -> bool
-        ensures { result ≡ is_name name.now (pattern_name self.now.pattern) }
+        ensures { result ≡ is_name name.now (rule_name self.now) }
     {
-        match self.pattern.name() {
+        match self.name() {
             Some(own) => is_text(own, name),
             None => false,
         }
@@ -321,9 +240,9 @@ impl Rule {
 
     /// What was found, and its name if that begins with a word.
     fn with_name<'a>(&'a self, word: &[u8], found: Found<'a>) -> Found<'a>
-        ensures { result ≡ with_own word.now found.entry (pattern_name self.now.pattern) }
+        ensures { result ≡ with_own word.now found.entry (rule_name self.now) }
     {
-        match self.pattern.name() {
+        match self.name() {
             Some(name) => found.with(word, name),
             None => found,
         }

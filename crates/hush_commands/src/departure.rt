@@ -1,6 +1,6 @@
 //! How a board is left by a command that doesn't come back (docs/runs.md, "Boards").
 ghost use Rattle.std.specs.Prelude.{◌≡◌};
-ghost use Rattle.hush_commands.specs.Departures.{leaving_with};
+ghost use Rattle.hush_commands.specs.Departures.{is_asking, leaving_with};
 
 use crate::field_queue::FieldQueue;
 
@@ -11,6 +11,8 @@ pub enum Leaving {
     Boots,
     /// It resets the board.
     Resets,
+    /// It asks what the hardware answers it.
+    Asks,
 }
 
 /// The call with which a run has left the board.
@@ -20,6 +22,16 @@ pub struct Departure {
     pub leaving: Leaving,
     /// Its words, its name first.
     pub words: FieldQueue,
+}
+
+/// Whether the answer of a call is open.
+pub(crate) fn is_asking(leaves: Option<Leaving>) -> bool
+    ensures { result ≡ is_asking leaves }
+{
+    match leaves {
+        Some(Leaving::Asks) => true,
+        Some(Leaving::Boots | Leaving::Resets) | None => false,
+    }
 }
 
 /// How the board is left with this status: a command that fails comes back.

@@ -30,7 +30,8 @@ use std::alloc::Global;
 ///
 /// The names of `run` and `env delete` are steps of their own, which follow: here these leave the status. `exit`
 /// returns the status with which the run, or on a board its text, ends. If the text doesn't fit or memory is refused, nothing has changed.
-/// Memory is refused to `true`, `false`, `test`, `exit`, `env exists` and a wrong use only for a text that fits.
+/// Memory is refused to `true`, `false`, `test`, `exit`, `env exists` and a wrong use only for a text that fits, or to a
+/// `test` for a file of which the board has to be asked.
 pub fn carry_out(
     alloc: Global,
     session: &mut Session,
@@ -43,7 +44,8 @@ pub fn carry_out(
 ) -> Result<(u8, Follow), PrintFault>
     ensures carries { Carries (done_of shell (hardware board.now stand_ins.now) fields.now.done status session.old)
         session.old session.new output.old output.new (status_in result) }
-    ensures memory { IsRefused (command_in shell (hardware board.now stand_ins.now) fields.now.done) (done_of shell (hardware board.now stand_ins.now) fields.now.done status session.old)
+    ensures memory { IsRefused shell (hardware board.now stand_ins.now) (command_in shell (hardware board.now stand_ins.now) fields.now.done)
+        (done_of shell (hardware board.now stand_ins.now) fields.now.done status session.old)
         output.old (status_in result) }
     ensures follows { IfOk result (λ done. done.1 ≡ follow_of shell (hardware board.now stand_ins.now) fields.now.done) }
 {
@@ -78,7 +80,8 @@ fn attempt(
 ) -> Result<u8, PrintFault>
     ensures attempts { Attempts (done_by shell (hardware board.now stand_ins.now) command.entry status session.old)
         session.old session.new output.old output.new result }
-    ensures memory { IsRefused command.entry (done_by shell (hardware board.now stand_ins.now) command.entry status session.old) output.old result }
+    ensures memory { IsRefused shell (hardware board.now stand_ins.now) command.entry
+        (done_by shell (hardware board.now stand_ins.now) command.entry status session.old) output.old result }
 {
     match command {
         Command::Nothing => Ok(kept_status(shell, status)),

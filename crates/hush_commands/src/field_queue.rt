@@ -1,5 +1,5 @@
 //! Fields that are taken one after the other.
-ghost use Rattle.std.specs.Prelude.{◌≡◌, ◌==◌, [], length, drop, IfOk};
+ghost use Rattle.std.specs.Prelude.{◌≡◌, ◌==◌, [], ◌∷◌, length, drop, IfOk};
 ghost use Rattle.hush_commands.specs.Shells.{cut_words, list_by};
 
 use crate::field_buffer::FieldBuffer;
@@ -36,6 +36,28 @@ impl FieldQueue {
         let (bytes, lengths) = fields.parts();
         let bytes = Vec::from_slice(alloc, bytes)?;
         let lengths = Vec::from_slice(alloc, lengths)?;
+        Ok(FieldQueue {
+            bytes,
+            lengths,
+            start: 0,
+            done: 0,
+        })
+    }
+
+    /// A word and these fields behind it, in memory of their own.
+    pub(crate) fn behind(
+        alloc: Global,
+        word: &[u8],
+        fields: &Fields<'_>,
+    ) -> Result<FieldQueue, AllocError>
+        ensures { IfOk result (λ queue. queue ≡ word.now ∷ fields.now) }
+    {
+        let (more, others) = fields.parts();
+        let mut bytes = Vec::from_slice(alloc, word)?;
+        bytes.extend_from_slice(more)?;
+        let mut lengths = Vec::new(alloc);
+        lengths.push(word.len())?;
+        lengths.extend_from_slice(others)?;
         Ok(FieldQueue {
             bytes,
             lengths,

@@ -1,16 +1,17 @@
 //! What follows a simple command (docs/runs.md, "Commands").
-ghost use Rattle.std.specs.Prelude.{◌≡◌, ℕ, List, true, IfOk, OnErr};
+ghost use Rattle.std.specs.Prelude.{◌≡◌, is_some, ℕ, List, true, IfOk, OnErr};
 ghost use Rattle.hush_commands.specs.Carrying.{takes_more};
 ghost use Rattle.std.specs.FinMap as names;
 ghost use Rattle.std.specs.Prelude.{option_map};
 ghost use Rattle.hush_commands.specs.Hardware.{hardware, answer_to, role_reply};
-ghost use Rattle.hush_commands.specs.Following.{exit_follow, departing, follow_by, follow_reply, follow_to};
+ghost use Rattle.hush_commands.specs.Following.{asked_file, asking, exit_follow, departing, follow_by, follow_reply, follow_to};
 
-use crate::board_rules::{BoardRules, Bytes, Reply};
+use crate::board_rules::{BoardRules, Reply};
 use crate::command::Command;
 use crate::departure::{Departure, Leaving, leaving_with};
 use crate::field_queue::FieldQueue;
-use crate::shell::Shell;
+use crate::pattern::{Bytes, behind_first};
+use crate::shell::{Shell, asked_file};
 use crate::stand_ins::Stubs;
 use hush_calc::Fields;
 use std::alloc::{AllocError, Global};
@@ -43,7 +44,7 @@ pub enum Follow {
 }
 
 impl<'a> Command<'a> {
-    /// What follows the command. Memory is taken for names alone.
+    /// What follows the command. Memory is taken for names and words alone.
     pub(crate) fn follow(
         &self,
         alloc: Global,
@@ -52,7 +53,7 @@ impl<'a> Command<'a> {
         board: &BoardRules,
     ) -> Result<Follow, AllocError>
         ensures follow { IfOk result (λ follow. follow ≡ follow_by shell (hardware board.now stand_ins.now) self.now) }
-        ensures taken { OnErr result (takes_more self.now ≡ true) }
+        ensures taken { OnErr result (takes_more shell (hardware board.now stand_ins.now) self.now ≡ true) }
     {
         match self {
             Command::Run { names } => Ok(Follow::Starts(FieldQueue::of(alloc, names)?)),
@@ -60,6 +61,7 @@ impl<'a> Command<'a> {
                 force: *force,
                 names: FieldQueue::of(alloc, names)?,
             }),
+            Command::Test { words } => follow_test(alloc, shell, stand_ins, board, words),
             Command::Exit { .. } => Ok(exit_follow(shell)),
             Command::Other { called, fields } => {
                 follow_other(alloc, stand_ins, board, called.bytes(), fields)
@@ -79,6 +81,27 @@ fn exit_follow(shell: Shell) -> Follow
     }
 }
 
+/// What follows a `test`: the end of the run at a file of which the board has to be asked.
+fn follow_test(
+    alloc: Global,
+    shell: Shell,
+    stand_ins: &Stubs,
+    board: &BoardRules,
+    words: &Fields<'_>,
+) -> Result<Follow, AllocError>
+    ensures follow { IfOk result (λ follow. follow ≡ asking (asked_file shell (hardware board.now stand_ins.now) words.now)) }
+    ensures taken { OnErr result (is_some (asked_file shell (hardware board.now stand_ins.now) words.now) ≡ true) }
+{
+    let Some(asked) = asked_file(shell, stand_ins, board, words) else {
+        return Ok(Follow::Next);
+    };
+    let words = FieldQueue::behind(alloc, b"test", &asked)?;
+    Ok(Follow::End(Some(Departure {
+        leaving: Leaving::Asks,
+        words,
+    })))
+}
+
 /// What follows a call that is no builtin.
 fn follow_other(
     alloc: Global,
@@ -87,21 +110,27 @@ fn follow_other(
     called: &[u8],
     fields: &Fields<'_>,
 ) -> Result<Follow, AllocError>
-    ensures { IfOk result (λ follow. follow ≡ follow_to fields.now (answer_to (hardware board.now stand_ins.now) called.now fields.now)) }
+    ensures { IfOk result (λ follow. follow ≡ follow_to called.now fields.now
+        (answer_to (hardware board.now stand_ins.now) called.now fields.now)) }
 {
     match board.find(called, fields) {
-        Some(reply) => follow_reply(alloc, reply, fields),
-        None => departing(alloc, stand_ins.leaving(called), fields),
+        Some(reply) => follow_reply(alloc, reply, called, fields),
+        None => departing(alloc, stand_ins.leaving(called), called, fields),
     }
 }
 
 /// What follows an answer.
-fn follow_reply(alloc: Global, reply: &Reply, fields: &Fields<'_>) -> Result<Follow, AllocError>
-    ensures { IfOk result (λ follow. follow ≡ follow_reply fields.now reply.now) }
+fn follow_reply(
+    alloc: Global,
+    reply: &Reply,
+    called: &[u8],
+    fields: &Fields<'_>,
+) -> Result<Follow, AllocError>
+    ensures { IfOk result (λ follow. follow ≡ follow_reply called.now fields.now reply.now) }
 {
     match reply {
         Reply::Status { status, leaves } => {
-            departing(alloc, leaving_with(*leaves, *status), fields)
+            departing(alloc, leaving_with(*leaves, *status), called, fields)
         }
         Reply::Text(text) => Ok(Follow::Answers {
             words: FieldQueue::of(alloc, fields)?,
@@ -111,17 +140,18 @@ fn follow_reply(alloc: Global, reply: &Reply, fields: &Fields<'_>) -> Result<Fol
     }
 }
 
-/// What follows a call with these words that leaves the board, or comes back.
+/// What follows a call of this name that leaves the board, or comes back.
 fn departing(
     alloc: Global,
     leaving: Option<Leaving>,
+    called: &[u8],
     fields: &Fields<'_>,
 ) -> Result<Follow, AllocError>
-    ensures { IfOk result (λ follow. follow ≡ departing fields.now leaving) }
+    ensures { IfOk result (λ follow. follow ≡ departing called.now fields.now leaving) }
 {
     let Some(leaving) = leaving else {
         return Ok(Follow::Next);
     };
-    let words = FieldQueue::of(alloc, fields)?;
+    let words = FieldQueue::behind(alloc, called, &behind_first(fields))?;
     Ok(Follow::End(Some(Departure { leaving, words })))
 }

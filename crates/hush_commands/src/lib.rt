@@ -1,7 +1,7 @@
 //! One simple command of a dry run: its words are expanded to fields, and it is carried out by them. Also the stand-ins
 //! for commands that need hardware, and the messages of commands that fail. docs/runs.md states the rules.
 //!
-//! To read in this order: shell; builtins, departure, stand_in_line, stand_ins, board_rules, command_names; locals, expansion, field_buffer, field_queue;
+//! To read in this order: shell; builtins, departure, stand_in_line, stand_ins, pattern, board_rules, command_names; locals, expansion, field_buffer, field_queue;
 //! command, follow, execution; writes, listing; messages, output.
 #![tactic(auto)]
 
@@ -19,12 +19,13 @@ mod listing;
 mod locals;
 mod messages;
 mod output;
+mod pattern;
 mod shell;
 mod stand_in_line;
 mod stand_ins;
 mod writes;
 
-pub use board_rules::{BoardRules, Bytes, Pattern, PatternWord, Reply, Rule};
+pub use board_rules::{BoardRules, Reply, Rule};
 pub use builtins::is_builtin;
 pub use command_names::{command_name, names_command, stands_for};
 pub use departure::{Departure, Leaving};
@@ -36,6 +37,7 @@ pub use follow::Follow;
 pub use locals::Locals;
 pub use messages::Message;
 pub use output::{Output, PrintFault};
+pub use pattern::{Bytes, Pattern, PatternWord};
 pub use shell::{Shell, kept_status};
 pub use stand_in_line::StubFault;
 pub use stand_ins::Stubs;

@@ -3,12 +3,15 @@ ghost use Rattle.std.specs.Prelude.{◌≡◌, Some, min};
 ghost use Rattle.hush_calc.specs.Numbers.{front_number};
 ghost use Rattle.hush_commands.specs.Shells.{kept_status, exit_status, exit_word, test_by};
 ghost use Rattle.hush_commands.specs.Statuses.{status_in_front};
-ghost use Rattle.hush_commands.specs.Hardware.{hardware, is_success};
+ghost use Rattle.hush_commands.specs.Following.{asked_file};
+ghost use Rattle.hush_commands.specs.Hardware.{file_answer, hardware, is_open, is_success, open_file};
 
 use crate::board_rules::{BoardRules, Reply};
+use crate::departure::is_asking;
+use crate::pattern::{count, front};
 use crate::stand_in_line::read_status;
 use crate::stand_ins::Stubs;
-use hush_calc::{Fields, Files, board_test, test};
+use hush_calc::{Fields, Files, board_test, is_text, test};
 use text_parts::{Base, behind_0x, digits_in_front, number};
 
 /// The shell whose rules a run follows where the two differ (docs/runs.md, "Boards").
@@ -102,6 +105,49 @@ impl<'a> Files for BoardFiles<'a> {
                 None => false,
             },
         }
+    }
+}
+
+impl BoardFiles<'_> {
+    /// Whether the answer to the call `test -e` of the first three of these words is open.
+    fn asks(&self, words: &Fields<'_>) -> bool
+        ensures { result ≡ is_open (file_answer (hardware self.now.board.now self.now.stand_ins.now) words.now) }
+    {
+        match self.board.find_file(words) {
+            Some(reply) => reply.is_open(),
+            None => is_asking(self.stand_ins.leaving(b"test -e")),
+        }
+    }
+
+    /// The first `-e` whose answer is open, with the three words after it.
+    #[tactic(auto, unfolding(crate::specs::Hardware::open_file))]
+    fn first_open<'a>(&self, words: &Fields<'a>) -> Option<Fields<'a>>
+        ensures { result ≡ open_file (hardware self.now.board.now self.now.stand_ins.now) words.now }
+    {
+        let mut here = words.again();
+        let mut rest = words.again();
+        while let Some(word) = rest.next() {
+            if is_text(word, b"-e") && count(&rest) >= 3 && self.asks(&rest) {
+                return Some(front(4, &here));
+            }
+            here = rest.again();
+        }
+        None
+    }
+}
+
+/// The `-e` of a `test` of which the board has to be asked, with the three words after it, if there is one.
+pub(crate) fn asked_file<'a>(
+    shell: Shell,
+    stand_ins: &Stubs,
+    board: &BoardRules,
+    words: &Fields<'a>,
+) -> Option<Fields<'a>>
+    ensures { result ≡ asked_file shell (hardware board.now stand_ins.now) words.now }
+{
+    match shell {
+        Shell::Strict => None,
+        Shell::Board => BoardFiles { stand_ins, board }.first_open(words),
     }
 }
 

@@ -16,7 +16,7 @@ use Rattle.hush_commands.specs.declared.departure.Leaving.TheVariants.{Boots}
 use Rattle.hush_commands.specs.declared.stand_ins.Role.{Role}
 use Rattle.hush_commands.specs.Stubs.{Statuses}
 use Rattle.hush_commands.specs.declared.board_rules.Reply.TheVariants.{Status, Text}
-use Rattle.hush_commands.specs.Hardware.{hardware}
+use Rattle.hush_commands.specs.Hardware.{hardware, open_file}
 use Rattle.hush_commands.specs.declared.shell.Shell.TheVariants.{Strict, Board}
 use Rattle.hush_run.specs.Runs.{rules, rules_in}
 use Rattle.hush_run.specs.Meaning.Reason.{Finished, Exited, Steps, Depth, Word, Output}
@@ -256,7 +256,7 @@ board_list held = refl
 
 -- words that are no expression
 board_test : (held : Held) → comes_to board held (codes "test -eq 1 && echo yes") ≡ Some (Finished, 0, 2, codes "yes\n")
-unfolding read read_in tokens_of lexeme_at passed_at piece_at is_bare ends_word is_special is_blank command keyword_of is_plain name_of assignment_of begins_name is_in_name dollar_at follows_dollar digits turns meaning step builtin_of effect fields
+unfolding read read_in tokens_of lexeme_at passed_at piece_at is_bare ends_word is_special is_blank command keyword_of is_plain name_of assignment_of begins_name is_in_name dollar_at follows_dollar digits turns meaning step builtin_of effect fields open_file
 board_test held = refl
 
 -- an empty body leaves the status
@@ -284,9 +284,9 @@ abbrev loads : List ℕ → (depth : ℕ) → Rules
 loads text depth =
     rules_in Strict
     (hardware
-    (record { pattern = record { text = codes "load"; begins = false } ∷ record { text = codes "mm"; begins = true } ∷ []; reply = Text text }
-    ∷ record { pattern = record { text = codes "load"; begins = false } ∷ []; reply = Status 1 None }
-    ∷ record { pattern = record { text = codes "booti"; begins = false } ∷ []; reply = Status 0 (Some Boots) }
+    (record { pattern = record { text = codes "load"; begins = false } ∷ record { text = codes "mm"; begins = true } ∷ []; whole = false; reply = Text text }
+    ∷ record { pattern = record { text = codes "load"; begins = false } ∷ []; whole = false; reply = Status 1 None }
+    ∷ record { pattern = record { text = codes "booti"; begins = false } ∷ []; whole = false; reply = Status 0 (Some Boots) }
     ∷ [])
     (let none : Statuses = empty in none))
     (bounds 1000 depth 256 4096)
@@ -359,7 +359,7 @@ board_exit_without_status held = refl
 abbrev board_mmc : Rules
 board_mmc =
     rules_in Board
-    (hardware (record { pattern = record { text = codes "mmc"; begins = false } ∷ []; reply = Status 2 None } ∷ []) (let none : Statuses = empty in none))
+    (hardware (record { pattern = record { text = codes "mmc"; begins = false } ∷ []; whole = false; reply = Status 2 None } ∷ []) (let none : Statuses = empty in none))
     (bounds 1000 4 256 4096)
 
 board_run_status : (held : Held) → get held.now.env (codes "f") ≡ Some (codes "mmc") → comes_to board_mmc held (codes "run f || echo $?") ≡ Some (Finished, 0, 4, codes "+ mmc\n1\n")

@@ -1,6 +1,6 @@
 use Rattle.std.proofs.Common.{Some}
 use Rattle.fw_files.proofs.FileLemmas.{of_outcome}
-use Rattle.fw_tools.proofs.script_work.stand_ins_or_say.Goals as goal
+use Rattle.fw_tools.proofs.hardware.stand_ins_or_say.Goals as goal
 
 pub returns-in-None : goal.returns-in-None
 returns-in-None g c =

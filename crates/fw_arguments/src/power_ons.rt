@@ -1,0 +1,111 @@
+//! What the words of `boot` ask for.
+ghost use Rattle.std.specs.Prelude.{◌≡◌};
+ghost use Rattle.clap.specs.Words.{found_of, rows_of};
+ghost use Rattle.fw_arguments.specs.PowerOns.{power_ons_by, power_ons_of, power_ons_view, power_ons_within, stored_of, ways_of, with_stored};
+ghost use Rattle.fw_arguments.specs.WordFaults.{word_seen};
+
+use crate::argument_texts::{BAD_STORED, BAD_WAYS};
+use crate::arguments::values;
+use crate::dry_runs::{DryRun, dry_run_within, number, read_limits};
+use crate::shells::read_shell;
+use crate::table::{BOARD_SHELL, USUAL_STORED, USUAL_WAYS};
+use crate::word_fault::WordFault;
+use clap::ArgMatches;
+use hush_commands::Shell;
+use run_limits::Limits;
+
+/// The most stored environments that `--stored` allows.
+const MOST_STORED: u32 = 100_000;
+
+/// The most power-ons that `--ways` allows.
+const MOST_WAYS: u32 = 10_000_000;
+
+/// Power-ons with every answer of the hardware: `boot [--boots NAME].. [--resets NAME].. [--stored N] [--ways N]`, with the
+/// options of a dry run that writes nothing.
+#[derive(Clone, Copy, Debug)]
+pub struct PowerOns<'m, 'w> {
+    /// The options of a dry run.
+    pub dry: DryRun<'w>,
+    /// The names of stand-ins that boot: with status 0 the power-on ends there.
+    pub boots: Option<&'m [&'w str]>,
+    /// The names of stand-ins that reset the board, likewise.
+    pub resets: Option<&'m [&'w str]>,
+    /// How many stored environments are powered on from.
+    pub stored: u32,
+    /// How many power-ons there may be in all.
+    pub ways: u32,
+}
+
+/// The power-ons that the words of `boot` ask for, or what is wrong with its shell or its numbers.
+pub(crate) fn read_power_ons<'m, 'w>(
+    found: &'m ArgMatches<'w>,
+) -> Result<PowerOns<'m, 'w>, WordFault<'w>>
+    ensures { word_seen power_ons_view result ≡ power_ons_of (rows_of (found_of found.now)) }
+{
+    match read_shell(found, BOARD_SHELL) {
+        Ok(shell) => power_ons_by(found, shell),
+        Err(fault) => Err(fault),
+    }
+}
+
+/// The same by a shell.
+fn power_ons_by<'m, 'w>(
+    found: &'m ArgMatches<'w>,
+    shell: Shell,
+) -> Result<PowerOns<'m, 'w>, WordFault<'w>>
+    ensures { word_seen power_ons_view result ≡ power_ons_by (rows_of (found_of found.now)) shell }
+{
+    match read_limits(found, shell) {
+        Ok(limits) => power_ons_within(found, shell, limits),
+        Err(fault) => Err(fault),
+    }
+}
+
+/// The same with these limits of a run.
+fn power_ons_within<'m, 'w>(
+    found: &'m ArgMatches<'w>,
+    shell: Shell,
+    limits: Limits,
+) -> Result<PowerOns<'m, 'w>, WordFault<'w>>
+    ensures { word_seen power_ons_view result ≡ power_ons_within shell (rows_of (found_of found.now)) limits }
+{
+    match read_stored(found) {
+        Ok(stored) => with_stored(found, shell, limits, stored),
+        Err(fault) => Err(fault),
+    }
+}
+
+/// The same from at most so many stored environments.
+fn with_stored<'m, 'w>(
+    found: &'m ArgMatches<'w>,
+    shell: Shell,
+    limits: Limits,
+    stored: u32,
+) -> Result<PowerOns<'m, 'w>, WordFault<'w>>
+    ensures { word_seen power_ons_view result ≡ with_stored shell (rows_of (found_of found.now)) limits stored }
+{
+    match read_ways(found) {
+        Ok(ways) => Ok(PowerOns {
+            dry: dry_run_within(found, shell, limits),
+            boots: values(found, "boots"),
+            resets: values(found, "resets"),
+            stored,
+            ways,
+        }),
+        Err(fault) => Err(fault),
+    }
+}
+
+/// How many stored environments are powered on from.
+fn read_stored<'w>(found: &ArgMatches<'w>) -> Result<u32, WordFault<'w>>
+    ensures { word_seen (λ n. n) result ≡ stored_of (rows_of (found_of found.now)) }
+{
+    number(found, "stored", USUAL_STORED, MOST_STORED, BAD_STORED)
+}
+
+/// How many power-ons there may be in all.
+fn read_ways<'w>(found: &ArgMatches<'w>) -> Result<u32, WordFault<'w>>
+    ensures { word_seen (λ n. n) result ≡ ways_of (rows_of (found_of found.now)) }
+{
+    number(found, "ways", USUAL_WAYS, MOST_WAYS, BAD_WAYS)
+}

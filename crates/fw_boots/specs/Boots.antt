@@ -1,0 +1,81 @@
+-- What all power-ons of a board can lead to, as it is printed (docs/boot.md).
+use Rattle.std.specs.Prelude.{◌≡◌, ℕ, List, [], ◌++◌, codes, Bool, true, false, is_some, if◌then◌else◌, Option, Some, None}
+use Rattle.std.specs.List.{flat_map}
+use Rattle.std.specs.Str.{bytes_eq}
+use Rattle.std.specs.FinMap as map
+use Rattle.envimg_core.specs.Environment.{Environment, Pair}
+use Rattle.envimg_core.specs.Geometry.{Shape}
+use Rattle.envvars_core.specs.Variables.{Contents}
+use Rattle.env_session.specs.Session.{Held, opened}
+use Rattle.env_requests.specs.Views.{rules_of}
+use Rattle.hush_syntax.specs.Grammar.{Chains}
+use Rattle.hush_syntax.specs.Scripts.{tree_of}
+use Rattle.hush_run.specs.Meaning.{Rules}
+use Rattle.boot_search.specs.Outcomes.{Given, Outcome}
+use Rattle.boot_search.specs.Reports.{IsReport}
+use Rattle.boot_search.specs.Bootable.{IsMarkedBy}
+use Rattle.boot_search.specs.SurveyText.{IsSurveyText, survey_status, told_of}
+use Rattle.boot_search.specs.declared.bootable.Survey.{Survey}
+use Rattle.boot_search.specs.declared.survey_lines.BootText.{BootText}
+use Rattle.fw_boots.specs.declared.boot.Boot.{Boot}
+use Rattle.fw_boots.specs.PowerOns.{power_on}
+
+-- the session over a stored environment
+abbrev pub session_of : Shape → (defaults : Contents) → (stored : List ℕ) → Held
+session_of shape defaults stored = opened shape stored None defaults
+
+-- its variables
+abbrev pub stored_env : Shape → (defaults : Contents) → (stored : List ℕ) → Environment
+stored_env shape defaults stored = (session_of shape defaults stored).now.env
+
+-- ---- what a stored environment has otherwise than the first
+
+abbrev pub is_value : List ℕ → Option (List ℕ) → Bool
+is_value value None = false
+is_value value (Some other) = bytes_eq value other
+
+-- a variable that the first hasn't, or has with another value
+abbrev pub changed_line : (first : Environment) → Pair → List ℕ
+changed_line first (name, value) =
+    if is_value value (map.get first name) then [] else codes "  " ++ (name ++ (codes "=" ++ (value ++ codes "\n")))
+
+-- one that the first has and this hasn't
+abbrev pub gone_line : (now : Environment) → (name : List ℕ) → List ℕ
+gone_line now name = if is_some (map.get now name) then [] else codes "  " ++ (name ++ codes " (gone)\n")
+
+abbrev pub gone_lines : (now : Environment) → List Pair → List ℕ
+gone_lines now pairs = flat_map (λ p. gone_line now p.0) pairs
+
+abbrev pub change_lines : (first now : Environment) → List ℕ
+change_lines first now = flat_map (changed_line first) (map.entries now) ++ gone_lines now (map.entries first)
+
+-- ---- the board
+
+-- a board that is powered on: what a run follows, the tree that it runs, the shape of the one copy that it stores, the
+-- defaults, and the copy that is stored before the first power-on
+pub record Power : Type 0 where
+  pub rules : Rules
+  pub tree : Option Chains
+  pub shape : Shape
+  pub defaults : Contents
+  pub first : List ℕ
+
+abbrev pub power_of : Boot → Power
+power_of b = record { rules = rules_of b.rules; tree = tree_of b.script.now; shape = b.geometry; defaults = b.defaults.now; first = b.first.now }
+
+-- what a power-on over a stored environment comes to
+abbrev pub runs_of : Power → (stored : List ℕ) → List Given → Outcome
+runs_of p stored = power_on p.rules p.tree (session_of p.shape p.defaults stored)
+
+-- what is told of a stored environment
+abbrev pub tells_of : Power → (stored : List ℕ) → List ℕ
+tells_of p stored = change_lines (stored_env p.shape p.defaults p.first) (stored_env p.shape p.defaults stored)
+
+-- what is printed is the text of a survey, which lists what power-ons lead to, beginning with the first copy
+abbrev pub IsSurveyOf : Power → Survey → Type 0
+IsSurveyOf p survey = IsReport (runs_of p) p.first survey.report × IsMarkedBy false (runs_of p) survey × IsMarkedBy true (runs_of p) survey
+
+abbrev pub BootsAs : Power → BootText → Type 0
+BootsAs p told =
+    (survey : Survey) × IsSurveyOf p survey
+    × IsSurveyText (tells_of p) (told_of survey) told.text.items × (told.status ≡ survey_status (told_of survey))

@@ -1,0 +1,3 @@
+-- What the public calls promise.
+pub mod PowerOns
+pub mod Boots

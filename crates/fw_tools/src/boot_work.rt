@@ -1,0 +1,140 @@
+//! `boot`: a board is powered on from a session's variables, and from all that it stores then.
+ghost use Rattle.std.specs.Prelude.{◌≡◌, IfOk, IfSome, false, unwrap_or};
+ghost use Rattle.hush_commands.specs.Hardware.{hardware};
+ghost use Rattle.fw_arguments.specs.PowerOns.{power_ons_view};
+ghost use Rattle.fw_engines.specs.Tool.{PrintsText};
+ghost use Rattle.fw_tools.specs.NewImages.{image_bytes};
+ghost use Rattle.fw_tools.specs.PowerOns.{BootsOver, IsToldOf, PrintsBoots, one_copy, wanted_to_boot};
+ghost use Rattle.fw_tools.specs.WantedHardware.{wanted_view};
+
+use crate::hardware::{GivenHardware, WantedHardware, hardware_or_say};
+use crate::new_image::new_image;
+use env_requests::RunRules;
+use env_session::Session;
+use envimg_core::{Geometry, Layout};
+use envvars_core::Memory;
+use fw_arguments::PowerOns;
+use fw_boots::{Boot, BootText, Limits, boot_text, power_on_script};
+use fw_engines::streams::write_text;
+use fw_engines::{StreamFault, ToolEnd};
+use fw_files::{System, report};
+use std::alloc::{AllocError, Global};
+use std::io::Write;
+
+/// The checksum before the data area of one copy, in bytes.
+const HEAD: u32 = 4;
+
+/// Tells what the power-ons that are asked for lead to, and answers the exit status; `None` if a file can't be used before.
+pub(crate) fn boot_given<X: System + AllocGlobal, W: Write, E: Write>(
+    rt: &X,
+    session: &Session,
+    asked: &PowerOns<'_, '_>,
+    output: &mut W,
+    errors: &mut E,
+) -> Option<u8>
+    ensures { BootsOver (power_ons_view asked.now) session.now
+        (record { output = W.contents output.old; errors = E.contents errors.old })
+        (record { output = W.contents output.new; errors = E.contents errors.new }) (unwrap_or result 1) }
+{
+    let hardware = hardware_or_say(rt, &wanted_to_boot(asked), errors)?;
+    let end = print_boots(rt.alloc(), session, asked, &hardware, output);
+    Some(report(end, errors))
+}
+
+/// What is wanted to stand in for hardware: answers may be open.
+fn wanted_to_boot<'m, 'w>(asked: &PowerOns<'m, 'w>) -> WantedHardware<'m, 'w>
+    ensures { wanted_view result ≡ wanted_to_boot (power_ons_view asked.now) }
+{
+    WantedHardware {
+        stand_ins: asked.dry.stand_ins,
+        board: asked.dry.board,
+        may_ask: true,
+        boots: asked.boots,
+        resets: asked.resets,
+    }
+}
+
+/// Prints what the power-ons lead to.
+fn print_boots<W: Write>(
+    alloc: Global,
+    session: &Session,
+    asked: &PowerOns<'_, '_>,
+    given: &GivenHardware,
+    output: &mut W,
+) -> ToolEnd
+    ensures { PrintsBoots (power_ons_view asked.now) (hardware given.now.board given.now.stand_ins) session.now
+        (W.contents output.old) (W.contents output.new) result }
+{
+    match told_of(alloc, session, asked, given) {
+        Err(_) => ToolEnd::stopped(StreamFault::Memory),
+        Ok(told) => print(&told, output),
+    }
+}
+
+/// Prints a text, and ends with its status.
+fn print<W: Write>(told: &BootText, output: &mut W) -> ToolEnd
+    ensures { PrintsText (W.contents output.old) (W.contents output.new) told.now.text.items told.now.status result }
+{
+    if write_text(output, &told.text) {
+        ToolEnd::done(told.status)
+    } else {
+        ToolEnd::stopped(StreamFault::Write)
+    }
+}
+
+/// What is told of the power-ons.
+fn told_of(
+    alloc: Global,
+    session: &Session,
+    asked: &PowerOns<'_, '_>,
+    given: &GivenHardware,
+) -> Result<BootText, AllocError>
+    ensures { IfOk result (IsToldOf (power_ons_view asked.now) (hardware given.now.board given.now.stand_ins) session.now) }
+{
+    let Some(geometry) = one_copy(session) else {
+        // never: each copy that a session may have is as large
+        return Err(AllocError);
+    };
+    let Ok(first) = first_copy(alloc, session, geometry) else {
+        return Err(AllocError);
+    };
+    let script = power_on_script(alloc, asked.dry.shell)?;
+    let rules = RunRules {
+        shell: asked.dry.shell,
+        stand_ins: &given.stand_ins,
+        board: &given.board,
+        limits: &asked.dry.limits,
+    };
+    let boot = Boot {
+        rules,
+        script: &script,
+        geometry,
+        defaults: session.defaults(),
+        first: &first,
+    };
+    let limits = Limits {
+        stored: asked.stored as usize,
+        ways: asked.ways as usize,
+    };
+    boot_text(alloc, &boot, limits)
+}
+
+/// The shape of one copy that has the room of a session's.
+fn one_copy(session: &Session) -> Option<Geometry>
+    ensures { IfSome result (λ geometry. geometry ≡ one_copy session.now.shape) }
+{
+    let size = session.vars().room().checked_add(HEAD)?;
+    Geometry::new(Layout::Single, size)
+}
+
+/// That copy, with the session's variables.
+fn first_copy(alloc: Global, session: &Session, geometry: Geometry) -> Result<Vec<u8>, Memory>
+    requires { geometry ≡ one_copy session.now.shape }
+    ensures { IfOk result (λ first. first.items ≡ image_bytes geometry false session.now.now.env) }
+{
+    let vars = session.vars();
+    // for the proof: they fit
+    let _used = vars.used();
+    let vars = vars.copy(alloc, geometry.room())?;
+    new_image(alloc, geometry, false, vars)
+}

@@ -1,0 +1,153 @@
+"""What `fwenv boot` prints: every power-on of a board, from all that it can come to store (docs/boot.md)."""
+
+from model.board_file import Reply
+from model.grammar import parse
+from model.image import ERASED, entries
+from model.script import Leave, Question, Run, Stop
+from model.session import Session
+
+# How a power-on ends, as it is told and counted
+BOOTS, RESETS, GIVES_UP, UNKNOWN = b"boots", b"resets", b"gives up", b"unknown"
+COUNTED = {BOOTS: b"boot", RESETS: b"reset", GIVES_UP: b"give up", UNKNOWN: b"unknown"}
+LEFT = {Reply.BOOTS: BOOTS, Reply.RESETS: RESETS}
+# What a board runs when it is switched on
+POWER_ON = (
+    b'if env exists preboot; then run preboot; else true; fi; '
+    b'if test $? != 0 -a "${bootdelay}" != -1; then false || run bootcmd; elif test "${bootdelay}" != -1; then run bootcmd; fi'
+)
+LIMIT_MET = b"a limit was met: there are more ways than these\n"
+
+
+class Board:
+    """A board over a session, which is opened anew for each power-on."""
+
+    def __init__(self, session, stand_ins, limits, leavings, shell, rules):
+        self.geometry, self.defaults = session.geometry, session.environment.defaults
+        self.rules = stand_ins, limits, leavings, shell, rules
+        self.first = frozenset(session.environment.values.items())
+
+    def session(self, stored):
+        """A session over the variables, which the first copy has."""
+        others = [ERASED * self.geometry.size] * (self.geometry.copies - 1)
+        return Session(self.geometry, [self.geometry.image(1, entries(dict(stored))), *others], self.defaults)
+
+    def power_on(self, stored, answers):
+        """How a power-on ends, by what, and what is stored then; it may raise a question."""
+        session = self.session(stored)
+        made = Run(session, *self.rules, answers)
+        end, by = GIVES_UP, ()
+        try:
+            made.chains(parse(POWER_ON, made.shell))
+        except Leave:
+            pass
+        except Stop as stop:
+            if made.departure:
+                end, by = LEFT[made.departure[0]], made.departure[1]
+            elif stop.args[0] != "Exited":
+                end, by = UNKNOWN, [stop.args[0].encode()]
+        return end, tuple(by), frozenset(session.geometry.choice(session.copies)[1].items())
+
+    def ways(self, stored, most):
+        """Each way in which a power-on ends, with its answers; None at the end if it took more power-ons than that to see them."""
+        waiting = [{}]
+        while waiting and most:
+            most -= 1
+            answers = waiting.pop()
+            try:
+                yield tuple(answers.items()), *self.power_on(stored, answers)
+            except Question as question:
+                waiting += [answers | {question.args[0]: status} for status in (1, 0)]
+        if waiting:
+            yield None
+
+
+class Graph:
+    """What a board can store, in the order in which it is found, and the ways between."""
+
+    def __init__(self, board, most_stored, most_ways):
+        self.stored, self.reached_by, self.ways, self.is_complete = [board.first], [None], [], True
+        at = 0
+        while at < min(len(self.stored), most_stored):
+            for way in board.ways(self.stored[at], most_ways - len(self.ways)):
+                if way is None:
+                    self.is_complete = False
+                else:
+                    self.add(at, *way)
+            at += 1
+        self.is_complete &= at == len(self.stored)
+
+    def add(self, at, answers, end, by, left):
+        if left not in self.stored:
+            self.stored.append(left)
+            self.reached_by.append(len(self.ways))
+        self.ways.append((at, answers, end, by, self.stored.index(left)))
+
+    def never(self, *ends):
+        """The stored environments from which no row of ways leads to such an end."""
+        leads = {at for at, _, end, _, _ in self.ways if end in ends}
+        while more := {at for at, *_, to in self.ways if to in leads} - leads:
+            leads |= more
+        return [at for at in range(len(self.stored)) if at not in leads]
+
+    def path(self, at):
+        """The ways to a stored environment by which it was found."""
+        found = []
+        while self.reached_by[at] is not None:
+            found.insert(0, self.ways[self.reached_by[at]])
+            at = found[0][0]
+        return found
+
+
+def changes(first, stored):
+    """What distinguishes what is stored from what was at first."""
+    first, stored = dict(first), dict(stored)
+    for name, value in sorted(stored.items()):
+        if first.get(name) != value:
+            yield b"  %s=%s\n" % (name, value)
+    for name in sorted(first.keys() - stored.keys()):
+        yield b"  %s (gone)\n" % name
+
+
+def told(way):
+    _, answers, end, by, to = way
+    asked = b", ".join(b"%s = %d" % (b" ".join(call), status) for call, status in answers)
+    return b"%s%s%s; stored %d\n" % (asked + b": " if asked else b"", end, b": " + b" ".join(by) if by else b"", to + 1)
+
+
+def counted(number, word):
+    return b"%d %s" % (number, word if number == 1 else word + b"s")
+
+
+def dead_ends(graph):
+    """What is said of stored environments that never boot again, or only perhaps."""
+    never, perhaps = graph.never(BOOTS, UNKNOWN), graph.never(BOOTS)
+    if never:
+        if len(never) == 1:
+            yield b"1 stored environment never boots again, after:\n"
+        else:
+            yield b"%d stored environments never boot again, the first of them after:\n" % len(never)
+        for way in graph.path(never[0]):
+            yield b"  stored %d: %s" % (way[0] + 1, told(way))
+    elif perhaps:
+        verb = b"boots" if len(perhaps) == 1 else b"boot"
+        yield b"%s %s only if a limit of the run isn't met\n" % (counted(len(perhaps), b"stored environment"), verb)
+
+
+def lines(graph):
+    for at, stored in enumerate(graph.stored):
+        yield b"stored %d\n" % (at + 1)
+        yield from changes(graph.stored[0], stored)
+        yield from (b"  " + told(way) for way in graph.ways if way[0] == at)
+    ends = [way[2] for way in graph.ways]
+    numbers = b", ".join(b"%d %s" % (ends.count(end), word) for end, word in COUNTED.items())
+    yield b"%s, %s: %s\n" % (counted(len(graph.stored), b"stored environment"), counted(len(ends), b"way"), numbers)
+    if not graph.is_complete:
+        yield LIMIT_MET
+    else:
+        yield from dead_ends(graph)
+
+
+def report(board, most_stored, most_ways):
+    """The text, and the status."""
+    graph = Graph(board, most_stored, most_ways)
+    return b"".join(lines(graph)), int(not graph.is_complete or bool(graph.never(BOOTS)))
