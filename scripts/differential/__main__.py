@@ -10,10 +10,12 @@ import sys
 import tempfile
 from collections import Counter
 
-from differential import lock_folder, running
-from differential.running import Runner
+from differential.harness import lock_folder, running
+from differential.harness.running import Runner
 
 SHOWN = 5
+# Where the parts are
+FOLDERS = "rows", "random", "faults"
 # What an answer reports: the ending of a block, a dot line's answer, a message, or nothing
 TOLD = re.compile(
     rb"^\[(Finished|Exited|Steps|Depth|Word|Output|Syntax|Marked|Full|Undone|Gone|Unknown)"
@@ -75,16 +77,17 @@ def folder_for(name, folder):
 def main():
     global worker, chunks
     program, preloads, name, *numbers = sys.argv[1:]
-    if not os.path.exists(f"{os.path.dirname(__file__)}/{name}.py"):
+    folder = next((each for each in FOLDERS if os.path.exists(f"{os.path.dirname(__file__)}/{each}/{name}.py")), None)
+    if not folder:
         sys.exit(f"no part is called {name}")
     sys.setrecursionlimit(100_000)
     running.PROGRAM = os.path.abspath(program)
-    part = importlib.import_module(f"differential.{name}")
+    part = importlib.import_module(f"differential.{folder}.{name}")
     # A chunk makes some of the cases; each process takes one after the other
     chunks = part.chunks(*map(int, numbers))
     passed, failed, texts, names = 0, 0, [], Counter()
-    with tempfile.TemporaryDirectory(dir=folder_for(name, preloads)) as folder:
-        worker = Worker(os.path.abspath(program), os.path.abspath(preloads), folder)
+    with tempfile.TemporaryDirectory(dir=folder_for(name, preloads)) as small:
+        worker = Worker(os.path.abspath(program), os.path.abspath(preloads), small)
         with multiprocessing.get_context("fork").Pool(initializer=lock_folder.have_own) as pool:
             for found in pool.imap_unordered(compare_chunk, range(len(chunks))):
                 passed, failed, texts = passed + found[0], failed + found[1], texts + found[2]

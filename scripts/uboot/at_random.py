@@ -8,7 +8,7 @@ import re
 from pathlib import Path
 
 from rows import read_rows
-from differential.random_scripts import Writer
+from differential.random.random_scripts import Writer
 from model.grammar import RESERVED
 
 ROWS = Path(__file__).with_name("scripts.rows")

@@ -9,7 +9,7 @@ import re
 from dataclasses import dataclass
 
 from dry_run import ANSWER, answer_of
-from differential.rows import boards, examples
+from differential.harness.rows import boards, examples
 from model.texts import stand_ins
 
 SAVED = re.compile(rb"Saving Environment to Flash\.\.\. .*?\nOK\n", re.DOTALL)

@@ -10,7 +10,7 @@ from board import ENVIRONMENT_SIZE, Board
 
 TOP = Path(__file__).resolve().parents[2]
 sys.path.insert(0, str(TOP / "scripts"))
-from differential.boards import text_of  # noqa: E402
+from differential.harness.boards import text_of  # noqa: E402
 
 ANSWER = re.compile(rb"(.*?)\[(Syntax|Memory|[A-Z][a-z]+ \d+ \d+)\]\n", re.DOTALL)
 

@@ -11,7 +11,7 @@ import struct
 import zlib
 
 from board import ENVIRONMENT_SIZE
-from differential.boards import lines_of
+from differential.harness.boards import lines_of
 from rows import Difference, Row
 
 COUNT = 20

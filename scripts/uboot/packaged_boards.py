@@ -12,8 +12,10 @@ import sys
 BINARIES = ("uboot.elf", "u-boot-nodtb.bin", "u-boot.bin", "u-boot-tegra.bin", "u-boot-dtb.imx", "u-boot.img")
 ENTRY = re.compile(rb"[A-Za-z_][\w.,#:-]*=[\n\t -~]*")
 KNOWN = re.compile(rb"(?<=\0)(?:bootcmd|bootdelay|baudrate)=")
-# A word where a command may be called
-CALLED = re.compile(rb"(?:^|[;&|]|\b(?:if|then|else|elif|do|while|until)\b) *(?=([a-z][a-z0-9_]*))", re.M)
+# What an environment may begin with, also where no NUL is between it and the bytes before it
+FIRST = re.compile(rb"(?:\.callbacks|\.flags|bootargs|bootcmd|bootdelay)=[\n\t -~]*\Z")
+# A word where a command may be called, or that becomes a variable's, whose value may be called
+CALLED = re.compile(rb"(?:^|[;&|]|\b(?:if|then|else|elif|do|while|until)\b|\bsetenv +\w+ ) *(?=([a-z][a-z0-9_]*))", re.M)
 
 
 def entries_around(binary, at):
@@ -28,9 +30,21 @@ def entries_around(binary, at):
     return entries
 
 
+def with_first(binary, entries):
+    """The same entries, if the first one stands right behind other bytes."""
+    begin = binary.find(b"\0".join(entries) + b"\0")
+    before = binary[binary.rfind(b"\0", 0, begin - 1) + 1 : begin - 1]
+    if found := FIRST.search(before):
+        return [found[0], *entries]
+    found = FIRST.search(entries[0])
+    is_there = found and any(entry.startswith(found[0].partition(b"=")[0] + b"=") for entry in entries[1:])
+    return entries if not found or is_there else [found[0], *entries[1:]]
+
+
 def environment(binary):
     """The first run of more than three entries, if there is one."""
-    return next((entries for match in KNOWN.finditer(binary) if len(entries := entries_around(binary, match.start())) > 3), [])
+    found = (entries_around(binary, match.start()) for match in KNOWN.finditer(binary))
+    return next((with_first(binary, entries) for entries in found if len(entries) > 3), [])
 
 
 def commands(binary, entries):

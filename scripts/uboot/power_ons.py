@@ -8,7 +8,7 @@ it counts down to that (board.py).
 import re
 
 from board import AUTOBOOT, AUTOMATIC, ENVIRONMENT_SIZE, PROMPT, Board
-from differential.boards import lines_of
+from differential.harness.boards import lines_of
 from model.image import Geometry
 
 RULES = b"reset -> resets\n"

@@ -4,7 +4,7 @@
 //! A row is `NAME: ` and what the call left. Between the colon and what follows the call is made: scripts/sweep.py counts the
 //! allocations there alone, and runs this program once for each of them, with that one refused. Then a line `NAME: refused`
 //! comes before the row, and each row is the same. What a session over streams, a check of scripts and the program take is
-//! refused by scripts/differential/memory.py.
+//! refused by scripts/differential/faults/memory.py.
 #![tactic(auto)]
 
 mod harness;

@@ -1,0 +1,111 @@
+"""How rows of `fwenv check` are written: what is found, a line each, and calls over an environment and over one script."""
+
+import re
+
+from differential.harness.boards import text_of
+from differential.harness.running import Case
+from model.program import WARNING, Answer
+from model.script_run import SENTENCES
+
+
+def finding(said, code):
+    """What makes a line of a place, and of a word that is named there."""
+    return lambda place, word="": f"{place}: {said.format(word)} [{code}]"
+
+
+not_run = finding("error: `run {}` names a variable that is not defined", "run-undefined")
+not_called = finding("error: no builtin and no stand-in is called `{}`", "unknown-command")
+no_operator = finding("error: `test` has no operator `{}` here, and is false", "test-operator")
+no_operator_of_board = finding("error: `test` has no operator `{}` here", "test-operator")
+not_assigned = finding("warning: `{}` is an environment variable, so it can not be assigned", "hidden-assignment")
+hidden = finding("warning: `{}` is an environment variable, which hides what is assigned", "hidden-assignment")
+not_typed = finding("error: the value does not have the type that .flags gives it", "value-type")
+returned = finding("warning: a carriage return stands in the script", "carriage-return")
+not_defined = finding("warning: `${{{}}}` names a variable that nothing defines", "undefined-name")
+lacked = finding("error: this shell has no `{}`", "other-shell")
+lacked_test = finding("error: this shell has no `{}`: write `test`", "other-shell")
+no_functions = finding("error: this shell has no functions", "other-shell")
+NOTHING = "check: error: there is no script to look at [no-script]"
+no_variable = finding("error: no variable of this name is defined", "no-variable")
+
+
+def no_script(place, kind):
+    return f"{place}: error: {SENTENCES[kind].decode()} ({kind}) [syntax]"
+
+
+def several(finding, text):
+    """Findings of one kind: places and words, one after the other."""
+    words = text.split()
+    return [finding(place, word) for place, word in zip(words[::2], words[1::2])]
+
+
+def cut_off(found):
+    """What is printed of these lines."""
+    text = b""
+    for line in found:
+        if len(text) >= 65_536:
+            return text + b"more is found, and not printed\n"
+        text += line
+    return text
+
+
+def lines(found, name=None):
+    """The lines for what is found, each in the script of this name if one is given."""
+    before = "" if name is None else f"{name}:"
+    return b"".join(f"{before}{each}\n".encode(errors="surrogateescape") for each in found)
+
+
+def without(found, *said):
+    """What is found, except for what has one of these texts."""
+    return [each for each in found if not any(text in each for text in said)]
+
+
+# Names that a board finds: what is before their first dot is one, or the beginning of only one
+BY_BEGINNINGS = [f"called `{name}`" for name in ("setexpr.x", "setexpr.", "setenv.x", "printe", "ec", "tru.b", "mm", "us.b", "load.q", "lo", "env.x")]
+
+
+def on_board(found):
+    """What the board's shell finds where the strict one finds this, if `-e` is the only word of `test` among it."""
+    left = without(found, "operator `-e`", *BY_BEGINNINGS)
+    return [each.replace("so it can not be assigned", "which hides what is assigned") for each in left]
+
+
+def place(text, at):
+    """The line and the column of a byte."""
+    before = text[:at].split(b"\n")
+    return f"{len(before)}:{len(before[-1]) + 1}"
+
+
+def counted(number, one):
+    return f"{number} {one}{'s' * (number != 1)}"
+
+
+def last(scripts, errors, warnings):
+    """The last line of a check, on standard error."""
+    return f"{counted(scripts, 'script')} looked at, {counted(errors, 'error')}, {counted(warnings, 'warning')}\n".encode()
+
+
+def row(name, words, files, output, errors=b"", given=b"", status=None, seconds=0.25, scripts=None, found=None):
+    """A check; the status is 1 if an error is found or a fault is reported. Unless one is, the last line has the numbers of errors and
+    warnings that are `found`, those of the lines if they aren't given; how many scripts there are, if that isn't given, is the model's."""
+    case = Case(name, [b"check", *words], files, given, seconds=seconds)
+    if errors in (b"", WARNING):
+        found = found or (output.count(b": error: "), output.count(b": warning: "))
+        scripts = scripts or int(re.search(rb"(\d+) scripts? looked at", case.answer().errors)[1])
+        errors, usual = errors + last(scripts, *found), int(found[0] > 0)
+    else:
+        usual = 1
+    case.wanted = Answer(usual if status is None else status, output, errors, files)
+    return case
+
+
+def over(variables, words, output, files=(), **rest):
+    return row("a check of an environment", [b"--env", b"env", *words], {b"env": text_of(variables)} | dict(files), output, **rest)
+
+
+def of_file(script, words, output, files=(), **rest):
+    return row("a check of a script", [b"-f", b"a:1 b", *words], {b"a:1 b": script} | dict(files), output, **rest)
+
+
+def with_stand_ins(words=()):
+    return [*words, b"--stubs", b"stand-ins"]

@@ -1,0 +1,1 @@
+"""Parts whose cases are made at random, each list by a seed."""

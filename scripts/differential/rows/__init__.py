@@ -1,0 +1,1 @@
+"""Parts whose cases are written by hand, or read from documents, examples and packages."""

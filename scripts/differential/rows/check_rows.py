@@ -1,0 +1,310 @@
+"""Faults of scripts that are found before they run, by hand: `fwenv check` over an environment and over one script. Each row is a
+call and the lines that it prints; with an error among them the status is 1. Nothing is written."""
+
+import re
+
+from differential.harness.boards import CONFIG, STRICT, arguments, board, calls, text_of
+from differential.harness.check_lines import (
+    NOTHING, cut_off, hidden, lacked, last, lines, no_script, no_operator_of_board, no_variable, not_assigned, not_called, not_defined, not_run, not_typed, on_board, returned,
+    row, with_stand_ins, without,
+)  # fmt: skip
+from differential.harness.running import Case
+from differential.rows import check_kinds
+from differential.rows.check_kinds import STAND_INS
+from differential.rows.script_rows import NO_ENVIRONMENTS, NO_SIZES, absent, longer
+from differential.rows.tool_rows import FIRST, PAIR, SECOND
+from model.arguments import ENV_AND, FILE_AND, NO_CODE, NO_SHELL, NO_SIZE, SIZE_ALONE
+from model.dry_run import LONGEST
+from model.image import Geometry
+from model.program import WARNING, Answer
+
+# Variables as a text for import, names, and all that is printed
+FOLLOWED = [
+    (b"a=1\n", [], []),
+    (b"other=run n\nbootcmd2=run n\n", [], []),
+    (b"bootcmd=run n\n", [], [not_run("bootcmd:1:5", "n")]),
+    (b"altbootcmd=run n\n", [], [not_run("altbootcmd:1:5", "n")]),
+    (b"preboot=run n\n", [], [not_run("preboot:1:5", "n")]),
+    (
+        b"preboot=run n1\naltbootcmd=run n2\nbootcmd=run n3\nother=run n4\n", [],
+        [not_run("bootcmd:1:5", "n3"), not_run("altbootcmd:1:5", "n2"), not_run("preboot:1:5", "n1")],
+    ),
+    (b"preboot=run n1\nbootcmd=run n3\n", [b"preboot"], [not_run("preboot:1:5", "n1")]),
+    (b"a=run n1\nb=run n2\n", [b"b", b"a"], [not_run("b:1:5", "n2"), not_run("a:1:5", "n1")]),
+    (b"a=run n1\n", [b"a", b"a"], [not_run("a:1:5", "n1")]),
+    (b"a=run n1\n", [b"none", b"a"], [no_variable("none"), not_run("a:1:5", "n1")]),
+    (b"a=run n1\n", [b"a", b"none", b"lost"], [no_variable("none"), no_variable("lost"), not_run("a:1:5", "n1")]),
+    (b"bootcmd=run n1\n", [b"none"], [no_variable("none")]),
+    (b"a=1\n", [b"none", b"none"], [no_variable("none"), no_variable("none")]),
+    (b"a=1\n", [b""], [no_variable("")]),
+    (b"a=1\n", [b"a b"], [no_variable("a b")]),
+    (b"a=1\n", [b"--", b"-a"], [no_variable("-a")]),
+    (b"-a=run n\n", [b"--", b"-a"], [not_run("-a:1:5", "n")]),
+    (b"a:1=run n\n", [b"a:1"], [not_run("a:1:1:5", "n")]),
+    (b"bootcmd=run a\na=run n\nb=run n\n", [], [not_run("a:1:5", "n")]),
+    (b"bootcmd=run b a\na=run n1\nb=run n2\n", [], [not_run("b:1:5", "n2"), not_run("a:1:5", "n1")]),
+    (b"bootcmd=run a b\na=run c n1\nb=run n2\nc=run n3\n", [], [not_run("a:1:7", "n1"), not_run("b:1:5", "n2"), not_run("c:1:5", "n3")]),
+    (b"bootcmd=run a; run n1\na=run n2; run bootcmd\n", [], [not_run("bootcmd:1:12", "n1"), not_run("a:1:5", "n2")]),
+    (b"a=run b\nb=run a c\nc=run c; run n\n", [b"a"], [not_run("c:1:12", "n")]),
+    (b"a=run b\nb=run n\n", [b"b", b"a"], [not_run("b:1:5", "n")]),
+    (b"a=run c b\nb=run n1\nc=run n2\n", [b"a", b"b"], [not_run("b:1:5", "n1"), not_run("c:1:5", "n2")]),
+    (b"bootcmd=true && run 'it''s' || run two\\\\ words\nits=run n1\ntwo words=run n2\n", [], [not_run("its:1:5", "n1"), not_run("two words:1:5", "n2")]),
+    (b"bootcmd=env run a\na=run n\n", [], []),
+    (b"bootcmd=if false; then while false; do run a; done; fi\na=run n\n", [], [not_run("a:1:5", "n")]),
+    (b"bootcmd=for i in 1 2; do run a$i; run \"$x\"; done\na1=run n\nx=a1\n", [], []),
+    (b"bootcmd=run a '\na='\n", [], [no_script("bootcmd:1:7", "Quote")]),
+    (b"bootcmd=run a; run b\na=echo '\nb=run n\n", [], [no_script("a:1:6", "Quote"), not_run("b:1:5", "n")]),
+    (b"bootcmd=run a; x=1\na=x=2\nx=1\n", [], [not_assigned("bootcmd:1:8", "x"), not_assigned("a:1:1", "x")]),
+    (b"bootcmd=echo a\\\n  run n\n", [], [not_run("bootcmd:2:7", "n")]),
+    (b".flags=run:sr\n.s=run n\n", [b".s", b".flags"], [not_run(".s:1:5", "n")]),
+]  # fmt: skip
+# The same for substitutions: any script that is checked may give a name to something
+GIVEN = [
+    (b"bootcmd=echo $n; run b\nb=setenv n 1\n", [], []),
+    (b"bootcmd=run b; echo $n\nb=for n in 1; do true; done\n", [], []),
+    (b"bootcmd=echo $n\npreboot=n=1\n", [], []),
+    (b"bootcmd=run b\nb=run c; echo $n\nc=test $n\n", [], []),
+    (b"bootcmd=echo $n\nb=n=1\n", [], [not_defined("bootcmd:1:6", "n")]),
+    (b"bootcmd=echo $n; env run b\nb=n=1\n", [], [not_defined("bootcmd:1:6", "n")]),
+    (b"bootcmd=echo $n\nb=n=1\n", [b"bootcmd", b"b"], []),
+    (b"bootcmd=echo $n\nb=n=1\n", [b"b", b"bootcmd"], []),
+    (b"bootcmd=run b; echo $n\nb=n=1 '\n", [], [not_defined("bootcmd:1:13", "n"), no_script("b:1:5", "Quote")]),
+    (b"bootcmd=run b; echo $n\nb=setenv n 1; if\n", [], [not_defined("bootcmd:1:13", "n"), no_script("b:1:15", "Missing")]),
+    (b"n=1\nbootcmd=echo $n ${m}\n", [], [not_defined("bootcmd:1:9", "m")]),
+    (b"n=\nbootcmd=echo $n\n", [], [not_defined("bootcmd:1:6", "n")]),
+    (b"bootcmd=run b b; echo $n\nb=echo $n\n", [], [not_defined("bootcmd:1:15", "n"), not_defined("b:1:6", "n")]),
+    (b"bootcmd=echo $none\n", [b"none", b"bootcmd"], [no_variable("none"), not_defined("bootcmd:1:6", "none")]),
+    (b"bootcmd=echo $m ${.flags}\n.flags=m:d\n", [], [not_defined("bootcmd:1:6", "m")]),
+    (b"n=x\nbootcmd=echo $m\n.flags=n:d\n", [], [not_defined("bootcmd:1:6", "m"), not_typed("n")]),
+]  # fmt: skip
+# The same for names that `run` starts: any script that is checked may set, test or ask for their variables
+FORESEEN = [
+    (b"bootcmd=if test -n ${uenvcmd}; then run uenvcmd; fi\n", [], []),
+    (b"bootcmd=if test -n '${uenvcmd}'; then run uenvcmd; fi\n", [], [not_run("bootcmd:1:35", "uenvcmd")]),
+    (b"bootcmd=if test -n ${uenvcmd}; then run uenvcmb; fi\n", [], [not_run("bootcmd:1:33", "uenvcmb")]),
+    (b"bootcmd=run b; run n\nb=setenv n 1\n", [], []),
+    (b"bootcmd=run n b\nb=run c\nc=test $n\n", [], []),
+    (b"bootcmd=run n\npreboot=setexpr n 1 + 1\n", [], []),
+    (b"bootcmd=run n\nb=setenv n 1\n", [], [not_run("bootcmd:1:5", "n")]),
+    (b"bootcmd=run n\nb=setenv n 1\n", [b"bootcmd", b"b"], []),
+    (b"bootcmd=run n\nb=setenv n 1\n", [b"b", b"bootcmd"], []),
+    (b"bootcmd=run n; env run b\nb=setenv n 1\n", [], [not_run("bootcmd:1:5", "n")]),
+    (b"bootcmd=run n b\nb=setenv n 1 '\n", [], [not_run("bootcmd:1:5", "n"), no_script("b:1:12", "Quote")]),
+    (b"bootcmd=run n m; setenv n 1\nn=run lost\n", [], [not_run("bootcmd:1:7", "m"), not_run("n:1:5", "lost")]),
+    (b"bootcmd=setenv n 'run lost'; run n\n", [], []),
+    (b"bootcmd=setenv n 'setenv m 1'; run n m\n", [], [not_run("bootcmd:1:30", "m")]),
+    (b"bootcmd=run n\n.flags=n:d\n", [], [not_run("bootcmd:1:5", "n")]),
+    (b"bootcmd=setenv none 1\n", [b"none", b"bootcmd"], [no_variable("none")]),
+]  # fmt: skip
+# Variables as a text for import, in which `.flags` comes last, names, and all that is printed: types are checked after the scripts
+TYPED = [
+    (b"n=x\n.flags=n:d\n", [], [not_typed("n")]),
+    (b"n=17\n.flags=n:d\n", [], []),
+    (b"n=x\n", [], []),
+    (b"n=x\n.flags=n,m:d\n", [], []),
+    (b"n=1 2\n.flags=n:s\n", [], []),
+    (b"n=-1\no=1a\np=0x1\n.flags=n:d,o:d,p:d\n", [], [not_typed("n"), not_typed("o"), not_typed("p")]),
+    (b"n=0x\no=0x1F\np=fg\n.flags=n:x,o:x,p:x\n", [], [not_typed("n"), not_typed("p")]),
+    (b"n=y\no=yes\np=2\n.flags=n:b,o:b,p:b\n", [], [not_typed("o"), not_typed("p")]),
+    (b"n=999.0.0.0\no=1.2.3\np=1.2.3.4.5\n.flags=n:i,o:i,p:i\n", [], [not_typed("o"), not_typed("p")]),
+    (b"n=0:1:2:3:4:f5\no=0:1:2:3:4\np=0:1:2:3:4:g5\n.flags=n:m,o:m,p:m\n", [], [not_typed("o"), not_typed("p")]),
+    (b"z=x\na=x\nB=x\n.flags=a:d,B:d,z:d\n", [], [not_typed("B"), not_typed("a"), not_typed("z")]),
+    (b".flags=.flags:d\n", [], [not_typed(".flags")]),
+    (b"n=x\n.flags=n:d,n:s\n", [], []),
+    (b"n=x\n.flags=n:s, n : dr\n", [], [not_typed("n")]),
+    (b"n=x\n.flags=n:zr\n", [], []),
+    (b"n=x\na=run m\nbootcmd=run o\n.flags=n:d\n", [], [not_run("bootcmd:1:5", "o"), not_typed("n")]),
+    (b"n=x\na=run m\nbootcmd=run o\n.flags=n:d\n", [b"a", b"none"], [no_variable("none"), not_run("a:1:5", "m"), not_typed("n")]),
+    (b"bootcmd=setenv n x; n=x\n.flags=n:d\n", [], []),
+    (b"n=n=2\nbootcmd=run n\n.flags=bootcmd:d\n", [], [not_assigned("n:1:1", "n"), not_typed("bootcmd")]),
+]
+# What is printed of arguments of `check` that are wrong, and such arguments; nothing is read
+WRONG = {
+    FILE_AND: (
+        "-f script --shell x a / -f script a / a -f - / -f script '' / -c absent -f script / -f script --default absent / -f=script --env=absent / "
+        "-f script --size x / -f script --size 4000 --env absent -c absent a"
+    ),
+    ENV_AND % b"-c <FILE>": "--env absent -c absent / --default=absent --size=x --env absent -c=absent",
+    ENV_AND % b"--default <FILE>": "a --default=absent --env absent",
+    SIZE_ALONE: "--size 4000 / --size x -c absent a",
+    NO_SIZE % b"x": "--env absent --size=x a / --env absent --size=x --shell=x",
+    NO_SHELL % b"x": "--shell x / --shell x --ignore y / --shell=x -f absent / -c absent --shell=x a",
+    NO_CODE % b"x": "--ignore x / --ignore=syntax --ignore x / -f absent --ignore=x --strict / -c absent --ignore=x a",
+    NO_CODE % b"": "--ignore=",
+    NO_CODE % b"[syntax]": "--ignore [syntax] --ignore=x",
+    NO_CODE % b"Syntax": "--ignore=Syntax",
+    None: "--ignore / --strict --strict / --strict=1 / --shell / --shell=board --shell=board / -f / -f a -f a / -e true / --write / --boots booti / --steps 1 / --stubs / --stubs=a --stubs=a / --env=a --env=a / -n a / -x",
+}
+# Files that aren't there, in the order in which they are used
+ORDER = [
+    ([b"-c", b"absent", b"--default", b"none", b"--stubs", b"nothing"], b"absent"),
+    ([b"-c", CONFIG, b"--default", b"none", b"--stubs", b"nothing"], b"none"),
+    ([b"-c", CONFIG, b"--stubs", b"nothing", b"a"], b"nothing"),
+    ([b"--env", b"none", b"--stubs", b"nothing"], b"none"),
+    ([b"--env", b"stand-ins", b"--stubs", b"nothing"], b"nothing"),
+    ([b"--env", b"./-"], b"./-"),
+    ([b"-f", b"no", b"--stubs", b"nothing"], b"nothing"),
+    ([b"-f", b"no", b"--stubs", b"stand-ins"], b"no"),
+    ([b"-f", b"no"], b"no"),
+    ([b"-f="], b""),
+]
+
+
+def with_nothing(text, names, found):
+    """What is found, and after the names that aren't there that no script is, if none of the names is defined."""
+    there = {line.partition(b"=")[0] for line in text.split(b"\n") if b"=" in line}
+    if there & set(names or (b"bootcmd", b"altbootcmd", b"preboot")):
+        return found
+    lost = len([each for each in found if each.endswith("[no-variable]")])
+    return [*found[:lost], NOTHING, *found[lost:]]
+
+
+def followed():
+    for text, names, lines_of in FOLLOWED + GIVEN + FORESEEN + TYPED:
+        found = with_nothing(text, names, lines_of)
+        yield row("scripts that are followed", [b"--env", b"env", *names], {b"env": text}, lines(on_board(found)))
+        yield row("scripts that are followed", [*STRICT, b"--env", b"env", *names], {b"env": text}, lines(found))
+    many = b"".join(b"v%d=run v%d v%d\n" % (at, at + 1, at * 7 % 500) for at in range(500))
+    yield row("a long way", [b"--env", b"env", b"v0"], {b"env": many}, lines([not_run("v499:1:5", "v500")]), seconds=1)
+
+
+def many(kind, count, column=1, word="a"):
+    """What is printed of findings of this kind, one in each of so many lines."""
+    return cut_off([lines([kind(f"{number}:{column}", word)], "s") for number in range(1, count + 1)])
+
+
+def limits():
+    """Lines that take up to 65,536 bytes and one byte less, and what is found after them; an error without a line counts."""
+    start, files = [lines([not_called(f"{number}:1", "a")], "s") for number in range(1, 801)], {b"stand-ins": b""}
+    room = 65_536 - len(b"".join(start)) - len(lines([not_called("801:1", "")], "s"))
+    for length in (room - 1, room, room + 1):
+        for rest in ([], [b"b"], [b"b", b"c"]):
+            names = [b"x" * length, *rest]
+            found = [lines([not_called(f"{number}:1", name.decode())], "s") for number, name in enumerate(names, 801)]
+            files[b"s"] = b"a\n" * 800 + b"\n".join(names)
+            said = (800 + len(names), 0)
+            yield row("many lines", with_stand_ins([b"-f", b"s"]), dict(files), cut_off(start + found), seconds=1, found=said)
+    for rest, flags, status in ((b"", b"s", 0), (b"run none\n", b"s", 1), (b"", b"d", 1)):
+        files = {b"env": text_of({b"a": b"1", b"n": b"x", b"s": b"a=1\n" * 2_000 + rest, b".flags": b"n:" + flags})}
+        yield row("many warnings", [b"--env", b"env", b"s"], files, many(hidden, 2_000), seconds=1, found=(status, 2_000))
+        yield row("many warnings", [*STRICT, b"--env", b"env", b"s"], files, many(not_assigned, 2_000), seconds=1, found=(status, 2_000))
+    in_one_word = cut_off([lines([not_defined("1:6", name)], "s") for name in "nm" * 750])
+    for script, output, found in (
+        (b"echo $n\n" * 1_500, many(not_defined, 1_500, 6, "n"), (0, 1_500)),
+        (b"echo $n\n" * 1_500 + b"break\n", many(not_defined, 1_500, 6, "n"), (1, 1_500)),
+        (b"echo " + b"$n$m" * 750, in_one_word, (0, 1_500)),
+        (b"echo " + b"$n" * 1_500, lines([not_defined("1:6", "n")], "s"), (0, 1)),
+    ):
+        yield row("many substitutions", [b"--env", b"env", b"s"], {b"env": text_of({b"s": script})}, output, seconds=1, found=found)
+    yield row("many that are lacked", [b"-f", b"s"], {b"s": b"break\n" * 2_000}, many(lacked, 2_000, word="break"), seconds=1, found=(2_000, 0))
+    names = [b"name%04d" % number for number in range(1_500)]
+    output = cut_off([lines([no_variable(name.decode())]) for name in names])
+    yield row("many names", [b"--env", b"env", *names], {b"env": b"bootcmd=true\n"}, output, seconds=1, found=(1_501, 0))
+
+
+# A script in which each kind of finding of a script is, and variables beside it
+EACH_KIND = b"run none; x=$y; laod; test a == b\nbreak\r"
+EACH_FOUND = [
+    returned("2:6"), not_run("1:5", "none"), hidden("1:11", "x"), not_defined("1:13", "y"), not_called("1:17", "laod"),
+    no_operator_of_board("1:30", "=="), not_called("2:1", "break\r"),
+]  # fmt: skip
+BESIDE = {b"x": b"1", b"n": b"a", b".flags": b"n:d"}
+
+
+def code_of(line):
+    return re.search(r"\[([a-z-]+)\]\Z", line)[1]
+
+
+def counting():
+    """What is left out, and warnings that count."""
+    files = {b"env": text_of(BESIDE | {b"s": EACH_KIND}), b"stand-ins": b""}
+    found = [*(f"s:{each}" for each in EACH_FOUND), not_typed("n")]
+    words = [b"--env", b"env", *with_stand_ins([b"s"])]
+    yield row("each kind", words, files, lines(found), scripts=1)
+    codes = sorted({code_of(each) for each in found})
+    for code in codes:
+        left = [each for each in found if code_of(each) != code]
+        yield row("a kind that is left out", [*words, b"--ignore", code.encode()], files, lines(left), scripts=1)
+        yield row("a kind alone", [*words, *(b"--ignore=" + each.encode() for each in codes if each != code)], files, lines(without(found, *(f"[{each}]" for each in codes if each != code))))
+    yield row("all left out", [*words, b"--strict", *(b"--ignore=" + each.encode() for each in codes)], files, b"", scripts=1, status=0)
+    for strict in ([], [b"--strict"]):
+        hides = row("a warning", [b"--env", b"env", *strict, b"s"], {b"env": b"x=1\ns=x=2\n"}, lines([hidden("s:1:1", "x")]), scripts=1, status=len(strict))
+        yield hides
+        yield row("no warning", [b"--env", b"env", *strict, b"s"], {b"env": b"x=1\ns=y=2\n"}, b"", scripts=1, status=0)
+        left_out = [*strict, b"--ignore", b"hidden-assignment"]
+        yield row("a warning left out", [b"--env", b"env", *left_out, b"s"], {b"env": b"x=1\ns=x=2\n"}, b"", scripts=1, status=0)
+        yield row("a script alone", [*strict, b"-f", b"s"], {b"s": b"true\r"}, lines([returned("1:5")], "s"), scripts=1, status=len(strict))
+        yield row("a script left out", [*strict, b"-f", b"s", b"--ignore=carriage-return"], {b"s": b"true\r"}, b"", scripts=1, status=0)
+    yield row("no name, left out", [b"--env", b"env", b"--ignore", b"no-variable", b"a"], {b"env": b"bootcmd=true\n"}, lines([NOTHING]))
+    both = [b"--ignore", b"no-variable", b"--ignore=no-script"]
+    yield row("no name and no script, left out", [b"--env", b"env", *both, b"a"], {b"env": b"bootcmd=true\n"}, b"", status=0)
+    text = b"bootcmd=run a; run b\na=run b\nb=run c c\nx=1\n"
+    yield row("three scripts", [b"--env", b"env"], {b"env": text}, lines([not_run("b:1:5", "c"), not_run("b:1:7", "c")]), scripts=3)
+    many_left = [b"--env", b"env", b"--ignore", b"undefined-name", b"s"]
+    yield row("many that are left out", many_left, {b"env": text_of({b"s": b"echo $n\n" * 1_500 + b"break\n"})}, lines([lacked("1501:1", "break")], "s"), seconds=1)
+
+
+def opened():
+    """Over copies, and without a good one."""
+    single = Geometry(1, 64)
+    stored = board(single, [single.image(0, b"bootcmd=run n\0p=run m\0")]) | {b"text": b"bootcmd=run q; p=1\np=run r\n", b"stand-ins": STAND_INS}
+    blank = board(single, [b"\xff" * 64]) | {b"text": stored[b"text"], b"stand-ins": STAND_INS}
+    found, usual = lines([not_run("bootcmd:1:5", "n")]), lines([not_run("bootcmd:1:5", "q"), hidden("bootcmd:1:8", "p")])
+    yield row("copies", arguments(b"check")[1:], stored, found)
+    yield row("a name in copies", arguments(b"check", b"p")[1:], stored, lines([not_run("p:1:5", "m")]))
+    yield row("stand-ins over copies", arguments(b"check", *with_stand_ins())[1:], stored, found)
+    yield row("a default text that is not used", arguments(b"check", b"--default", b"text")[1:], stored, found)
+    with_names = board(single, [single.image(0, b"a=1\0preboot=$a b\0bootcmd=$b $n\0")])
+    yield row("substitutions over a copy", arguments(b"check")[1:], with_names, lines([not_defined("bootcmd:1:4", "n")]))
+    yield row("no good copy", arguments(b"check")[1:], blank, lines([NOTHING]), WARNING)
+    yield row("no good copy, and a name", arguments(b"check", b"p")[1:], blank, lines([no_variable("p"), NOTHING]), WARNING)
+    yield row("a default text", arguments(b"check", b"--default", b"text")[1:], blank, usual, WARNING)
+    strict = lines([not_run("bootcmd:1:5", "q"), not_assigned("bootcmd:1:8", "p")])
+    yield row("a default text", arguments(b"check", *STRICT, b"--default", b"text")[1:], blank, strict, WARNING)
+    yield row("a fault after the warning", arguments(b"check", b"--stubs", b"absent")[1:], blank, b"", WARNING + absent(b"absent"))
+    big = Geometry(2, 64, "big")
+    typed = board(single, [single.image(0, b".flags=n:d,o:d\0n=x\0o=1\0")])
+    yield row("types in copies", arguments(b"check")[1:], typed, lines([NOTHING, not_typed("n")]))
+    files = board(big, [big.image(7, b"bootcmd=run n\0"), b"\xff" * 64])
+    yield row("a big-endian copy", arguments(b"check", order="big")[1:], files, found)
+    yield row("the wrong order", arguments(b"check")[1:], files, lines([NOTHING]), WARNING)
+    yield row("a big-endian text", [b"--big-endian", b"--env", b"env"], {b"env": b"bootcmd=run n\n"}, found)
+    yield row("a big-endian script", [b"--big-endian", b"-f", b"s"], {b"s": b"'"}, lines([no_script("1:1", "Quote")], "s"))
+    yield Case("before the subcommand", [b"--big-endian", b"check", b"-c", CONFIG], files, wanted=Answer(1, found, last(1, 1, 0), files))
+    for text, size, errors in NO_ENVIRONMENTS:
+        files = {} if text is None else {b"env": text}
+        sized = [b"--env", b"env"] if size is None else [b"--env", b"env", b"--size=" + size]
+        yield row("no environment", [*sized, b"--stubs", b"absent", b"ok"], files, b"", errors, seconds=2)
+
+
+def words():
+    files = {b"script": b"'", b"env": b"bootcmd=run n\n"}
+    for errors, texts in WRONG.items():
+        for given in calls(texts):
+            yield row("wrong words of a check", given, files, b"", errors, status=1)
+    for text in NO_SIZES:
+        yield row("a wrong size", [b"--env", b"absent", b"--size=" + text], files, b"", NO_SIZE % text)
+    found = lines([not_run("bootcmd:1:5", "n")])
+    for given in ([b"--env", b"env"], [b"--env=env", b"--size", b"18"], [b"bootcmd", b"--env", b"env"], [b"--env", b"env", b"--", b"bootcmd"]):
+        yield row("the same words in another way", given, files, found)
+    for given in ([b"-fscript"], [b"-f=script"]):
+        yield row("a file in another way", given, files, lines([no_script("1:1", "Quote")], "script"))
+    files = board(PAIR, [FIRST, SECOND]) | {b"stand-ins": b""}
+    for given, path in ORDER:
+        yield row("the first file", given, files, b"", absent(path))
+    config = files | {CONFIG: b"none 0 a\n"}
+    yield row("a copy first", arguments(b"check", b"--default", b"absent", b"--stubs", b"nothing")[1:], config, b"", absent(b"none"))
+    longest, too_long = b"#" * (LONGEST - 1) + b"\r", b"#" * (LONGEST + 1)
+    told = lines([returned(f"1:{LONGEST}")], "script")
+    yield row("the longest script", [b"-f", b"script"], {b"script": longest}, told, seconds=2)
+    yield row("a longer script", [b"-f", b"script"], {b"script": too_long}, b"", longer(b"script"), seconds=2)
+    yield row("longer standard input", [b"-f", b"-"], {}, b"", longer(b"-"), given=too_long, seconds=2)
+    yield row("no standard input", [b"-f", b"-"], {}, b"")
+    yield row("standard input that isn't asked for", [b"--env", b"env"], {b"env": b"a=1\n"}, lines([NOTHING]), given=b"'")
+    case = row("a path as it is given", [b"-f", b"./script"], {b"script": b"'"}, lines([no_script("1:1", "Quote")], "./script"), scripts=1)
+    case.is_modelled = False
+    yield case
+
+
+def chunks():
+    return [*check_kinds.chunks(), followed, limits, counting, opened, words]
