@@ -60,11 +60,12 @@ program_of() {
     echo "$top/crates/$1/out/$1"
 }
 
-# fastest COUNT INPUT COMMAND..: the best time of so many runs, in nanoseconds, goes to taken, the most memory in KiB to memory.
+# fastest COUNT INPUT COMMAND..: the best time of so many runs, in nanoseconds, goes to taken, the most memory in KiB to memory. Each has
+# to end with the status WANTED (0).
 fastest() {
     local time peak turn least='' most=0
     for ((turn = 0; turn < $1; turn++)); do
-        "$measure" "$work/measured" "${@:3}" <"$2" >/dev/null 2>"$work/errors"
+        "$measure" "$work/measured" "${@:3}" <"$2" >/dev/null 2>"$work/errors" || [ $? = "${WANTED:-0}" ]
         read -r time peak _ <"$work/measured"
         if [ -z "$least" ] || [ "$time" -lt "$least" ]; then least=$time; fi
         if [ "$peak" -gt "$most" ]; then most=$peak; fi
