@@ -21,6 +21,7 @@ BLOCK = re.compile(r"^```console\n(.*?)^```$", re.M | re.S)
 # What is there before the first block of a document: the files of an example, and commands
 STAGES = {
     "docs/boot.md": ("two-slots", "true"),
+    "docs/check.md": ("bootcmd", "true"),
     "docs/guide.md": ("booting", "rm broken.txt stand-ins.txt"),
     "docs/dry-runs.md": (
         "bootcmd",
