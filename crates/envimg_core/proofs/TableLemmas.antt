@@ -128,7 +128,7 @@ table_entry k b h l =
 
 -- ---- many bytes
 
-feed-append : (xs ys : List ℕ) (r : ℕ) → feed r (xs ++ ys) ≡ feed (feed r xs) ys
+pub feed-append : (xs ys : List ℕ) (r : ℕ) → feed r (xs ++ ys) ≡ feed (feed r xs) ys
 unfolding feed
 feed-append [] ys r = refl
 feed-append (x ∷ xs) ys r = feed-append xs ys (steps 8 (bit_xor r x))

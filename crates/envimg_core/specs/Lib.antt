@@ -1,6 +1,7 @@
 -- What the public calls promise.
 pub mod Bytes
 pub mod Checksum
+pub mod Digest
 pub mod Environment
 pub mod Geometry
 pub mod Image

@@ -20,14 +20,39 @@ const ALL_ONES: u32 = 0xFFFF_FFFF;
 pub fn crc32(bytes: &[u8]) -> u32
     ensures { result ≡ checksum bytes.now }
 {
-    let mut register = ALL_ONES;
-    let mut rest = bytes;
-    while rest.len() >= BLOCK {
-        let (block, behind) = rest.split_at(BLOCK);
-        register = feed_block(register, block);
-        rest = behind;
+    feed_all(ALL_ONES, bytes) ^ ALL_ONES
+}
+
+/// The checksum of bytes that come piece by piece: that of [`crc32`].
+#[derive(Clone, Copy, Debug)]
+pub struct Digest {
+    register: u32,
+}
+
+impl Digest {
+    ghost use Rattle.std.specs.Prelude.{ℕ, List, ◌++◌};
+    ghost use Rattle.envimg_core.specs.Digest.{AreBytes, HasTaken};
+
+    /// The checksum before the first byte.
+    pub fn new() -> Digest
+        ensures { HasTaken result [] }
+    {
+        Digest { register: ALL_ONES }
     }
-    feed_bytes(register, rest) ^ ALL_ONES
+
+    /// Takes these bytes behind those that it has taken.
+    pub fn update(&mut self, bytes: &[u8])
+        ensures { (taken : List ℕ) → HasTaken self.old taken → HasTaken self.new (taken ++ bytes.now) }
+    {
+        self.register = feed_all(self.register, bytes);
+    }
+
+    /// The checksum of the bytes that it has taken.
+    pub fn finalize(self) -> u32
+        ensures { (taken : List ℕ) → AreBytes taken → HasTaken self taken → result ≡ checksum taken }
+    {
+        self.register ^ ALL_ONES
+    }
 }
 
 /// The same checksum, bit by bit: the plain program, with which tests and measurements compare [`crc32`].
@@ -61,6 +86,20 @@ fn feed_bit(register: u32) -> u32
     } else {
         register / 2
     }
+}
+
+/// Bytes go by: eight at a time, and then the last ones.
+fn feed_all(register: u32, bytes: &[u8]) -> u32
+    ensures { result ≡ feed register bytes.now }
+{
+    let mut turned = register;
+    let mut rest = bytes;
+    while rest.len() >= BLOCK {
+        let (block, behind) = rest.split_at(BLOCK);
+        turned = feed_block(turned, block);
+        rest = behind;
+    }
+    feed_bytes(turned, rest)
 }
 
 /// Bytes go by, one after the other.

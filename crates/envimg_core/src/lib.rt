@@ -15,7 +15,7 @@ mod state;
 mod writer;
 
 pub use area::{END, EQUALS, entries};
-pub use checksum::{crc32, crc32_bitwise};
+pub use checksum::{Digest, crc32, crc32_bitwise};
 pub use choice::{Choice, choose};
 pub use geometry::{Geometry, Layout, Order, SIZE_MAX};
 pub use pieces::{Entries, Entry};

@@ -5,7 +5,7 @@ use envimg_core::CopyState::{self, BadCrc, BadLength, Good, Unterminated};
 use envimg_core::Layout::{self, Redundant, Single};
 use envimg_core::Order::{self, Big, Little};
 use envimg_core::{
-    Choice, Geometry, ImageWriter, check_copy, choose, crc32, crc32_bitwise, entries,
+    Choice, Digest, Geometry, ImageWriter, check_copy, choose, crc32, crc32_bitwise, entries,
 };
 use std::process::Abort;
 use std::test::Fail;
@@ -42,6 +42,22 @@ fn checksums_of_known_texts(rt: HostRuntime) {
     for (text, sum) in known {
         assert_eq!(rt; (crc32(text), crc32_bitwise(text)), (sum, sum));
     }
+}
+
+#[test]
+fn a_checksum_of_pieces_is_that_of_the_whole(rt: HostRuntime) {
+    let mut digest = Digest::new();
+    assert_eq!(rt; digest.finalize(), 0);
+    let pieces: [&[u8]; 4] = [
+        b"The quick brown fox ",
+        b"",
+        b"jumps over",
+        b" the lazy dog",
+    ];
+    for piece in pieces {
+        digest.update(piece);
+    }
+    assert_eq!(rt; digest.finalize(), 0x414F_A339);
 }
 
 #[test]
