@@ -26,7 +26,7 @@ def variables(image):
     area = image[4:]
     if struct.unpack("<I", image[:4]) != (zlib.crc32(area),):
         sys.exit("by_hand.py: a power-on has stored no good copy")
-    return frozenset(area[:area.index(b"\0\0")].split(b"\0"))
+    return frozenset(area[: area.index(b"\0\0")].split(b"\0"))
 
 
 def power_on(image, answers):

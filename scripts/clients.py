@@ -20,8 +20,16 @@ SIZE = 0x4000
 LONGEST = 30
 RAUC_START = b"BOOT_ORDER=A B\nBOOT_A_LEFT=3\nBOOT_B_LEFT=3\nbootcmd=run x\n"
 RAUC_CALLS = (
-    "status", "status mark-good", "status mark-bad other", "status mark-good other", "status mark-active other", "status",
-    "status mark-good", "status mark-active rootfs.0", "status mark-bad other", "status",
+    "status",
+    "status mark-good",
+    "status mark-bad other",
+    "status mark-good other",
+    "status mark-active other",
+    "status",
+    "status mark-good",
+    "status mark-active rootfs.0",
+    "status mark-bad other",
+    "status",
 )
 SYSTEM = """[system]
 compatible=test-board
@@ -45,8 +53,14 @@ bootname=B
 MENDER_START = b"upgrade_available=0\nbootcount=0\nbootlimit=1\nmender_boot_part=2\nmender_boot_part_hex=2\nbootcmd=run x\n"
 # Each command of Mender with the part that the board runs from, and its status: 2 says that there is nothing to commit
 MENDER_CALLS = (
-    ("p2", "show-artifact", 0), ("p2", "install", 0), ("p3", "rollback", 0), ("p2", "show-artifact", 0), ("p2", "install", 0),
-    ("p3", "commit", 0), ("p3", "commit", 2), ("p3", "show-artifact", 0),
+    ("p2", "show-artifact", 0),
+    ("p2", "install", 0),
+    ("p3", "rollback", 0),
+    ("p2", "show-artifact", 0),
+    ("p2", "install", 0),
+    ("p3", "commit", 0),
+    ("p3", "commit", 2),
+    ("p3", "show-artifact", 0),
 )
 # What a command answers and leaves; what it wrote to standard error, which isn't compared
 Step = collections.namedtuple("Step", "call, wanted, status, output, variables, errors")

@@ -57,8 +57,11 @@ def unpacked(package, folder):
 def packages(folder):
     (first, is_none), (again, _) = made(folder / "first"), made(folder / "again")
     for_arm = [] if is_none else ["fwenv_N_arm64.deb", "fwenv-N-aarch64-linux.tar.gz"]
-    same("the packages", [re.sub(r"\d+\.\d+\.\d+", "N", it.name) for it in first],
-         ["fwenv_N_amd64.deb", "fwenv-fw-tools_N_all.deb", "fwenv-N-x86_64-linux.tar.gz", *for_arm])
+    same(
+        "the packages",
+        [re.sub(r"\d+\.\d+\.\d+", "N", it.name) for it in first],
+        ["fwenv_N_amd64.deb", "fwenv-fw-tools_N_all.deb", "fwenv-N-x86_64-linux.tar.gz", *for_arm],
+    )
     for one, other in zip(first, again):
         check(f"{one.name} made again", filecmp.cmp(one, other, shallow=False), "other bytes")
     program, links, archive = first[:3]
@@ -85,7 +88,14 @@ def older(package, folder):
 def with_need(folder, need):
     """A package that has nothing and depends on this."""
     (folder / "DEBIAN").mkdir(parents=True)
-    lines = ("Package: client", "Version: 1", "Architecture: all", "Maintainer: nobody <nobody@localhost>", f"Depends: {need}", "Description: a client")
+    lines = (
+        "Package: client",
+        "Version: 1",
+        "Architecture: all",
+        "Maintainer: nobody <nobody@localhost>",
+        f"Depends: {need}",
+        "Description: a client",
+    )
     (folder / "DEBIAN/control").write_text("".join(f"{line}\n" for line in lines))
     run("dpkg-deb", "--root-owner-group", "--build", folder, f"{folder}.deb", check=True)
     return f"{folder}.deb"
@@ -130,13 +140,24 @@ def pages(folder):
     for page in (TOP / "packaging/man").iterdir():
         found = run("groff", "-ww", "-man", "-Tutf8", "-z", page)
         same(f"the page {page.name}", found.stderr, b"")
-    calls = {"fwenv": [], **{f"fwenv {name}": [name] for name in ("printenv", "setenv", "import", "export", "restore", "status", "find", "image", "run", "boot", "check", "session")}}
+    calls = {
+        "fwenv": [],
+        **{
+            f"fwenv {name}": [name]
+            for name in ("printenv", "setenv", "import", "export", "restore", "status", "find", "image", "run", "boot", "check", "session")
+        },
+    }
     listed = page_options("fwenv.1") | {f"fwenv {name}": page_options(f"fwenv-{name}.1")[""] for name in ("run", "boot", "check", "session")}
     common = listed[""] - {"-V", "--version"}
     for name, words in calls.items():
         helped = options_of_help(run(folder / "root/usr/bin/fwenv", *words, "--help").stdout.decode())
         own = {"--big-endian"} | listed[""] - {"-c", "--default", "--need-copy"} if name == "fwenv" else common | listed[name]
-        own -= {"fwenv status": {"--default", "--need-copy"}, "fwenv image": {"-c", "--default", "--need-copy"}, "fwenv find": {"-c", "--default", "--need-copy", "--big-endian"}, "fwenv check": {"--need-copy"}}.get(name, set())
+        own -= {
+            "fwenv status": {"--default", "--need-copy"},
+            "fwenv image": {"-c", "--default", "--need-copy"},
+            "fwenv find": {"-c", "--default", "--need-copy", "--big-endian"},
+            "fwenv check": {"--need-copy"},
+        }.get(name, set())
         own -= set() if name in WRITING else {"--overwrite"}
         same(f"the options of {name}, in its page and in its help", sorted(own), sorted(helped))
 
@@ -255,19 +276,21 @@ def completions(folder):
         ("fwenv ru", {"run"}),
         ("fwenv run --b", {"--board", "--boots", "--big-endian"}),
         ("fwenv run --env text boot", {"bootcmd", "bootdelay"}),
+        ("fwenv run --env-source text boot", {"bootcmd", "bootdelay"}),
         ("fwenv session --si", {"--size"}),
         ("fwenv boo", {"boot"}),
         ("fwenv boot --st", {"--stubs", "--steps", "--stored"}),
         ("fwenv boot --w", {"--word", "--ways"}),
+        ("fwenv boot --d", {"--default", "--depth", "--dot"}),
         ("fwenv boot --copy ", {"1", "2"}),
         ("fwenv session --w", {"--word", "--write"}),
         ("fwenv im", {"import", "image"}),
         ("fwenv fi", {"find"}),
         ("fwenv find --", {"--help"}),
-        ("fwenv image --", {"--env", "--size", "--copies", "--both", "--output", "--big-endian", "--help"}),
+        ("fwenv image --", {"--env", "--env-source", "--size", "--copies", "--both", "--output", "--big-endian", "--help"}),
         ("fwenv image --copies ", {"1", "2"}),
         ("fwenv che", {"check"}),
-        ("fwenv check --", {"--default", "--big-endian", "--shell", "--stubs", "--ignore", "--strict", "--env", "--size", "--help"}),
+        ("fwenv check --", {"--default", "--big-endian", "--shell", "--stubs", "--ignore", "--strict", "--env", "--env-source", "--size", "--help"}),
         ("fwenv run --shell b", {"board"}),
         ("fwenv session --shell ", {"board", "strict"}),
         ("fwenv check --env text boot", {"bootcmd", "bootdelay"}),

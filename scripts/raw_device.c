@@ -9,6 +9,9 @@
 int statx(int folder, const char *restrict path, int flags, unsigned mask, struct statx *restrict told) {
     int answer = (int)syscall(SYS_statx, folder, path, flags, mask, told);
     const char *raw = getenv("RAW_PATH");
-    if (!answer && raw && !strcmp(path, raw)) told->stx_mode = (told->stx_mode & ~(unsigned)S_IFMT) | S_IFCHR;
+    if (!answer && raw && !strcmp(path, raw)) {
+        told->stx_mode = (told->stx_mode & ~(unsigned)S_IFMT) | S_IFCHR;
+        told->stx_rdev_major = 90;
+    }
     return answer;
 }

@@ -9,7 +9,7 @@ _fwenv_names() {
         case ${COMP_WORDS[at]} in
             -c) words+=(-c "${COMP_WORDS[at + 1]}") ;;
             --big-endian) words+=(--big-endian) ;;
-            --env | --size) text+=("${COMP_WORDS[at]}" "${COMP_WORDS[at + 1]}") ;;
+            --env | --env-source | --size) text+=("${COMP_WORDS[at]}" "${COMP_WORDS[at + 1]}") ;;
         esac
     done
     if [ ${#text[@]} != 0 ]; then words=(run "${text[@]}" -e printenv); fi
@@ -23,9 +23,9 @@ _fwenv() {
     local word=${COMP_WORDS[COMP_CWORD]} before=${COMP_WORDS[COMP_CWORD - 1]} command='' at
     local commands='printenv setenv import export restore status find image run boot check session help'
     local options='-c --default --need-copy --big-endian -h --help'
-    local codes='carriage-return syntax other-shell unknown-command test-operator run-undefined hidden-assignment'
+    local codes='carriage-return syntax other-shell unknown-command test-operator run-undefined run-unknown hidden-assignment'
     codes+=' undefined-name no-variable no-script value-type'
-    local dry_run=' --shell --stubs --board --steps --depth --word --output --env --size'
+    local dry_run=' --shell --stubs --board --steps --depth --word --output --env --env-source --size'
     for ((at = 1; at < COMP_CWORD; at++)); do
         case " $commands " in *" ${COMP_WORDS[at]} "*)
             command=${COMP_WORDS[at]}
@@ -46,7 +46,7 @@ _fwenv() {
             ;;
     esac
     case $before in
-        -c | --default | --stubs | --board | --env | -s | -f)
+        -c | --default | --stubs | --board | --env | --env-source | -s | -f)
             compopt -o default
             return
             ;;
@@ -72,11 +72,11 @@ _fwenv() {
         import | restore) options+=' --overwrite' ;;
         status) options='-c --big-endian -h --help' ;;
         find) options='-h --help' ;;
-        image) options='--env --size --copies --both --output --big-endian -h --help' ;;
-        run) options+="$dry_run --write --overwrite --boots --resets --must-boot -e -f" ;;
-        boot) options+="$dry_run --copy --boots --resets --stored --ways" ;;
-        check) options='-c --default --big-endian -h --help --shell --stubs --ignore --strict --env --size -f' ;;
-        session) options+="$dry_run --write --overwrite" ;;
+        image) options='--env --env-source --size --copies --both --output --big-endian -h --help' ;;
+        run) options+="$dry_run --write --overwrite --boots --resets --must-boot --trace -e -f" ;;
+        boot) options+="$dry_run --copy --boots --resets --stored --ways --dot" ;;
+        check) options='-c --default --big-endian -h --help --shell --stubs --ignore --strict --env --env-source --size -f' ;;
+        session) options+="$dry_run --write --overwrite --boots --resets" ;;
         help) options=$commands ;;
     esac
     case $command:$word in

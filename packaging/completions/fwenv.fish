@@ -10,10 +10,12 @@ function __fwenv_names
     if contains -- --big-endian $tokens
         set -a call --big-endian
     end
-    if set -l at (contains -i -- --env $tokens)
-        set call run --env $tokens[(math $at + 1)] -e printenv
-        if set -l at (contains -i -- --size $tokens)
-            set -a call --size $tokens[(math $at + 1)]
+    for option in --env --env-source
+        if set -l at (contains -i -- $option $tokens)
+            set call run $option $tokens[(math $at + 1)] -e printenv
+            if set -l at (contains -i -- --size $tokens)
+                set -a call --size $tokens[(math $at + 1)]
+            end
         end
     end
     timeout 1 fwenv $call 2>/dev/null | string replace -rf '^([^=-][^=]*)=.*' '$1'
@@ -49,7 +51,7 @@ complete -c fwenv -n "__fish_seen_subcommand_from run session" -l write -d 'Writ
 complete -c fwenv -n "__fish_seen_subcommand_from run boot check session" -l shell -xa 'board strict' -d 'Whose rules count'
 complete -c fwenv -n "__fish_seen_subcommand_from setenv import restore run session" -l overwrite -d 'Write even if a copy is good in another way'
 complete -c fwenv -n "__fish_seen_subcommand_from run boot check session" -l stubs -rF -d 'Stand-ins'
-complete -c fwenv -n "__fish_seen_subcommand_from check" -l ignore -xa 'carriage-return syntax other-shell unknown-command test-operator run-undefined hidden-assignment undefined-name no-variable no-script value-type' -d 'Kind of finding that is left out'
+complete -c fwenv -n "__fish_seen_subcommand_from check" -l ignore -xa 'carriage-return syntax other-shell unknown-command test-operator run-undefined run-unknown hidden-assignment undefined-name no-variable no-script value-type' -d 'Kind of finding that is left out'
 complete -c fwenv -n "__fish_seen_subcommand_from check" -l strict -d 'Warnings count as errors'
 complete -c fwenv -n "__fish_seen_subcommand_from run boot session" -l board -rF -d 'What a board answers'
 complete -c fwenv -n "__fish_seen_subcommand_from run boot session" -l steps -x -d 'Steps of a script'
@@ -57,17 +59,20 @@ complete -c fwenv -n "__fish_seen_subcommand_from run boot session" -l depth -x 
 complete -c fwenv -n "__fish_seen_subcommand_from run boot session" -l word -x -d 'Bytes of a word'
 complete -c fwenv -n "__fish_seen_subcommand_from run boot session" -l output -x -d 'Bytes that a script prints'
 complete -c fwenv -n "__fish_seen_subcommand_from image" -l env -rF -d 'Text with the variables'
+complete -c fwenv -n "__fish_seen_subcommand_from run boot check session image" -l env-source -rF -d 'The same in the form of a source of U-Boot'
 complete -c fwenv -n "__fish_seen_subcommand_from image" -l size -x -d 'Size of a copy, in hexadecimal'
 complete -c fwenv -n "__fish_seen_subcommand_from image" -l copies -xa '1 2' -d 'Copies'
 complete -c fwenv -n "__fish_seen_subcommand_from image" -l both -d 'Both copies have the variables'
 complete -c fwenv -n "__fish_seen_subcommand_from image" -l output -rF -d 'File of the image'
 complete -c fwenv -n "__fish_seen_subcommand_from run boot check session" -l env -rF -d 'Text that is the whole environment'
 complete -c fwenv -n "__fish_seen_subcommand_from run boot check session" -l size -x -d 'Size of its image, in hexadecimal'
-complete -c fwenv -n "__fish_seen_subcommand_from run boot" -l boots -x -d 'Command that does not come back'
-complete -c fwenv -n "__fish_seen_subcommand_from run boot" -l resets -x -d 'Command that resets the board'
+complete -c fwenv -n "__fish_seen_subcommand_from run boot session" -l boots -x -d 'Command that does not come back'
+complete -c fwenv -n "__fish_seen_subcommand_from run boot session" -l resets -x -d 'Command that resets the board'
 complete -c fwenv -n "__fish_seen_subcommand_from boot" -l stored -x -d 'Stored environments that are powered on from'
-complete -c fwenv -n "__fish_seen_subcommand_from boot" -l ways -x -d 'Power-ons in all'
+complete -c fwenv -n "__fish_seen_subcommand_from boot" -l ways -x -d 'Ways that are listed'
+complete -c fwenv -n "__fish_seen_subcommand_from boot" -l dot -d 'Print a graph for Graphviz'
 complete -c fwenv -n "__fish_seen_subcommand_from run" -l must-boot -d 'Status 0 only if the run ended in a boot'
+complete -c fwenv -n "__fish_seen_subcommand_from run" -l trace -d 'Print each command that is run'
 complete -c fwenv -n "__fish_seen_subcommand_from run" -s e -x -d 'Script'
 complete -c fwenv -n "__fish_seen_subcommand_from run check" -s f -rF -d 'File of a script'
 complete -c fwenv -n "__fish_seen_subcommand_from help" -a "$commands"

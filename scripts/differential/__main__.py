@@ -10,7 +10,7 @@ import sys
 import tempfile
 from collections import Counter
 
-from differential.harness import lock_folder, running
+from differential.harness import lock_folder, running, smaller
 from differential.harness.running import Runner
 
 SHOWN = 5
@@ -45,9 +45,9 @@ class Worker:
         return Runner(program, preloads, tempfile.mkdtemp(dir=folder))
 
     def compare(self, cases):
-        """How many cases passed and failed, texts for the first failures, and how often each name came."""
+        """How many cases passed and failed, the first failures as numbers and texts, and how often each name came."""
         passed, failed, texts, names = 0, 0, [], Counter()
-        for case in cases:
+        for number, case in enumerate(cases):
             wanted = case.answer() if case.is_modelled else case.wanted
             names.update(names_of(wanted) if wanted else ())
             failure = self.runner.failure(case, wanted)
@@ -55,12 +55,22 @@ class Worker:
                 passed += case.weight
             else:
                 failed += 1
-                texts.append(failure)
+                texts.append((number, failure))
         return passed, failed, texts[:SHOWN], names
 
 
 def compare_chunk(at):
-    return worker.compare(chunks[at]())
+    passed, failed, texts, names = worker.compare(chunks[at]())
+    return passed, failed, [(at, *text) for text in texts], names
+
+
+def told(at, number, text):
+    """A failure, of a smaller case if one fails too, with a command to type."""
+    case = next(itertools.islice(chunks[at](), number, None))
+    if not smaller.can_be_cut(case):
+        return text
+    least, found = smaller.cut_down(worker.runner, case)
+    return f"{found or text}\n  to type: {smaller.as_command(least)}"
 
 
 def rare(part, names, total):
@@ -92,8 +102,10 @@ def main():
             for found in pool.imap_unordered(compare_chunk, range(len(chunks))):
                 passed, failed, texts = passed + found[0], failed + found[1], texts + found[2]
                 names.update(found[3])
-    for text in itertools.islice(texts, SHOWN):
-        print(f"FAILED: {text}")
+        if texts:
+            lock_folder.have_own()
+        for text in texts[:SHOWN]:
+            print(f"FAILED: {told(*text)}")
     for rarity in rare(part, names, passed + failed):
         failed += 1
         print(f"FAILED: of {passed + failed} cases of {name} only {names[rarity]} are '{rarity}'")

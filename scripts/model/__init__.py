@@ -12,6 +12,7 @@ once; everything is bytes. The tests compare the built program with it (scripts/
     session       copies, saves, marks and undo          docs/undo.md
     dry_run       blocks and dot lines                   docs/dry-runs.md
     script_run    what is reported of a script           docs/dry-runs.md
+    trace         the commands of a run                  docs/dry-runs.md
     board_file    what a board answers                   docs/runs.md
     boots         every power-on of a board              docs/boot.md
     check         what is found in scripts               docs/check.md

@@ -15,7 +15,7 @@ from model.texts import SIZE
 FLAGS, OPENING_FLAGS, OPENING_VALUES = {"--big-endian"}, {"--need-copy"}, {"-c", "--default"}
 # Those of what writes copies
 WRITING_FLAGS = OPENING_FLAGS | {"--overwrite"}
-WHOLE_VALUES = {"--stubs", "--env", "--size"}
+WHOLE_VALUES = {"--stubs", "--env", "--env-source", "--size"}
 DRY_VALUES = WHOLE_VALUES | {"--board", "--shell", "--steps", "--depth", "--word", "--output"}
 # Of each subcommand: its flags, its options with a value, and how many other arguments it takes
 FORMS = {
@@ -26,14 +26,14 @@ FORMS = {
     "restore": (WRITING_FLAGS, OPENING_VALUES, (1, 1)),
     "status": (set(), {"-c"}, (0, 1)),
     "find": (set(), set(), (1, 1)),
-    "image": ({"--both"}, {"--env", "--size", "--copies", "--output"}, (0, 0)),
-    "session": (WRITING_FLAGS | {"--write"}, OPENING_VALUES | DRY_VALUES, (0, 0)),
-    "run": (WRITING_FLAGS | {"--write", "--must-boot"}, OPENING_VALUES | DRY_VALUES | {"--boots", "--resets", "-e", "-f"}, (0, None)),
-    "boot": (OPENING_FLAGS, OPENING_VALUES | DRY_VALUES | {"--copy", "--boots", "--resets", "--stored", "--ways"}, (0, 0)),
+    "image": ({"--both"}, {"--env", "--env-source", "--size", "--copies", "--output"}, (0, 0)),
+    "session": (WRITING_FLAGS | {"--write"}, OPENING_VALUES | DRY_VALUES | {"--boots", "--resets"}, (0, 0)),
+    "run": (WRITING_FLAGS | {"--write", "--must-boot", "--trace"}, OPENING_VALUES | DRY_VALUES | {"--boots", "--resets", "-e", "-f"}, (0, None)),
+    "boot": (OPENING_FLAGS | {"--dot"}, OPENING_VALUES | DRY_VALUES | {"--copy", "--boots", "--resets", "--stored", "--ways"}, (0, 0)),
     "check": ({"--strict"}, OPENING_VALUES | WHOLE_VALUES | {"-f", "--shell", "--ignore"}, (0, None)),
 }
 # Options whose value names a text, which - takes from standard input
-TEXTS = {"-c", "--default", "--env", "--stubs", "--board", "-s", "-f"}
+TEXTS = {"-c", "--default", "--env", "--env-source", "--stubs", "--board", "-s", "-f"}
 # Options that may be given more than once
 REPEATED = {"--boots", "--resets", "--ignore"}
 # How the stand-ins leave the board that these name
@@ -72,7 +72,7 @@ NO_SHELL = b"""error: invalid value '%s' for '--shell <SHELL>'
 For more information, try '--help'.
 """
 NO_CODE = b"""error: invalid value '%s' for '--ignore <CODE>'
-  [possible values: carriage-return, syntax, other-shell, unknown-command, test-operator, run-undefined, hidden-assignment, undefined-name, \
+  [possible values: carriage-return, syntax, other-shell, unknown-command, test-operator, run-undefined, run-unknown, hidden-assignment, undefined-name, \
 no-variable, no-script, value-type]
 
 For more information, try '--help'.
@@ -104,13 +104,24 @@ NO_SIZE = b"""error: invalid value '%s' for '--size <N>': not the size of an ima
 For more information, try '--help'.
 """
 USUAL_SIZE = b"0x4000"
-ENV_AND = b"""error: the argument '--env <FILE>' cannot be used with '%s'
+AND_ENV = b"""error: the argument '%s' cannot be used with '--env <FILE>' or '--env-source <FILE>'
 
 For more information, try '--help'.
 """
 # What only a board has, in the order in which it is reported
 NOT_WITH_ENV = {"-c": b"-c <FILE>", "--default": b"--default <FILE>", "--need-copy": b"--need-copy", "--copy": b"--copy <N>", "--write": b"--write"}
-SIZE_ALONE = b"""error: the argument '--size <N>' is only for '--env <FILE>'
+TWO_TEXTS = b"""error: the argument '--env <FILE>' cannot be used with '--env-source <FILE>'
+
+For more information, try '--help'.
+"""
+NO_TEXT = b"""error: the following required arguments were not provided:
+  <--env <FILE>|--env-source <FILE>>
+
+Usage: fwenv image [OPTIONS] --size <N>
+
+For more information, try '--help'.
+"""
+SIZE_ALONE = b"""error: the argument '--size <N>' is only for '--env <FILE>' or '--env-source <FILE>'
 
 For more information, try '--help'.
 """
@@ -145,7 +156,7 @@ Usage: fwenv run [OPTIONS] [NAMES]...
 
 For more information, try '--help'.
 """
-FILE_AND = b"""error: the argument '-f <FILE>' cannot be used with '[NAMES]...', '-c <FILE>', '--default <FILE>', '--env <FILE>' or '--size <N>'
+FILE_AND = b"""error: the argument '-f <FILE>' cannot be used with '[NAMES]...', '-c <FILE>', '--default <FILE>', '--env <FILE>', '--env-source <FILE>' or '--size <N>'
 
 Usage: fwenv check [OPTIONS] [NAMES]...
 
@@ -193,7 +204,7 @@ class Call:
         return tuple(self.number(option, usual or depth, most) for option, (usual, most) in LIMITS.items())
 
     def power_on_limits(self):
-        """How many stored environments are powered on from, and how many power-ons there may be."""
+        """How many stored environments are powered on from, and how many ways are listed."""
         return tuple(self.number(option, *limits) for option, limits in POWER_ON_LIMITS.items())
 
     def number(self, option, usual, most):
@@ -230,7 +241,7 @@ class Call:
 
     def refuse_beside_file(self):
         """A check of a file is one of that file alone."""
-        if self.words or self.options.keys() & {"-c", "--default", "--env", "--size"}:
+        if self.words or self.options.keys() & {"-c", "--default", "--env", "--env-source", "--size"}:
             raise Wrong(FILE_AND)
 
     def refuse_overwrite_alone(self):
@@ -242,21 +253,30 @@ class Call:
         """Whether copies may be written."""
         return self.tool in ("setenv", "import", "restore") or "--write" in self.options
 
+    def refuse_two_texts(self):
+        """An environment is one text."""
+        if self.options.keys() >= {"--env", "--env-source"}:
+            raise Wrong(TWO_TEXTS)
+
     def size_in_memory(self):
         """The size of the image under an environment that is only a text; None if the copies are a board's."""
-        if "--env" not in self.options:
+        if not self.options.keys() & {"--env", "--env-source"}:
             if "--size" in self.options:
                 raise Wrong(SIZE_ALONE)
             self.refuse_overwrite_alone()
             return None
+        self.refuse_two_texts()
         for option, shown in NOT_WITH_ENV.items():
             if option in self.options:
-                raise Wrong(ENV_AND % shown)
+                raise Wrong(AND_ENV % shown)
         self.refuse_overwrite_alone()
         return read_size(self.options.get("--size", USUAL_SIZE), 8, NO_SIZE)
 
     def new_geometry(self):
         """That of a new image."""
+        self.refuse_two_texts()
+        if not self.options.keys() & {"--env", "--env-source"}:
+            raise Wrong(NO_TEXT)
         copies = self.options.get("--copies", b"1")
         if copies not in (b"1", b"2"):
             raise Wrong(NO_COPIES % copies)
@@ -313,7 +333,7 @@ def read_subcommand(tool, options, rest):
     call.refuse_second_input()
     if tool == "setenv" and ("-s" in call.options) == bool(call.words):
         raise Wrong
-    if tool == "image" and not call.options.keys() >= {"--env", "--size"}:
+    if tool == "image" and "--size" not in call.options:
         raise Wrong
     if tool == "status" and "-c" in call.options and call.words:
         raise Wrong(CONFIG_AND_FILE)

@@ -12,9 +12,12 @@ COUNTED = {BOOTS: b"boot", RESETS: b"reset", GIVES_UP: b"give up", UNKNOWN: b"un
 LEFT = {Reply.BOOTS: BOOTS, Reply.RESETS: RESETS}
 # What a board runs when it is switched on
 POWER_ON = (
-    b'if env exists preboot; then run preboot; else true; fi; '
+    b"if env exists preboot; then run preboot; else true; fi; "
     b'if test $? != 0 -a "${bootdelay}" != -1; then false || run bootcmd; elif test "${bootdelay}" != -1; then run bootcmd; fi'
 )
+# The nodes of ends in a drawing, and how edges with such an end are drawn
+END_NODES = {BOOTS: b"boots", GIVES_UP: b'"gives up"', UNKNOWN: b"unknown"}
+END_STYLES = {BOOTS: b" color=darkgreen", RESETS: b"", GIVES_UP: b" color=red", UNKNOWN: b" color=orange"}
 LIMIT_MET = b"a limit was met: there are more ways than these\n"
 
 
@@ -118,6 +121,12 @@ def counted(number, word):
     return b"%d %s" % (number, word if number == 1 else word + b"s")
 
 
+def summary(graph):
+    ends = [way[2] for way in graph.ways]
+    numbers = b", ".join(b"%d %s" % (ends.count(end), word) for end, word in COUNTED.items())
+    return b"%s, %s: %s\n" % (counted(len(graph.stored), b"stored environment"), counted(len(ends), b"way"), numbers)
+
+
 def dead_ends(graph):
     """What is said of stored environments that never boot again, or only perhaps."""
     never, perhaps = graph.never(BOOTS, UNKNOWN), graph.never(BOOTS)
@@ -138,16 +147,56 @@ def lines(graph):
         yield b"stored %d\n" % (at + 1)
         yield from changes(graph.stored[0], stored)
         yield from (b"  " + told(way) for way in graph.ways if way[0] == at)
-    ends = [way[2] for way in graph.ways]
-    numbers = b", ".join(b"%d %s" % (ends.count(end), word) for end, word in COUNTED.items())
-    yield b"%s, %s: %s\n" % (counted(len(graph.stored), b"stored environment"), counted(len(ends), b"way"), numbers)
+    yield summary(graph)
     if not graph.is_complete:
         yield LIMIT_MET
     else:
         yield from dead_ends(graph)
 
 
-def report(board, most_stored, most_ways):
+def quoted(text):
+    """A text as Graphviz reads it in quotes: each line ends on the left."""
+    special = {b"\n": b"\\l", b'"': b'\\"', b"\\": b"\\\\", b"&": b"&amp;"}
+    found = b""
+    for value in text:
+        byte = bytes([value])
+        found += special.get(byte) or (byte if 32 <= value < 127 else b"\\\\x%02x" % value)
+    return b'"%s"' % found
+
+
+def look(graph):
+    """For each stored environment what is said of it, and how it is drawn."""
+    never, perhaps = (graph.never(BOOTS, UNKNOWN), graph.never(BOOTS)) if graph.is_complete else ([], [])
+    for at in range(len(graph.stored)):
+        if at in never:
+            yield b"never boots again\n", b" shape=box color=red penwidth=2"
+        elif at in perhaps:
+            yield b"boots only if a limit of the run isn't met\n", b" shape=box color=orange penwidth=2"
+        else:
+            yield b"", b" shape=box"
+
+
+def edge(way):
+    at, answers, end, by, to = way
+    label = b"".join(b"%s = %d\n" % (b" ".join(call), status) for call, status in answers)
+    label += end + (b": " + b" ".join(by) if by else b"") + b"\n"
+    node = b"s%d" % (to + 1) if end == RESETS or to != at else END_NODES[end]
+    return b"  s%d -> %s [label=%s%s];\n" % (at + 1, node, quoted(label), END_STYLES[end])
+
+
+def drawing(graph):
+    """The lines of the graph for Graphviz."""
+    yield b"digraph boot {\n"
+    yield b"  label=%s;\n" % quoted(summary(graph) + (b"" if graph.is_complete else LIMIT_MET))
+    for at, (note, style) in enumerate(look(graph)):
+        label = b"stored %d\n%s%s" % (at + 1, b"".join(changes(graph.stored[0], graph.stored[at])), note)
+        yield b"  s%d [label=%s%s];\n" % (at + 1, quoted(label), style)
+    yield from (edge(way) for way in graph.ways)
+    yield b"}\n"
+
+
+def report(board, most_stored, most_ways, is_drawn):
     """The text, and the status."""
     graph = Graph(board, most_stored, most_ways)
-    return b"".join(lines(graph)), int(not graph.is_complete or bool(graph.never(BOOTS)))
+    text = b"".join(drawing(graph) if is_drawn else lines(graph))
+    return text, int(not graph.is_complete or bool(graph.never(BOOTS)))

@@ -3,6 +3,7 @@
 Each kind of finding is a function of its own: of a text, or of a command and what is known. `SEARCHES` are those of commands, in the
 order in which one command gets them."""
 
+import itertools
 import re
 from collections import Counter
 from dataclasses import dataclass, field
@@ -17,12 +18,12 @@ from model.words import Fault
 
 # Where a check begins if it is given no names
 STARTED = (b"bootcmd", b"altbootcmd", b"preboot")
-ERROR, WARNING = b"error", b"warning"
+ERROR, WARNING, NOTE = b"error", b"warning", b"note"
 # The kinds of findings by their codes, in the order of the table
 KINDS = {
     b"carriage-return": WARNING, b"syntax": ERROR, b"other-shell": ERROR, b"unknown-command": ERROR, b"test-operator": ERROR,
-    b"run-undefined": ERROR, b"hidden-assignment": WARNING, b"undefined-name": WARNING, b"no-variable": ERROR, b"no-script": ERROR,
-    b"value-type": ERROR,
+    b"run-undefined": ERROR, b"run-unknown": NOTE, b"hidden-assignment": WARNING, b"undefined-name": WARNING, b"no-variable": ERROR,
+    b"no-script": ERROR, b"value-type": ERROR,
 }  # fmt: skip
 NOT_DEFINED = b"no variable of this name is defined"
 NOTHING = b"there is no script to look at"
@@ -30,6 +31,7 @@ NOT_TYPED = b"the value does not have the type that .flags gives it"
 NO_SCRIPT = b"%s (%s)"
 CARRIAGE_RETURN = b"a carriage return stands in the script"
 NO_TARGET = b"`run %s` names a variable that is not defined"
+ANY_TARGET = b"what this runs is not known, so it is not followed"
 NO_COMMAND = b"no builtin and no stand-in is called `%s`"
 NO_OPERATOR = b"`test` has no operator `%s` here"
 IS_VARIABLE = b"`%s` is an environment variable, "
@@ -42,10 +44,12 @@ LACKED = {
     **{name: b"this shell has no `%s`" % name for name in (b"break", b"continue", b"return", b"case", b"function")},
 }
 NO_FUNCTIONS = b"this shell has no functions"
-# What U-Boot and its commands set by themselves
+# What U-Boot and its commands set by themselves, and what its scripts use whether a board defines it or not
 SET_BY_UBOOT = {
-    b"bootcount", b"bootfile", b"dnsip", b"domain", b"ethact", b"ethaddr", b"fdtaddr", b"fdtcontroladdr", b"fileaddr", b"filesize",
-    b"gatewayip", b"hostname", b"ipaddr", b"mtdids", b"mtdparts", b"netmask", b"partition", b"rootpath", b"serverip", b"ver",
+    b"boardver", b"bootargs", b"bootcount", b"bootfile", b"devnum", b"devtype", b"distro_bootpart", b"dnsip", b"dnsip2", b"domain",
+    b"ethact", b"ethaddr", b"fdtaddr", b"fdtcontroladdr", b"fileaddr", b"filesize", b"gatewayip", b"hostname", b"ipaddr", b"llipaddr",
+    b"mtddevname", b"mtddevnum", b"mtdids", b"mtdparts", b"netmask", b"ntpserverip", b"partition", b"prefix", b"rootpath", b"serverip",
+    b"stderr", b"stdin", b"stdout", b"timeoffset", b"ver",
 }  # fmt: skip
 # Commands whose first argument names the variable that they set
 SETTING = {b"setenv", b"setexpr", b"setexpr.b", b"setexpr.w", b"setexpr.l", b"setexpr.q"}
@@ -160,11 +164,24 @@ def called(command, known):
     return name if name is None else known.shell.called(name, set(known.stand_ins or ()))
 
 
+def started(command, known):
+    """The arguments of `run`."""
+    return command[1][1:] if called(command, known) == b"run" else []
+
+
+def front(word):
+    """The bytes of a word before its first substitution."""
+    return bytes(part[1] for part in itertools.takewhile(lambda part: part[0] not in ("name", "status"), word) if part[0] != "mark")
+
+
 def targets(command, known):
-    """The names that a command starts whatever its variables are: literal arguments of `run`, with their places."""
-    if called(command, known) != b"run":
-        return []
-    return [(word.place, literal(word)) for word in command[1][1:] if literal(word) is not None]
+    """The variables that a command may start: those that literal arguments of `run` name, and for each other argument those whose names
+    begin as it does, in order of names. An argument that begins with a substitution may start any, and counts for none."""
+    for word in started(command, known):
+        if literal(word) is not None:
+            yield literal(word)
+        elif front(word):
+            yield from (name for name in sorted(known.values) if name.startswith(front(word)))
 
 
 def substituted(words):
@@ -251,10 +268,17 @@ def unknown_command(command, known):
 
 
 def undefined_target(command, known):
-    """A start of a variable that isn't there."""
+    """A start of a variable that isn't there, or of one that isn't known."""
     if known.values is None:
         return []
-    return [Finding(place, b"run-undefined", NO_TARGET % name) for place, name in targets(command, known) if name not in known.started]
+    return [each for word in started(command, known) for each in of_target(word, known)]
+
+
+def of_target(word, known):
+    name = literal(word)
+    if name is None:
+        return [] if front(word) else [Finding(word.place, b"run-unknown", ANY_TARGET)]
+    return [] if name in known.started else [Finding(word.place, b"run-undefined", NO_TARGET % name)]
 
 
 def refused_assignment(command, known):
@@ -365,7 +389,7 @@ def visited(known, names):
     found = list(dict.fromkeys(name for name in names if name in known.values))
     for name in found:
         for command in commands_of(name, known):
-            for _, target in targets(command, known):
+            for target in targets(command, known):
                 if target in known.values and target not in found:
                     found.append(target)
     return found

@@ -31,7 +31,8 @@ def items_of(text, is_whole):
 class DryRun:
     """A dry run over a session by a shell; `names` are those of its marks."""
 
-    def __init__(self, session, stand_ins, limits, shell=STRICT, board=()):
+    def __init__(self, session, stand_ins, limits, leavings=None, shell=STRICT, board=()):
+        self.leavings = leavings
         self.shell = shell
         self.board = board
         self.session = session
@@ -51,7 +52,7 @@ class DryRun:
             tree = parse(item, self.shell)
         except Fault:
             return b"[Syntax]\n"
-        outcome = run(self.session, tree, self.stand_ins, self.limits, shell=self.shell, board=self.board)
+        outcome = run(self.session, tree, self.stand_ins, self.limits, self.leavings, self.shell, self.board)
         return outcome.text + b"[%s %d %d]\n" % (outcome.ending.encode(), outcome.status, outcome.steps)
 
     def obey(self, line):

@@ -11,6 +11,7 @@ from model.image import ERASED, LARGEST, Geometry, entries
 from model.script import run
 from model.session import Session, erased
 from model.texts import TextFault
+from model.trace import Trace
 from model.variables import NOT_DEFINED, REFUSALS, Environment
 from model.words import Fault
 
@@ -38,7 +39,7 @@ NO_GOOD_COPY = b"fwenv: no good copy: "
 NOT_GOOD = b"fwenv: the %s copy isn't good: %s\n"
 NO_SECOND = b"fwenv: there is no second copy\n"
 LOOK_AT = b"; look at the size and the number of lines in the configuration, and at the byte order (--big-endian)\n"
-NO_EQUALS = b"fwenv: %s:%d: no = in this line\n"
+NO_EQUALS = b"fwenv: %s:%d: no = in this line; for a source in U-Boot's own form use --env-source\n"
 REFUSED_TEXT = b"fwenv: %s: %s\n"
 TOO_LONG = b"fwenv: input too long\n"
 BAD_IMAGE = b"## Error: bad image: %s\n"
@@ -158,6 +159,13 @@ class Program:
                 raise Ended(IS_YAML % path)
             raise Ended(REFUSED_TEXT % (path, fault.text))
 
+    def source(self, path):
+        """The entries of a source of U-Boot."""
+        try:
+            return texts.source_entries(self.own_text(path))
+        except texts.SourceFault as fault:
+            raise Ended(b"fwenv: %s:%d: %s\n" % (path, fault.line, fault.text))
+
     def device(self, place, size):
         """Where a copy begins, and the bytes of its device from there on."""
         device = self.files.get(place.device)
@@ -172,11 +180,12 @@ class Program:
 
     def defaults(self, call, geometry):
         """The values of the default environment."""
-        path = call.options.get("--env", call.options.get("--default"))
+        source = call.options.get("--env-source")
+        path = source or call.options.get("--env", call.options.get("--default"))
         environment = Environment(geometry.room)
-        entries = [] if path is None else self.parsed(path, texts.import_entries)
+        entries = [] if path is None else self.source(path) if source else self.parsed(path, texts.import_entries)
         for line, _, _ in entries:
-            if b"=" not in self.text(path).split(b"\n")[line - 1]:
+            if not source and b"=" not in self.text(path).split(b"\n")[line - 1]:
                 raise Ended(NO_EQUALS % (path, line))
         for line, name, value in entries:
             refusal = environment.write(name, value, True)
@@ -376,8 +385,11 @@ class Program:
             tree = parse(text, shell)
         except Fault as fault:
             raise Ended(script_run.fault_line(name, text, fault))
-        outcome = run(session, tree, stand_ins, limits, call.leavings(), shell, board)
+        trace = Trace(name, text, limits[-1]) if "--trace" in call.options else None
+        outcome = run(session, tree, stand_ins, limits, call.leavings(), shell, board, trace)
         self.output = outcome.text
+        if trace:
+            self.say(trace.printed())
         if "--write" in call.options:
             self.write_back(session)
         if not script_run.is_well(outcome):
@@ -392,7 +404,7 @@ class Program:
         session = self.opened(call)
         stand_ins = self.leaving_stand_ins(call)
         board = boots.Board(session, stand_ins, limits, call.leavings(), shell, self.board(call))
-        self.output, status = boots.report(board, stored, ways)
+        self.output, status = boots.report(board, stored, ways, "--dot" in call.options)
         return status
 
     def call_check(self, call):
@@ -415,7 +427,8 @@ class Program:
         call.size_in_memory()
         limits, shell = call.limits(), call.shell()
         session = self.opened(call)
-        self.output = DryRun(session, self.stand_ins(call), limits, shell, self.board(call)).answer(self.given, not self.fails)
+        stand_ins = self.leaving_stand_ins(call)
+        self.output = DryRun(session, stand_ins, limits, call.leavings(), shell, self.board(call)).answer(self.given, not self.fails)
         if len(self.given) > LONGEST:
             raise Ended(TOO_LONG)
         if self.fails:

@@ -8,6 +8,7 @@ from model.calculations import setexpr
 from model.grammar import parse
 from model.shells import STRICT
 from model.texts import BUILTINS, SUBCOMMANDS
+from model.trace import ANSWER
 from model.variables import NOT_DEFINED, REFUSALS
 from model.words import Fault
 
@@ -60,8 +61,9 @@ def option_of(words, option):
 class Run:
     """A run of a script over a session, by one of the shells."""
 
-    def __init__(self, session, stand_ins, limits, leavings=None, shell=STRICT, board=(), answers=None):
+    def __init__(self, session, stand_ins, limits, leavings=None, shell=STRICT, board=(), answers=None, trace=None):
         self.shell = shell
+        self.trace = trace  # of its commands, if they are wanted
         self.session = session
         self.environment = session.environment
         self.stand_ins = stand_ins
@@ -90,6 +92,11 @@ class Run:
         self.text += text
         self.status = status
         self.steps += 1
+
+    def note(self, place, *words):
+        """A command of these words is run."""
+        if self.trace:
+            self.trace.note(place, words)
 
     # Expansion
 
@@ -185,7 +192,7 @@ class Run:
     def command_until(self, condition, body):
         self.command_while(condition, body, False)
 
-    def command_for(self, name, words, body, _place):
+    def command_for(self, name, words, body, place):
         self.begin()
         fields = self.listed(words)
         self.done(self.status)
@@ -193,6 +200,7 @@ class Run:
             self.status = 0
         for each in fields:
             self.begin()
+            self.note(place, name + b"=" + each)
             if self.is_refused(name):
                 return
             if self.shell.calls(name):
@@ -209,8 +217,9 @@ class Run:
         self.done(1, IS_VARIABLE % name)
         return True
 
-    def command_assign(self, name, parts, _place):
+    def command_assign(self, name, parts, place):
         self.begin()
+        self.note(place, name + b"=" + self.expanded_value(parts))
         if self.shell.calls(name):
             self.done(1, UNKNOWN % self.called(name + b"=", parts))
             return
@@ -224,6 +233,8 @@ class Run:
     def command_simple(self, words):
         self.begin()
         fields = self.expanded(words)
+        if words:
+            self.note(words[0].place, *fields)
         if not fields:
             self.done(self.shell.kept(self.status))
             return
@@ -423,7 +434,7 @@ class Run:
             return
         self.done(self.shell.of_start(self.status, bool(tree)))
         self.running.append(name)
-        self.text_of(tree, self.shell.of_text)
+        self.text_of(tree, self.shell.of_text, name, self.environment.values.get(name))
         self.running.pop()
 
     def start_answer(self, text, words):
@@ -440,23 +451,27 @@ class Run:
         self.locals = {name: value for name, value in self.locals.items() if not name.isdigit()}
         self.locals.update((b"%d" % at, word) for at, word in enumerate(words))
         self.running.append(self.running[-1] if self.running else None)
-        self.text_of(tree, lambda status: status)
+        self.text_of(tree, lambda status: status, ANSWER, text)
         self.running.pop()
 
-    def text_of(self, tree, of_text):
+    def text_of(self, tree, of_text, name, text):
         """Runs a text that was started, of whose status something is made; an `exit` may leave it."""
         nesting, self.nesting = self.nesting, 0
+        if self.trace:
+            self.trace.running.append((name, text))
         try:
             self.chains(tree)
             self.status = of_text(self.status)
         except Leave:
             pass
         self.nesting = nesting
+        if self.trace:
+            self.trace.running.pop()
 
 
-def run(session, tree, stand_ins, limits, leavings=None, shell=STRICT, board=()):
+def run(session, tree, stand_ins, limits, leavings=None, shell=STRICT, board=(), trace=None):
     """Runs a tree, and answers its outcome. A stand-in of `leavings` ends the run if its status is 0."""
-    made = Run(session, stand_ins, limits, leavings, shell, board)
+    made = Run(session, stand_ins, limits, leavings, shell, board, trace=trace)
     ending = "Finished"
     try:
         made.chains(tree)

@@ -153,6 +153,72 @@ def foreign(text):
     return None
 
 
+# A source of U-Boot: what is wrong with a line, or its text, in the order of docs/texts.md
+SOURCE_FAULTS = [
+    (re.compile(rb"\0"), b"a byte 0"),
+    (re.compile(rb"\r"), b"a carriage return"),
+    (re.compile(rb"\A[ \t]*#"), b"a line for the C preprocessor, which has to be run before"),
+    (re.compile(rb"\A[ \t]*/\*"), b"a comment for the C preprocessor, which has to be run before"),
+    (re.compile(rb"\\"), b"a backslash, which U-Boot's build changes"),
+]
+DEFINITION = re.compile(rb"([^ \t=][^ =]*)=(.*)", re.DOTALL)
+NAME_FAULTS = [
+    (re.compile(rb"\t"), b"a tab in the name"),
+    (re.compile(rb"\A[0-7]"), b"a name that begins with a digit from 0 to 7, which U-Boot's build loses"),
+    (re.compile(rb"\A\+\Z"), b"no name before +="),
+]
+MARKER = re.compile(rb"# [0-9]+ \"")
+
+
+class SourceFault(Exception):
+    """Why a source is refused: the line, and what is wrong with it."""
+
+    def __init__(self, line, text):
+        super().__init__(line, text)
+        self.line, self.text = line, text
+
+
+def source_definition(line):
+    """The name, whether it is added to, and the value's beginning; None if the line defines nothing, or what is wrong."""
+    for form, what in SOURCE_FAULTS:
+        # what the preprocessor wrote may have a # at its front, and backslashes in its path
+        if form.search(line) and (what in (b"a byte 0", b"a carriage return") or not MARKER.match(line)):
+            return what
+    found = None if MARKER.match(line) else DEFINITION.fullmatch(line)
+    if not found:
+        return None
+    name, value = found.groups()
+    for form, what in NAME_FAULTS:
+        if form.search(name):
+            return what
+    if name.endswith(b"+") and not value:
+        return b"nothing after +="
+    return name.removesuffix(b"+"), name.endswith(b"+"), value
+
+
+def source_entries(text):
+    """The variables of a source: lines, names and values, in the order of the names."""
+    definitions = []
+    for number, line in enumerate(text.split(b"\n"), 1):
+        found = source_definition(line)
+        if isinstance(found, bytes):
+            raise SourceFault(number, found)
+        if found:
+            definitions.append([number, *found])
+        elif line.strip(b" \t") and not MARKER.match(line):
+            if not definitions:
+                raise SourceFault(number, b"no variable before this line")
+            so_far = definitions[-1][3]
+            definitions[-1][3] = so_far + b" " * bool(so_far) + line.lstrip(b" \t")
+    if len(definitions) > 1 and not definitions[-1][3] and not definitions[-2][3] and any(value for *_, value in definitions):
+        raise SourceFault(definitions[-1][0], b"two variables without a value at the end, by which U-Boot's build loses all")
+    found = {}
+    for number, name, adds, value in definitions:
+        if value:
+            found[name] = number, (found[name][1] if adds and name in found else b"") + value
+    return [(line, name, value) for name, (line, value) in sorted(found.items())]
+
+
 def import_entries(text):
     refuse_nul(text)
     found, line, counted, at = [], 1, 0, skipped(text, 0)

@@ -25,14 +25,6 @@ viewed_more view xs i x l e =
     let parts = (take_at_read xs i x l).1 in
     ap (map view) parts ∙ map-append view (take i xs) (get_or xs i x ∷ []) ∙ ap (λ y. map view (take i xs) ++ view y ∷ []) (sym e)
 
-pub not_yet : (xs : List Stored) (i : ℕ) (b : List ℕ) (x : Stored) → i < length xs → x ≡ get_or xs i x → (x.bytes.items ≡ b → ⊥)
-    → (Contains (map bytes_of (take i xs)) b → ⊥) → Contains (map bytes_of (take (i + 1) xs)) b → ⊥
-not_yet xs i b x l e other before has =
-    ⊎_elim before other (Contains-push_cases (map bytes_of (take i xs)) x.bytes.items b (subst (λ (t : List (List ℕ)). Contains t b) (viewed_more bytes_of xs i x l e) has))
-
-pub not_at_all : (xs : List Stored) (i : ℕ) (b : List ℕ) → length xs ≤ i → (Contains (map bytes_of (take i xs)) b → ⊥) → Contains (map bytes_of xs) b → ⊥
-not_at_all xs i b l before has = before (subst (λ (t : List Stored). Contains (map bytes_of t) b) (sym (take_all i xs l)) has)
-
 -- one ending more of those that were found
 module _ (runs : Meaning) {S₀ S T : List (List ℕ)} {R Q : List (Option ℕ)} {W₀ W V : List Step} (from : ℕ) (found : List Ending) (i : ℕ) (x : Ending) (s : List ℕ)
     (l : i < length found) (e : x ≡ get_or found i x) (at : slice_get S₀ from ≡ Some s) (grows : Grows S₀ W₀ S W) (adds : Adds S R W from (ending_view x) T Q V) where

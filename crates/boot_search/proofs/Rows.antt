@@ -2,6 +2,8 @@
 use Rattle.std.proofs.Common.{◌≡◌, true, false, [], ◌∷◌, ◌++◌, refl, codes}
 use Rattle.std.specs.Fmt.{decimal}
 use Rattle.boot_search.specs.declared.board.End.TheVariants.{Boots, Resets, GivesUp, Unknown}
+use Rattle.boot_search.specs.declared.dot_words.Mark.TheVariants.{Plain, Doubtful, Lost}
+use Rattle.boot_search.specs.DotText.{mark_of, quoted}
 use Rattle.boot_search.specs.SurveyText.{Told, end_text, first_unmarked, survey_status, verdict, words_text}
 
 words : words_text (codes "load" ++ 0 ∷ codes "mmc" ++ 0 ∷ codes "1:2" ++ 0 ∷ []) ≡ codes "load mmc 1:2"
@@ -60,3 +62,25 @@ all_boot = refl
 
 a_good_status : survey_status (record { stored = []; ways = []; complete = true; boots = true ∷ []; may_boot = true ∷ [] }) ≡ 0
 a_good_status = refl
+
+-- ---- a graph
+
+quotes : quoted (codes "a\"b\\c&&<d>~" ++ 10 ∷ []) ≡ codes "\"a\\\"b\\\\c&amp;&amp;<d>~\\l\""
+quotes = refl
+
+bytes_that_are_no_text : quoted (0 ∷ 9 ∷ 31 ∷ 127 ∷ 195 ∷ 255 ∷ []) ≡ codes "\"\\\\x00\\\\x09\\\\x1f\\\\x7f\\\\xc3\\\\xff\""
+bytes_that_are_no_text = refl
+
+the_first_boots : mark_of lost 0 ≡ Plain
+unfolding lost
+the_first_boots = refl
+
+the_second_is_lost : mark_of lost 1 ≡ Lost
+unfolding lost
+the_second_is_lost = refl
+
+none_is_marked_after_a_limit : mark_of (record { stored = []; ways = []; complete = false; boots = false ∷ []; may_boot = false ∷ [] }) 0 ≡ Plain
+none_is_marked_after_a_limit = refl
+
+one_in_doubt : mark_of (record { stored = []; ways = []; complete = true; boots = false ∷ []; may_boot = true ∷ [] }) 0 ≡ Doubtful
+one_in_doubt = refl

@@ -1,7 +1,9 @@
 pub mod Outcomes
 pub mod Endings
 pub mod Reports
+pub mod Places
 pub mod Bootable
 pub mod Cuts
 pub mod SurveyText
+pub mod DotText
 pub mod Sample

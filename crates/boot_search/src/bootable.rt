@@ -1,5 +1,5 @@
 //! The stored environments from which some power-ons end in a boot: backwards over the listed ways, until none is new.
-ghost use Rattle.std.specs.Prelude.{◌≡◌, ◌<◌, true, false, length, All, IfOk};
+ghost use Rattle.std.specs.Prelude.{◌≡◌, ◌<◌, ◌≤◌, true, false, length, All, IfOk};
 ghost use Rattle.boot_search.specs.Reports.{step_of, steps_of, IsReport};
 ghost use Rattle.boot_search.specs.Bootable.{is_wanted, unmarked, AreBootable, IsClosed, IsMarked, IsMarkedBy, IsSurvey, IsWithin};
 
@@ -30,6 +30,7 @@ pub fn explore_boots<B: Board>(
     ensures report { IfOk result (λ survey. IsReport (B.runs board.now) start.now survey.report) }
     ensures boots { IfOk result (IsMarkedBy false (B.runs board.now)) }
     ensures may_boot { IfOk result (IsMarkedBy true (B.runs board.now)) }
+    ensures few { IfOk result (λ survey. length survey.report.ways.items ≤ limits.ways) }
     ensures survey { IfOk result IsSurvey }
 {
     let report = explore(alloc, board, start, limits)?;

@@ -1,13 +1,18 @@
 //! All environments that a board can come to store, in breadth, and all ways between them.
-ghost use Rattle.std.specs.Prelude.{◌≡◌, ◌<◌, ◌≤◌, ◌+◌, Some, length, slice_get, IfOk, OnOk, MatchOption, IsTrue, Contains};
+ghost use Rattle.std.specs.Prelude.{◌≡◌, ◌<◌, ◌≤◌, ◌+◌, [], ◌∷◌, ◌++◌, Some, length, slice_get, IfOk, OnOk, IsTrue, Contains};
 ghost use Rattle.boot_search.specs.Endings.{ending_view};
-ghost use Rattle.boot_search.specs.Reports.{steps_of, texts_of};
+ghost use Rattle.boot_search.specs.Places.{AreAt};
+ghost use Rattle.boot_search.specs.Reports.{reached_of, steps_of, texts_of};
 ghost use Rattle.boot_search.specs.Reports.{AreListed, BytesPlaced, Covers, HaveGrown, WayAdded};
 ghost use Rattle.boot_search.specs.Reports.{IsReport, ListsAll, ListsOnly};
 
 use crate::board::{Answer, Board, End};
 use crate::endings::{Ending, copied_answers, endings_of};
 use std::alloc::{AllocError, Global};
+use std::collections::BTreeMap;
+
+/// The place of each stored environment that is listed.
+type Places = BTreeMap<Vec<u8>, usize>;
 
 /// How far a search goes (docs/boot.md).
 #[derive(Clone, Copy, Debug, PartialEq, Eq)]
@@ -68,10 +73,8 @@ pub fn explore<B: Board>(
     ensures few { IfOk result (λ report. length report.ways.items ≤ limits.ways) }
 {
     let mut stored = Vec::new(alloc);
-    stored.push(Stored {
-        bytes: start.to_vec(alloc)?,
-        reached_by: None,
-    })?;
+    let mut places = BTreeMap::new(alloc);
+    add_stored(alloc, &mut stored, &mut places, start, None)?;
     let mut ways = Vec::new(alloc);
     let mut complete = true;
     for from in 0..limits.stored {
@@ -83,7 +86,15 @@ pub fn explore<B: Board>(
             });
         }
         let left = limits.ways.saturating_sub(ways.len());
-        let all = explore_stored(alloc, board, &mut stored, &mut ways, from, left)?;
+        let all = explore_stored(
+            alloc,
+            board,
+            &mut stored,
+            &mut places,
+            &mut ways,
+            from,
+            left,
+        )?;
         complete &= all;
     }
     let complete = complete & (stored.len() <= limits.stored);
@@ -99,12 +110,15 @@ fn explore_stored<B: Board>(
     alloc: Global,
     board: &B,
     stored: &mut Vec<Stored>,
+    places: &mut Places,
     ways: &mut Vec<Way>,
     from: usize,
     power_ons: usize,
 ) -> Result<bool, AllocError>
     requires within { from < length stored.old.items }
+    requires places { AreAt (texts_of stored.old.items) places.old }
     requires listed { AreListed (B.runs board.now) stored.old.items ways.old.items }
+    ensures places { OnOk result (AreAt (texts_of stored.new.items) places.new) }
     ensures listed { OnOk result (AreListed (B.runs board.now) stored.new.items ways.new.items) }
     ensures grows { OnOk result (HaveGrown stored.old.items ways.old.items stored.new.items ways.new.items) }
     ensures covers { IfOk result (λ all. IsTrue all →
@@ -114,7 +128,7 @@ fn explore_stored<B: Board>(
     let mut powered = board.with(alloc, bytes_at(stored, from))?;
     let endings = endings_of(alloc, &mut powered, power_ons)?;
     for ending in &endings.found {
-        add_way(alloc, stored, ways, from, ending)?;
+        add_way(alloc, stored, places, ways, from, ending)?;
     }
     Ok(endings.complete)
 }
@@ -131,15 +145,18 @@ fn bytes_at(stored: &[Stored], at: usize) -> &[u8]
 fn add_way(
     alloc: Global,
     stored: &mut Vec<Stored>,
+    places: &mut Places,
     ways: &mut Vec<Way>,
     from: usize,
     ending: &Ending,
 ) -> Result<(), AllocError>
+    requires { AreAt (texts_of stored.old.items) places.old }
+    ensures places { OnOk result (AreAt (texts_of stored.new.items) places.new) }
     ensures added { OnOk result (WayAdded stored.old.items ways.old.items from (ending_view ending.now)
         stored.new.items ways.new.items) }
     ensures one { OnOk result (length ways.new.items ≡ length ways.old.items + 1) }
 {
-    let to = place(alloc, stored, ending.next.as_slice(), ways.len())?;
+    let to = place(alloc, stored, places, ending.next.as_slice(), ways.len())?;
     ways.push(Way {
         from,
         answers: copied_answers(alloc, &ending.answers)?,
@@ -154,33 +171,43 @@ fn add_way(
 fn place(
     alloc: Global,
     stored: &mut Vec<Stored>,
+    places: &mut Places,
     bytes: &[u8],
     way: usize,
 ) -> Result<usize, AllocError>
-    ensures { IfOk result (λ to. BytesPlaced stored.old.items way bytes.now to stored.new.items) }
+    requires { AreAt (texts_of stored.old.items) places.old }
+    ensures places { OnOk result (AreAt (texts_of stored.new.items) places.new) }
+    ensures placed { IfOk result (λ to. BytesPlaced stored.old.items way bytes.now to stored.new.items) }
 {
-    match place_of(stored, bytes) {
-        Some(to) => Ok(to),
-        None => {
-            let to = stored.len();
-            stored.push(Stored {
-                bytes: bytes.to_vec(alloc)?,
-                reached_by: Some(way),
-            })?;
-            Ok(to)
-        }
+    let key = bytes.to_vec(alloc)?;
+    match places.get(&key) {
+        Some(to) => Ok(*to),
+        None => add_stored(alloc, stored, places, bytes, Some(way)),
     }
 }
 
-/// The place of this stored environment, if it is listed.
-fn place_of(stored: &[Stored], bytes: &[u8]) -> Option<usize>
-    ensures { MatchOption result (Contains (texts_of stored.now) bytes.now → ⊥)
-        (λ place. slice_get (texts_of stored.now) place ≡ Some bytes.now) }
+/// Adds a stored environment that isn't listed behind the others; its place.
+fn add_stored(
+    alloc: Global,
+    stored: &mut Vec<Stored>,
+    places: &mut Places,
+    bytes: &[u8],
+    reached_by: Option<usize>,
+) -> Result<usize, AllocError>
+    requires new { Contains (texts_of stored.old.items) bytes.now → ⊥ }
+    requires places { AreAt (texts_of stored.old.items) places.old }
+    ensures place { IfOk result (λ to. to ≡ length (texts_of stored.old.items)) }
+    ensures texts { OnOk result (texts_of stored.new.items ≡ texts_of stored.old.items ++ bytes.now ∷ []) }
+    ensures reached { OnOk result (reached_of stored.new.items ≡ reached_of stored.old.items ++ reached_by ∷ []) }
+    ensures places { OnOk result (AreAt (texts_of stored.new.items) places.new) }
 {
-    for (place, state) in stored.iter().enumerate() {
-        if state.bytes.as_slice() == bytes {
-            return Some(place);
-        }
+    let to = stored.len();
+    stored.push(Stored {
+        bytes: bytes.to_vec(alloc)?,
+        reached_by,
+    })?;
+    match places.insert(bytes.to_vec(alloc)?, to) {
+        Ok(_none) => Ok(to),
+        Err(_) => Err(AllocError),
     }
-    None
 }

@@ -66,7 +66,7 @@ fn lost_path(alloc: Global, survey: &Survey) -> Result<Vec<usize>, AllocError>
 }
 
 /// The exit status.
-fn survey_status(survey: &Survey) -> u8
+pub(crate) fn survey_status(survey: &Survey) -> u8
     ensures { result ≡ survey_status (told_of survey.now) }
 {
     if survey.report.complete {

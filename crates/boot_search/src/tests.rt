@@ -2,7 +2,8 @@
 
 use crate::sample::CountedBoard;
 use crate::{
-    Board, BootText, End, Limits, endings_of, explore, explore_boots, path_to, survey_text,
+    Board, BootText, End, Limits, dot_text, endings_of, explore, explore_boots, path_to,
+    survey_text,
 };
 use std::alloc::{AllocError, Global};
 use std::test::Fail;
@@ -104,6 +105,27 @@ stored 2
   stored 1: saveenv = 0, bootm 0x42000000 = 0: boots: bootm 0x42000000; stored 2
 ";
     let found = surveyed(rt.alloc(), &counts_to_one(End::GivesUp), LIMITS)?;
+    assert_eq!(rt; found.text.as_slice(), text.as_slice());
+    assert_eq!(rt; found.status, 1);
+    Ok(())
+}
+
+#[test]
+fn the_graph_of_a_lost_environment(rt: HostRuntime) -> Result<(), Fail> {
+    let text = b"digraph boot {
+  label=\"2 stored environments, 4 ways: 1 boot, 2 reset, 1 give up, 0 unknown\\l\";
+  s1 [label=\"stored 1\\l  count 0\\l\" shape=box];
+  s2 [label=\"stored 2\\l  count 1\\lnever boots again\\l\" shape=box color=red penwidth=2];
+  s1 -> s2 [label=\"saveenv = 0\\lbootm 0x42000000 = 0\\lboots: bootm 0x42000000\\l\" color=darkgreen];
+  s1 -> s2 [label=\"saveenv = 0\\lbootm 0x42000000 = 1\\lresets: reset\\l\"];
+  s1 -> s1 [label=\"saveenv = 1\\lresets: saveenv\\l\"];
+  s2 -> \"gives up\" [label=\"gives up\\l\" color=red];
+}
+";
+    let alloc = rt.alloc();
+    let board = counts_to_one(End::GivesUp);
+    let survey = explore_boots(alloc, &board, &[0], LIMITS)?;
+    let found = dot_text(alloc, &board, &survey)?;
     assert_eq!(rt; found.text.as_slice(), text.as_slice());
     assert_eq!(rt; found.status, 1);
     Ok(())

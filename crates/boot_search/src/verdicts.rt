@@ -89,6 +89,13 @@ pub(crate) fn push_verdict(
         }
         return Ok(());
     }
+    push_limit(text)
+}
+
+/// Appends that a limit was met.
+pub(crate) fn push_limit(text: &mut Vec<u8>) -> Result<(), AllocError>
+    ensures { OnOk result (text.new.items ≡ text.old.items ++ limit_line) }
+{
     push_all(
         text,
         &[b"a limit was met: there are more ways than these\n"],

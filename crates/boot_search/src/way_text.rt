@@ -57,7 +57,7 @@ fn push_next_answers(text: &mut Vec<u8>, answers: &[Answer]) -> Result<(), Alloc
 }
 
 /// Appends an answer to a question.
-fn push_answer(text: &mut Vec<u8>, answer: &Answer) -> Result<(), AllocError>
+pub(crate) fn push_answer(text: &mut Vec<u8>, answer: &Answer) -> Result<(), AllocError>
     ensures { OnOk result (text.new.items ≡ text.old.items ++ answer_text (given_of answer.now)) }
 {
     let mut digits = Buffer::new();
@@ -66,7 +66,7 @@ fn push_answer(text: &mut Vec<u8>, answer: &Answer) -> Result<(), AllocError>
 }
 
 /// Appends how a way ends, and by what.
-fn push_end(text: &mut Vec<u8>, end: End, by: &[u8]) -> Result<(), AllocError>
+pub(crate) fn push_end(text: &mut Vec<u8>, end: End, by: &[u8]) -> Result<(), AllocError>
     ensures { OnOk result (text.new.items ≡ text.old.items ++ end_text end by.now) }
 {
     match end {

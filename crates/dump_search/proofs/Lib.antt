@@ -1,2 +1,3 @@
+mod AreaLemmas
 pub mod PlaceLemmas
 mod Rows

@@ -1,13 +1,16 @@
 //! The copy of an environment at one place.
 ghost use Rattle.std.specs.Prelude.{◌≡◌, ◌≤◌, ◌∷◌, length, drop};
 ghost use Rattle.envimg_core.specs.Bytes.{checksum_size};
+ghost use Rattle.envimg_core.specs.Checksum.{checksum};
 ghost use Rattle.envimg_core.specs.Geometry.{head};
+ghost use Rattle.dump_search.specs.AreaSums.{IsSumOf};
 ghost use Rattle.dump_search.specs.Search.{copy_as, copy_of_layout, copy_of_size, copy_of_sizes, environment_at, good_in, order_with, sizes};
 
+use crate::area_sum::AreaSum;
 use crate::copy_sizes::SIZES;
 use crate::entry_front::begins_entry;
 use byteorder::{BigEndian, ByteOrder, LittleEndian};
-use envimg_core::{CopyState, Geometry, Layout, Order, check_copy, crc32};
+use envimg_core::{CopyState, Geometry, Layout, Order, check_copy};
 
 /// The environment that bytes begin with.
 #[tactic(auto, unfolding(crate::specs::Search::environment_at))]
@@ -39,7 +42,7 @@ fn looked_for() -> &'static [u32]
 }
 
 /// The bytes before the data area of a copy.
-fn head(layout: Layout) -> usize
+pub(crate) fn head(layout: Layout) -> usize
     ensures { result ≡ head layout }
 {
     match layout {
@@ -63,38 +66,44 @@ pub(crate) fn behind(count: usize, bytes: &[u8]) -> &[u8]
 fn copy_of_sizes(layout: Layout, bytes: &[u8], sizes: &[u32]) -> Option<Geometry>
     ensures { result ≡ copy_of_sizes layout bytes.now sizes.now }
 {
+    let mut sum = AreaSum::new(layout);
     for size in sizes {
-        if let Some(geometry) = copy_of_size(layout, bytes, *size) {
+        if let Some(geometry) = copy_of_size(&mut sum, layout, bytes, *size) {
             return Some(geometry);
         }
     }
     None
 }
 
-/// The copy of this size that bytes begin with.
-fn copy_of_size(layout: Layout, bytes: &[u8], size: u32) -> Option<Geometry>
-    ensures { result ≡ copy_of_size layout bytes.now size }
+/// The copy of this size that bytes begin with. The checksum goes on from that of the size before.
+fn copy_of_size(sum: &mut AreaSum, layout: Layout, bytes: &[u8], size: u32) -> Option<Geometry>
+    requires { IsSumOf sum.old layout bytes.now }
+    ensures copy { result ≡ copy_of_size layout bytes.now size }
+    ensures sum { IsSumOf sum.new layout bytes.now }
 {
     match Geometry::new(layout, size) {
         None => None,
         Some(geometry) => match bytes.get(..size as usize) {
             None => None,
-            Some(copy) => copy_as(geometry, copy),
+            Some(copy) => copy_as(
+                geometry,
+                copy,
+                sum.checksum_to(layout, bytes, size as usize),
+            ),
         },
     }
 }
 
-/// The geometry of a copy in the byte order of its checksum, if it is good; `shape` has its layout and size.
-fn copy_as(shape: Geometry, copy: &[u8]) -> Option<Geometry>
-    requires { length copy.now ≡ shape.size }
+/// The geometry of a copy in the byte order of its checksum, if it is good; `shape` has its layout and size, `sum` is the
+/// checksum of its data area.
+fn copy_as(shape: Geometry, copy: &[u8], sum: u32) -> Option<Geometry>
+    requires size { length copy.now ≡ shape.size }
+    requires sum { sum ≡ checksum (drop (head shape.layout) copy.now) }
     ensures { result ≡ copy_as shape.layout copy.now }
 {
-    match shape.area(copy) {
+    match order_with(copy, sum) {
         None => None,
-        Some(area) => match order_with(copy, crc32(area)) {
-            None => None,
-            Some(order) => good_in(shape, copy, order),
-        },
+        Some(order) => good_in(shape, copy, order),
     }
 }
 

@@ -14,6 +14,7 @@ code_of kind.OtherShell = codes "other-shell"
 code_of kind.UnknownCommand = codes "unknown-command"
 code_of kind.TestOperator = codes "test-operator"
 code_of kind.RunUndefined = codes "run-undefined"
+code_of kind.RunUnknown = codes "run-unknown"
 code_of kind.HiddenAssignment = codes "hidden-assignment"
 code_of kind.UndefinedName = codes "undefined-name"
 code_of kind.NoVariable = codes "no-variable"
@@ -27,6 +28,7 @@ severity_of kind.OtherShell = severity.Error
 severity_of kind.UnknownCommand = severity.Error
 severity_of kind.TestOperator = severity.Error
 severity_of kind.RunUndefined = severity.Error
+severity_of kind.RunUnknown = severity.Note
 severity_of kind.HiddenAssignment = severity.Warning
 severity_of kind.UndefinedName = severity.Warning
 severity_of kind.NoVariable = severity.Error
@@ -37,7 +39,7 @@ severity_of kind.ValueType = severity.Error
 abbrev pub all_kinds : List FindingKind
 all_kinds =
     kind.CarriageReturn ∷ kind.Syntax ∷ kind.OtherShell ∷ kind.UnknownCommand ∷ kind.TestOperator ∷ kind.RunUndefined
-    ∷ kind.HiddenAssignment ∷ kind.UndefinedName ∷ kind.NoVariable ∷ kind.NoScript ∷ kind.ValueType ∷ []
+    ∷ kind.RunUnknown ∷ kind.HiddenAssignment ∷ kind.UndefinedName ∷ kind.NoVariable ∷ kind.NoScript ∷ kind.ValueType ∷ []
 
 abbrev pub is_called : List ℕ → FindingKind → Bool
 is_called text k = bytes_eq (code_of k) text

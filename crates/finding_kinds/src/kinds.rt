@@ -10,6 +10,8 @@ pub enum Severity {
     Error,
     /// A board might do something else than the script's author thinks.
     Warning,
+    /// The check can't tell. It isn't counted.
+    Note,
 }
 
 /// A kind of finding.
@@ -27,6 +29,8 @@ pub enum FindingKind {
     TestOperator,
     /// A `run` of a variable that isn't defined.
     RunUndefined,
+    /// A `run` of any variable, which isn't followed.
+    RunUnknown,
     /// An assignment to a name that the environment holds.
     HiddenAssignment,
     /// A substitution of a name that nothing defines.
@@ -40,13 +44,14 @@ pub enum FindingKind {
 }
 
 /// All of them, in the order of the table.
-const ALL: [FindingKind; 11] = [
+const ALL: [FindingKind; 12] = [
     FindingKind::CarriageReturn,
     FindingKind::Syntax,
     FindingKind::OtherShell,
     FindingKind::UnknownCommand,
     FindingKind::TestOperator,
     FindingKind::RunUndefined,
+    FindingKind::RunUnknown,
     FindingKind::HiddenAssignment,
     FindingKind::UndefinedName,
     FindingKind::NoVariable,
@@ -66,6 +71,7 @@ impl FindingKind {
             FindingKind::UnknownCommand => "unknown-command",
             FindingKind::TestOperator => "test-operator",
             FindingKind::RunUndefined => "run-undefined",
+            FindingKind::RunUnknown => "run-unknown",
             FindingKind::HiddenAssignment => "hidden-assignment",
             FindingKind::UndefinedName => "undefined-name",
             FindingKind::NoVariable => "no-variable",
@@ -82,6 +88,7 @@ impl FindingKind {
             FindingKind::CarriageReturn
             | FindingKind::HiddenAssignment
             | FindingKind::UndefinedName => Severity::Warning,
+            FindingKind::RunUnknown => Severity::Note,
             _ => Severity::Error,
         }
     }

@@ -2,7 +2,7 @@
 use Rattle.std.proofs.Common.{◌≡◌, ◌++◌, ℕ, Bool, true, List, [], ◌∷◌, map, ap, sym, ◌∙◌, Option, Some, None, Bor, option_map, codes, refl}
 use Rattle.std.specs.Prelude.{Ok, Err, if◌then◌else◌, unwrap_or}
 use Rattle.std.proofs.lemmas.List.{map-append}
-use Rattle.clap.specs.Words.{AddsAliases, Row, Rule, Text, all_of, first_of, rule_of}
+use Rattle.clap.specs.Words.{AddsAliases, Row, Rule, Text, first_of, rule_of}
 use Rattle.clap.specs.declared.builder.arg.Arg.{Arg}
 use Rattle.envimg_core.specs.declared.geometry.Order.{Order}
 use Rattle.fw_arguments.specs.Calls.{Defaults, Job, defaults_of, LockFiles, is_client, job_of, locks_of, with_copy}
@@ -14,6 +14,7 @@ use Rattle.run_limits.specs.Limits.{Bounds}
 use Rattle.fw_arguments.specs.PowerOns.{with_stored, ways_of}
 use Rattle.fw_arguments.specs.Report.{Subject, asked_of, asked_once, in_order, report_of, subject_of}
 use Rattle.fw_arguments.specs.StandardInput.{read_twice, reads_twice}
+use Rattle.fw_arguments.specs.GivenTexts.{GivenText}
 use Rattle.fw_arguments.specs.ImageRequests.{ImageRequest, both_alone, is_both_alone, request_by, request_in, size_of}
 use Rattle.envimg_core.specs.declared.geometry.Layout.{Layout}
 use Rattle.fw_arguments.specs.declared.wanted_copy.WantedCopy.{WantedCopy}
@@ -40,19 +41,17 @@ with_copy_is order name rows image copy config defaults locks chosen only over j
     λ i. and_then (j i) (λ k. Ok (record { config = p i; image = image; copy = copy; defaults = q i; locks = l i; order = r i; only_changes = o i; overwrite = w i; job = k }))
 
 -- the run of a script with what was found for it
-pub script_is : (shell : Shell) (rows : List Row) (dry : DryRun) (limits : Bounds) (boots resets : Option (List Text)) (must_boot : Bool) (script : GivenScript) →
-    Ok script ≡ script_of rows → dry ≡ run_within shell rows limits → boots ≡ all_of (codes "boots") rows →
-    resets ≡ all_of (codes "resets") rows → must_boot ≡ is_given (codes "must_boot") rows →
-    Ok (record { dry = dry; boots = unwrap_or boots []; resets = unwrap_or resets []; must_boot = must_boot; script = script }) ≡ script_within shell rows limits
-script_is shell rows dry limits boots resets must_boot script p d b r m =
-    λ i. and_then (p i) (λ k. Ok (record { dry = d i; boots = unwrap_or (b i) []; resets = unwrap_or (r i) []; must_boot = m i; script = k }))
+pub script_is : (shell : Shell) (rows : List Row) (dry : DryRun) (limits : Bounds) (must_boot trace : Bool) (script : GivenScript) →
+    Ok script ≡ script_of rows → dry ≡ run_within shell rows limits → must_boot ≡ is_given (codes "must_boot") rows → trace ≡ is_given (codes "trace") rows →
+    Ok (record { dry = dry; must_boot = must_boot; trace = trace; script = script }) ≡ script_within shell rows limits
+script_is shell rows dry limits must_boot trace script p d m t =
+    λ i. and_then (p i) (λ k. Ok (record { dry = d i; must_boot = m i; trace = t i; script = k }))
 
 -- power-ons with what was found for them
-pub power_ons_are : (shell : Shell) (rows : List Row) (dry : DryRun) (limits : Bounds) (boots resets : Option (List Text)) (stored ways : ℕ) →
-    Ok ways ≡ ways_of rows → dry ≡ run_within shell rows limits → boots ≡ all_of (codes "boots") rows → resets ≡ all_of (codes "resets") rows →
-    Ok (record { dry = dry; boots = unwrap_or boots []; resets = unwrap_or resets []; stored = stored; ways = ways }) ≡ with_stored shell rows limits stored
-power_ons_are shell rows dry limits boots resets stored ways p d b r =
-    λ i. and_then (p i) (λ k. Ok (record { dry = d i; boots = unwrap_or (b i) []; resets = unwrap_or (r i) []; stored = stored; ways = k }))
+pub power_ons_are : (shell : Shell) (rows : List Row) (dry : DryRun) (limits : Bounds) (stored ways : ℕ) (dot : Bool) →
+    Ok ways ≡ ways_of rows → dry ≡ run_within shell rows limits → dot ≡ is_given (codes "dot") rows →
+    Ok (record { dry = dry; stored = stored; ways = ways; dot = dot }) ≡ with_stored shell rows limits stored
+power_ons_are shell rows dry limits stored ways dot p d g = λ i. and_then (p i) (λ k. Ok (record { dry = d i; stored = stored; ways = k; dot = g i }))
 
 pub report_is : (order chosen : Order) (rows : List Row) (subject : Subject) →
     chosen ≡ either_order order (order_by (source_in (codes "big-endian") rows)) → Ok subject ≡ subject_of rows → Ok (record { order = chosen; subject = subject }) ≡ report_of order rows
@@ -69,14 +68,14 @@ pub twice_refused : (order : Order) (name text : Text) (rows : List Row) → tex
 twice_refused order name text rows is twice =
     ap Err is ∙ ap (λ (b : Bool). if b then Err read_twice else asked_once order name rows) (sym twice)
 
-pub both_refused : (order : Order) (rows : List Row) (layout : Layout) (text : Text) → text ≡ both_alone → is_both_alone layout (is_given (codes "both") rows) ≡ true →
-    Err text ≡ request_by order rows layout
-both_refused order rows layout text is alone =
-    ap Err is ∙ ap (λ (b : Bool). if b then Err both_alone else and_then (size_of rows layout) (λ size. Ok (request_in order rows layout size))) (sym alone)
+pub both_refused : (order : Order) (rows : List Row) (given : GivenText) (layout : Layout) (text : Text) → text ≡ both_alone → is_both_alone layout (is_given (codes "both") rows) ≡ true →
+    Err text ≡ request_by order rows given layout
+both_refused order rows given layout text is alone =
+    ap Err is ∙ ap (λ (b : Bool). if b then Err both_alone else and_then (size_of rows layout) (λ size. Ok (request_in order rows given layout size))) (sym alone)
 
-pub request_is : (order chosen : Order) (rows : List Row) (layout : Layout) (size : ℕ) (text : Text) (both : Bool) (output : Option Text) →
-    text ≡ first_or [] (codes "env") rows → chosen ≡ either_order order (order_by (source_in (codes "big-endian") rows)) → both ≡ is_given (codes "both") rows →
+pub request_is : (order chosen : Order) (rows : List Row) (text : GivenText) (layout : Layout) (size : ℕ) (both : Bool) (output : Option Text) →
+    chosen ≡ either_order order (order_by (source_in (codes "big-endian") rows)) → both ≡ is_given (codes "both") rows →
     output ≡ first_of (codes "output") rows →
-    ◌≡◌ {A = ImageRequest} (record { text = text; layout = layout; size = size; order = chosen; both = both; output = output }) (request_in order rows layout size)
-request_is order chosen rows layout size text both output t r b o =
-    λ i. record { text = t i; layout = layout; size = size; order = r i; both = b i; output = o i }
+    ◌≡◌ {A = ImageRequest} (record { text = text; layout = layout; size = size; order = chosen; both = both; output = output }) (request_in order rows text layout size)
+request_is order chosen rows text layout size both output r b o =
+    λ i. record { text = text; layout = layout; size = size; order = r i; both = b i; output = o i }

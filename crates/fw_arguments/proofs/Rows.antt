@@ -158,7 +158,11 @@ pub text_twice : faults (codes "fwenv" ∷ codes "run" ∷ codes "--env" ∷ cod
 unfolding clap_on_literals
 text_twice = refl
 
-pub boots_nowhere_else : faults (codes "fwenv" ∷ codes "session" ∷ codes "--boots" ∷ codes "booti" ∷ []) ≡ UnknownArgument ∷ []
+pub session_boots : faults (codes "fwenv" ∷ codes "session" ∷ codes "--boots" ∷ codes "booti" ∷ codes "--boots=bootm" ∷ codes "--resets" ∷ codes "reset" ∷ []) ≡ []
+unfolding clap_on_literals
+session_boots = refl
+
+pub boots_nowhere_else : faults (codes "fwenv" ∷ codes "check" ∷ codes "--boots" ∷ codes "booti" ∷ []) ≡ UnknownArgument ∷ []
 unfolding clap_on_literals
 boots_nowhere_else = refl
 
@@ -166,6 +170,10 @@ boots_nowhere_else = refl
 pub boot_limited : faults (codes "fwenv" ∷ codes "boot" ∷ codes "--board" ∷ codes "f" ∷ codes "--stored" ∷ codes "5" ∷ codes "--ways=9" ∷ codes "--copy" ∷ codes "1" ∷ codes "--boots=a" ∷ codes "--boots=b" ∷ []) ≡ []
 unfolding clap_on_literals
 boot_limited = refl
+
+pub boot_drawn : faults (codes "fwenv" ∷ codes "boot" ∷ codes "--dot" ∷ codes "--board=f" ∷ []) ≡ []
+unfolding clap_on_literals
+boot_drawn = refl
 
 pub no_write_of_a_boot : faults (codes "fwenv" ∷ codes "boot" ∷ codes "--write" ∷ []) ≡ UnknownArgument ∷ []
 unfolding clap_on_literals

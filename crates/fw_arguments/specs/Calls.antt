@@ -8,6 +8,7 @@ use Rattle.fw_arguments.specs.DryRuns.{DryRun, ScriptRun, and_then, dry_run_of, 
 pub use Rattle.fw_arguments.specs.DryRuns.{texts}
 use Rattle.fw_arguments.specs.PowerOns.{PowerOns, power_ons_of, power_ons_view}
 use Rattle.fw_arguments.specs.Checks.{EnvironmentCheck, environment_check_of, environment_check_view}
+use Rattle.fw_arguments.specs.GivenTexts.{GivenText}
 use Rattle.fw_arguments.specs.ImageSizes.{image_of, whole_text}
 use Rattle.fw_arguments.specs.Values.{all_values, first_or, is_given}
 use Rattle.fw_arguments.specs.WantedCopies.{wanted_copy_of}
@@ -16,6 +17,8 @@ use Rattle.fw_arguments.specs.declared.call.Call as calls
 use Rattle.fw_arguments.specs.declared.task.Printing.{Printing}
 use Rattle.fw_arguments.specs.declared.task.Printing.TheVariants.{Lines, OneValue, Values}
 use Rattle.fw_arguments.specs.declared.call.Defaults as defaults
+use Rattle.fw_arguments.specs.declared.given_text.TextForm.{TextForm}
+use Rattle.fw_arguments.specs.declared.given_text.TextForm.TheVariants.{Import as ImportText, Plain}
 use Rattle.fw_arguments.specs.declared.call.LockFiles as locks
 use Rattle.fw_arguments.specs.declared.call.LockFiles.TheVariants as lock
 use Rattle.fw_arguments.specs.declared.job.Job as jobs
@@ -43,12 +46,12 @@ pub data Job : Type 0 where
   Boots : PowerOns → Job
   Checks : EnvironmentCheck → Job
 
--- the default environment: its text's path, if there is one; whether the text has plain lines, and is
+-- the default environment: its text's path, if there is one; the text's form, and if that is plain lines the text is
 -- /etc/u-boot-initial-env if no path is given and that file is there; whether a copy has to be good if there
 -- is no text; and whether the text is the whole environment, so that no copy is missed
 pub record Defaults : Type 0 where
   pub path : Option Text
-  pub plain : Bool
+  pub form : TextForm
   pub need_copy : Bool
   pub whole : Bool
 
@@ -195,11 +198,14 @@ abbrev pub is_client : Text → Bool
 is_client name = bytes_eq name (codes "fw_printenv") || bytes_eq name (codes "fw_setenv")
 
 -- a text that is the whole environment is the default environment over an erased image
-abbrev pub defaults_by : Option Text → Text → List Row → Defaults
-defaults_by (Some path) name rows = record { path = Some path; plain = false; need_copy = false; whole = true }
+abbrev pub form_of : Text → TextForm
+form_of name = if is_client name then Plain else ImportText
+
+abbrev pub defaults_by : Option GivenText → Text → List Row → Defaults
+defaults_by (Some text) name rows = record { path = Some text.path; form = text.form; need_copy = false; whole = true }
 defaults_by None name rows = record {
   path = first_of (codes "default") rows;
-  plain = is_client name;
+  form = form_of name;
   need_copy = is_client name || is_given (codes "need-copy") rows;
   whole = false;
 }
@@ -257,7 +263,7 @@ job_view (job.Boot power_ons) = Boots (power_ons_view power_ons)
 job_view (job.Check check) = Checks (environment_check_view check)
 
 abbrev pub defaults_view : defaults.Defaults → Defaults
-defaults_view d = record { path = option_map (λ p. p.now) d.path; plain = d.plain; need_copy = d.need_copy; whole = d.whole }
+defaults_view d = record { path = option_map (λ p. p.now) d.path; form = d.form; need_copy = d.need_copy; whole = d.whole }
 
 abbrev pub locks_view : locks.LockFiles → LockFiles
 locks_view lock.Nothing = Nothing

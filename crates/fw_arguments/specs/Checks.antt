@@ -33,7 +33,7 @@ wrong_code texts = find (λ text. not (is_code text)) texts
 -- what is wrong with it
 abbrev pub bad_code : Text
 bad_code =
-    codes "' for '--ignore <CODE>'\n  [possible values: carriage-return, syntax, other-shell, unknown-command, test-operator, run-undefined, hidden-assignment, undefined-name, no-variable, no-script, value-type]\n\nFor more information, try '--help'.\n"
+    codes "' for '--ignore <CODE>'\n  [possible values: carriage-return, syntax, other-shell, unknown-command, test-operator, run-undefined, run-unknown, hidden-assignment, undefined-name, no-variable, no-script, value-type]\n\nFor more information, try '--help'.\n"
 
 abbrev pub choice_by : List Row → Choice
 choice_by rows = record { ignored = all_values (codes "ignore") rows; strict = is_given (codes "strict") rows }
@@ -60,12 +60,12 @@ environment_check_of rows = and_then (rules_of rows) (λ rules. Ok (environment_
 -- whether an environment is named, or variables of one
 abbrev pub names_environment : List Row → Bool
 names_environment rows =
-    is_given (codes "names") rows || (is_given (codes "config") rows || (is_given (codes "default") rows || (is_given (codes "env") rows || is_given (codes "size") rows)))
+    is_given (codes "names") rows || (is_given (codes "config") rows || (is_given (codes "default") rows || (is_given (codes "env") rows || (is_given (codes "env-source") rows || is_given (codes "size") rows))))
 
 -- what is wrong if the script of a file is asked for as well
 abbrev pub file_alone : Text
 file_alone =
-    codes "error: the argument '-f <FILE>' cannot be used with '[NAMES]...', '-c <FILE>', '--default <FILE>', '--env <FILE>' or '--size <N>'\n\nUsage: fwenv check [OPTIONS] [NAMES]...\n\nFor more information, try '--help'.\n"
+    codes "error: the argument '-f <FILE>' cannot be used with '[NAMES]...', '-c <FILE>', '--default <FILE>', '--env <FILE>', '--env-source <FILE>' or '--size <N>'\n\nUsage: fwenv check [OPTIONS] [NAMES]...\n\nFor more information, try '--help'.\n"
 
 abbrev pub file_check_by : Text → List Row → Shell × Choice → FileCheck
 file_check_by path rows rules = record { shell = rules.0; stand_ins = first_of (codes "stubs") rows; choice = rules.1; path = path }

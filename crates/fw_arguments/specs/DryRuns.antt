@@ -14,13 +14,15 @@ use Rattle.fw_arguments.specs.declared.dry_runs.GivenScript as scripts
 use Rattle.fw_arguments.specs.declared.dry_runs.GivenScript.TheVariants as code
 use Rattle.fw_arguments.specs.declared.dry_runs.ScriptRun as script_runs
 
--- whose rules count, whether the copies are written back, the stand-ins' file and the board file, if there are any, and
--- the limits of each block
+-- whose rules count, whether the copies are written back, the stand-ins' file and the board file, if there are any, the
+-- names of commands that don't return, and the limits of each block
 pub record DryRun : Type 0 where
   pub shell : Shell
   pub write : Bool
   pub stand_ins : Option Text
   pub board : Option Text
+  pub boots : List Text
+  pub resets : List Text
   pub limits : Bounds
 
 -- the number, if it is at most `most`
@@ -68,6 +70,8 @@ run_within shell rows limits = record {
   write = is_given (codes "write") rows;
   stand_ins = first_of (codes "stubs") rows;
   board = first_of (codes "board") rows;
+  boots = all_values (codes "boots") rows;
+  resets = all_values (codes "resets") rows;
   limits = limits;
 }
 
@@ -84,12 +88,11 @@ pub data GivenScript : Type 0 where
   Words : Text → GivenScript
   File : Text → GivenScript
 
--- the run of a script, the names of commands that don't return, and whether it has to boot
+-- the run of a script, whether it has to boot, and whether its commands are printed
 pub record ScriptRun : Type 0 where
   pub dry : DryRun
-  pub boots : List Text
-  pub resets : List Text
   pub must_boot : Bool
+  pub trace : Bool
   pub script : GivenScript
 
 -- what is wrong if there is no script, or more than one
@@ -119,9 +122,8 @@ script_of rows = script_by (all_values (codes "names") rows) (first_of (codes "t
 abbrev pub script_run : Shell → List Row → Bounds → GivenScript → ScriptRun
 script_run shell rows limits script = record {
   dry = run_within shell rows limits;
-  boots = all_values (codes "boots") rows;
-  resets = all_values (codes "resets") rows;
   must_boot = is_given (codes "must_boot") rows;
+  trace = is_given (codes "trace") rows;
   script = script;
 }
 
@@ -146,6 +148,8 @@ dry_run_view r = record {
   write = r.write;
   stand_ins = option_map (λ path. path.now) r.stand_ins;
   board = option_map (λ path. path.now) r.board;
+  boots = texts r.boots;
+  resets = texts r.resets;
   limits = r.limits;
 }
 
@@ -157,8 +161,7 @@ script_view (code.File path) = File path.now
 abbrev pub script_run_view : script_runs.ScriptRun → ScriptRun
 script_run_view r = record {
   dry = dry_run_view r.dry;
-  boots = texts r.boots;
-  resets = texts r.resets;
   must_boot = r.must_boot;
+  trace = r.trace;
   script = script_view r.script;
 }

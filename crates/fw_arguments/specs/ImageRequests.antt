@@ -6,6 +6,7 @@ use Rattle.envimg_core.specs.declared.geometry.Layout.{Layout}
 use Rattle.envimg_core.specs.declared.geometry.Layout.TheVariants.{Single, Redundant}
 use Rattle.envimg_core.specs.declared.geometry.Order.{Order}
 use Rattle.fw_arguments.specs.DryRuns.{and_then}
+use Rattle.fw_arguments.specs.GivenTexts.{GivenText, given_text, given_text_view, gives_two, two_texts}
 use Rattle.fw_arguments.specs.ImageSizes.{size_in}
 use Rattle.fw_arguments.specs.Values.{first_or, is_given, value_or}
 use Rattle.fw_arguments.specs.Words.{either_order, order_by, source_in}
@@ -15,7 +16,7 @@ use Rattle.fw_arguments.specs.declared.table.TheConstants.{ONE_COPY}
 -- the text with its variables; one copy or two, the size and the byte order of each; whether both hold the variables; and
 -- the file that it is written into, if it isn't standard output
 pub record ImageRequest : Type 0 where
-  pub text : Text
+  pub text : GivenText
   pub layout : Layout
   pub size : ℕ
   pub order : Order
@@ -58,9 +59,9 @@ size_text Single = codes "' for '--size <N>': not the size of an image in hexade
 size_text Redundant = codes "' for '--size <N>': not the size of one of two copies in hexadecimal, 0x9 to 0x100000\n\nFor more information, try '--help'.\n"
 
 -- the image that is asked for, by what was found in the arguments
-abbrev pub request_in : Order → List Row → Layout → ℕ → ImageRequest
-request_in order rows layout size = record {
-  text = first_or [] (codes "env") rows;
+abbrev pub request_in : Order → List Row → GivenText → Layout → ℕ → ImageRequest
+request_in order rows text layout size = record {
+  text = text;
   layout = layout;
   size = size;
   order = either_order order (order_by (source_in (codes "big-endian") rows));
@@ -71,18 +72,33 @@ request_in order rows layout size = record {
 abbrev pub size_of : List Row → Layout → Result ℕ Text
 size_of rows layout = value_or (size_text layout) (first_or [] (codes "size") rows) (copy_size layout (first_or [] (codes "size") rows))
 
-abbrev pub request_by : Order → List Row → Layout → Result ImageRequest Text
-request_by order rows layout =
+abbrev pub request_by : Order → List Row → GivenText → Layout → Result ImageRequest Text
+request_by order rows text layout =
     if is_both_alone layout (is_given (codes "both") rows) then Err both_alone
-    else and_then (size_of rows layout) (λ size. Ok (request_in order rows layout size))
+    else and_then (size_of rows layout) (λ size. Ok (request_in order rows text layout size))
+
+abbrev pub request_with : Order → List Row → GivenText → Result ImageRequest Text
+request_with order rows text = and_then (layout_of rows) (request_by order rows text)
+
+-- the text with the variables, of which one has to be given
+abbrev pub no_text : Text
+no_text =
+    codes "error: the following required arguments were not provided:\n  <--env <FILE>|--env-source <FILE>>\n\nUsage: fwenv image [OPTIONS] --size <N>\n\nFor more information, try '--help'.\n"
+
+abbrev pub text_or_none : Option GivenText → Result GivenText Text
+text_or_none None = Err no_text
+text_or_none (Some text) = Ok text
+
+abbrev pub text_of : List Row → Result GivenText Text
+text_of rows = if gives_two rows then Err two_texts else text_or_none (given_text rows)
 
 abbrev pub image_request_of : Order → List Row → Result ImageRequest Text
-image_request_of order rows = and_then (layout_of rows) (request_by order rows)
+image_request_of order rows = and_then (text_of rows) (request_with order rows)
 
 -- the code's answer, in this form
 abbrev pub image_request_view : requests.ImageRequest → ImageRequest
 image_request_view r = record {
-  text = r.text.now;
+  text = given_text_view r.text;
   layout = r.layout;
   size = r.size;
   order = r.order;

@@ -1,9 +1,10 @@
 -- The image's size if the environment is only a text (docs/dry-runs.md, "An environment without a board").
 use Rattle.std.specs.Prelude.{ℕ, ◌||◌, ◌&&◌, not, Bool, List, [], ◌∷◌, ◌++◌, Option, Some, None, Result, Ok, Err, codes, if◌then◌else◌, option_and_then}
 use Rattle.std.specs.Str.{bytes_eq}
-use Rattle.clap.specs.Words.{Row, Text, first_of}
+use Rattle.clap.specs.Words.{Row, Text}
 use Rattle.envcfg_core.specs.Numerals.{size_of}
 use Rattle.envcfg_core.specs.Sizes.{copy_size}
+use Rattle.fw_arguments.specs.GivenTexts.{GivenText, given_text, gives_two, two_texts}
 use Rattle.fw_arguments.specs.Values.{first_or, is_given}
 use Rattle.fw_arguments.specs.Words.{usual_size}
 
@@ -12,18 +13,18 @@ abbrev pub takes_text : Text → Bool
 takes_text name =
     bytes_eq name (codes "session") || (bytes_eq name (codes "run") || (bytes_eq name (codes "boot") || bytes_eq name (codes "check")))
 
-abbrev pub whole_text : Text → List Row → Option Text
-whole_text name rows = if takes_text name then first_of (codes "env") rows else None
+abbrev pub whole_text : Text → List Row → Option GivenText
+whole_text name rows = if takes_text name then given_text rows else None
 
--- what is wrong if `--env` is given with another option, or `--size` without it
+-- what is wrong if such a text is given with another option, or `--size` without one
 abbrev pub help_ends : Text
 help_ends = 10 ∷ 10 ∷ codes "For more information, try '--help'." ++ 10 ∷ []
 
-abbrev pub env_and : Text → Text
-env_and other = codes "error: the argument '--env <FILE>' cannot be used with '" ++ other ++ codes "'" ++ help_ends
+abbrev pub and_env : Text → Text
+and_env other = codes "error: the argument '" ++ other ++ codes "' cannot be used with '--env <FILE>' or '--env-source <FILE>'" ++ help_ends
 
 abbrev pub size_alone : Text
-size_alone = codes "error: the argument '--size <N>' is only for '--env <FILE>'" ++ help_ends
+size_alone = codes "error: the argument '--size <N>' is only for '--env <FILE>' or '--env-source <FILE>'" ++ help_ends
 
 -- what is wrong if copies are to be written over, and not to be written
 abbrev pub overwrite_alone : Text
@@ -46,11 +47,12 @@ sized word = sized_or word (size_in word)
 
 abbrev pub in_memory : List Row → Result (Option ℕ) Text
 in_memory rows =
-    if is_given (codes "config") rows then Err (env_and (codes "-c <FILE>"))
-    else if is_given (codes "default") rows then Err (env_and (codes "--default <FILE>"))
-    else if is_given (codes "need-copy") rows then Err (env_and (codes "--need-copy"))
-    else if is_given (codes "copy") rows then Err (env_and (codes "--copy <N>"))
-    else if is_given (codes "write") rows then Err (env_and (codes "--write"))
+    if gives_two rows then Err two_texts
+    else if is_given (codes "config") rows then Err (and_env (codes "-c <FILE>"))
+    else if is_given (codes "default") rows then Err (and_env (codes "--default <FILE>"))
+    else if is_given (codes "need-copy") rows then Err (and_env (codes "--need-copy"))
+    else if is_given (codes "copy") rows then Err (and_env (codes "--copy <N>"))
+    else if is_given (codes "write") rows then Err (and_env (codes "--write"))
     else if overwrites_alone rows then Err overwrite_alone
     else sized (first_or usual_size (codes "size") rows)
 
@@ -61,9 +63,9 @@ in_devices name rows =
     else Ok None
 
 -- `None` if the copies are those of a configuration
-abbrev pub image_by : Option Text → Text → List Row → Result (Option ℕ) Text
+abbrev pub image_by : Option GivenText → Text → List Row → Result (Option ℕ) Text
 image_by None name rows = in_devices name rows
-image_by (Some path) name rows = in_memory rows
+image_by (Some text) name rows = in_memory rows
 
 abbrev pub image_of : Text → List Row → Result (Option ℕ) Text
 image_of name rows = image_by (whole_text name rows) name rows

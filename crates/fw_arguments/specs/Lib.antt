@@ -2,6 +2,7 @@
 pub mod Calls
 pub mod Checks
 pub mod DryRuns
+pub mod GivenTexts
 pub mod ImageRequests
 pub mod ImageSizes
 pub mod PowerOns

@@ -1,22 +1,21 @@
 -- What the arguments of `boot` ask for (docs/boot.md).
-use Rattle.std.specs.Prelude.{ℕ, List, Result, Ok, codes}
+use Rattle.std.specs.Prelude.{ℕ, Bool, List, Result, Ok, codes}
 use Rattle.clap.specs.Words.{Row, Text}
 use Rattle.run_limits.specs.Limits.{Bounds}
 use Rattle.hush_commands.specs.declared.shell.Shell.{Shell}
-use Rattle.fw_arguments.specs.DryRuns.{DryRun, and_then, bad, dry_run_view, limits_of, number_of, run_within, texts}
+use Rattle.fw_arguments.specs.DryRuns.{DryRun, and_then, bad, dry_run_view, limits_of, number_of, run_within}
 use Rattle.fw_arguments.specs.Shells.{board_shell, shell_of}
-use Rattle.fw_arguments.specs.Values.{all_values}
+use Rattle.fw_arguments.specs.Values.{is_given}
 use Rattle.fw_arguments.specs.Words.{usual_stored, usual_ways}
 use Rattle.fw_arguments.specs.declared.power_ons.PowerOns as power_ons
 
--- the options of a dry run, the names of commands that don't return, how many stored environments are powered on from, and
--- how many power-ons there may be in all
+-- the options of a dry run, how many stored environments are powered on from, how many ways are listed, and whether a graph
+-- is printed
 pub record PowerOns : Type 0 where
   pub dry : DryRun
-  pub boots : List Text
-  pub resets : List Text
   pub stored : ℕ
   pub ways : ℕ
+  pub dot : Bool
 
 -- the most that may be asked for
 abbrev pub most_stored : ℕ
@@ -34,10 +33,9 @@ ways_of rows = number_of (codes "ways") usual_ways most_ways (bad (codes "ways")
 abbrev pub power_ons_in : Shell → List Row → Bounds → ℕ → ℕ → PowerOns
 power_ons_in shell rows limits stored ways = record {
   dry = run_within shell rows limits;
-  boots = all_values (codes "boots") rows;
-  resets = all_values (codes "resets") rows;
   stored = stored;
   ways = ways;
+  dot = is_given (codes "dot") rows;
 }
 
 abbrev pub with_stored : Shell → List Row → Bounds → ℕ → Result PowerOns Text
@@ -55,4 +53,4 @@ power_ons_of rows = and_then (shell_of board_shell rows) (power_ons_by rows)
 
 -- the code's answers, in this form
 abbrev pub power_ons_view : power_ons.PowerOns → PowerOns
-power_ons_view p = record { dry = dry_run_view p.dry; boots = texts p.boots; resets = texts p.resets; stored = p.stored; ways = p.ways }
+power_ons_view p = record { dry = dry_run_view p.dry; stored = p.stored; ways = p.ways; dot = p.dot }

@@ -1,10 +1,11 @@
 //! What the arguments of a subcommand ask for.
 ghost use Rattle.std.specs.Prelude.{◌≡◌, option_copied};
 ghost use Rattle.clap.specs.Words.{found_of, rows_of};
-ghost use Rattle.fw_arguments.specs.Calls.{call_of, call_view, defaults_of, defaults_view, is_client, locks_in, locks_of, locks_view, spares, with_copy, with_image};
+ghost use Rattle.fw_arguments.specs.Calls.{call_of, call_view, defaults_of, defaults_view, form_of, is_client, locks_in, locks_of, locks_view, spares, with_copy, with_image};
 ghost use Rattle.fw_arguments.specs.WordFaults.{word_seen};
 
 use crate::arguments::{chosen_order, either_order, first, first_or, is_given};
+use crate::given_text::TextForm;
 use crate::image_size::{read_image, whole_text};
 use crate::job::{Job, read_job};
 use crate::table::CONFIG_PATH;
@@ -50,8 +51,8 @@ impl Call<'_, '_> {
 pub struct Defaults<'w> {
     /// The path of its text, if there is one.
     pub path: Option<&'w str>,
-    /// Whether the text has plain lines `NAME=VALUE`, without escapes, and is that of the board's build if none is given.
-    pub plain: bool,
+    /// The text's form; if that is plain lines, it is that of the board's build if none is given.
+    pub form: TextForm,
     /// Whether a copy has to be good if there is no text.
     pub need_copy: bool,
     /// Whether the text is the whole environment, so that no copy is missed.
@@ -139,18 +140,29 @@ fn defaults_of<'w>(name: &str, found: &ArgMatches<'w>) -> Defaults<'w>
     ensures { defaults_view result ≡ defaults_of name.now (rows_of (found_of found.now)) }
 {
     match whole_text(name, found) {
-        Some(path) => Defaults {
-            path: Some(path),
-            plain: false,
+        Some(text) => Defaults {
+            path: Some(text.path),
+            form: text.form,
             need_copy: false,
             whole: true,
         },
         None => Defaults {
             path: first(found, "default"),
-            plain: is_client(name),
+            form: form_of(name),
             need_copy: is_client(name) || is_given(found, "need-copy"),
             whole: false,
         },
+    }
+}
+
+/// The form of a default environment's text.
+fn form_of(name: &str) -> TextForm
+    ensures { result ≡ form_of name.now }
+{
+    if is_client(name) {
+        TextForm::Plain
+    } else {
+        TextForm::Import
     }
 }
 

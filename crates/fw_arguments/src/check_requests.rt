@@ -180,5 +180,6 @@ fn names_environment(found: &ArgMatches<'_>) -> bool
         || is_given(found, "config")
         || is_given(found, "default")
         || is_given(found, "env")
+        || is_given(found, "env-source")
         || is_given(found, "size")
 }

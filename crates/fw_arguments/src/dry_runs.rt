@@ -17,10 +17,10 @@ use hush_commands::Shell;
 use run_limits::{Limits, MOST_DEPTH, MOST_OUTPUT, MOST_STEPS, MOST_WORD};
 use text_parts::{Base, numeral};
 
-/// What a session and the run of a script have: `[--shell SHELL] [--write] [--stubs FILE] [--board FILE] [--steps N] [--depth N]
-/// [--word N] [--output N]`.
+/// What a session, the run of a script and power-ons have: `[--shell SHELL] [--write] [--stubs FILE] [--board FILE]
+/// [--boots NAME].. [--resets NAME].. [--steps N] [--depth N] [--word N] [--output N]`.
 #[derive(Clone, Copy, Debug)]
-pub struct DryRun<'w> {
+pub struct DryRun<'m, 'w> {
     /// Whose rules count where shells differ.
     pub shell: Shell,
     /// Whether the copies are written back.
@@ -29,22 +29,23 @@ pub struct DryRun<'w> {
     pub stand_ins: Option<&'w str>,
     /// The path of the board file, if there is one.
     pub board: Option<&'w str>,
-    /// How far each run may go.
-    pub limits: Limits,
-}
-
-/// The run of a script: `run [--boots NAME].. [--resets NAME].. [--must-boot] (NAMES | -e SCRIPT | -f FILE)`, with the
-/// options of a dry run.
-#[derive(Clone, Copy, Debug)]
-pub struct ScriptRun<'m, 'w> {
-    /// The options of a dry run.
-    pub dry: DryRun<'w>,
     /// The names of stand-ins that boot: with status 0 the run ends there.
     pub boots: Option<&'m [&'w str]>,
     /// The names of stand-ins that reset the board, likewise.
     pub resets: Option<&'m [&'w str]>,
+    /// How far each run may go.
+    pub limits: Limits,
+}
+
+/// The run of a script: `run [--must-boot] [--trace] (NAMES | -e SCRIPT | -f FILE)`, with the options of a dry run.
+#[derive(Clone, Copy, Debug)]
+pub struct ScriptRun<'m, 'w> {
+    /// The options of a dry run.
+    pub dry: DryRun<'m, 'w>,
     /// Whether the run has to end in a boot.
     pub must_boot: bool,
+    /// Whether the commands that are run are printed.
+    pub trace: bool,
     /// The script.
     pub script: GivenScript<'m, 'w>,
 }
@@ -61,7 +62,9 @@ pub enum GivenScript<'m, 'w> {
 }
 
 /// The dry run that the words of `session` ask for, or what is wrong with its shell or its numbers.
-pub(crate) fn read_dry_run<'w>(found: &ArgMatches<'w>) -> Result<DryRun<'w>, WordFault<'w>>
+pub(crate) fn read_dry_run<'m, 'w>(
+    found: &'m ArgMatches<'w>,
+) -> Result<DryRun<'m, 'w>, WordFault<'w>>
     ensures { word_seen dry_run_view result ≡ dry_run_of (rows_of (found_of found.now)) }
 {
     match read_shell(found, STRICT_SHELL) {
@@ -71,7 +74,10 @@ pub(crate) fn read_dry_run<'w>(found: &ArgMatches<'w>) -> Result<DryRun<'w>, Wor
 }
 
 /// The same by a shell.
-fn dry_run_by<'w>(found: &ArgMatches<'w>, shell: Shell) -> Result<DryRun<'w>, WordFault<'w>>
+fn dry_run_by<'m, 'w>(
+    found: &'m ArgMatches<'w>,
+    shell: Shell,
+) -> Result<DryRun<'m, 'w>, WordFault<'w>>
     ensures { word_seen dry_run_view result ≡ dry_run_by (rows_of (found_of found.now)) shell }
 {
     match read_limits(found, shell) {
@@ -81,7 +87,11 @@ fn dry_run_by<'w>(found: &ArgMatches<'w>, shell: Shell) -> Result<DryRun<'w>, Wo
 }
 
 /// The dry run by a shell within these limits.
-pub(crate) fn dry_run_within<'w>(found: &ArgMatches<'w>, shell: Shell, limits: Limits) -> DryRun<'w>
+pub(crate) fn dry_run_within<'m, 'w>(
+    found: &'m ArgMatches<'w>,
+    shell: Shell,
+    limits: Limits,
+) -> DryRun<'m, 'w>
     ensures { dry_run_view result ≡ run_within shell (rows_of (found_of found.now)) limits }
 {
     DryRun {
@@ -89,6 +99,8 @@ pub(crate) fn dry_run_within<'w>(found: &ArgMatches<'w>, shell: Shell, limits: L
         write: is_given(found, "write"),
         stand_ins: first(found, "stubs"),
         board: first(found, "board"),
+        boots: values(found, "boots"),
+        resets: values(found, "resets"),
         limits,
     }
 }
@@ -151,9 +163,8 @@ fn with_limits<'m, 'w>(
     match read_script(found) {
         Ok(script) => Ok(ScriptRun {
             dry: dry_run_within(found, shell, limits),
-            boots: values(found, "boots"),
-            resets: values(found, "resets"),
             must_boot: is_given(found, "must_boot"),
+            trace: is_given(found, "trace"),
             script,
         }),
         Err(fault) => Err(fault),

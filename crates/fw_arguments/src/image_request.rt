@@ -1,11 +1,15 @@
 //! What the arguments of `image` ask for.
 ghost use Rattle.std.specs.Prelude.{◌≡◌};
 ghost use Rattle.clap.specs.Words.{found_of, rows_of};
-ghost use Rattle.fw_arguments.specs.ImageRequests.{copy_size, image_request_of, image_request_view, is_both_alone, large_enough, layout_named, layout_of, request_by, request_in, size_of, size_text};
+ghost use Rattle.fw_arguments.specs.GivenTexts.{given_text_view};
+ghost use Rattle.fw_arguments.specs.ImageRequests.{copy_size, image_request_of, image_request_view, is_both_alone, large_enough, layout_named, layout_of, request_by, request_in, request_with, size_of, size_text, text_of};
 ghost use Rattle.fw_arguments.specs.WordFaults.{word_seen};
 
-use crate::argument_texts::{BAD_COPIES, BAD_PAIR_SIZE, BAD_SIZE, BOTH_ALONE, INVALID_VALUE};
+use crate::argument_texts::{
+    BAD_COPIES, BAD_PAIR_SIZE, BAD_SIZE, BOTH_ALONE, INVALID_VALUE, NO_TEXT, TWO_TEXTS,
+};
 use crate::arguments::{chosen_order, either_order, first, first_or, is_given};
+use crate::given_text::{GivenText, given_text, gives_two};
 use crate::image_size::read_size;
 use crate::table::ONE_COPY;
 use crate::word_fault::WordFault;
@@ -15,11 +19,11 @@ use envimg_core::{Layout, Order};
 /// The least size of one of two copies, in bytes.
 const PAIR_MIN: u32 = 9;
 
-/// A new image: `image --env FILE --size N [--copies N] [--both] [--big-endian] [--output FILE]`.
+/// A new image: `image (--env FILE | --env-source FILE) --size N [--copies N] [--both] [--big-endian] [--output FILE]`.
 #[derive(Clone, Copy, Debug)]
 pub struct ImageRequest<'w> {
-    /// The path of the text with its variables.
-    pub text: &'w str,
+    /// The text with its variables.
+    pub text: GivenText<'w>,
     /// One copy or two.
     pub layout: Layout,
     /// The size of a copy, in bytes.
@@ -39,8 +43,35 @@ pub(crate) fn read_image_request<'w>(
 ) -> Result<ImageRequest<'w>, WordFault<'w>>
     ensures { word_seen image_request_view result ≡ image_request_of order (rows_of (found_of found.now)) }
 {
+    match read_text(found) {
+        Ok(text) => request_with(order, found, text),
+        Err(fault) => Err(fault),
+    }
+}
+
+/// The text with the variables, of which one has to be given.
+fn read_text<'w>(found: &ArgMatches<'w>) -> Result<GivenText<'w>, WordFault<'w>>
+    ensures { word_seen given_text_view result ≡ text_of (rows_of (found_of found.now)) }
+{
+    if gives_two(found) {
+        return Err(WordFault::of(TWO_TEXTS));
+    }
+    match given_text(found) {
+        Some(text) => Ok(text),
+        None => Err(WordFault::of(NO_TEXT)),
+    }
+}
+
+/// The image that is asked for with the variables of this text.
+fn request_with<'w>(
+    order: Order,
+    found: &ArgMatches<'w>,
+    text: GivenText<'w>,
+) -> Result<ImageRequest<'w>, WordFault<'w>>
+    ensures { word_seen image_request_view result ≡ request_with order (rows_of (found_of found.now)) (given_text_view text.entry) }
+{
     match read_layout(found) {
-        Ok(layout) => request_by(order, found, layout),
+        Ok(layout) => request_by(order, found, text, layout),
         Err(fault) => Err(fault),
     }
 }
@@ -49,15 +80,16 @@ pub(crate) fn read_image_request<'w>(
 fn request_by<'w>(
     order: Order,
     found: &ArgMatches<'w>,
+    text: GivenText<'w>,
     layout: Layout,
 ) -> Result<ImageRequest<'w>, WordFault<'w>>
-    ensures { word_seen image_request_view result ≡ request_by order (rows_of (found_of found.now)) layout }
+    ensures { word_seen image_request_view result ≡ request_by order (rows_of (found_of found.now)) (given_text_view text.entry) layout }
 {
     if is_both_alone(layout, is_given(found, "both")) {
         return Err(WordFault::of(BOTH_ALONE));
     }
     match read_copy_size(found, layout) {
-        Ok(size) => Ok(request_in(order, found, layout, size)),
+        Ok(size) => Ok(request_in(order, found, text, layout, size)),
         Err(fault) => Err(fault),
     }
 }
@@ -66,13 +98,14 @@ fn request_by<'w>(
 fn request_in<'w>(
     order: Order,
     found: &ArgMatches<'w>,
+    text: GivenText<'w>,
     layout: Layout,
     size: u32,
 ) -> ImageRequest<'w>
-    ensures { image_request_view result ≡ request_in order (rows_of (found_of found.now)) layout size }
+    ensures { image_request_view result ≡ request_in order (rows_of (found_of found.now)) (given_text_view text.entry) layout size }
 {
     ImageRequest {
-        text: first_or(found, "env", ""),
+        text,
         layout,
         size,
         order: either_order(order, chosen_order(found)),

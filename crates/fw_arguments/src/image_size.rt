@@ -1,14 +1,16 @@
 //! The size of the image under an environment that is only a text.
-ghost use Rattle.std.specs.Prelude.{◌≡◌, option_copied};
+ghost use Rattle.std.specs.Prelude.{◌≡◌, option_map};
 ghost use Rattle.clap.specs.Words.{found_of, rows_of};
+ghost use Rattle.fw_arguments.specs.GivenTexts.{given_text_view};
 ghost use Rattle.fw_arguments.specs.ImageSizes.{image_of, in_devices, in_memory, overwrites_alone, size_in, sized, takes_text, whole_text};
 ghost use Rattle.fw_arguments.specs.WordFaults.{word_seen};
 
 use crate::argument_texts::{
-    BAD_SIZE, ENV_AND_CONFIG, ENV_AND_COPY, ENV_AND_DEFAULT, ENV_AND_WANTED_COPY, ENV_AND_WRITE,
-    INVALID_VALUE, OVERWRITE_ALONE, SIZE_ALONE,
+    BAD_SIZE, CONFIG_AND_ENV, DEFAULT_AND_ENV, INVALID_VALUE, NEED_COPY_AND_ENV, OVERWRITE_ALONE,
+    SIZE_ALONE, TWO_TEXTS, WANTED_COPY_AND_ENV, WRITE_AND_ENV,
 };
-use crate::arguments::{first, first_or, is_given};
+use crate::arguments::{first_or, is_given};
+use crate::given_text::{GivenText, given_text, gives_two};
 use crate::table::USUAL_SIZE;
 use crate::word_fault::WordFault;
 use clap::ArgMatches;
@@ -28,16 +30,16 @@ pub(crate) fn read_image<'w>(
 {
     match whole_text(name, found) {
         None => in_devices(name, found),
-        Some(_path) => in_memory(found),
+        Some(_text) => in_memory(found),
     }
 }
 
 /// The text that is the whole environment, if there is one.
-pub(crate) fn whole_text<'w>(name: &str, found: &ArgMatches<'w>) -> Option<&'w str>
-    ensures { option_copied result ≡ whole_text name.now (rows_of (found_of found.now)) }
+pub(crate) fn whole_text<'w>(name: &str, found: &ArgMatches<'w>) -> Option<GivenText<'w>>
+    ensures { option_map given_text_view result ≡ whole_text name.now (rows_of (found_of found.now)) }
 {
     if takes_text(name) {
-        first(found, "env")
+        given_text(found)
     } else {
         None
     }
@@ -74,20 +76,23 @@ fn overwrites_alone(found: &ArgMatches<'_>) -> bool
 fn in_memory<'w>(found: &ArgMatches<'w>) -> Result<Option<u32>, WordFault<'w>>
     ensures { word_seen (λ size. size) result ≡ in_memory (rows_of (found_of found.now)) }
 {
+    if gives_two(found) {
+        return Err(WordFault::of(TWO_TEXTS));
+    }
     if is_given(found, "config") {
-        return Err(WordFault::of(ENV_AND_CONFIG));
+        return Err(WordFault::of(CONFIG_AND_ENV));
     }
     if is_given(found, "default") {
-        return Err(WordFault::of(ENV_AND_DEFAULT));
+        return Err(WordFault::of(DEFAULT_AND_ENV));
     }
     if is_given(found, "need-copy") {
-        return Err(WordFault::of(ENV_AND_COPY));
+        return Err(WordFault::of(NEED_COPY_AND_ENV));
     }
     if is_given(found, "copy") {
-        return Err(WordFault::of(ENV_AND_WANTED_COPY));
+        return Err(WordFault::of(WANTED_COPY_AND_ENV));
     }
     if is_given(found, "write") {
-        return Err(WordFault::of(ENV_AND_WRITE));
+        return Err(WordFault::of(WRITE_AND_ENV));
     }
     if overwrites_alone(found) {
         return Err(WordFault::of(OVERWRITE_ALONE));

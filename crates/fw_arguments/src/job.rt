@@ -20,7 +20,7 @@ pub enum Job<'m, 'w> {
     /// A tool works on it.
     Tool(Task<'m, 'w>),
     /// Blocks of script and dot lines are tried on it.
-    DryRun(DryRun<'w>),
+    DryRun(DryRun<'m, 'w>),
     /// A script is run over it.
     Script(ScriptRun<'m, 'w>),
     /// A board is powered on from it and from what it stores then.

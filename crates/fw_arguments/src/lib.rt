@@ -1,6 +1,6 @@
 //! What the program's arguments ask for. docs/tools.md and docs/dry-runs.md state the rules.
 //!
-//! To read in this order: program_name; table, command_line; arguments, call, wanted_copy, job,
+//! To read in this order: program_name; table, command_line; arguments, given_text, call, wanted_copy, job,
 //! task, shells, dry_runs, power_ons, check_requests, image_size, image_request, standard_input, report;
 //! word_fault, argument_texts.
 #![tactic(auto)]
@@ -11,6 +11,7 @@ mod call;
 mod check_requests;
 mod command_line;
 mod dry_runs;
+mod given_text;
 mod image_request;
 mod image_size;
 mod job;
@@ -29,6 +30,7 @@ pub use call::{Call, Defaults, LockFiles};
 pub use check_requests::{EnvironmentCheck, FileCheck};
 pub use command_line::read_words;
 pub use dry_runs::{DryRun, GivenScript, ScriptRun};
+pub use given_text::{GivenText, TextForm};
 pub use image_request::ImageRequest;
 pub use job::Job;
 pub use power_ons::PowerOns;

@@ -5,7 +5,7 @@ ghost use Rattle.fw_arguments.specs.PowerOns.{power_ons_by, power_ons_of, power_
 ghost use Rattle.fw_arguments.specs.WordFaults.{word_seen};
 
 use crate::argument_texts::{BAD_STORED, BAD_WAYS};
-use crate::arguments::values;
+use crate::arguments::is_given;
 use crate::dry_runs::{DryRun, dry_run_within, number, read_limits};
 use crate::shells::read_shell;
 use crate::table::{BOARD_SHELL, USUAL_STORED, USUAL_WAYS};
@@ -17,23 +17,21 @@ use run_limits::Limits;
 /// The most stored environments that `--stored` allows.
 const MOST_STORED: u32 = 100_000;
 
-/// The most power-ons that `--ways` allows.
+/// The most ways that `--ways` allows.
 const MOST_WAYS: u32 = 10_000_000;
 
-/// Power-ons with every answer of the hardware: `boot [--boots NAME].. [--resets NAME].. [--stored N] [--ways N]`, with the
-/// options of a dry run that writes nothing.
+/// Power-ons with every answer of the hardware: `boot [--stored N] [--ways N] [--dot]`, with the options of a dry run that
+/// writes nothing.
 #[derive(Clone, Copy, Debug)]
 pub struct PowerOns<'m, 'w> {
     /// The options of a dry run.
-    pub dry: DryRun<'w>,
-    /// The names of stand-ins that boot: with status 0 the power-on ends there.
-    pub boots: Option<&'m [&'w str]>,
-    /// The names of stand-ins that reset the board, likewise.
-    pub resets: Option<&'m [&'w str]>,
+    pub dry: DryRun<'m, 'w>,
     /// How many stored environments are powered on from.
     pub stored: u32,
-    /// How many power-ons there may be in all.
+    /// How many ways are listed.
     pub ways: u32,
+    /// Whether a graph is printed.
+    pub dot: bool,
 }
 
 /// The power-ons that the words of `boot` ask for, or what is wrong with its shell or its numbers.
@@ -87,10 +85,9 @@ fn with_stored<'m, 'w>(
     match read_ways(found) {
         Ok(ways) => Ok(PowerOns {
             dry: dry_run_within(found, shell, limits),
-            boots: values(found, "boots"),
-            resets: values(found, "resets"),
             stored,
             ways,
+            dot: is_given(found, "dot"),
         }),
         Err(fault) => Err(fault),
     }
@@ -103,7 +100,7 @@ fn read_stored<'w>(found: &ArgMatches<'w>) -> Result<u32, WordFault<'w>>
     number(found, "stored", USUAL_STORED, MOST_STORED, BAD_STORED)
 }
 
-/// How many power-ons there may be in all.
+/// How many ways are listed.
 fn read_ways<'w>(found: &ArgMatches<'w>) -> Result<u32, WordFault<'w>>
     ensures { word_seen (λ n. n) result ≡ ways_of (rows_of (found_of found.now)) }
 {

@@ -8,8 +8,15 @@ use crate::table::STANDARD_INPUT;
 use clap::ArgMatches;
 
 /// The options and the operands that name a text.
-pub(crate) const TEXTS: [&str; 7] = [
-    "config", "default", "env", "stubs", "board", "script", "file",
+pub(crate) const TEXTS: [&str; 8] = [
+    "config",
+    "default",
+    "env",
+    "env-source",
+    "stubs",
+    "board",
+    "script",
+    "file",
 ];
 
 /// Whether the subcommand `name` would read standard input twice: for two of its texts, or for a text of a session, whose

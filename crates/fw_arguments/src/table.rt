@@ -262,6 +262,14 @@ pub const ENV: Row = Row {
     help: "Takes a text as for import as the whole environment, without a configuration and copies",
 };
 
+/// `--env-source FILE`
+pub const ENV_SOURCE: Row = Row {
+    id: "env-source",
+    names: Names::Long("env-source"),
+    takes: Takes::One("FILE"),
+    help: "The same as --env with a source in U-Boot's own text form, as board.env, after the C preprocessor",
+};
+
 /// `--size N`
 pub const SIZE: Row = Row {
     id: "size",
@@ -274,7 +282,7 @@ pub const SIZE: Row = Row {
 pub const IMAGE_ENV: Row = Row {
     id: "env",
     names: Names::Long("env"),
-    takes: Takes::Wanted("FILE"),
+    takes: Takes::One("FILE"),
     help: "The variables, a text as for import, or - for standard input",
 };
 
@@ -350,6 +358,14 @@ pub const MUST_BOOT: Row = Row {
     help: "The status is 0 only if the run ended in a boot",
 };
 
+/// `--trace`
+pub const TRACE: Row = Row {
+    id: "trace",
+    names: Names::Long("trace"),
+    takes: Takes::Nothing,
+    help: "Prints each command that is run on standard error, and where it begins",
+};
+
 /// `--stored N`
 pub const STORED: Row = Row {
     id: "stored",
@@ -363,7 +379,15 @@ pub const WAYS: Row = Row {
     id: "ways",
     names: Names::Long("ways"),
     takes: Takes::Usual("N", USUAL_WAYS),
-    help: "How many power-ons there may be in all, at most 10000000",
+    help: "How many ways are listed, at most 10000000",
+};
+
+/// `--dot`
+pub const DOT: Row = Row {
+    id: "dot",
+    names: Names::Long("dot"),
+    takes: Takes::Nothing,
+    help: "Prints a graph that dot of Graphviz draws, in place of the text",
 };
 
 /// `-e SCRIPT`
@@ -547,6 +571,7 @@ pub const IMAGE: Called = Called {
     example: "Example:\n  fwenv image --env variables.txt --size 0x4000 --copies 2 --output env.img",
     options: &[
         IMAGE_ENV,
+        ENV_SOURCE,
         IMAGE_SIZE,
         COPIES,
         BOTH,
@@ -563,8 +588,8 @@ pub const RUN: Called = Called {
     example: "Example:\n  fwenv run --env board.txt --stubs stand-ins.txt --boots booti bootcmd",
     options: &[
         CONFIG, DEFAULT, NEED_COPY, BIG_ENDIAN, RUN_WRITE, OVERWRITE, SHELL, STUBS, BOARD, STEPS,
-        DEPTH, WORD, OUTPUT, ENV, SIZE, BOOTS, RESETS, MUST_BOOT, GIVEN_TEXT, GIVEN_FILE,
-        RUN_NAMES,
+        DEPTH, WORD, OUTPUT, ENV, ENV_SOURCE, SIZE, BOOTS, RESETS, MUST_BOOT, TRACE, GIVEN_TEXT,
+        GIVEN_FILE, RUN_NAMES,
     ],
 };
 
@@ -576,7 +601,7 @@ pub const BOOT: Called = Called {
     example: "Example:\n  fwenv boot -c fw_env.config --board board.txt",
     options: &[
         CONFIG, DEFAULT, NEED_COPY, COPY, BIG_ENDIAN, SHELL, STUBS, BOARD, STEPS, DEPTH, WORD,
-        OUTPUT, ENV, SIZE, BOOTS, RESETS, STORED, WAYS,
+        OUTPUT, ENV, ENV_SOURCE, SIZE, BOOTS, RESETS, STORED, WAYS, DOT,
     ],
 };
 
@@ -595,6 +620,7 @@ pub const CHECK: Called = Called {
         IGNORE,
         STRICT,
         ENV,
+        ENV_SOURCE,
         SIZE,
         GIVEN_FILE,
         CHECK_NAMES,
@@ -622,7 +648,10 @@ pub const SESSION: Called = Called {
         WORD,
         OUTPUT,
         ENV,
+        ENV_SOURCE,
         SIZE,
+        BOOTS,
+        RESETS,
     ],
 };
 

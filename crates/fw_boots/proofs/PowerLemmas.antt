@@ -1,5 +1,5 @@
 -- What a power-on leaves of the session, and what it comes to.
-use Rattle.std.proofs.Common.{◌≡◌, ℕ, true, cond, List, [], ◌∷◌, fold, Option, Some, None, is_some, refl, sym, ap, ◌∙◌, arith, Result, Ok, Err}
+use Rattle.std.proofs.Common.{◌≡◌, ℕ, Bool, true, cond, List, [], ◌∷◌, fold, Option, Some, None, is_some, refl, sym, ap, ◌∙◌, arith, Result, Ok, Err}
 use Rattle.std.specs.Prelude.{IfOk, OnOk}
 use Rattle.std.specs.List.{list_all}
 use Rattle.std.proofs.lemmas.Bool.{false≢true}
@@ -18,10 +18,10 @@ use Rattle.env_requests.proofs.RunRequests.{run_leads, run_keeps_marks, both_lef
 use Rattle.std.specs.declared.alloc.AllocError.{AllocError}
 use Rattle.boot_search.specs.Outcomes.{outcome_of}
 use Rattle.boot_search.specs.declared.board.Turn.{Turn}
-use Rattle.boot_search.specs.SurveyText.{IsSurveyText, survey_status, told_of}
+use Rattle.boot_search.specs.SurveyText.{survey_status, told_of}
 use Rattle.boot_search.specs.declared.bootable.Survey.{Survey}
 use Rattle.boot_search.specs.declared.survey_lines.BootText.{BootText}
-use Rattle.fw_boots.specs.Boots.{BootsAs, IsSurveyOf, Power, tells_of}
+use Rattle.fw_boots.specs.Boots.{BootsAs, IsSurveyOf, IsTextOf, Power}
 use Rattle.fw_boots.specs.PowerOns.{IsOutcome, power_on}
 
 -- ---- a run keeps the shape of the copies and the defaults
@@ -83,7 +83,7 @@ same_again (Ok t) (Some reason) given rules tree old mid after o departure next 
 
 -- ---- what is told
 
-pub told_as : (p : Power) (survey : Survey) (r : Result BootText AllocError) → IsSurveyOf p survey →
-    IfOk r (λ t. IsSurveyText (tells_of p) (told_of survey) t.text.items) → IfOk r (λ t. t.status ≡ survey_status (told_of survey)) → IfOk r (BootsAs p)
-told_as p survey (Ok t) of text status = (survey, of, text, status)
-told_as p survey (Err e) of text status = tt
+pub told_as : (is_graph : Bool) (p : Power) (most : ℕ) (survey : Survey) (r : Result BootText AllocError) → IsSurveyOf p most survey →
+    IfOk r (λ t. IsTextOf is_graph p survey t.text.items) → IfOk r (λ t. t.status ≡ survey_status (told_of survey)) → IfOk r (BootsAs is_graph p most)
+told_as is_graph p most survey (Ok t) of text status = (survey, of, text, status)
+told_as is_graph p most survey (Err e) of text status = tt

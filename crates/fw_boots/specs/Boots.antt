@@ -1,5 +1,5 @@
 -- What all power-ons of a board can lead to, as it is printed (docs/boot.md).
-use Rattle.std.specs.Prelude.{◌≡◌, ℕ, List, [], ◌++◌, codes, Bool, true, false, is_some, if◌then◌else◌, Option, Some, None}
+use Rattle.std.specs.Prelude.{◌≡◌, ◌≤◌, ℕ, length, List, [], ◌++◌, codes, Bool, true, false, is_some, if◌then◌else◌, Option, Some, None}
 use Rattle.std.specs.List.{flat_map}
 use Rattle.std.specs.Str.{bytes_eq}
 use Rattle.std.specs.FinMap as map
@@ -15,6 +15,7 @@ use Rattle.boot_search.specs.Outcomes.{Given, Outcome}
 use Rattle.boot_search.specs.Reports.{IsReport}
 use Rattle.boot_search.specs.Bootable.{IsMarkedBy}
 use Rattle.boot_search.specs.SurveyText.{IsSurveyText, survey_status, told_of}
+use Rattle.boot_search.specs.DotText.{dot_of}
 use Rattle.boot_search.specs.declared.bootable.Survey.{Survey}
 use Rattle.boot_search.specs.declared.survey_lines.BootText.{BootText}
 use Rattle.fw_boots.specs.declared.boot.Boot.{Boot}
@@ -71,11 +72,17 @@ runs_of p stored = power_on p.rules p.tree (session_of p.shape p.defaults stored
 abbrev pub tells_of : Power → (stored : List ℕ) → List ℕ
 tells_of p stored = change_lines (stored_env p.shape p.defaults p.first) (stored_env p.shape p.defaults stored)
 
--- what is printed is the text of a survey, which lists what power-ons lead to, beginning with the first copy
-abbrev pub IsSurveyOf : Power → Survey → Type 0
-IsSurveyOf p survey = IsReport (runs_of p) p.first survey.report × IsMarkedBy false (runs_of p) survey × IsMarkedBy true (runs_of p) survey
+-- a survey lists what power-ons lead to, beginning with the first copy, and no more ways than the most
+abbrev pub IsSurveyOf : Power → (most : ℕ) → Survey → Type 0
+IsSurveyOf p most survey =
+    IsReport (runs_of p) p.first survey.report × IsMarkedBy false (runs_of p) survey × IsMarkedBy true (runs_of p) survey
+    × (length survey.report.ways.items ≤ most)
 
-abbrev pub BootsAs : Power → BootText → Type 0
-BootsAs p told =
-    (survey : Survey) × IsSurveyOf p survey
-    × IsSurveyText (tells_of p) (told_of survey) told.text.items × (told.status ≡ survey_status (told_of survey))
+-- what is printed of it is its text, or its graph
+abbrev pub IsTextOf : (is_graph : Bool) → Power → Survey → List ℕ → Type 0
+IsTextOf true p survey text = text ≡ dot_of (tells_of p) (told_of survey)
+IsTextOf false p survey text = IsSurveyText (tells_of p) (told_of survey) text
+
+abbrev pub BootsAs : (is_graph : Bool) → Power → (most : ℕ) → BootText → Type 0
+BootsAs is_graph p most told =
+    (survey : Survey) × IsSurveyOf p most survey × IsTextOf is_graph p survey told.text.items × (told.status ≡ survey_status (told_of survey))

@@ -1,12 +1,12 @@
 //! All power-ons of a board, and the text that tells what they lead to.
-ghost use Rattle.std.specs.Prelude.{◌≡◌, ◌≤◌, IfOk};
+ghost use Rattle.std.specs.Prelude.{◌≡◌, ◌≤◌, false, true, IfOk};
 ghost use Rattle.envimg_core.specs.Environment.{used};
 ghost use Rattle.envimg_core.specs.Geometry.{room_of};
 ghost use Rattle.fw_boots.specs.Boots.{power_of, session_of, BootsAs};
 
 use crate::changes::push_changes;
 use crate::power_on::PoweredBoard;
-use boot_search::{Board, BootText, Limits, explore_boots, survey_text};
+use boot_search::{Board, BootText, Limits, dot_text, explore_boots, survey_text};
 use env_requests::RunRules;
 use env_session::{Session, Stored};
 use envimg_core::Geometry;
@@ -81,8 +81,18 @@ impl<'a> Board for Boot<'a> {
 ///
 /// `AllocError` if memory runs out.
 pub fn boot_text(alloc: Global, boot: &Boot<'_>, limits: Limits) -> Result<BootText, AllocError>
-    ensures { IfOk result (BootsAs (power_of boot.now)) }
+    ensures { IfOk result (BootsAs false (power_of boot.now) limits.ways) }
 {
     let survey = explore_boots(alloc, boot, boot.first, limits)?;
     survey_text(alloc, boot, &survey)
+}
+
+/// The same as a graph, as Graphviz reads it.
+///
+/// `AllocError` if memory runs out.
+pub fn boot_graph(alloc: Global, boot: &Boot<'_>, limits: Limits) -> Result<BootText, AllocError>
+    ensures { IfOk result (BootsAs true (power_of boot.now) limits.ways) }
+{
+    let survey = explore_boots(alloc, boot, boot.first, limits)?;
+    dot_text(alloc, boot, &survey)
 }

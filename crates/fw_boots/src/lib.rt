@@ -10,7 +10,7 @@ mod power_on;
 mod power_on_text;
 mod question;
 
-pub use boot::{Boot, boot_text};
+pub use boot::{Boot, boot_graph, boot_text};
 pub use boot_search::{BootText, Limits};
 pub use power_on::PoweredBoard;
 pub use power_on_text::power_on_script;

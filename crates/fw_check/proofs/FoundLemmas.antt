@@ -7,7 +7,7 @@ use Rattle.memchr.specs.Find.{IsFirstByte}
 use Rattle.text_parts.proofs.CutLemmas.{list_any-answer, position_or_len-found}
 use Rattle.hush_commands.specs.declared.shell.Shell.{Shell}
 use Rattle.finding_kinds.specs.declared.kinds.FindingKind.TheVariants as kind
-use Rattle.fw_check.specs.Findings.{Finding, Known, Report, assigned_findings, found_at, is_defined, is_return, is_undefined, refused_sentence, return_findings, return_sentence, target_findings, undefined_sentence, with_finding, with_findings}
+use Rattle.fw_check.specs.Findings.{Finding, Known, Report, assigned_findings, found_at, is_defined, is_return, refused_sentence, return_findings, return_sentence, with_finding, with_findings}
 use Rattle.fw_check.specs.Found.{Found, found_more}
 
 pub report-none : (name text : List ℕ) (r : Report) → with_findings name text r [] ≡ r
@@ -41,14 +41,6 @@ module _ (shell : Shell) (known : Option Known) (count : ℕ) (literal : Option 
   pub assigned-no : t ≡ is_defined known name → t ≡ false → new ≡ old → new ≡ found_more old (assigned_findings shell known count literal)
   assigned-no same fails is =
       so-no old new t (is_defined known name) (found_at count kind.HiddenAssignment (refused_sentence shell name)) same fails is ∙ ap (λ (o : Option (List ℕ)). found_more old (assigned_findings shell known count o)) named
-
-  pub target-yes : t ≡ is_undefined known name → t ≡ true → new ≡ found_more old (found_at count kind.RunUndefined (undefined_sentence name) ∷ []) → new ≡ found_more old (target_findings known count literal)
-  target-yes same holds is =
-      so-yes old new t (is_undefined known name) (found_at count kind.RunUndefined (undefined_sentence name)) same holds is ∙ ap (λ (o : Option (List ℕ)). found_more old (target_findings known count o)) named
-
-  pub target-no : t ≡ is_undefined known name → t ≡ false → new ≡ old → new ≡ found_more old (target_findings known count literal)
-  target-no same fails is =
-      so-no old new t (is_undefined known name) (found_at count kind.RunUndefined (undefined_sentence name)) same fails is ∙ ap (λ (o : Option (List ℕ)). found_more old (target_findings known count o)) named
 
 -- ---- the first carriage return
 

@@ -3,6 +3,8 @@ mod FoundLemmas
 mod SummaryLemmas
 mod LiteralLemmas
 mod NameLemmas
+mod SortedLemmas
+mod FollowLemmas
 mod TypeLemmas
 mod VisitLemmas
 pub mod Rows

@@ -1,10 +1,13 @@
 -- Words without a substitution and the names in others, part by part.
-use Rattle.std.proofs.Common.{◌≡◌, ℕ, Bool, true, false, List, [], ◌∷◌, ◌++◌, map, Option, Some, None, refl, sym, ap, ◌∙◌, append_assoc, if◌then◌else◌}
+use Rattle.std.proofs.Common.{◌≡◌, ℕ, Bool, true, false, List, [], ◌∷◌, ◌++◌, map, Option, Some, None, refl, sym, ap, ◌∙◌, append_assoc, append-nil, if◌then◌else◌}
 use Rattle.std.specs.Prelude.{is_some, option_map}
 use Rattle.hush_words.specs.Forms.{goes_on, name_from, name_of}
+use Rattle.hush_words.specs.Parts.{part_atoms, span_bytes}
+use Rattle.hush_words.specs.declared.parts.Part.{Part}
+use Rattle.hush_words.specs.declared.parts.Part.TheVariants as part
 use Rattle.hush_words.specs.Words.{Atom}
 use Rattle.hush_words.specs.Words.Atom.{Plain, Quoted, Mark, Value, Status}
-use Rattle.fw_check.specs.Literals.{literal_of, substituted}
+use Rattle.fw_check.specs.Literals.{Front, front_of, front_with, literal_of, substituted, whole_of}
 
 pub plain-literal : (bs : List ℕ) → literal_of (map Plain bs) ≡ Some bs
 plain-literal [] = refl
@@ -14,49 +17,74 @@ pub quoted-literal : (bs : List ℕ) → literal_of (map Quoted bs) ≡ Some bs
 quoted-literal [] = refl
 quoted-literal (b ∷ bs) = ap (option_map (λ xs. b ∷ xs)) (quoted-literal bs)
 
--- these bytes before others, if there are others
-abbrev pub before : List ℕ → Option (List ℕ) → Option (List ℕ)
-before bytes o = option_map (λ bs. bytes ++ bs) o
+-- these bytes before others
+abbrev pub before : List ℕ → Front → Front
+before bytes front = record { bytes = bytes ++ front.bytes; whole = front.whole }
 
-pub before-nil : (o : Option (List ℕ)) → before [] o ≡ o
-before-nil None = refl
-before-nil (Some bs) = refl
-
-pub before-before : (xs ys : List ℕ) (o : Option (List ℕ)) → before xs (before ys o) ≡ before (xs ++ ys) o
-before-before xs ys None = refl
-before-before xs ys (Some bs) = ap (λ (l : List ℕ). Some l) (sym (append_assoc xs ys bs))
+before-before : (xs ys : List ℕ) (front : Front) → before xs (before ys front) ≡ before (xs ++ ys) front
+before-before xs ys front = ap (λ (l : List ℕ). let f : Front = record { bytes = l; whole = front.whole } in f) (sym (append_assoc xs ys front.bytes))
 
 -- by what the first atoms of a word are
-abbrev after : Option (List ℕ) → Option (List ℕ) → Option (List ℕ)
-after None o = None
-after (Some bytes) o = before bytes o
+abbrev after : Option (List ℕ) → Front → Front
+after None front = record { bytes = []; whole = false }
+after (Some bytes) front = before bytes front
 
-cons-after : (b : ℕ) (front o : Option (List ℕ)) → option_map (λ bs. b ∷ bs) (after front o) ≡ after (option_map (λ bs. b ∷ bs) front) o
-cons-after b None o = refl
-cons-after b (Some bytes) None = refl
-cons-after b (Some bytes) (Some bs) = refl
+front-after : (b : ℕ) (bytes : Option (List ℕ)) (front : Front) → is_some bytes ≡ true → front_with b (after bytes front) ≡ after (option_map (λ bs. b ∷ bs) bytes) front
+front-after b None front h = absurd (let no : false ≡ true = h in cc)
+front-after b (Some bytes) front h = refl
 
-literal-append : (xs ys : List Atom) → literal_of (xs ++ ys) ≡ after (literal_of xs) (literal_of ys)
-literal-append [] ys = sym (before-nil (literal_of ys))
-literal-append (Plain b ∷ xs) ys = ap (option_map (λ bs. b ∷ bs)) (literal-append xs ys) ∙ cons-after b (literal_of xs) (literal_of ys)
-literal-append (Quoted b ∷ xs) ys = ap (option_map (λ bs. b ∷ bs)) (literal-append xs ys) ∙ cons-after b (literal_of xs) (literal_of ys)
-literal-append (Mark ∷ xs) ys = literal-append xs ys
-literal-append (Value n q ∷ xs) ys = refl
-literal-append (Status q ∷ xs) ys = refl
+is_some-mapped : (b : ℕ) (bytes : Option (List ℕ)) → is_some (option_map (λ bs. b ∷ bs) bytes) ≡ is_some bytes
+is_some-mapped b None = refl
+is_some-mapped b (Some bytes) = refl
 
--- a part with these bytes was read, or one that is a substitution
-pub literal-on : (all left part rest : List Atom) (bytes more : List ℕ) → left ≡ part ++ rest → Some more ≡ literal_of part →
-    before bytes (literal_of left) ≡ literal_of all → before (bytes ++ more) (literal_of rest) ≡ literal_of all
-literal-on all left part rest bytes more cut is so_far =
-    sym (before-before bytes more (literal_of rest))
-    ∙ ap (λ (o : Option (List ℕ)). before bytes (after o (literal_of rest))) is
-    ∙ ap (before bytes) (sym (literal-append part rest) ∙ ap literal_of (sym cut)) ∙ so_far
+-- the first atoms have no substitution
+front-append : (xs ys : List Atom) → is_some (literal_of xs) ≡ true → front_of (xs ++ ys) ≡ after (literal_of xs) (front_of ys)
+front-append [] ys h = refl
+front-append (Plain b ∷ xs) ys h =
+    let there = sym (is_some-mapped b (literal_of xs)) ∙ h in
+    ap (front_with b) (front-append xs ys there) ∙ front-after b (literal_of xs) (front_of ys) there
+front-append (Quoted b ∷ xs) ys h =
+    let there = sym (is_some-mapped b (literal_of xs)) ∙ h in
+    ap (front_with b) (front-append xs ys there) ∙ front-after b (literal_of xs) (front_of ys) there
+front-append (Mark ∷ xs) ys h = front-append xs ys h
+front-append (Value n q ∷ xs) ys h = absurd (let no : false ≡ true = h in cc)
+front-append (Status q ∷ xs) ys h = absurd (let no : false ≡ true = h in cc)
 
-pub literal-stops : (all left part rest : List Atom) (bytes : List ℕ) → left ≡ part ++ rest → None ≡ literal_of part →
-    before bytes (literal_of left) ≡ literal_of all → None ≡ literal_of all
-literal-stops all left part rest bytes cut is so_far =
-    ap (λ (o : Option (List ℕ)). before bytes (after o (literal_of rest))) is
-    ∙ ap (before bytes) (sym (literal-append part rest) ∙ ap literal_of (sym cut)) ∙ so_far
+whole-by : (b : ℕ) (bytes : List ℕ) (whole : Bool) → (if whole then Some (b ∷ bytes) else None) ≡ option_map (λ bs. b ∷ bs) (if whole then Some bytes else None)
+whole-by b bytes true = refl
+whole-by b bytes false = refl
+
+whole-with : (b : ℕ) (front : Front) → whole_of (front_with b front) ≡ option_map (λ bs. b ∷ bs) (whole_of front)
+whole-with b front = whole-by b front.bytes front.whole
+
+-- the word, if it has no substitution
+pub whole-is : (atoms : List Atom) → whole_of (front_of atoms) ≡ literal_of atoms
+whole-is [] = refl
+whole-is (Plain b ∷ atoms) = whole-with b (front_of atoms) ∙ ap (option_map (λ bs. b ∷ bs)) (whole-is atoms)
+whole-is (Quoted b ∷ atoms) = whole-with b (front_of atoms) ∙ ap (option_map (λ bs. b ∷ bs)) (whole-is atoms)
+whole-is (Mark ∷ atoms) = whole-is atoms
+whole-is (Value n q ∷ atoms) = refl
+whole-is (Status q ∷ atoms) = refl
+
+-- a part with these bytes was read
+pub front-on : (all left part rest : List Atom) (bytes more : List ℕ) → left ≡ part ++ rest → Some more ≡ literal_of part →
+    before bytes (front_of left) ≡ front_of all → before (bytes ++ more) (front_of rest) ≡ front_of all
+front-on all left part rest bytes more cut is so_far =
+    sym (before-before bytes more (front_of rest))
+    ∙ ap (λ (o : Option (List ℕ)). before bytes (after o (front_of rest))) is
+    ∙ ap (before bytes) (sym (front-append part rest (ap (λ (o : Option (List ℕ)). is_some o) (sym is))) ∙ ap front_of (sym cut)) ∙ so_far
+
+-- and one that is a substitution
+one-stops : (source : List ℕ) (p : Part) (rest : List Atom) (bytes : List ℕ) → None ≡ literal_of (part_atoms source p) → before bytes (front_of (part_atoms source p ++ rest)) ≡ record { bytes = bytes; whole = false }
+one-stops source (part.Plain s) rest bytes none = absurd (let no : ◌≡◌ {A = Option (List ℕ)} None (Some (span_bytes source s)) = none ∙ plain-literal (span_bytes source s) in cc)
+one-stops source (part.Quoted s) rest bytes none = absurd (let no : ◌≡◌ {A = Option (List ℕ)} None (Some (span_bytes source s)) = none ∙ quoted-literal (span_bytes source s) in cc)
+one-stops source part.Mark rest bytes none = absurd (let no : ◌≡◌ {A = Option (List ℕ)} None (Some []) = none in cc)
+one-stops source (part.Value s q) rest bytes none = ap (λ (l : List ℕ). let f : Front = record { bytes = l; whole = false } in f) (append-nil bytes)
+one-stops source (part.Status q) rest bytes none = ap (λ (l : List ℕ). let f : Front = record { bytes = l; whole = false } in f) (append-nil bytes)
+
+pub front-stops : (source : List ℕ) (p : Part) (all left rest : List Atom) (bytes : List ℕ) → left ≡ part_atoms source p ++ rest → None ≡ literal_of (part_atoms source p) →
+    before bytes (front_of left) ≡ front_of all → record { bytes = bytes; whole = false } ≡ front_of all
+front-stops source p all left rest bytes cut none so_far = sym (one-stops source p rest bytes none) ∙ ap (λ (xs : List Atom). before bytes (front_of xs)) (sym cut) ∙ so_far
 
 -- ---- names
 

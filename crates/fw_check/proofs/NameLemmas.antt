@@ -11,7 +11,7 @@ use Rattle.std.proofs.lemmas.Grind.{fold-append}
 use Rattle.std.proofs.lemmas.List.{map-append}
 use Rattle.std.proofs.lemmas.List.Folds.{list_any-append}
 use Rattle.envimg_core.specs.Environment.{bytes_cmp}
-use Rattle.fw_check.specs.Checking.{is_among}
+use Rattle.fw_check.specs.Following.{is_among}
 use Rattle.fw_check.specs.NameSets.{AreSame, also, is_key, no_names, with_all}
 
 abbrev key_order : Vec ℕ Global → Vec ℕ Global → Ordering
@@ -63,7 +63,7 @@ called-insert : (name : List ℕ) (keys : List (Vec ℕ Global)) (k : Vec ℕ Gl
 called-insert name [] k = or-false (is_called name k)
 called-insert name (x ∷ keys) k = insert-here name x k keys (insert_key key_order keys k) (called-insert name keys k) (key_order k x) refl
 
-among-more : (names : List (List ℕ)) (new name : List ℕ) → is_among (names ++ new ∷ []) name ≡ (is_among names name || eq_by_cmp bytes_cmp name new)
+pub among-more : (names : List (List ℕ)) (new name : List ℕ) → is_among (names ++ new ∷ []) name ≡ (is_among names name || eq_by_cmp bytes_cmp name new)
 among-more names new name =
     list_any-append (eq_by_cmp bytes_cmp name) names (new ∷ [])
     ∙ ap (λ (b : Bool). is_among names name || b) (or-false (eq_by_cmp bytes_cmp name new))

@@ -13,10 +13,10 @@ use Rattle.hush_commands.specs.CommandNames.{with_name}
 use Rattle.hush_commands.specs.Stubs.{Statuses}
 use Rattle.finding_kinds.specs.declared.kinds.FindingKind.TheVariants as kind
 use Rattle.fw_check.specs.Called.{Given, called_by, given_with}
-use Rattle.fw_check.specs.Checking.{is_among}
+use Rattle.fw_check.specs.Following.{is_among, names_with}
 use Rattle.fw_check.specs.Findings.{Finding, Known, called_findings, found_at, lacking_sentence, name_findings, names_findings, set_by_commands, target_findings, undefined_sentence}
-use Rattle.fw_check.specs.Literals.{is_word_of, literal_of, substituted}
-use Rattle.fw_check.specs.Naming.{foreseen_as, foreseen_names, given_names, run_names}
+use Rattle.fw_check.specs.Literals.{Front, front_of, is_word_of, literal_of, substituted}
+use Rattle.fw_check.specs.Naming.{foreseen_as, foreseen_names, given_names, run_fronts}
 use Rattle.fw_check.specs.Statements.{of_script}
 
 abbrev word : List ℕ → List Atom
@@ -51,7 +51,13 @@ given_row : flat_map (given_names strict) (of_script (Some script))
     ≡ codes "i" ∷ codes "-n" ∷ codes "a" ∷ codes "uuid" ∷ codes "mmc" ∷ codes "y" ∷ codes "x" ∷ codes "c" ∷ []
 given_row = refl
 
-run_row : flat_map (run_names strict) (of_script (Some script)) ≡ codes "c" ∷ []
+abbrev whole : List ℕ → Front
+whole text = record { bytes = text; whole = true }
+
+abbrev begun : List ℕ → Front
+begun text = record { bytes = text; whole = false }
+
+run_row : flat_map (run_fronts strict) (of_script (Some script)) ≡ whole (codes "c") ∷ begun [] ∷ []
 run_row = refl
 
 -- `${a}x$?"$b"$a`
@@ -63,6 +69,19 @@ names_row = refl
 
 mixed_row : literal_of mixed ≡ None
 mixed_row = refl
+
+-- `x"y"${a}`, and the same before it
+front_row : front_of (Plain 120 ∷ Mark ∷ Quoted 121 ∷ Mark ∷ mixed) ≡ begun (codes "xy")
+front_row = refl
+
+mixed_front_row : front_of mixed ≡ begun []
+mixed_front_row = refl
+
+whole_row : front_of (Plain 120 ∷ Mark ∷ Quoted 121 ∷ Mark ∷ []) ≡ whole (codes "xy")
+whole_row = refl
+
+names_with_row : names_with (codes "ab") (codes "a" ∷ codes "ab" ∷ codes "abc" ∷ codes "ac" ∷ []) ≡ codes "ab" ∷ codes "abc" ∷ []
+names_with_row = refl
 
 -- `setenv a 1; setenv "-f" b; env set -f c "$n"; setexpr.b d 1; test "$e"x f; setenv "$n" g; env print h; echo i; env exists k; setexpr.x j`
 abbrev call : List ℕ → List (List Atom) → Command
@@ -129,14 +148,23 @@ unknown_row = refl
 abbrev missed : List ℕ → Option (List ℕ) → List Finding
 missed name o = if not (is_some o || is_among (codes "c" ∷ []) name) then found_at 5 kind.RunUndefined (undefined_sentence name) ∷ [] else []
 
-foreseen_target_row : target_findings (Some known) 5 (Some (codes "c")) ≡ []
+foreseen_target_row : target_findings (Some known) 5 (whole (codes "c")) ≡ []
 foreseen_target_row = ap (missed (codes "c")) (get-empty bytes_cmp (codes "c"))
 
-given_target_row : target_findings (Some known) 5 (Some (codes "a")) ≡ found_at 5 kind.RunUndefined (codes "`run a` names a variable that is not defined") ∷ []
+given_target_row : target_findings (Some known) 5 (whole (codes "a")) ≡ found_at 5 kind.RunUndefined (codes "`run a` names a variable that is not defined") ∷ []
 given_target_row = ap (missed (codes "a")) (get-empty bytes_cmp (codes "a"))
 
-set_target_row : target_findings (Some known) 5 (Some (codes "fileaddr")) ≡ found_at 5 kind.RunUndefined (codes "`run fileaddr` names a variable that is not defined") ∷ []
+set_target_row : target_findings (Some known) 5 (whole (codes "fileaddr")) ≡ found_at 5 kind.RunUndefined (codes "`run fileaddr` names a variable that is not defined") ∷ []
 set_target_row = ap (missed (codes "fileaddr")) (get-empty bytes_cmp (codes "fileaddr"))
+
+begun_target_row : target_findings (Some known) 5 (begun (codes "a")) ≡ []
+begun_target_row = refl
+
+any_target_row : target_findings (Some known) 5 (begun []) ≡ found_at 5 kind.RunUnknown (codes "what this runs is not known, so it is not followed") ∷ []
+any_target_row = refl
+
+alone_target_row : target_findings None 5 (begun []) ≡ []
+alone_target_row = refl
 
 bracket_row : called_findings Strict None false 3 (Some (codes "[[")) ≡ found_at 3 kind.OtherShell (codes "this shell has no `[[`: write `test`") ∷ []
 bracket_row = refl

@@ -11,14 +11,16 @@ use Rattle.hush_syntax.specs.declared.syntax_fault.FaultKind.TheVariants.{Memory
 use Rattle.hush_syntax.specs.declared.syntax_fault.SyntaxFault.{SyntaxFault}
 use Rattle.hush_run.specs.Meaning.{bodies_of}
 use Rattle.finding_kinds.specs.declared.kinds.FindingKind.TheVariants as kind
-use Rattle.fw_check.specs.Checking.{AreVisited, Faulty, Reports, Script, Visit, after_visit, in_all, is_among, is_set, known_after, reading_findings, value_in, with_name, with_names}
+use Rattle.fw_check.specs.Checking.{AreVisited, Faulty, Reports, Script, Visit, after_visit, in_all, known_after, reading_findings, value_in}
 use Rattle.fw_check.specs.Called.{Given}
 use Rattle.fw_check.specs.Findings.{Known, Report, fault_sentence, found_at, return_findings, with_findings, with_script}
+use Rattle.fw_check.specs.Following.{Followed, follow_fronts, is_among}
 use Rattle.fw_check.specs.Found.{Found, found_more}
 use Rattle.fw_check.specs.NameSets.{no_names, with_all}
 use Rattle.fw_check.specs.Naming.{foreseen_in, given_in, run_in}
 use Rattle.fw_check.specs.Reports.{GoesOn, Reads, ReadsItems}
 use Rattle.fw_check.proofs.FoundLemmas.{found-append}
+use Rattle.fw_check.proofs.FollowLemmas.{fronts-env, fronts-longer}
 use Rattle.fw_check.proofs.NameLemmas.{all-among, with-append}
 
 module _ (known : Option Known) (given : Given) where
@@ -52,18 +54,6 @@ module _ (known : Option Known) (given : Given) where
 
 -- ---- the names that are visited
 
--- those that are followed stay first
-one-or : (b : Bool) (names : List (List ℕ)) (name : List ℕ) → (rest : List (List ℕ)) × ((if b then names ++ name ∷ [] else names) ≡ names ++ rest)
-one-or true names name = (name ∷ [], refl)
-one-or false names name = ([], sym (append-nil names))
-
-longer : (env : Environment) (names more : List (List ℕ)) → (rest : List (List ℕ)) × (with_names env names more ≡ names ++ rest)
-longer env names [] = ([], sym (append-nil names))
-longer env names (x ∷ xs) =
-    let one = one-or (is_set env x && not (is_among names x)) names x in
-    let others = longer env (with_name env names x) xs in
-    (one.0 ++ others.0, others.1 ∙ ap (λ (ns : List (List ℕ)). ns ++ others.0) one.1 ∙ append_assoc names one.0 others.0)
-
 take-next : (names rest : List (List ℕ)) (index : ℕ) (name : List ℕ) → slice_get names index ≡ Some name → take (suc index) (names ++ rest) ≡ take index names ++ name ∷ []
 take-next [] rest index name e = absurd (let no : ◌≡◌ {A = Option (List ℕ)} None (Some name) = e in cc)
 take-next (x ∷ names) rest zero name e = let same : x ≡ name = cc in ap (λ (n : List ℕ). n ∷ []) same
@@ -80,39 +70,45 @@ abbrev IsSet : Environment → (names_in : List ℕ → List (List ℕ)) → Lis
 IsSet env names_in visited set = set ≡ with_all no_names (in_all names_in env visited)
 
 -- from these names on the first ones were visited, and these are the sets of what their scripts give and foresee
-pub record Follows (rules : Given) (env : Environment) (first now : List (List ℕ)) (index : ℕ) (given foreseen : List ℕ → Bool) : Type 0 where
-  pub visited : (rest : List (List ℕ)) → AreVisited rules env now index rest → AreVisited rules env first 0 (take index now ++ rest)
-  pub gives : IsSet env (given_in rules) (take index now) given
-  pub foresees : IsSet env (foreseen_in rules) (take index now) foreseen
+pub record Follows (rules : Given) (env : Environment) (first now : Followed) (index : ℕ) (given foreseen : List ℕ → Bool) : Type 0 where
+  pub same : now.env ≡ env
+  pub visited : (rest : List (List ℕ)) → AreVisited rules now index rest → AreVisited rules first 0 (take index now.names ++ rest)
+  pub gives : IsSet env (given_in rules) (take index now.names) given
+  pub foresees : IsSet env (foreseen_in rules) (take index now.names) foreseen
 
-pub follows-none : (rules : Given) (env : Environment) (names : List (List ℕ)) (given foreseen : List ℕ → Bool) → given ≡ no_names → foreseen ≡ no_names → Follows rules env names names 0 given foreseen
-follows-none rules env names given foreseen none nor = record { visited = λ rest h. h; gives = none; foresees = nor }
+pub follows-none : (rules : Given) (env : Environment) (f : Followed) (given foreseen : List ℕ → Bool) → f.env ≡ env → given ≡ no_names → foreseen ≡ no_names → Follows rules env f f 0 given foreseen
+follows-none rules env f given foreseen same none nor = record { same = same; visited = λ rest h. h; gives = none; foresees = nor }
 
-module _ (rules : Given) (env : Environment) (first now more : List (List ℕ)) (index : ℕ) (name : List ℕ) (here : slice_get now index ≡ Some name) (followed : more ≡ with_names env now (run_in rules (value_in env name))) where
-  next-visited : take (index + 1) more ≡ take index now ++ name ∷ []
+module _ (rules : Given) (env : Environment) (first now more : Followed) (index : ℕ) (name : List ℕ) (same : now.env ≡ env) (here : slice_get now.names index ≡ Some name)
+    (followed : more ≡ follow_fronts now (run_in rules (value_in env name))) where
+  next-visited : take (index + 1) more.names ≡ take index now.names ++ name ∷ []
   next-visited =
-      let l = longer env now (run_in rules (value_in env name)) in
-      (λ i. take (let e : index + 1 ≡ suc index = omega arith in e i) ((followed ∙ l.1) i)) ∙ take-next now l.0 index name here
+      let l = fronts-longer now (run_in rules (value_in env name)) in
+      (λ i. take (let e : index + 1 ≡ suc index = omega arith in e i) ((ap (λ (f : Followed). f.names) followed ∙ l.1) i)) ∙ take-next now.names l.0 index name here
 
-  next-names : (names_in : List ℕ → List (List ℕ)) → in_all names_in env (take (index + 1) more) ≡ in_all names_in env (take index now) ++ names_in (value_in env name)
+  next-names : (names_in : List ℕ → List (List ℕ)) → in_all names_in env (take (index + 1) more.names) ≡ in_all names_in env (take index now.names) ++ names_in (value_in env name)
   next-names names_in =
-      ap (in_all names_in env) next-visited ∙ flat_map-append (λ n. names_in (value_in env n)) (take index now) (name ∷ [])
-      ∙ ap (λ (ns : List (List ℕ)). in_all names_in env (take index now) ++ ns) (append-nil (names_in (value_in env name)))
+      ap (in_all names_in env) next-visited ∙ flat_map-append (λ n. names_in (value_in env n)) (take index now.names) (name ∷ [])
+      ∙ ap (λ (ns : List (List ℕ)). in_all names_in env (take index now.names) ++ ns) (append-nil (names_in (value_in env name)))
 
-  next-set : (names_in : List ℕ → List (List ℕ)) (old new : List ℕ → Bool) → IsSet env names_in (take index now) old → new ≡ with_all old (names_in (value_in env name)) →
-      IsSet env names_in (take (index + 1) more) new
+  next-set : (names_in : List ℕ → List (List ℕ)) (old new : List ℕ → Bool) → IsSet env names_in (take index now.names) old → new ≡ with_all old (names_in (value_in env name)) →
+      IsSet env names_in (take (index + 1) more.names) new
   next-set names_in old new so_far added =
       added ∙ ap (λ (set : List ℕ → Bool). with_all set (names_in (value_in env name))) so_far
-      ∙ with-append no_names (in_all names_in env (take index now)) (names_in (value_in env name))
+      ∙ with-append no_names (in_all names_in env (take index now.names)) (names_in (value_in env name))
       ∙ ap (with_all no_names) (sym (next-names names_in))
+
+  next-followed : more ≡ follow_fronts now (run_in rules (value_in now.env name))
+  next-followed = followed ∙ ap (λ (e : Environment). follow_fronts now (run_in rules (value_in e name))) (sym same)
 
   pub follows-next : (given foreseen gives foresees : List ℕ → Bool) → Follows rules env first now index given foreseen → gives ≡ with_all given (given_in rules (value_in env name)) →
       foresees ≡ with_all foreseen (foreseen_in rules (value_in env name)) → Follows rules env first more (index + 1) gives foresees
   follows-next given foreseen gives foresees so_far added foreseen_too = record {
+    same = ap (λ (f : Followed). f.env) followed ∙ fronts-env now (run_in rules (value_in env name)) ∙ same;
     visited = λ rest h.
-        let after = subst (λ (n : ℕ). AreVisited rules env more n rest) (let e : index + 1 ≡ suc index = omega arith in e) h in
-        let all = so_far.visited (name ∷ rest) (here, subst (λ ns. AreVisited rules env ns (suc index) rest) followed after) in
-        subst (AreVisited rules env first 0) (sym (append_assoc (take index now) (name ∷ []) rest) ∙ ap (λ (ns : List (List ℕ)). ns ++ rest) (sym next-visited)) all;
+        let after = subst (λ (n : ℕ). AreVisited rules more n rest) (let e : index + 1 ≡ suc index = omega arith in e) h in
+        let all = so_far.visited (name ∷ rest) (here, subst (λ (f : Followed). AreVisited rules f (suc index) rest) next-followed after) in
+        subst (AreVisited rules first 0) (sym (append_assoc (take index now.names) (name ∷ []) rest) ∙ ap (λ (ns : List (List ℕ)). ns ++ rest) (sym next-visited)) all;
     gives = next-set (given_in rules) given gives so_far.gives added;
     foresees = next-set (foreseen_in rules) foreseen foresees so_far.foresees foreseen_too;
   }
@@ -121,16 +117,16 @@ pub no-more : (names : List (List ℕ)) (index : ℕ) (o : Option (Vec ℕ Globa
 no-more names index None e none = sym e
 no-more names index (Some v) e none = absurd (none v refl)
 
-module _ (rules : Given) (env : Environment) (first now : List (List ℕ)) (index : ℕ) (end : slice_get now index ≡ None) where
-  pub visited-all : (given foreseen : List ℕ → Bool) → Follows rules env first now index given foreseen → AreVisited rules env first 0 now
-  visited-all given foreseen f = subst (AreVisited rules env first 0) (append-nil (take index now) ∙ take-whole now index end) (f.visited [] end)
+module _ (rules : Given) (env : Environment) (first now : Followed) (index : ℕ) (end : slice_get now.names index ≡ None) where
+  pub visited-all : (given foreseen : List ℕ → Bool) → Follows rules env first now index given foreseen → AreVisited rules first 0 now.names
+  visited-all given foreseen f = subst (AreVisited rules first 0) (append-nil (take index now.names) ∙ take-whole now.names index end) (f.visited [] end)
 
-  set-all : (names_in : List ℕ → List (List ℕ)) (set : List ℕ → Bool) → IsSet env names_in (take index now) set → set ≡ is_among (in_all names_in env now)
+  set-all : (names_in : List ℕ → List (List ℕ)) (set : List ℕ → Bool) → IsSet env names_in (take index now.names) set → set ≡ is_among (in_all names_in env now.names)
   set-all names_in set is =
-      is ∙ ap (λ (ns : List (List ℕ)). with_all no_names (in_all names_in env ns)) (take-whole now index end) ∙ all-among (in_all names_in env now)
+      is ∙ ap (λ (ns : List (List ℕ)). with_all no_names (in_all names_in env ns)) (take-whole now.names index end) ∙ all-among (in_all names_in env now.names)
 
-  pub given-all : (given foreseen : List ℕ → Bool) → Follows rules env first now index given foreseen → given ≡ (known_after rules env now).given
+  pub given-all : (given foreseen : List ℕ → Bool) → Follows rules env first now index given foreseen → given ≡ (known_after rules env now.names).given
   given-all given foreseen f = set-all (given_in rules) given f.gives
 
-  pub foreseen-all : (given foreseen : List ℕ → Bool) → Follows rules env first now index given foreseen → foreseen ≡ (known_after rules env now).foreseen
+  pub foreseen-all : (given foreseen : List ℕ → Bool) → Follows rules env first now index given foreseen → foreseen ≡ (known_after rules env now.names).foreseen
   foreseen-all given foreseen f = set-all (foreseen_in rules) foreseen f.foresees

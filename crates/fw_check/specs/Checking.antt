@@ -24,6 +24,7 @@ use Rattle.fw_engines.specs.declared.tool_end.StreamFault.TheVariants as stream
 use Rattle.fw_check.specs.declared.items.Item.{Item}
 use Rattle.fw_check.specs.Called.{Given, given_with}
 use Rattle.fw_check.specs.Statements.{AreItemsOf}
+use Rattle.fw_check.specs.Following.{Followed, begin_with, first_names, follow_fronts, is_among, is_set}
 use Rattle.fw_check.specs.Naming.{foreseen_in, given_in, run_in}
 use Rattle.fw_check.specs.Findings.{Finding, Known, fault_sentence, found_at, return_findings, item_findings, Report, no_lines, report_end, with_findings, with_named, with_script}
 use Rattle.fw_check.specs.Summaries.{summary}
@@ -68,27 +69,6 @@ LacksMemory old new end = (end.fault ≡ Some stream.Memory) × WritesNothing ol
 
 -- ---- the scripts of an environment
 
-abbrev pub is_among : List (List ℕ) → List ℕ → Bool
-is_among names name = list_any (eq_by_cmp bytes_cmp name) names
-
-abbrev pub is_set : Environment → List ℕ → Bool
-is_set env name = is_some (get env name)
-
--- a name is added after those that are there already, if it is defined and not among them
-abbrev pub with_name : Environment → List (List ℕ) → List ℕ → List (List ℕ)
-with_name env names name = if is_set env name && not (is_among names name) then names ++ name ∷ [] else names
-
-abbrev pub with_names : Environment → List (List ℕ) → List (List ℕ) → List (List ℕ)
-with_names env names more = fold (with_name env) names more
-
--- the names that a check begins with if it is given none
-abbrev pub usual_names : List (List ℕ)
-usual_names = codes "bootcmd" ∷ codes "altbootcmd" ∷ codes "preboot" ∷ []
-
-abbrev pub first_names : Environment → List (List ℕ) → List (List ℕ)
-first_names env [] = with_names env [] usual_names
-first_names env (name ∷ names) = with_names env [] (name ∷ names)
-
 abbrev pub undefined_sentence : List ℕ
 undefined_sentence = codes "no variable of this name is defined"
 
@@ -103,10 +83,10 @@ abbrev pub value_in : Environment → List ℕ → List ℕ
 value_in env name = unwrap_or (get env name) []
 
 -- from the name of this index on, these names are visited: those that each one's script runs are added last
-abbrev pub AreVisited : Given → Environment → List (List ℕ) → ℕ → List (List ℕ) → Type 0
-AreVisited given env names index [] = slice_get names index ≡ None
-AreVisited given env names index (v ∷ vs) =
-    (slice_get names index ≡ Some v) × AreVisited given env (with_names env names (run_in given (value_in env v))) (suc index) vs
+abbrev pub AreVisited : Given → Followed → ℕ → List (List ℕ) → Type 0
+AreVisited given f index [] = slice_get f.names index ≡ None
+AreVisited given f index (v ∷ vs) =
+    (slice_get f.names index ≡ Some v) × AreVisited given (follow_fronts f (run_in given (value_in f.env v))) (suc index) vs
 
 -- the names in all these scripts, by those in a text
 abbrev pub in_all : (names_in : List ℕ → List (List ℕ)) → Environment → List (List ℕ) → List (List ℕ)
@@ -134,11 +114,11 @@ Reports env known given names report final =
     (visits : List Visit) × (map (λ v. v.name) visits ≡ names) × AllByRecursion (IsVisit (bodies_of given.shell) env) visits
     × (fold (after_visit env known given) report visits ≡ final)
 
--- a check that begins with these names and this report ends with `final`
-abbrev pub ComesTo : Environment → Given → List (List ℕ) → Report → Report → Type 0
-ComesTo env given names report final =
-    (visited : List (List ℕ)) × AreVisited given env names 0 visited
-    × Reports env (Some (known_after given env visited)) given visited report final
+-- a check that begins with what is followed so far and this report ends with `final`
+abbrev pub ComesTo : Given → Followed → Report → Report → Type 0
+ComesTo given f report final =
+    (visited : List (List ℕ)) × AreVisited given f 0 visited
+    × Reports f.env (Some (known_after given f.env visited)) given visited report final
 
 -- ---- no script, and values without their types
 
@@ -164,7 +144,7 @@ with_types env report = fold (with_typed env) report (entries env)
 -- a check of an environment from these names on
 abbrev pub Checks : Shell → Environment → Option Statuses → Choice → List (List ℕ) → Writers → Writers → ToolEnd → Type 0
 Checks shell env stubs choice names old new end =
-    ((report : Report) × ComesTo env (given_with shell stubs) (first_names env names) (first_report choice env names) report
+    ((report : Report) × ComesTo (given_with shell stubs) (begin_with env (first_names names)) (first_report choice env names) report
     × PrintsReport old new (with_types env (with_none report)) end)
     ⊎ LacksMemory old new end
 

@@ -22,7 +22,7 @@ use Rattle.fw_engines.specs.TextPlaces.{place_of}
 use Rattle.fw_engines.specs.declared.text_places.Place.{Place}
 use Rattle.fw_check.specs.Called.{Given, called_by}
 use Rattle.fw_check.specs.Commands.{begin_in_parentheses, command_fault, command_sentence, kind_of}
-use Rattle.fw_check.specs.Literals.{is_called, is_word_of, literal_of, substituted}
+use Rattle.fw_check.specs.Literals.{Front, front_of, is_called, is_word_of, literal_of, substituted}
 use Rattle.fw_check.specs.Naming.{is_run, is_test}
 use Rattle.fw_check.specs.Operators.{ATerm, Expected, after_word, wrong_in}
 use Rattle.fw_check.specs.Targets.{Target}
@@ -44,6 +44,7 @@ found_at count kind sentence = record { count = count; kind = kind; sentence = s
 abbrev pub severity_text : Severity → List ℕ
 severity_text severity.Error = codes ": error: "
 severity_text severity.Warning = codes ": warning: "
+severity_text severity.Note = codes ": note: "
 
 abbrev pub place_text : (name : List ℕ) → Place → List ℕ
 place_text name place = concat (name ∷ codes ":" ∷ decimal place.line ∷ codes ":" ∷ decimal place.column ∷ [])
@@ -82,10 +83,12 @@ with_script report = record report { scripts = one_more report.scripts }
 abbrev pub errors_after : Severity → ℕ → ℕ
 errors_after severity.Error n = one_more n
 errors_after severity.Warning n = n
+errors_after severity.Note n = n
 
 abbrev pub warnings_after : Severity → ℕ → ℕ
 warnings_after severity.Error n = n
 warnings_after severity.Warning n = one_more n
+warnings_after severity.Note n = n
 
 abbrev pub counted : Report → Severity → Report
 counted report s = record report { errors = errors_after s report.errors; warnings = warnings_after s report.warnings }
@@ -168,13 +171,15 @@ abbrev pub is_undefined : Option Known → List ℕ → Bool
 is_undefined None name = false
 is_undefined (Some known) name = not (is_some (get known.env name) || known.foreseen name)
 
--- the variables that U-Boot and its commands set by themselves
+-- the variables that U-Boot and its commands set by themselves, and `boardver`, which its scripts use on every board
 abbrev pub set_by_commands : List (List ℕ)
 set_by_commands =
-    codes "bootcount" ∷ codes "bootfile" ∷ codes "dnsip" ∷ codes "domain" ∷ codes "ethact" ∷ codes "ethaddr"
+    codes "boardver" ∷ codes "bootargs" ∷ codes "bootcount" ∷ codes "bootfile" ∷ codes "devnum" ∷ codes "devtype"
+    ∷ codes "distro_bootpart" ∷ codes "dnsip" ∷ codes "dnsip2" ∷ codes "domain" ∷ codes "ethact" ∷ codes "ethaddr"
     ∷ codes "fdtaddr" ∷ codes "fdtcontroladdr" ∷ codes "fileaddr" ∷ codes "filesize" ∷ codes "gatewayip" ∷ codes "hostname"
-    ∷ codes "ipaddr" ∷ codes "mtdids" ∷ codes "mtdparts" ∷ codes "netmask" ∷ codes "partition" ∷ codes "rootpath"
-    ∷ codes "serverip" ∷ codes "ver" ∷ []
+    ∷ codes "ipaddr" ∷ codes "llipaddr" ∷ codes "mtddevname" ∷ codes "mtddevnum" ∷ codes "mtdids" ∷ codes "mtdparts"
+    ∷ codes "netmask" ∷ codes "ntpserverip" ∷ codes "partition" ∷ codes "prefix" ∷ codes "rootpath" ∷ codes "serverip"
+    ∷ codes "stderr" ∷ codes "stdin" ∷ codes "stdout" ∷ codes "timeoffset" ∷ codes "ver" ∷ []
 
 -- neither the environment, U-Boot and its commands, nor one of the scripts defines a variable of this name
 abbrev pub is_lacking : Option Known → List ℕ → Bool
@@ -223,13 +228,24 @@ operator_findings given text (word ∷ words) =
 abbrev pub undefined_sentence : List ℕ → List ℕ
 undefined_sentence name = codes "`run " ++ name ++ codes "` names a variable that is not defined"
 
-abbrev pub target_findings : Option Known → ℕ → Option (List ℕ) → List Finding
-target_findings known count None = []
-target_findings known count (Some name) =
+abbrev pub named_findings : Option Known → ℕ → List ℕ → List Finding
+named_findings known count name =
     if is_undefined known name then found_at count kind.RunUndefined (undefined_sentence name) ∷ [] else []
 
+abbrev pub unknown_sentence : List ℕ
+unknown_sentence = codes "what this runs is not known, so it is not followed"
+
+-- a name, or a beginning of names; what begins with a substitution may be any name
+abbrev pub begun_findings : Option Known → ℕ → List ℕ → List Finding
+begun_findings known count beginning =
+    if is_some known && length beginning == 0 then found_at count kind.RunUnknown unknown_sentence ∷ [] else []
+
+abbrev pub target_findings : Option Known → ℕ → Front → List Finding
+target_findings known count front =
+    if front.whole then named_findings known count front.bytes else begun_findings known count front.bytes
+
 abbrev pub argument_findings : Option Known → Written → Word → List Finding
-argument_findings known text word = target_findings known word.start (literal_of (word_atoms text word))
+argument_findings known text word = target_findings known word.start (front_of (word_atoms text word))
 
 -- what is found in the arguments of `run`
 abbrev pub run_findings : Option Known → Given → Written → List Word → List Finding

@@ -4,6 +4,7 @@ pub mod Literals
 pub mod Called
 pub mod Naming
 pub mod Targets
+pub mod Following
 pub mod Operators
 pub mod Commands
 pub mod Findings

@@ -1,5 +1,5 @@
 -- Words without a substitution, as texts, and the names in others (docs/check.md).
-use Rattle.std.specs.Prelude.{ℕ, Bool, false, List, [], ◌∷◌, Option, Some, None, option_map}
+use Rattle.std.specs.Prelude.{ℕ, Bool, true, false, List, [], ◌∷◌, Option, Some, None, option_map, if◌then◌else◌}
 use Rattle.std.specs.List.{list_any}
 use Rattle.std.specs.Str.{bytes_eq}
 use Rattle.hush_words.specs.Words.{Atom}
@@ -13,6 +13,26 @@ literal_of (Quoted b ∷ atoms) = option_map (λ bs. b ∷ bs) (literal_of atoms
 literal_of (Mark ∷ atoms) = literal_of atoms
 literal_of (Value name quoted ∷ atoms) = None
 literal_of (Status quoted ∷ atoms) = None
+
+-- what a word begins with: the bytes before its first substitution, and whether it has none
+pub record Front : Type 0 where
+  pub bytes : List ℕ
+  pub whole : Bool
+
+abbrev pub front_with : ℕ → Front → Front
+front_with b front = record { bytes = b ∷ front.bytes; whole = front.whole }
+
+abbrev pub front_of : List Atom → Front
+front_of [] = record { bytes = []; whole = true }
+front_of (Plain b ∷ atoms) = front_with b (front_of atoms)
+front_of (Quoted b ∷ atoms) = front_with b (front_of atoms)
+front_of (Mark ∷ atoms) = front_of atoms
+front_of (Value name quoted ∷ atoms) = record { bytes = []; whole = false }
+front_of (Status quoted ∷ atoms) = record { bytes = []; whole = false }
+
+-- the whole word, if it has no substitution
+abbrev pub whole_of : Front → Option (List ℕ)
+whole_of front = if front.whole then Some front.bytes else None
 
 -- the names of a word's substitutions
 abbrev pub substituted : List Atom → List (List ℕ)

@@ -5,9 +5,14 @@ use Rattle.envvars_core.specs.declared.refusals.Refusal.{Refusal}
 use Rattle.envvars_core.specs.declared.refusals.Refusal.TheVariants as refusal
 use Rattle.fw_check.specs.Called.{Given, given_with}
 use Rattle.fw_check.specs.Findings.{Known}
+use Rattle.fw_check.specs.Literals as literals
 use Rattle.fw_check.specs.NameSets.{set_of}
+use Rattle.fw_check.specs.declared.literals.Front.{Front}
 use Rattle.fw_check.specs.declared.lookups.Lookups.{Lookups}
 use Rattle.fw_check.specs.declared.lookups.Variables.{Variables}
+
+abbrev pub front_view : Front → literals.Front
+front_view front = record { bytes = front.bytes.items; whole = front.is_whole }
 
 abbrev pub known_view : Variables → Known
 known_view v = record { env = v.vars.now.env; given = set_of v.names.now.given; foreseen = set_of v.names.now.foreseen }

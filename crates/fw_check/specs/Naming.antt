@@ -1,11 +1,11 @@
 -- The names that statements run, give to something and foresee (docs/check.md).
-use Rattle.std.specs.Prelude.{ℕ, Bool, false, List, [], ◌∷◌, codes, Option, Some, None, option_to_list, if◌then◌else◌}
+use Rattle.std.specs.Prelude.{ℕ, Bool, false, List, [], ◌∷◌, map, codes, Option, Some, None, option_to_list, if◌then◌else◌}
 use Rattle.std.specs.List.{flat_map}
 use Rattle.hush_words.specs.Words.{Atom}
 use Rattle.hush_commands.specs.declared.shell.Shell.{Shell}
 use Rattle.hush_run.specs.Meaning.{bodies_of}
 use Rattle.fw_check.specs.Called.{Given, called_by, is_after_env}
-use Rattle.fw_check.specs.Literals.{is_called, is_word_of, literal_of, substituted}
+use Rattle.fw_check.specs.Literals.{Front, front_of, is_called, is_word_of, literal_of, substituted}
 use Rattle.fw_check.specs.Statements.{Statement, Calls, Assigns, Binds, statements_in}
 
 abbrev pub is_run : Option (List ℕ) → Bool
@@ -14,23 +14,20 @@ is_run called = is_called (codes "run") called
 abbrev pub is_test : Option (List ℕ) → Bool
 is_test called = is_called (codes "test") called
 
--- ---- the arguments of `run` without a substitution
+-- ---- the arguments of `run`, by what they begin with
 
-abbrev pub literals : List (List Atom) → List (List ℕ)
-literals words = flat_map (λ word. option_to_list (literal_of word)) words
-
-abbrev pub run_by : Given → List (List Atom) → List (List ℕ)
+abbrev pub run_by : Given → List (List Atom) → List Front
 run_by given [] = []
-run_by given (word ∷ words) = if is_run (called_by given word) then literals words else []
+run_by given (word ∷ words) = if is_run (called_by given word) then map front_of words else []
 
-abbrev pub run_names : Given → Statement → List (List ℕ)
-run_names given (Calls words) = run_by given words
-run_names given (Assigns name value) = []
-run_names given (Binds name words) = []
+abbrev pub run_fronts : Given → Statement → List Front
+run_fronts given (Calls words) = run_by given words
+run_fronts given (Assigns name value) = []
+run_fronts given (Binds name words) = []
 
--- those that the script of a text runs
-abbrev pub run_in : Given → List ℕ → List (List ℕ)
-run_in given text = flat_map (run_names given) (statements_in (bodies_of given.shell) text)
+-- those in the script of a text
+abbrev pub run_in : Given → List ℕ → List Front
+run_in given text = flat_map (run_fronts given) (statements_in (bodies_of given.shell) text)
 
 -- ---- names that are given to something
 

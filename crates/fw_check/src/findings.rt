@@ -20,6 +20,7 @@ fn severity_text(severity: Severity) -> &'static [u8]
     match severity {
         Severity::Error => b": error: ",
         Severity::Warning => b": warning: ",
+        Severity::Note => b": note: ",
     }
 }
 
@@ -86,6 +87,7 @@ impl<'c> Report<'c> {
         match severity {
             Severity::Error => self.errors = self.errors.saturating_add(1),
             Severity::Warning => self.warnings = self.warnings.saturating_add(1),
+            Severity::Note => (),
         }
     }
 

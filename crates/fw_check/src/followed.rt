@@ -1,6 +1,6 @@
-//! The names whose scripts are checked.
-ghost use Rattle.std.specs.Prelude.{◌≡◌, ◌<◌, [], ◌∷◌, ◌++◌, IfOk, OnOk, OnSome, map, slice_get, option_map, if◌then◌else◌};
-ghost use Rattle.fw_check.specs.Checking.{is_among, with_name};
+//! Names in the order in which they were met.
+ghost use Rattle.std.specs.Prelude.{◌≡◌, ◌<◌, [], ◌∷◌, ◌++◌, IfOk, OnErr, OnOk, OnSome, map, slice_get, option_map, if◌then◌else◌};
+ghost use Rattle.fw_check.specs.Following.{is_among, with_name};
 
 use crate::name_set::NameSet;
 use envvars_core::Vars;
@@ -62,7 +62,8 @@ impl Names {
         vars: &Vars,
         name: &[u8],
     ) -> Result<(), AllocError>
-        ensures { OnOk result (self.new ≡ with_name vars.now.env self.old name.now) }
+        ensures added { OnOk result (self.new ≡ with_name vars.now.env self.old name.now) }
+        ensures kept { OnErr result (self.new ≡ self.old) }
     {
         if vars.get(name).is_some() {
             self.add(alloc, name)?;
@@ -72,8 +73,9 @@ impl Names {
 
     /// Adds a name after the others, unless it is one of them.
     fn add(&mut self, alloc: Global, name: &[u8]) -> Result<(), AllocError>
-        ensures { OnOk result
+        ensures added { OnOk result
             (self.new ≡ (if is_among self.old name.now then self.old else self.old ++ name.now ∷ [])) }
+        ensures kept { OnErr result (self.new ≡ self.old) }
     {
         if self.met.has(name) {
             return Ok(());

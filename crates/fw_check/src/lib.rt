@@ -2,12 +2,13 @@
 //! names on, as lines. docs/check.md states the rules.
 //!
 //! To read in this order: items, literals, name_set, substitutions, commands, lookups; findings, summary;
-//! operators, undefined_names, statements, script_check; followed, run_names, foreseen, gives, text_names; typed_values, visits.
+//! operators, undefined_names, statements, script_check; followed, sorted_names, following, run_names, foreseen, gives, text_names; typed_values, visits.
 #![tactic(auto)]
 
 mod commands;
 mod findings;
 mod followed;
+mod following;
 mod foreseen;
 mod gives;
 mod items;
@@ -17,6 +18,7 @@ mod name_set;
 mod operators;
 mod run_names;
 mod script_check;
+mod sorted_names;
 mod statements;
 mod substitutions;
 mod summary;

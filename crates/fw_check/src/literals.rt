@@ -1,27 +1,64 @@
-//! Words without a substitution, as texts.
+//! Words without a substitution, as texts, and what others begin with.
 ghost use Rattle.std.specs.Prelude.{◌≡◌, IfOk, map, option_copied, option_map};
 ghost use Rattle.hush_syntax.specs.Trees.{name_in};
 ghost use Rattle.hush_words.specs.Parts.{part_atoms, word_atoms};
 ghost use Rattle.hush_words.specs.Ranges.{Fits};
-ghost use Rattle.fw_check.specs.Literals.{is_called, is_word_of, literal_of};
+ghost use Rattle.fw_check.specs.Literals.{front_of, is_called, is_word_of, literal_of, whole_of};
+ghost use Rattle.fw_check.specs.Looking.{front_view};
 
 use hush_calc::is_text;
 use hush_syntax::{Part, Text, Word};
 use std::alloc::{AllocError, Global};
 
-/// The bytes of a word without a substitution; `None` for another.
-pub(crate) fn literal(alloc: Global, text: &Text, word: Word) -> Result<Option<Vec<u8>>, AllocError>
-    ensures { IfOk result (λ bytes. option_map (λ v. v.items) bytes ≡ literal_of (word_atoms text.now word)) }
+/// What a word begins with.
+#[derive(Drop)]
+pub(crate) struct Front {
+    /// The bytes before its first substitution.
+    pub(crate) bytes: Vec<u8>,
+    /// Whether it has no substitution.
+    pub(crate) is_whole: bool,
+}
+
+/// What a word begins with.
+pub(crate) fn front_of(alloc: Global, text: &Text, word: Word) -> Result<Front, AllocError>
+    ensures { IfOk result (λ front. front_view front ≡ front_of (word_atoms text.now word)) }
 {
     let mut bytes = Vec::new(alloc);
     let mut left = text.parts(word);
     while let Some(part) = left.next_part() {
         match literal_part(text, part) {
             Some(more) => bytes.extend_from_slice(more)?,
-            None => return Ok(None),
+            None => {
+                return Ok(Front {
+                    bytes,
+                    is_whole: false,
+                });
+            }
         }
     }
-    Ok(Some(bytes))
+    Ok(Front {
+        bytes,
+        is_whole: true,
+    })
+}
+
+/// The bytes of a word without a substitution; `None` for another.
+pub(crate) fn literal(alloc: Global, text: &Text, word: Word) -> Result<Option<Vec<u8>>, AllocError>
+    ensures { IfOk result (λ bytes. option_map (λ v. v.items) bytes ≡ literal_of (word_atoms text.now word)) }
+{
+    let front = front_of(alloc, text, word)?;
+    Ok(whole(front))
+}
+
+/// The bytes of a whole word.
+fn whole(front: Front) -> Option<Vec<u8>>
+    ensures { option_map (λ v. v.items) result ≡ whole_of (front_view front) }
+{
+    if front.is_whole {
+        Some(front.bytes)
+    } else {
+        None
+    }
 }
 
 /// The bytes of a part that isn't a substitution.

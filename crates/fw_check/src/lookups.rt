@@ -22,11 +22,17 @@ pub(crate) struct Variables<'k> {
     pub(crate) names: &'k ScriptNames,
 }
 
-/// The variables that U-Boot and its commands set by themselves.
-const SET_BY_COMMANDS: [&[u8]; 20] = [
+/// The variables that U-Boot and its commands set by themselves, and the one that its scripts use whether it is defined or not.
+const SET_BY_COMMANDS: [&[u8]; 35] = [
+    b"boardver",
+    b"bootargs",
     b"bootcount",
     b"bootfile",
+    b"devnum",
+    b"devtype",
+    b"distro_bootpart",
     b"dnsip",
+    b"dnsip2",
     b"domain",
     b"ethact",
     b"ethaddr",
@@ -37,12 +43,21 @@ const SET_BY_COMMANDS: [&[u8]; 20] = [
     b"gatewayip",
     b"hostname",
     b"ipaddr",
+    b"llipaddr",
+    b"mtddevname",
+    b"mtddevnum",
     b"mtdids",
     b"mtdparts",
     b"netmask",
+    b"ntpserverip",
     b"partition",
+    b"prefix",
     b"rootpath",
     b"serverip",
+    b"stderr",
+    b"stdin",
+    b"stdout",
+    b"timeoffset",
     b"ver",
 ];
 

@@ -3,15 +3,15 @@ ghost use Rattle.std.specs.Prelude.{◌≡◌, ◌++◌, [], ◌∷◌, if◌the
 ghost use Rattle.std.specs.List.{flat_map};
 ghost use Rattle.hush_words.specs.Parts.{word_atoms};
 ghost use Rattle.fw_check.specs.Commands.{command_sentence, kind_of};
-ghost use Rattle.fw_check.specs.Findings.{argument_findings, assigned_findings, called_findings, command_findings, found_at, item_findings, operator_end, operator_findings, refused_end, run_findings, target_findings, test_findings, word_findings};
+ghost use Rattle.fw_check.specs.Findings.{argument_findings, assigned_findings, begun_findings, called_findings, command_findings, found_at, item_findings, named_findings, operator_end, operator_findings, refused_end, run_findings, target_findings, test_findings, word_findings};
 ghost use Rattle.fw_check.specs.Found.{found_more};
 ghost use Rattle.fw_check.specs.Literals.{literal_of};
-ghost use Rattle.fw_check.specs.Looking.{known_in, rules_in, stubs_in};
+ghost use Rattle.fw_check.specs.Looking.{front_view, known_in, rules_in, stubs_in};
 
 use crate::commands::{CommandFault, begin_in_parentheses};
 use crate::findings::Findings;
 use crate::items::Item;
-use crate::literals::{is_called, literal};
+use crate::literals::{Front, front_of, is_called, literal};
 use crate::lookups::Lookups;
 use crate::operators::wrong_operator;
 use crate::undefined_names::{check_word, check_words};
@@ -195,8 +195,8 @@ fn check_targets(
         return Ok(());
     }
     for word in words {
-        let target = literal(lookups.alloc, text, *word)?;
-        check_target(lookups, *word, target, findings)?;
+        let target = front_of(lookups.alloc, text, *word)?;
+        check_target(lookups, word.start as usize, &target, findings)?;
     }
     Ok(())
 }
@@ -204,27 +204,62 @@ fn check_targets(
 /// The same for one argument.
 fn check_target(
     lookups: &Lookups<'_>,
-    word: Word,
-    target: Option<Vec<u8>>,
+    count: usize,
+    target: &Front,
     findings: &mut Findings<'_, '_>,
 ) -> Result<(), AllocError>
     ensures { OnOk result (findings.new ≡ found_more findings.old
-        (target_findings (known_in lookups.now) word.start (option_map (λ v. v.items) target))) }
+        (target_findings (known_in lookups.now) count (front_view target.now))) }
 {
-    let Some(name) = target else {
-        return Ok(());
-    };
-    if lookups.is_undefined(&name) {
-        findings.add(
-            word.start as usize,
-            FindingKind::RunUndefined,
-            b"`run ",
-            &name,
-            b"` names a variable that is not defined",
-        )?;
+    if target.is_whole {
+        check_named(lookups, count, &target.bytes, findings)
+    } else {
+        check_begun(lookups, count, &target.bytes, findings)
     }
-    Ok(())
 }
+
+/// The same for the name of a variable.
+fn check_named(
+    lookups: &Lookups<'_>,
+    count: usize,
+    name: &[u8],
+    findings: &mut Findings<'_, '_>,
+) -> Result<(), AllocError>
+    ensures { OnOk result (findings.new ≡ found_more findings.old
+        (named_findings (known_in lookups.now) count name.now)) }
+{
+    if !lookups.is_undefined(name) {
+        return Ok(());
+    }
+    findings.add(
+        count,
+        FindingKind::RunUndefined,
+        b"`run ",
+        name,
+        b"` names a variable that is not defined",
+    )
+}
+
+/// The same for a beginning of names.
+fn check_begun(
+    lookups: &Lookups<'_>,
+    count: usize,
+    beginning: &[u8],
+    findings: &mut Findings<'_, '_>,
+) -> Result<(), AllocError>
+    ensures { OnOk result (findings.new ≡ found_more findings.old
+        (begun_findings (known_in lookups.now) count beginning.now)) }
+{
+    match lookups.variables {
+        Some(_) if beginning.is_empty() => {
+            findings.add(count, FindingKind::RunUnknown, UNKNOWN, b"", b"")
+        }
+        _ => Ok(()),
+    }
+}
+
+/// What is said of an argument of `run` that may be any name.
+const UNKNOWN: &[u8] = b"what this runs is not known, so it is not followed";
 
 /// Adds what is found if a value is given to a name.
 fn check_assigned(

@@ -3,33 +3,30 @@ ghost use Rattle.std.specs.Prelude.{◌≡◌, ◌≢◌, OnOk};
 ghost use Rattle.hush_syntax.specs.Scripts.{tree_of};
 ghost use Rattle.hush_syntax.specs.declared.syntax_fault.FaultKind.TheVariants as kind;
 ghost use Rattle.std.specs.List.{flat_map};
-ghost use Rattle.fw_check.specs.Checking.{with_names};
+ghost use Rattle.fw_check.specs.Following.{follow_fronts};
 ghost use Rattle.fw_check.specs.Looking.{rules_in};
 ghost use Rattle.fw_check.specs.NameSets.{set_of, with_all};
-ghost use Rattle.fw_check.specs.Naming.{foreseen_in, foreseen_names, given_in, given_names, run_in, run_names};
+ghost use Rattle.fw_check.specs.Naming.{foreseen_in, foreseen_names, given_in, given_names, run_fronts, run_in};
 ghost use Rattle.fw_check.specs.Statements.{of_script};
 
-use crate::followed::Names;
+use crate::following::Followed;
 use crate::gives::gather_items;
 use crate::items::items_of;
 use crate::lookups::Lookups;
 use crate::name_set::ScriptNames;
 use crate::run_names::follow_items;
-use envvars_core::Vars;
 use hush_run::bodies_of;
 use hush_syntax::{FaultKind, Script, SyntaxFault};
 use std::alloc::AllocError;
 
-/// Adds the names that the script of a text runs to those that are followed, and those that it gives and foresees to
-/// those of the other scripts. It is read by the rules of the shell.
+/// Follows what the script of a text runs, and adds the names that it gives and foresees to those of the other scripts. It is read by the rules of the shell.
 pub(crate) fn follow_text(
     lookups: &Lookups<'_>,
-    vars: &Vars,
     text: &[u8],
-    names: &mut Names,
+    names: &mut Followed<'_, '_>,
     gathered: &mut ScriptNames,
 ) -> Result<(), AllocError>
-    ensures names { OnOk result (names.new ≡ with_names vars.now.env names.old (run_in (rules_in lookups.now) text.now)) }
+    ensures names { OnOk result (names.new ≡ follow_fronts names.old (run_in (rules_in lookups.now) text.now)) }
     ensures given { OnOk result
         (set_of gathered.new.given ≡ with_all (set_of gathered.old.given) (given_in (rules_in lookups.now) text.now)) }
     ensures foreseen { OnOk result
@@ -37,7 +34,7 @@ pub(crate) fn follow_text(
 {
     let source = Vec::from_slice(lookups.alloc, text)?;
     match Script::parse_in(lookups.alloc, source, bodies_of(lookups.shell)) {
-        Ok(script) => follow_script(lookups, vars, &script, names, gathered),
+        Ok(script) => follow_script(lookups, &script, names, gathered),
         Err(fault) => no_script(fault),
     }
 }
@@ -45,20 +42,19 @@ pub(crate) fn follow_text(
 /// The same for a script.
 fn follow_script(
     lookups: &Lookups<'_>,
-    vars: &Vars,
     script: &Script,
-    names: &mut Names,
+    names: &mut Followed<'_, '_>,
     gathered: &mut ScriptNames,
 ) -> Result<(), AllocError>
-    ensures names { OnOk result (names.new ≡ with_names vars.now.env names.old
-        (flat_map (run_names (rules_in lookups.now)) (of_script (tree_of script.now)))) }
+    ensures names { OnOk result (names.new ≡ follow_fronts names.old
+        (flat_map (run_fronts (rules_in lookups.now)) (of_script (tree_of script.now)))) }
     ensures given { OnOk result (set_of gathered.new.given ≡ with_all (set_of gathered.old.given)
         (flat_map (given_names (rules_in lookups.now)) (of_script (tree_of script.now)))) }
     ensures foreseen { OnOk result (set_of gathered.new.foreseen ≡ with_all (set_of gathered.old.foreseen)
         (flat_map (foreseen_names (rules_in lookups.now)) (of_script (tree_of script.now)))) }
 {
     let items = items_of(lookups.alloc, script)?;
-    follow_items(lookups, vars, script.text(), &items, names)?;
+    follow_items(lookups, script.text(), &items, names)?;
     gather_items(lookups, script.text(), &items, gathered)
 }
 

@@ -1,16 +1,18 @@
 //! What is found in the scripts of an environment.
 ghost use Rattle.std.specs.Prelude.{◌≡◌, ◌⊎◌, [], IfOk, OnOk, map, option_map};
-ghost use Rattle.fw_check.specs.Checking.{AreVisited, Checks, ComesTo, LacksMemory, PrintsReport, Reports, first_names, first_report, known_after, value_in, with_given, with_names, with_none, with_types};
+ghost use Rattle.fw_check.specs.Checking.{AreVisited, Checks, ComesTo, LacksMemory, PrintsReport, Reports, first_report, known_after, value_in, with_given, with_none, with_types};
+ghost use Rattle.fw_check.specs.Following.{begin_with, first_names, follow_names};
 ghost use Rattle.finding_kinds.specs.Choices.{choice_view};
 ghost use Rattle.fw_check.specs.Called.{given_with};
 ghost use Rattle.fw_check.specs.Looking.{known_in, rules_in};
 ghost use Rattle.fw_check.specs.NameSets.{set_of};
 
 use crate::findings::Report;
-use crate::followed::Names;
+use crate::following::Followed;
 use crate::lookups::{Lookups, Variables};
 use crate::name_set::ScriptNames;
 use crate::script_check::{check_script, lacks_memory, print_report};
+use crate::sorted_names::SortedNames;
 use crate::text_names::follow_text;
 use crate::typed_values::check_types;
 use envvars_core::Vars;
@@ -30,8 +32,8 @@ const UNDEFINED: &[u8] = b"no variable of this name is defined";
 const NONE: &[u8] = b"there is no script to look at";
 
 /// Prints on `output` what is found in the scripts of an environment by the rules of a shell: in those of the given names,
-/// without names in those of `bootcmd`, `altbootcmd` and `preboot`, and in each that one of them runs by an argument
-/// without a substitution. Each is checked once, in the order in which they are met. With stand-ins a command that is
+/// without names in those of `bootcmd`, `altbootcmd` and `preboot`, and in each that one of them runs: by an argument
+/// without a substitution, or by one that begins as its name does. Each is checked once, in the order in which they are met. With stand-ins a command that is
 /// neither a builtin nor one of them is an error. So is a `run` of a name that neither the environment has nor one of
 /// these scripts sets, tests or asks for with `env exists`. A substitution of a name that neither the environment nor one
 /// of these scripts defines is a warning. Then follow an error if there was no script, and a line for each variable of the
@@ -99,20 +101,22 @@ fn report_none(report: &mut Report<'_>) -> Result<(), AllocError>
 }
 
 /// The report on the scripts from these names on.
-fn check_all<'c>(
+fn check_all<'c, 'k>(
     alloc: Global,
     shell: Shell,
-    vars: &Vars,
-    stubs: Option<&Stubs>,
+    vars: &'k Vars,
+    stubs: Option<&'k Stubs>,
     choice: Choice<'c>,
     names: &[&[u8]],
 ) -> Result<Report<'c>, AllocError>
-    ensures { IfOk result (λ report. ComesTo vars.now.env (given_with shell (option_map (λ s. s.now) stubs.entry))
-        (first_names vars.now.env (map (λ n. n.now) names.now))
+    ensures { IfOk result (λ report. ComesTo (given_with shell (option_map (λ s. s.now) stubs.entry))
+        (begin_with vars.now.env (first_names (map (λ n. n.now) names.now)))
         (first_report (choice_view choice.entry) vars.now.env (map (λ n. n.now) names.now)) report) }
 {
     let report = report_given(alloc, choice, vars, names)?;
-    let mut visited = first_names(alloc, vars, names)?;
+    let sorted = SortedNames::of(alloc, vars)?;
+    let mut visited = Followed::new(alloc, vars, &sorted);
+    follow_first(alloc, names, &mut visited)?;
     let names_alone = Lookups {
         alloc,
         shell,
@@ -157,47 +161,54 @@ fn report_name(vars: &Vars, name: &[u8], report: &mut Report<'_>) -> Result<(), 
     report.add_named(FindingKind::NoVariable, name, UNDEFINED)
 }
 
-/// The names that a check begins with.
-fn first_names(alloc: Global, vars: &Vars, names: &[&[u8]]) -> Result<Names, AllocError>
-    ensures { IfOk result
-        (λ followed. followed ≡ first_names vars.now.env (map (λ n. n.now) names.now)) }
+/// Follows the names that a check begins with.
+fn follow_first(
+    alloc: Global,
+    names: &[&[u8]],
+    followed: &mut Followed<'_, '_>,
+) -> Result<(), AllocError>
+    ensures { OnOk result
+        (followed.new ≡ follow_names followed.old (first_names (map (λ n. n.now) names.now))) }
 {
     if names.is_empty() {
-        names_in(alloc, vars, &USUAL)
+        follow_names(alloc, &USUAL, followed)
     } else {
-        names_in(alloc, vars, names)
+        follow_names(alloc, names, followed)
     }
 }
 
-/// Those of these names that are defined, each once.
-fn names_in(alloc: Global, vars: &Vars, names: &[&[u8]]) -> Result<Names, AllocError>
-    ensures { IfOk result
-        (λ followed. followed ≡ with_names vars.now.env [] (map (λ n. n.now) names.now)) }
+/// Follows these names.
+fn follow_names(
+    alloc: Global,
+    names: &[&[u8]],
+    followed: &mut Followed<'_, '_>,
+) -> Result<(), AllocError>
+    ensures { OnOk result (followed.new ≡ follow_names followed.old (map (λ n. n.now) names.now)) }
 {
-    let mut followed = Names::new(alloc);
     for name in names {
-        followed.follow(alloc, vars, name)?;
+        followed.follow_name(alloc, name)?;
     }
-    Ok(followed)
+    Ok(())
 }
 
-/// Adds the names that the scripts of these names run, and those that theirs run, at the end. The answer is which names
+/// Follows what the scripts of these names run, and what theirs run. The answer is which names
 /// all these scripts give and foresee.
 fn follow_all(
     lookups: &Lookups<'_>,
     vars: &Vars,
-    names: &mut Names,
+    names: &mut Followed<'_, '_>,
 ) -> Result<ScriptNames, AllocError>
-    ensures visited { OnOk result (AreVisited (rules_in lookups.now) vars.now.env names.old 0 names.new) }
+    requires { names.old.env ≡ vars.now.env }
+    ensures visited { OnOk result (AreVisited (rules_in lookups.now) names.old 0 names.new.names) }
     ensures given { IfOk result
-        (λ gathered. set_of gathered.given ≡ (known_after (rules_in lookups.now) vars.now.env names.new).given) }
+        (λ gathered. set_of gathered.given ≡ (known_after (rules_in lookups.now) vars.now.env names.new.names).given) }
     ensures foreseen { IfOk result
-        (λ gathered. set_of gathered.foreseen ≡ (known_after (rules_in lookups.now) vars.now.env names.new).foreseen) }
+        (λ gathered. set_of gathered.foreseen ≡ (known_after (rules_in lookups.now) vars.now.env names.new.names).foreseen) }
 {
     let mut gathered = ScriptNames::new(lookups.alloc);
     let mut index = 0;
     while let Some(name) = names.copy(lookups.alloc, index)? {
-        follow_text(lookups, vars, value(vars, &name), names, &mut gathered)?;
+        follow_text(lookups, value(vars, &name), names, &mut gathered)?;
         index += 1;
     }
     Ok(gathered)

@@ -14,11 +14,12 @@ use Rattle.fw_engines.specs.CopyStatus as lines
 use Rattle.fw_engines.specs.CopyStatus.{Reports, chosen_in, file_by, file_status_of, status_by, status_of}
 use Rattle.fw_engines.specs.Streams.{AppendsPart, Writers}
 use Rattle.fw_engines.specs.Ways.{good_as}
+use Rattle.fw_engines.specs.declared.copy_status.FoundCopy.{FoundCopy}
 use Rattle.fw_engines.specs.declared.copy_status.Survey.{Survey}
 use Rattle.fw_engines.specs.declared.tool_end.ToolEnd.{ToolEnd}
 use Rattle.fw_engines.specs.declared.tool_end.StreamFault.{StreamFault}
 use Rattle.fw_engines.specs.declared.tool_end.StreamFault.TheVariants.{Write}
-use Rattle.fw_files.specs.CopyReport.{IsSurveyBy, IsSurveyIn, IsSurveyOf, PrintsReport, ReportsOn, ReportsSubject, device_in, device_named}
+use Rattle.fw_files.specs.CopyReport.{Found, IsSurveyBy, IsSurveyIn, IsSurveyOf, PrintsReport, ReportsOn, ReportsSubject, device_found, device_named, found_in, found_view}
 use Rattle.fw_arguments.specs.Report.{Copies, File, Report, Subject}
 use Rattle.fw_files.specs.Source.{IsSourceOf}
 use Rattle.fw_files.specs.declared.copies.ReadCopy.{ReadCopy}
@@ -61,18 +62,23 @@ reports_small report old new status (inr (waited, has, reports)) = subject_small
 
 -- ---- a survey
 
-devices : (place : Option Place) (copy : Option ReadCopy) → is_some copy ≡ is_some place → device_in place copy ≡ option_map device_named (option_map place_view place)
-devices None None same = refl
-devices (Some place) (Some copy) same = refl
-devices None (Some copy) same = refl
-devices (Some place) None same = absurd cc
+devices : (place : Option Place) (copy : Option ReadCopy) (found : Option FoundCopy) → option_map found_view found ≡ found_in place copy → is_some copy ≡ is_some place →
+    option_map device_found found ≡ option_map device_named (option_map place_view place)
+devices None None None is same = refl
+devices None None (Some found) is same = absurd cc
+devices (Some place) (Some copy) None is same = absurd cc
+devices (Some place) (Some copy) (Some found) is same = ap (option_map (λ (f : Found). f.0)) is
+devices None (Some copy) found is same = absurd cc
+devices (Some place) None found is same = absurd cc
 
 pub surveyed : (order : Order) (path text : List ℕ) (config : Config) (source : Source) (survey : Survey) →
     config_of text ≡ Ok (config_view config) → IsSourceOf order config source → IsSurveyIn path text source survey → IsSurveyOf order path survey
 surveyed order path text config source survey reads is has =
     let by : IsSurveyBy order (config_view config) survey = record {
       geometry = has.geometry ∙ is.geometry;
-      first = has.first ∙ ap (λ (c : Config). string_bytes c.first.device) is.config;
-      second = has.second ∙ devices source.config.second source.second (is.second ∙ ap (λ (c : Config). is_some c.second) (sym is.config)) ∙ ap (λ (c : Config). option_map device_named (option_map place_view c.second)) is.config;
+      first = ap (λ (f : Found). f.0) has.first ∙ ap (λ (c : Config). string_bytes c.first.device) is.config;
+      second =
+          devices source.config.second source.second survey.second has.second (is.second ∙ ap (λ (c : Config). is_some c.second) (sym is.config))
+          ∙ ap (λ (c : Config). option_map device_named (option_map place_view c.second)) is.config;
     } in
     (has.path, (config_view config, ap config_of has.config ∙ reads, by))

@@ -1,5 +1,6 @@
 mod ChangedLemmas
 mod CopyReportLemmas
+mod DefaultsLemmas
 pub mod FileLemmas
 mod OpeningLemmas
 pub mod SaidLemmas

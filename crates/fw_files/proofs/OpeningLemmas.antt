@@ -3,7 +3,7 @@ use Rattle.std.proofs.Common.{◌≡◌, List, ℕ, Bool, true, false, [], Optio
 use Rattle.std.specs.Prelude.{MatchOption, if◌then◌else◌, option_map}
 use Rattle.std.specs.FinMap as env
 use Rattle.std.proofs.KnownBytes.{Appends-nil}
-use Rattle.env_session.specs.Session.{Held, opened, opening_choice}
+use Rattle.env_session.specs.Session.{Held, opened}
 use Rattle.envimg_core.specs.Geometry.{Shape, room_of}
 use Rattle.envimg_core.specs.declared.choice.Choice.{Choice}
 use Rattle.envimg_core.specs.declared.choice.Choice.TheVariants.{First, Second, Neither}
@@ -12,6 +12,7 @@ use Rattle.fw_arguments.specs.Calls.{Defaults}
 use Rattle.fw_files.specs.Misread.{IsMisread, SaysMisread, Spares}
 use Rattle.fw_files.specs.Opening.{IsAccepted, IsOpened, IsOpenedWith, OpensOver}
 use Rattle.fw_files.specs.Said.{SaysSome}
+use Rattle.fw_arguments.specs.GivenTexts.{is_plain}
 use Rattle.fw_files.specs.Source.{IsFound, IsTaken, lacks_copy, second_bytes, warned, without_plain}
 use Rattle.fw_files.specs.declared.source.Source.{Source}
 use Rattle.fw_files.proofs.SaidLemmas.{front_said}
@@ -31,7 +32,7 @@ accepted_is (Some s) source asked spares session a b opens p =
 -- ---- a text of plain lines
 
 -- the session with no default environment stays, if a copy is good
-stays : (source : Source) (asked : Defaults) (spares : Bool) (session : Held) (none : Contents) (a : Option (List ℕ)) → asked.plain ≡ true →
+stays : (source : Source) (asked : Defaults) (spares : Bool) (session : Held) (none : Contents) (a : Option (List ℕ)) → is_plain asked.form ≡ true →
     none ≡ record { env = env.empty; room = room_of source.geometry } →
     session ≡ opened source.geometry source.first.bytes.items (second_bytes source.second) none →
     IsTaken session.now.current asked (record asked { path = None }) → lacks_copy (record asked { path = None }) session.now.current ≡ false →
@@ -46,10 +47,10 @@ stays source asked spares session none a plain is opens taken lacks warns spared
   },
 )
 
-plain_taken : (asked : Defaults) → asked.plain ≡ true → ◌≡◌ {A = Defaults} (record asked { path = None }) (without_plain asked)
+plain_taken : (asked : Defaults) → is_plain asked.form ≡ true → ◌≡◌ {A = Defaults} (record asked { path = None }) (without_plain asked)
 plain_taken asked plain = ap (λ (b : Bool). let c : Defaults = if b then record asked { path = None } else asked in c) (sym plain)
 
-pub first_stays : (source : Source) (asked : Defaults) (spares : Bool) (session : Held) (none : Contents) (a : Option (List ℕ)) → asked.plain ≡ true →
+pub first_stays : (source : Source) (asked : Defaults) (spares : Bool) (session : Held) (none : Contents) (a : Option (List ℕ)) → is_plain asked.form ≡ true →
     none ≡ record { env = env.empty; room = room_of source.geometry } →
     session ≡ opened source.geometry source.first.bytes.items (second_bytes source.second) none → session.now.current ≡ First → IsOpened source asked spares session a a
 first_stays source asked spares session none a plain is opens current =
@@ -63,7 +64,7 @@ first_stays source asked spares session none a plain is opens current =
     by_whole true = refl
     by_whole false = refl
 
-pub second_stays : (source : Source) (asked : Defaults) (spares : Bool) (session : Held) (none : Contents) (a : Option (List ℕ)) → asked.plain ≡ true →
+pub second_stays : (source : Source) (asked : Defaults) (spares : Bool) (session : Held) (none : Contents) (a : Option (List ℕ)) → is_plain asked.form ≡ true →
     none ≡ record { env = env.empty; room = room_of source.geometry } →
     session ≡ opened source.geometry source.first.bytes.items (second_bytes source.second) none → session.now.current ≡ Second → IsOpened source asked spares session a a
 second_stays source asked spares session none a plain is opens current =
@@ -88,7 +89,7 @@ taken_then (Some s) source asked found spares session none a b opens current is 
 
 -- ---- any other text
 
-pub unplain_taken : (o : Option Held) (source : Source) (asked : Defaults) (spares : Bool) (a b : Option (List ℕ)) → asked.plain ≡ false →
+pub unplain_taken : (o : Option Held) (source : Source) (asked : Defaults) (spares : Bool) (a b : Option (List ℕ)) → is_plain asked.form ≡ false →
     MatchOption o (SaysSome a b) (λ s. IsOpenedWith source asked spares s a b) → MatchOption o (SaysSome a b) (λ s. IsOpened source asked spares s a b)
 unplain_taken None source asked spares a b unplain p = p
 unplain_taken (Some s) source asked spares a b unplain p = (asked, by_choice s.now.current, p)

@@ -25,6 +25,9 @@ pub front_written : (all : Bool) (a b : Option (List ℕ)) (text : List ℕ) →
 front_written true a b text p = (text, [], sym (append-nil text), p)
 front_written false a b text p = (p.0, p.1, p.2, p.4)
 
+pub silent_front : (a : Option (List ℕ)) (text : List ℕ) → AppendsFront a a text
+silent_front a text = ([], text, refl, Appends-nil a)
+
 pub line_said : (line : Option (List ℕ)) (a b : Option (List ℕ)) → SaysLine line a b → SaysSome a b
 line_said None a b p = p
 line_said (Some text) a b p = front_said a b text p

@@ -1,8 +1,10 @@
 -- Entries without `=`, which an environment can't have (docs/tools.md, "Default environment").
-use Rattle.std.specs.Prelude.{ℕ, ◌==◌, Bool, true, false, List, [], ◌∷◌, Option, Some, None, if◌then◌else◌}
+use Rattle.std.specs.Prelude.{ℕ, ◌==◌, List, [], ◌∷◌, Option, Some, None, if◌then◌else◌}
 use Rattle.std.specs.List.{list_any}
 use Rattle.envcfg_core.specs.Entries.{Entry}
 use Rattle.envimg_core.specs.Environment.{is_equals}
+use Rattle.fw_arguments.specs.declared.given_text.TextForm.{TextForm}
+use Rattle.fw_arguments.specs.declared.given_text.TextForm.TheVariants.{Import}
 use Rattle.text_parts.specs.Lines.{Line, numbered_lines}
 
 -- the first of the lines in which these entries begin, one after the other, that has no `=`
@@ -16,7 +18,7 @@ bare_among (line ∷ lines) (e ∷ es) =
 abbrev pub bare_line : List ℕ → List Entry → Option ℕ
 bare_line text entries = bare_among (numbered_lines text) entries
 
--- a text of plain lines is not looked at
-abbrev pub bare_in : (plain : Bool) → List ℕ → List Entry → Option ℕ
-bare_in true text entries = None
-bare_in false text entries = bare_line text entries
+-- only a text for import is looked at
+abbrev pub bare_in : TextForm → List ℕ → List Entry → Option ℕ
+bare_in Import text entries = bare_line text entries
+bare_in form text entries = None

@@ -43,17 +43,27 @@ IsSurveyOf order path survey =
 
 -- ---- the code's survey of what was read
 
--- the second device, if both its place and its copy are there
-abbrev pub device_in : Option Place → Option ReadCopy → Option (List ℕ)
-device_in (Some place) (Some copy) = Some (string_bytes place.device)
-device_in place copy = None
+-- a device, where a copy begins in it, and the bytes from there on
+abbrev pub Found : Type 0
+Found = List ℕ × ℕ × List ℕ
+
+abbrev pub found_view : FoundCopy → Found
+found_view found = (found.device.now, found.start, found.bytes.now)
+
+abbrev pub found_at : Place → ReadCopy → Found
+found_at place copy = (string_bytes place.device, copy.start, copy.bytes.items)
+
+-- the second one, if both its place and its copy are there
+abbrev pub found_in : Option Place → Option ReadCopy → Option Found
+found_in (Some place) (Some copy) = Some (found_at place copy)
+found_in place copy = None
 
 pub record IsSurveyIn (at text : List ℕ) (source : Source) (survey : Survey) : Type 0 where
   pub path : survey.path.now ≡ at
   pub config : survey.config.now ≡ text
   pub geometry : survey.geometry ≡ source.geometry
-  pub first : device_found survey.first ≡ string_bytes source.config.first.device
-  pub second : option_map device_found survey.second ≡ device_in source.config.second source.second
+  pub first : found_view survey.first ≡ found_at source.config.first source.first
+  pub second : option_map found_view survey.second ≡ found_in source.config.second source.second
 
 -- ---- what is printed
 

@@ -1,9 +1,12 @@
 -- Files that are read whole, and why one can not be used (docs/tools.md, "Subcommands over files").
-use Rattle.std.specs.Prelude.{◌≡◌, Bool, ℕ, List, [], ◌∷◌, ◌++◌, Option, Some, None, Ok, codes, if◌then◌else◌}
+use Rattle.std.specs.Prelude.{◌≡◌, Bool, ℕ, List, [], ◌∷◌, ◌++◌, Option, Some, None, Ok, Err, codes, if◌then◌else◌}
 use Rattle.std.specs.FinMap as names
+use Rattle.std.specs.Fmt.{decimal}
+use Rattle.std.specs.List.{concat}
 use Rattle.std.specs.Str.{bytes_eq}
 use Rattle.std.specs.declared.io.ErrorKind.{ErrorKind}
 use Rattle.std.specs.declared.io.ErrorKind.TheVariants.{IsADirectory, NotFound, PermissionDenied, ReadOnlyFilesystem, StorageFull, UnexpectedEof}
+use Rattle.envcfg_core.specs.Entries.{Outcome}
 use Rattle.envcfg_core.specs.declared.entry.TextFault as texts
 use Rattle.envcfg_core.specs.declared.entry.TextFault.TheVariants as text
 use Rattle.envvars_core.specs.declared.refusals.Refusal.{Refusal}
@@ -13,7 +16,11 @@ use Rattle.hush_commands.specs.declared.board_rules.Rule.{Rule}
 use Rattle.board_file.specs.declared.board_fault.BoardFault.{BoardFault}
 use Rattle.board_file.specs.declared.board_fault.LineFault.{LineFault}
 use Rattle.board_file.specs.declared.board_fault.LineFault.TheVariants as boards
-use Rattle.board_file.specs.BoardFiles.{board_of}
+use Rattle.board_file.specs.BoardFiles.{board_of, fault_text}
+use Rattle.env_source.specs.Faults.{flaw_text}
+use Rattle.env_source.specs.declared.source_fault.Flaw.{Flaw}
+use Rattle.env_source.specs.declared.source_fault.Flaw.TheVariants as sources
+use Rattle.env_source.specs.declared.source_fault.SourceFault.{SourceFault}
 use Rattle.fw_files.specs.declared.file_fault.FileFault.{FileFault}
 use Rattle.fw_files.specs.declared.file_fault.FileFault.TheVariants as file
 use Rattle.fw_files.specs.declared.reasons.Explains.{Explains}
@@ -41,6 +48,12 @@ abbrev pub text_fault : texts.TextFault → FileFault
 text_fault text.Memory = file.Memory
 text_fault fault = file.Text fault
 
+-- the fault of a text that is read as this, or memory ran out
+abbrev pub IsTextFault : Outcome → FileFault → Type 0
+IsTextFault outcome (file.Text fault) = outcome ≡ Err fault
+IsTextFault outcome file.Memory = Unit {0}
+IsTextFault outcome fault = ⊥
+
 -- the stand-ins are those of some text, or there are none
 abbrev pub AreStubsOf : Option (List ℕ) → Statuses → Type 0
 AreStubsOf None stand_ins = stand_ins ≡ names.empty
@@ -53,6 +66,14 @@ fault_by fault kind = file.Board fault
 
 abbrev pub board_fault : BoardFault → FileFault
 board_fault fault = fault_by fault fault.kind
+
+-- the fault of a source that is refused
+abbrev pub source_fault_by : SourceFault → Flaw → FileFault
+source_fault_by fault sources.Memory = file.Memory
+source_fault_by fault flaw = file.Source fault
+
+abbrev pub source_fault : SourceFault → FileFault
+source_fault fault = source_fault_by fault fault.flaw
 
 -- the rules are those of some text, or there are none
 abbrev pub AreRulesOf : (may_ask : Bool) → Option (List ℕ) → List Rule → Type 0
@@ -99,24 +120,6 @@ abbrev pub ending : Explains → reasons.Reason → List ℕ
 ending line.Nothing why = 10 ∷ []
 ending line.Reason why = line_end (reason_in why)
 
--- the line of a fault, if it doesn't name the fault of a text
-abbrev pub fault_line : Explains → List ℕ → FileFault → Option (List ℕ)
-fault_line explains path (file.CannotRead why) = Some (codes "fwenv: cannot read " ++ path ++ ending explains why)
-fault_line explains path (file.CannotWrite why) = Some (codes "fwenv: cannot write " ++ path ++ ending explains why)
-fault_line explains path file.TooShort = Some (codes "fwenv: " ++ path ++ codes " is too short" ++ 10 ∷ [])
-fault_line explains path (file.Foreign kind) = Some (codes "fwenv: " ++ path ++ foreign_ending kind)
-fault_line explains path file.Yaml = Some (codes "fwenv: " ++ path ++ codes " is YAML: fwenv reads lines of DEVICE OFFSET SIZE" ++ 10 ∷ [])
-fault_line explains path file.UbiVolume = Some (codes "fwenv: " ++ path ++ codes " is a UBI volume by its name: fwenv reads files and block devices" ++ 10 ∷ [])
-fault_line explains path file.Memory = Some (message_of stream.Memory)
-fault_line explains path fault = None
-
--- ---- faults
-
--- of a read that didn't give the whole copy
-abbrev pub copy_fault : ErrorKind → FileFault
-copy_fault UnexpectedEof = file.TooShort
-copy_fault kind = file.CannotRead (reason_by kind)
-
 -- the name of a refusal
 abbrev pub name_of : Refusal → List ℕ
 name_of BadForm = codes "BadForm"
@@ -126,3 +129,38 @@ name_of NoDelete = codes "NoDelete"
 name_of NoOverwrite = codes "NoOverwrite"
 name_of Full = codes "Full"
 name_of Memory = codes "Memory"
+
+-- what is wrong in a line of a file, and which entry is refused
+abbrev pub place_line : (path : List ℕ) → (line : ℕ) → (text : List ℕ) → List ℕ
+place_line path line text = concat (codes "fwenv: " ∷ path ∷ codes ":" ∷ decimal line ∷ codes ": " ∷ text ∷ codes "\n" ∷ [])
+
+abbrev pub entry_line : (path name : List ℕ) → (line : ℕ) → List ℕ
+entry_line path name line = concat (codes "fwenv: " ∷ path ∷ codes ": " ∷ name ∷ codes " in line " ∷ decimal line ∷ codes "\n" ∷ [])
+
+-- the line of a fault, if it isn't one of a configuration, of a text for import, of a set script or of stand-ins
+abbrev pub fault_line : Explains → List ℕ → FileFault → Option (List ℕ)
+fault_line explains path (file.CannotRead why) = Some (codes "fwenv: cannot read " ++ path ++ ending explains why)
+fault_line explains path (file.CannotWrite why) = Some (codes "fwenv: cannot write " ++ path ++ ending explains why)
+fault_line explains path file.TooShort = Some (codes "fwenv: " ++ path ++ codes " is too short" ++ 10 ∷ [])
+fault_line explains path (file.Foreign kind) = Some (codes "fwenv: " ++ path ++ foreign_ending kind)
+fault_line explains path file.Yaml = Some (codes "fwenv: " ++ path ++ codes " is YAML: fwenv reads lines of DEVICE OFFSET SIZE" ++ 10 ∷ [])
+fault_line explains path file.UbiVolume = Some (codes "fwenv: " ++ path ++ codes " is a UBI volume by its name: fwenv reads files and block devices" ++ 10 ∷ [])
+fault_line explains path file.Memory = Some (message_of stream.Memory)
+fault_line explains path (file.Board fault) = Some (place_line path fault.line (fault_text fault.kind))
+fault_line explains path (file.Source fault) = Some (place_line path fault.line (flaw_text fault.flaw))
+fault_line explains path (file.Bare line) = Some (place_line path line (codes "no = in this line; for a source in U-Boot's own form use --env-source"))
+fault_line explains path (file.Default line refusal) = Some (entry_line path (name_of refusal) line)
+fault_line explains path fault = None
+
+-- ---- faults
+
+-- of a read that didn't give the whole copy
+abbrev pub copy_fault : ErrorKind → FileFault
+copy_fault UnexpectedEof = file.TooShort
+copy_fault kind = file.CannotRead (reason_by kind)
+
+-- of a copy that may not be written, or can't be
+abbrev pub IsUnwritable : FileFault → Type 0
+IsUnwritable (file.CannotWrite why) = Unit {0}
+IsUnwritable file.Memory = Unit {0}
+IsUnwritable fault = ⊥

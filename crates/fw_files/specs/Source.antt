@@ -1,10 +1,12 @@
 -- From the bytes of files to a session (docs/tools.md, "Subcommands over files").
-use Rattle.std.specs.Prelude.{◌≡◌, ◌⊎◌, ℕ, ◌==◌, ◌&&◌, Bool, true, false, if◌then◌else◌, List, [], ◌∷◌, ◌++◌, Option, Some, None, is_none, is_some, Ok, codes, option_map}
+use Rattle.std.specs.Prelude.{◌≡◌, ◌⊎◌, ℕ, ◌==◌, ◌&&◌, Bool, true, false, if◌then◌else◌, List, [], ◌∷◌, ◌++◌, Option, Some, None, is_none, is_some, Ok, Err, codes, option_map}
 use Rattle.std.specs.List.{flat_map}
 use Rattle.std.specs.FinMap as env
 use Rattle.envcfg_core.specs.Entries.{Entry}
 use Rattle.envcfg_core.specs.Import.{import_of}
 use Rattle.envvars_core.specs.Variables.{Contents}
+use Rattle.envvars_core.specs.declared.refusals.Refusal.{Refusal}
+use Rattle.envvars_core.specs.declared.refusals.Refusal.TheVariants as refusals
 use Rattle.fw_engines.specs.Defaults.{written}
 use Rattle.envimg_core.specs.declared.choice.Choice.{Choice}
 use Rattle.envimg_core.specs.declared.state.CopyState.{CopyState}
@@ -12,9 +14,15 @@ use Rattle.envimg_core.specs.declared.state.CopyState.TheVariants.{Unterminated}
 use Rattle.envimg_core.specs.declared.choice.Choice.TheVariants.{First, Second, Neither}
 use Rattle.envcfg_core.specs.declared.config.Config.{Config}
 use Rattle.envimg_core.specs.declared.geometry.Order.{Order}
+use Rattle.env_source.specs.Sources.{source_of}
 use Rattle.fw_arguments.specs.Calls.{Defaults}
+use Rattle.fw_arguments.specs.GivenTexts.{is_plain}
+use Rattle.fw_arguments.specs.declared.given_text.TextForm.{TextForm}
+use Rattle.fw_arguments.specs.declared.given_text.TextForm.TheVariants as form
 use Rattle.fw_files.specs.BareLines.{bare_in}
 use Rattle.fw_files.specs.declared.copies.ReadCopy.{ReadCopy}
+use Rattle.fw_files.specs.declared.file_fault.FileFault.{FileFault}
+use Rattle.fw_files.specs.declared.file_fault.FileFault.TheVariants as file
 use Rattle.fw_files.specs.declared.source.Source.{Source}
 
 -- what was read by a configuration: two copies if it names two
@@ -40,7 +48,7 @@ warned false choice = warning choice
 
 -- the text of the board's build is taken if it is there
 abbrev pub takes_initial : Defaults → Bool
-takes_initial d = d.plain && is_none d.path
+takes_initial d = is_plain d.form && is_none d.path
 
 -- the default environment that is asked for, or the same with that text
 abbrev pub IsFound : Defaults → Defaults → Type 0
@@ -48,7 +56,7 @@ IsFound asked found = (found ≡ asked) ⊎ ((takes_initial asked ≡ true) × (
 
 -- the same without a text of plain lines
 abbrev pub without_plain : Defaults → Defaults
-without_plain d = if d.plain then record d { path = None } else d
+without_plain d = if is_plain d.form then record d { path = None } else d
 
 -- the default environment of a session: such a text is read only if no copy is good
 abbrev pub IsTaken : Choice → Defaults → Defaults → Type 0
@@ -60,26 +68,38 @@ IsTaken Neither asked taken = IsFound asked taken
 abbrev pub escaped_byte : ℕ → List ℕ
 escaped_byte b = if b == 92 then b ∷ b ∷ [] else b ∷ []
 
-abbrev pub spelled : Bool → List ℕ → List ℕ
-spelled true text = flat_map escaped_byte text
-spelled false text = text
+-- the entries of a text in this form
+abbrev pub AreEntriesIn : TextForm → List ℕ → List Entry → Type 0
+AreEntriesIn form.Import text entries = import_of text ≡ Ok entries
+AreEntriesIn form.Plain text entries = import_of (flat_map escaped_byte text) ≡ Ok entries
+AreEntriesIn form.Source text entries = source_of text ≡ Ok entries
 
 -- the variables are the default environment of the entries of a text, of which none lacks its `=`, in this room
-abbrev pub AreDefaultsIn : Bool → List ℕ → ℕ → Contents → Type 0
-AreDefaultsIn plain text room vars =
-    (entries : List Entry) × (import_of (spelled plain text) ≡ Ok entries) × (bare_in plain text entries ≡ None)
+abbrev pub AreDefaultsIn : TextForm → List ℕ → ℕ → Contents → Type 0
+AreDefaultsIn form text room vars =
+    (entries : List Entry) × AreEntriesIn form text entries × (bare_in form text entries ≡ None)
     × (written room env.empty entries ≡ Ok vars.env) × (vars.room ≡ room)
 
-abbrev pub AreDefaultsFrom : Bool → ℕ → Contents → Type 0
-AreDefaultsFrom plain room vars = (text : List ℕ) × AreDefaultsIn plain text room vars
+-- an entry is refused, in its line, or memory ran out
+abbrev pub IsRefused : ℕ → List Entry → FileFault → Type 0
+IsRefused room entries (file.Default line refusal) = written room env.empty entries ≡ Err (line, refusal)
+IsRefused room entries file.Memory = Unit {0}
+IsRefused room entries fault = ⊥
+
+abbrev pub default_fault : ℕ → Refusal → FileFault
+default_fault line refusals.Memory = file.Memory
+default_fault line refused = file.Default line refused
+
+abbrev pub AreDefaultsFrom : TextForm → ℕ → Contents → Type 0
+AreDefaultsFrom form room vars = (text : List ℕ) × AreDefaultsIn form text room vars
 
 -- those of some text if a path is given, else no variables
-abbrev pub AreDefaultsOfPath : ℕ → Option (List ℕ) → Bool → Contents → Type 0
-AreDefaultsOfPath room None plain vars = vars ≡ record { env = env.empty; room = room }
-AreDefaultsOfPath room (Some path) plain vars = AreDefaultsFrom plain room vars
+abbrev pub AreDefaultsOfPath : ℕ → Option (List ℕ) → TextForm → Contents → Type 0
+AreDefaultsOfPath room None form vars = vars ≡ record { env = env.empty; room = room }
+AreDefaultsOfPath room (Some path) form vars = AreDefaultsFrom form room vars
 
 abbrev pub AreDefaultsOf : ℕ → Defaults → Contents → Type 0
-AreDefaultsOf room d vars = AreDefaultsOfPath room d.path d.plain vars
+AreDefaultsOf room d vars = AreDefaultsOfPath room d.path d.form vars
 
 -- a copy has to be good, and no copy is
 abbrev pub lacks_copy : Defaults → Choice → Bool

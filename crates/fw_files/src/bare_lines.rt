@@ -4,16 +4,16 @@ ghost use Rattle.envcfg_core.specs.Entries.{entry_view};
 ghost use Rattle.fw_files.specs.BareLines.{bare_among, bare_in, bare_line};
 
 use envcfg_core::TextEntry;
+use fw_arguments::TextForm;
 use text_parts::{contains_byte, numbered_lines};
 
-/// The first line of a text in which an entry begins that has no `=`; a text of plain lines is not looked at.
-pub(crate) fn bare_in(plain: bool, text: &[u8], entries: &[TextEntry]) -> Option<usize>
-    ensures { result ≡ bare_in plain text.now (map entry_view entries.now) }
+/// The first line of a text in which an entry begins that has no `=`; only a text for import is looked at.
+pub(crate) fn bare_in(form: TextForm, text: &[u8], entries: &[TextEntry]) -> Option<usize>
+    ensures { result ≡ bare_in form text.now (map entry_view entries.now) }
 {
-    if plain {
-        None
-    } else {
-        bare_line(text, entries)
+    match form {
+        TextForm::Import => bare_line(text, entries),
+        _ => None,
     }
 }
 

@@ -4,7 +4,7 @@ ghost use Rattle.fw_engines.specs.Streams.{AppendsFront};
 ghost use Rattle.fw_files.specs.Said.{SaysSome};
 ghost use Rattle.fw_files.specs.Copies.{change_in, change_view, changes, goes_over, other_first, warned_of, warning_of};
 
-use crate::copies::{ReadCopy, change_since, to_write, write_copy};
+use crate::copies::{ReadCopy, change_in_reads, read_copy, to_write, write_copy};
 use crate::file_fault::{say_fault, value_or_say};
 use crate::file_texts::{FIRST_OVER_DATA, SECOND_OVER_DATA};
 use crate::reasons::Explains;
@@ -165,7 +165,7 @@ fn find_as_read<X: Files + AllocGlobal, E: Write>(
 ) -> Option<()>
     ensures { MatchOption result (SaysSome (E.contents errors.old) (E.contents errors.new)) (λ _. E.contents errors.new ≡ E.contents errors.old) }
 {
-    match change_since(rt, place, size, old) {
+    match change_in_reads(old, read_copy(rt, place, size)) {
         None => Some(()),
         Some(fault) => {
             say_fault(rt.alloc(), errors, explains, place.device.as_str(), fault);

@@ -1,9 +1,9 @@
 //! Copies in their devices: found, read and written in place.
-ghost use Rattle.std.specs.Prelude.{◌≡◌, ◌+◌, IfOk, length, nat_le, option_copied};
+ghost use Rattle.std.specs.Prelude.{◌≡◌, ◌+◌, IfErr, IfOk, IfSome, length, nat_le, option_copied};
 ghost use Rattle.std.specs.Str.{bytes_eq};
 ghost use Rattle.fw_files.specs.Copies.{change_in_reads, share_a_byte, stays, to_write};
 ghost use Rattle.fw_files.specs.Misread.{IsContinued};
-ghost use Rattle.fw_files.specs.Files.{copy_fault};
+ghost use Rattle.fw_files.specs.Files.{IsUnwritable, copy_fault};
 
 use crate::devices::{is_pipe, is_raw, why_not_sought};
 use crate::file_fault::FileFault;
@@ -86,7 +86,8 @@ pub(crate) fn with_following<X: Files + AllocGlobal>(
     place: &Place,
     copy: ReadCopy,
 ) -> Result<ReadCopy, FileFault>
-    ensures { IfOk result (λ found. IsContinued copy.bytes.items found.bytes.items) }
+    ensures bytes { IfOk result (λ found. IsContinued copy.bytes.items found.bytes.items) }
+    ensures start { IfOk result (λ found. found.start ≡ copy.start) }
 {
     let ReadCopy { mut bytes, start } = copy;
     let end = start.saturating_add(bytes.len() as u64);
@@ -101,20 +102,13 @@ pub(crate) fn with_following<X: Files + AllocGlobal>(
     }
 }
 
-/// Why a copy that is read again, before anything is written, may not be written; `None` if it is what was read at the
-/// start.
-pub(crate) fn change_since<X: Files + AllocGlobal>(
-    rt: &X,
-    place: &Place,
-    size: u32,
+/// Why a copy may not be written, by its reads at the start and just before the write; `None` if these gave the same.
+pub(crate) fn change_in_reads(
     old: &ReadCopy,
-) -> Option<FileFault> {
-    change_in_reads(old, read_copy(rt, place, size))
-}
-
-/// Why a copy may not be written, by its reads at the start and now.
-fn change_in_reads(old: &ReadCopy, again: Result<ReadCopy, FileFault>) -> Option<FileFault>
-    ensures { result ≡ change_in_reads old.now again }
+    again: Result<ReadCopy, FileFault>,
+) -> Option<FileFault>
+    ensures change { result ≡ change_in_reads old.now again }
+    ensures unwritable { IfSome result IsUnwritable }
 {
     match again {
         Ok(copy) => {
@@ -151,7 +145,9 @@ pub(crate) fn write_copy<X: Files>(
     place: &Place,
     start: u64,
     bytes: &[u8],
-) -> Result<(), FileFault> {
+) -> Result<(), FileFault>
+    ensures { IfErr result IsUnwritable }
+{
     let path = place.device.as_str();
     if is_pipe(rt, path) || is_raw(rt, path) {
         return Err(FileFault::CannotWrite(Reason::Unknown));

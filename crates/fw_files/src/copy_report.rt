@@ -1,8 +1,8 @@
 //! `status`: the state of the copies that a configuration names, or of a whole file.
-ghost use Rattle.std.specs.Prelude.{◌≡◌, ◌≤◌, IfOk, MatchOption, is_some, option_map, string_bytes, unwrap_or};
+ghost use Rattle.std.specs.Prelude.{◌≡◌, ◌≤◌, IfOk, MatchOption, is_some, option_map, unwrap_or};
 ghost use Rattle.envimg_core.specs.declared.geometry.Order.{Order};
 ghost use Rattle.fw_engines.specs.CopyStatus.{file_status_of};
-ghost use Rattle.fw_files.specs.CopyReport.{IsSurveyIn, PrintsReport, ReportsOn, ReportsSubject, device_found, device_in};
+ghost use Rattle.fw_files.specs.CopyReport.{IsSurveyIn, PrintsReport, ReportsOn, ReportsSubject, found_at, found_in, found_view};
 ghost use Rattle.fw_arguments.specs.Report.{Copies, File, report_view};
 ghost use Rattle.fw_files.specs.Locks.{HasWaited};
 ghost use Rattle.fw_files.specs.Said.{SaysSome, Stops};
@@ -226,7 +226,7 @@ fn survey_in<'a>(path: &'a str, config: &'a [u8], source: &'a Source) -> Survey<
 
 /// The second copy, if there is one.
 fn second_found<'a>(place: &'a Option<Place>, copy: &'a Option<ReadCopy>) -> Option<FoundCopy<'a>>
-    ensures { option_map device_found result ≡ device_in place.now copy.now }
+    ensures { option_map found_view result ≡ found_in place.now copy.now }
 {
     match (place, copy) {
         (Some(place), Some(copy)) => Some(found(place, copy)),
@@ -236,7 +236,7 @@ fn second_found<'a>(place: &'a Option<Place>, copy: &'a Option<ReadCopy>) -> Opt
 
 /// A copy in its device.
 fn found<'a>(place: &'a Place, copy: &'a ReadCopy) -> FoundCopy<'a>
-    ensures { device_found result ≡ string_bytes place.now.device }
+    ensures { found_view result ≡ found_at place.now copy.now }
 {
     FoundCopy {
         device: place.device.as_bytes(),

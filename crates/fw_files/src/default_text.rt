@@ -1,5 +1,5 @@
 //! The default environment of a session: which text it is, and its variables.
-ghost use Rattle.std.specs.Prelude.{◌≡◌, ◌≤◌, ◌++◌, false, IfOk, MatchOption, Ok, map};
+ghost use Rattle.std.specs.Prelude.{◌≡◌, ◌≤◌, ◌++◌, IfErr, IfOk, MatchOption, Ok, map};
 ghost use Rattle.std.specs.FinMap as env;
 ghost use Rattle.std.specs.List.{flat_map};
 ghost use Rattle.envcfg_core.specs.Entries.{entry_view};
@@ -7,16 +7,16 @@ ghost use Rattle.envcfg_core.specs.Import.{import_of};
 ghost use Rattle.fw_arguments.specs.Calls.{defaults_view};
 ghost use Rattle.fw_engines.specs.Defaults.{written};
 ghost use Rattle.fw_files.specs.Said.{SaysSome};
-ghost use Rattle.fw_files.specs.Source.{AreDefaultsFrom, AreDefaultsIn, AreDefaultsOf, IsFound, escaped_byte, spelled, takes_initial};
+ghost use Rattle.fw_files.specs.Source.{AreDefaultsFrom, AreDefaultsIn, AreDefaultsOf, AreEntriesIn, IsFound, IsRefused, default_fault, escaped_byte, takes_initial};
 
 use crate::bare_lines::bare_in;
 use crate::file_fault::{FileFault, value_or_say};
 use crate::file_texts::INITIAL_ENVIRONMENT;
-use crate::files::{import_from, read_text};
+use crate::files::{import_from, read_text, source_from};
 use crate::reasons::Explains;
 use envcfg_core::TextEntry;
 use envvars_core::{Refusal, Vars};
-use fw_arguments::Defaults;
+use fw_arguments::{Defaults, GivenText, TextForm};
 use fw_engines::defaults;
 use std::alloc::{AllocError, Global};
 use std::fs::OpenOptions;
@@ -30,7 +30,7 @@ pub(crate) fn found_defaults<'w, X: Files>(rt: &X, asked: Defaults<'w>) -> Defau
     if takes_initial(&asked) && is_there(rt, INITIAL_ENVIRONMENT) {
         return Defaults {
             path: Some(INITIAL_ENVIRONMENT),
-            plain: true,
+            form: asked.form,
             need_copy: asked.need_copy,
             whole: asked.whole,
         };
@@ -42,7 +42,7 @@ pub(crate) fn found_defaults<'w, X: Files>(rt: &X, asked: Defaults<'w>) -> Defau
 fn takes_initial(asked: &Defaults<'_>) -> bool
     ensures { result ≡ takes_initial (defaults_view asked.now) }
 {
-    asked.plain && asked.path.is_none()
+    asked.form.is_plain() && asked.path.is_none()
 }
 
 /// Whether a file can be opened.
@@ -61,23 +61,23 @@ pub(crate) fn given_defaults<X: Files + AllocGlobal>(
 {
     match asked.path {
         None => Ok(Vars::empty(rt.alloc(), room)),
-        Some(path) => read_default(rt, room, path, asked.plain),
+        Some(path) => read_default(rt, room, path, asked.form),
     }
 }
 
-/// The variables of the text for import at a path, in this room; a fault is reported on `errors`.
+/// The variables of a text, in this room; a fault is reported on `errors`.
 pub fn variables_or_say<X: Files + AllocGlobal, E: Write>(
     rt: &X,
     room: u32,
-    path: &str,
+    text: GivenText<'_>,
     errors: &mut E,
 ) -> Option<Vars>
     requires { 1 ≤ room }
     ensures { MatchOption result (SaysSome (E.contents errors.old) (E.contents errors.new))
-        (λ vars. AreDefaultsFrom false room vars × (E.contents errors.new ≡ E.contents errors.old)) }
+        (λ vars. AreDefaultsFrom text.entry.form room vars × (E.contents errors.new ≡ E.contents errors.old)) }
 {
-    let read = read_default(rt, room, path, false);
-    value_or_say(rt.alloc(), errors, Explains::Reason, path, read)
+    let read = read_default(rt, room, text.path, text.form);
+    value_or_say(rt.alloc(), errors, Explains::Reason, text.path, read)
 }
 
 /// Reads the default environment.
@@ -85,22 +85,22 @@ fn read_default<X: Files + AllocGlobal>(
     rt: &X,
     room: u32,
     path: &str,
-    plain: bool,
+    form: TextForm,
 ) -> Result<Vars, FileFault>
     requires { 1 ≤ room }
-    ensures { IfOk result (AreDefaultsFrom plain room) }
+    ensures { IfOk result (AreDefaultsFrom form room) }
 {
     let text = read_text(rt, path)?;
-    default_from(rt.alloc(), room, plain, &text)
+    default_from(rt.alloc(), room, form, &text)
 }
 
 /// The default environment of a text.
-fn default_from(alloc: Global, room: u32, plain: bool, text: &[u8]) -> Result<Vars, FileFault>
+fn default_from(alloc: Global, room: u32, form: TextForm, text: &[u8]) -> Result<Vars, FileFault>
     requires { 1 ≤ room }
-    ensures { IfOk result (AreDefaultsIn plain text.now room) }
+    ensures { IfOk result (AreDefaultsIn form text.now room) }
 {
-    let entries = entries_in(alloc, plain, text)?;
-    match bare_in(plain, text, &entries) {
+    let entries = entries_in(alloc, form, text)?;
+    match bare_in(form, text, &entries) {
         None => written_in(alloc, room, &entries),
         Some(line) => Err(FileFault::Bare(line)),
     }
@@ -111,21 +111,39 @@ fn written_in(alloc: Global, room: u32, entries: &[TextEntry]) -> Result<Vars, F
     requires { 1 ≤ room }
     ensures written { IfOk result (λ vars. written room env.empty (map entry_view entries.now) ≡ Ok vars.env) }
     ensures room { IfOk result (λ vars. vars.room ≡ room) }
+    ensures refused { IfErr result (IsRefused room (map entry_view entries.now)) }
 {
     match defaults(alloc, room, entries) {
         Ok(vars) => Ok(vars),
-        Err((_line, Refusal::Memory)) => Err(FileFault::Memory),
-        Err((line, refusal)) => Err(FileFault::Default(line, refusal)),
+        Err((line, refusal)) => Err(default_fault(line, refusal)),
     }
 }
 
-/// The entries of a text for import, or of plain lines.
-fn entries_in(alloc: Global, plain: bool, text: &[u8]) -> Result<Vec<TextEntry>, FileFault>
-    ensures { IfOk result (λ entries. import_of (spelled plain text.now) ≡ Ok (map entry_view entries.items)) }
+/// The fault of a default environment of which an entry is refused.
+fn default_fault(line: usize, refusal: Refusal) -> FileFault
+    ensures { result ≡ default_fault line refusal }
 {
-    if !plain {
-        return import_from(alloc, text);
+    match refusal {
+        Refusal::Memory => FileFault::Memory,
+        refused => FileFault::Default(line, refused),
     }
+}
+
+/// The entries of a text in this form.
+fn entries_in(alloc: Global, form: TextForm, text: &[u8]) -> Result<Vec<TextEntry>, FileFault>
+    ensures { IfOk result (λ entries. AreEntriesIn form text.now (map entry_view entries.items)) }
+{
+    match form {
+        TextForm::Import => import_from(alloc, text),
+        TextForm::Plain => entries_of_plain(alloc, text),
+        TextForm::Source => source_from(alloc, text),
+    }
+}
+
+/// The entries of plain lines.
+fn entries_of_plain(alloc: Global, text: &[u8]) -> Result<Vec<TextEntry>, FileFault>
+    ensures { IfOk result (λ entries. import_of (flat_map escaped_byte text.now) ≡ Ok (map entry_view entries.items)) }
+{
     match escaped(alloc, text) {
         Ok(text) => import_from(alloc, &text),
         Err(_) => Err(FileFault::Memory),

@@ -1,5 +1,7 @@
 //! Devices: the locks on them, and what kind of file one is.
-ghost use Rattle.fw_files.specs.Locks.{HasWaited};
+ghost use Rattle.std.specs.Prelude.{string_bytes};
+ghost use Rattle.fw_engines.specs.Streams.{AppendsFront};
+ghost use Rattle.fw_files.specs.Locks.{waiting_line};
 
 use crate::reasons::Reason;
 use crate::system::{Hold, System};
@@ -7,8 +9,11 @@ use crate::waiting::wait_for_lock;
 use envcfg_core::Place;
 use std::fs::{self, FileType, OpenOptions};
 use std::io::{ErrorKind, Write};
-use std::os::unix::fs::FileTypeExt;
+use std::os::unix::fs::{FileTypeExt, MetadataExt};
 use std::rt::Files;
+
+/// The major number of raw flash.
+const MTD_MAJOR: u64 = 90;
 
 /// Locks the device of a copy against other programs that lock it, until the result is dropped; `None` if it can't be
 /// opened or locked, and it is then used without a lock. A lock that is waited for is reported on `errors`.
@@ -18,7 +23,7 @@ pub(crate) fn lock_device<X: System, E: Write>(
     hold: Hold,
     errors: &mut E,
 ) -> Option<X::File>
-    ensures { HasWaited (E.contents errors.old) (E.contents errors.new) }
+    ensures { AppendsFront (E.contents errors.old) (E.contents errors.new) (waiting_line (string_bytes place.now.device)) }
 {
     lock_path(rt, place.device.as_str(), hold, errors)
 }
@@ -30,7 +35,7 @@ pub(crate) fn lock_path<X: System, E: Write>(
     hold: Hold,
     errors: &mut E,
 ) -> Option<X::File>
-    ensures { HasWaited (E.contents errors.old) (E.contents errors.new) }
+    ensures { AppendsFront (E.contents errors.old) (E.contents errors.new) (waiting_line path.now) }
 {
     if is_pipe(rt, path) {
         return None;
@@ -49,7 +54,7 @@ fn locked<X: System, E: Write>(
     hold: Hold,
     errors: &mut E,
 ) -> Option<X::File>
-    ensures { HasWaited (E.contents errors.old) (E.contents errors.new) }
+    ensures { AppendsFront (E.contents errors.old) (E.contents errors.new) (waiting_line path.now) }
 {
     if wait_for_lock(rt, &device, path, hold, errors) {
         Some(device)
@@ -67,6 +72,16 @@ pub(crate) fn is_pipe<X: Files>(rt: &X, path: &str) -> bool {
 /// nothing here does: the bytes written would be combined with the old ones.
 pub(crate) fn is_raw<X: Files>(rt: &X, path: &str) -> bool {
     matches!(kind_of(rt, path), Some(kind) if kind.is_char_device())
+}
+
+/// Whether the path names raw flash: a character device of the major number that Linux has for MTD.
+pub(crate) fn is_flash<X: Files>(rt: &X, path: &str) -> bool {
+    match fs::metadata(rt, path) {
+        Ok(metadata) => {
+            metadata.file_type().is_char_device() && (metadata.rdev() >> 8) % 4_096 == MTD_MAJOR
+        }
+        Err(_) => false,
+    }
 }
 
 /// Why seeking to the end of an open file failed, by the kind of the error: on some file systems a directory has no

@@ -3,7 +3,7 @@ ghost use Rattle.std.specs.Prelude.{◌≡◌, ◌++◌, IfErr, MatchOption};
 ghost use Rattle.std.specs.IoError.{error_kind};
 ghost use Rattle.std.specs.Result.{result_ok};
 ghost use Rattle.fw_engines.specs.Streams.{AppendsFront};
-ghost use Rattle.fw_files.specs.Files.{fault_line, name_of, reason_by};
+ghost use Rattle.fw_files.specs.Files.{entry_line, fault_line, name_of, place_line, reason_by};
 ghost use Rattle.fw_files.specs.Said.{SaysLine, SaysSome};
 ghost use Rattle.fw_files.specs.declared.file_fault.FileFault.TheVariants.{CannotRead, Memory};
 
@@ -14,11 +14,13 @@ use crate::file_texts::{
 use crate::foreign_texts::Foreign;
 use crate::reasons::{Explains, Reason};
 use board_file::BoardFault;
+use env_source::SourceFault;
 use envcfg_core::{ConfigFault, TextFault};
 use envvars_core::Refusal;
 use fw_engines::OUT_OF_MEMORY;
-use fw_engines::streams::{say, write_decimal, write_three, write_two};
+use fw_engines::streams::{say, write_parts, write_three, write_two};
 use hush_commands::StubFault;
+use itoa::Buffer;
 use std::alloc::{AllocError, Global};
 use std::io::{self, Write};
 
@@ -47,6 +49,8 @@ pub enum FileFault {
     Stubs(StubFault),
     /// It is a board file that is refused.
     Board(BoardFault),
+    /// It is a source of U-Boot that is refused.
+    Source(SourceFault),
     /// It is a default environment, and the entry in this line has no `=`.
     Bare(usize),
     /// It is a default environment, and the entry in this line is refused.
@@ -125,8 +129,9 @@ pub(crate) fn say_fault<E: Write>(
             Err(_) => say(errors, OUT_OF_MEMORY),
         },
         FileFault::Board(refused) => say_place(errors, path, refused.line, refused.kind.text()),
+        FileFault::Source(refused) => say_place(errors, path, refused.line, refused.flaw.text()),
         FileFault::Bare(line) => say_place(errors, path, line, NO_EQUALS),
-        FileFault::Default(line, refusal) => say_line(errors, path, name_of(refusal), line),
+        FileFault::Default(line, refusal) => say_entry(errors, path, name_of(refusal), line),
     }
 }
 
@@ -147,33 +152,42 @@ fn say_refused<E: Write>(errors: &mut E, path: &str, name: &[u8])
     let _ = write_two(errors, name, NEWLINE);
 }
 
-/// Prints which line of a file is refused, and why.
-fn say_line<E: Write>(errors: &mut E, path: &str, name: &[u8], line: usize)
-    ensures { SaysSome (E.contents errors.old) (E.contents errors.new) }
+/// Prints which entry of a file is refused, and why.
+fn say_entry<E: Write>(errors: &mut E, path: &str, name: &[u8], line: usize)
+    ensures { AppendsFront (E.contents errors.old) (E.contents errors.new) (entry_line path.now name.now line) }
 {
-    if !write_three(errors, FWENV, path.as_bytes(), COLON) {
-        return;
-    }
-    if !write_two(errors, name, IN_LINE) {
-        return;
-    }
-    if !write_decimal(errors, line) {
-        return;
-    }
-    say(errors, NEWLINE);
+    let mut digits = Buffer::new();
+    let _ = write_parts(
+        errors,
+        &[
+            FWENV,
+            path.as_bytes(),
+            COLON,
+            name,
+            IN_LINE,
+            digits.format(line).as_bytes(),
+            NEWLINE,
+        ],
+    );
 }
 
 /// Prints the line of a file, and what is wrong with it.
 fn say_place<E: Write>(errors: &mut E, path: &str, line: usize, text: &[u8])
-    ensures { SaysSome (E.contents errors.old) (E.contents errors.new) }
+    ensures { AppendsFront (E.contents errors.old) (E.contents errors.new) (place_line path.now line text.now) }
 {
-    if !write_three(errors, FWENV, path.as_bytes(), LINE) {
-        return;
-    }
-    if !write_decimal(errors, line) {
-        return;
-    }
-    let _ = write_three(errors, COLON, text, NEWLINE);
+    let mut digits = Buffer::new();
+    let _ = write_parts(
+        errors,
+        &[
+            FWENV,
+            path.as_bytes(),
+            LINE,
+            digits.format(line).as_bytes(),
+            COLON,
+            text,
+            NEWLINE,
+        ],
+    );
 }
 
 /// The name of a refusal.

@@ -18,7 +18,8 @@ pub(crate) const IS_UBI_VOLUME: &[u8] =
     b" is a UBI volume by its name: fwenv reads files and block devices\n";
 
 /// What is wrong with a line of a default environment.
-pub(crate) const NO_EQUALS: &[u8] = b"no = in this line";
+pub(crate) const NO_EQUALS: &[u8] =
+    b"no = in this line; for a source in U-Boot's own form use --env-source";
 
 /// Between a path and the number of a line.
 pub(crate) const LINE: &[u8] = b":";

@@ -1,10 +1,11 @@
 //! Files that are read whole.
-ghost use Rattle.std.specs.Prelude.{◌≡◌, ◌≤◌, ℕ, List, None, Ok, Some, IfOk, MatchOption, length, map, option_map};
+ghost use Rattle.std.specs.Prelude.{◌≡◌, ◌≤◌, ℕ, List, None, Ok, Some, IfErr, IfOk, MatchOption, length, map, option_map};
 ghost use Rattle.envcfg_core.specs.Entries.{entry_view};
 ghost use Rattle.envcfg_core.specs.Import.{import_of};
 ghost use Rattle.envcfg_core.specs.SetScript.{set_script_of};
+ghost use Rattle.env_source.specs.Sources.{source_of};
 ghost use Rattle.board_file.specs.BoardFiles.{board_of};
-ghost use Rattle.fw_files.specs.Files.{AreRulesOf, AreStubsOf, board_fault, dump_limit, file_limit, opened_path, text_fault};
+ghost use Rattle.fw_files.specs.Files.{AreRulesOf, AreStubsOf, IsTextFault, board_fault, dump_limit, file_limit, opened_path, source_fault, text_fault};
 ghost use Rattle.fw_files.specs.ForeignTexts.{foreign_in};
 ghost use Rattle.fw_files.specs.Said.{SaysSome};
 ghost use Rattle.hush_commands.specs.Stubs.{stand_ins_of};
@@ -14,6 +15,7 @@ use crate::file_texts::DEVICE_OF_INPUT;
 use crate::foreign_texts::foreign_in;
 use crate::reasons::{Explains, Reason};
 use board_file::{BoardFault, LineFault, parse_board};
+use env_source::{Flaw, SourceFault, parse_source};
 use envcfg_core::{TextEntry, TextFault, parse_import, parse_set_script};
 use fw_arguments::STANDARD_INPUT;
 use fw_engines::StreamFault;
@@ -115,11 +117,22 @@ fn read_within<X: Files + AllocGlobal>(
 
 /// The entries of a text for import.
 pub(crate) fn import_from(alloc: Global, text: &[u8]) -> Result<Vec<TextEntry>, FileFault>
-    ensures { IfOk result (λ entries. import_of text.now ≡ Ok (map entry_view entries.items)) }
+    ensures read { IfOk result (λ entries. import_of text.now ≡ Ok (map entry_view entries.items)) }
+    ensures refused { IfErr result (IsTextFault (import_of text.now)) }
 {
     match parse_import(alloc, text) {
         Ok(entries) => Ok(entries),
         Err(fault) => Err(text_fault(fault)),
+    }
+}
+
+/// The entries of a source of U-Boot.
+pub(crate) fn source_from(alloc: Global, text: &[u8]) -> Result<Vec<TextEntry>, FileFault>
+    ensures { IfOk result (λ entries. source_of text.now ≡ Ok (map entry_view entries.items)) }
+{
+    match parse_source(alloc, text) {
+        Ok(entries) => Ok(entries),
+        Err(fault) => Err(source_fault(fault)),
     }
 }
 
@@ -145,7 +158,8 @@ pub fn entries_or_say<X: Files + AllocGlobal, E: Write>(
 
 /// The entries of a set script.
 pub fn script_from(alloc: Global, text: &[u8]) -> Result<Vec<TextEntry>, FileFault>
-    ensures { IfOk result (λ entries. set_script_of text.now ≡ Ok (map entry_view entries.items)) }
+    ensures read { IfOk result (λ entries. set_script_of text.now ≡ Ok (map entry_view entries.items)) }
+    ensures refused { IfErr result (IsTextFault (set_script_of text.now)) }
 {
     match parse_set_script(alloc, text) {
         Ok(entries) => Ok(entries),
@@ -228,6 +242,16 @@ fn board_fault(fault: BoardFault) -> FileFault
     match fault.kind {
         LineFault::Memory => FileFault::Memory,
         _ => FileFault::Board(fault),
+    }
+}
+
+/// The fault of a source that is refused.
+fn source_fault(fault: SourceFault) -> FileFault
+    ensures { result ≡ source_fault fault }
+{
+    match fault.flaw {
+        Flaw::Memory => FileFault::Memory,
+        _ => FileFault::Source(fault),
     }
 }
 

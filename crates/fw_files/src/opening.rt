@@ -2,6 +2,7 @@
 ghost use Rattle.std.specs.Prelude.{◌≡◌, true, IfOk, MatchOption};
 ghost use Rattle.env_session.specs.Session.{bytes_of, opened, opening_choice};
 ghost use Rattle.fw_arguments.specs.Calls.{defaults_view};
+ghost use Rattle.fw_arguments.specs.GivenTexts.{is_plain};
 ghost use Rattle.fw_engines.specs.Streams.{AppendsFront};
 ghost use Rattle.fw_files.specs.Misread.{Spares};
 ghost use Rattle.fw_files.specs.Opening.{IsAccepted, IsOpened, IsOpenedWith, OpensOver};
@@ -38,7 +39,7 @@ pub fn open<X: Files + AllocGlobal, E: Write>(
     ensures { MatchOption result (SaysSome (E.contents errors.old) (E.contents errors.new))
         (λ session. IsOpened source.now (defaults_view asked.now) spares session (E.contents errors.old) (E.contents errors.new)) }
 {
-    if asked.plain {
+    if asked.form.is_plain() {
         open_plain(rt, source, asked, spares, explains, errors)
     } else {
         open_with(rt, source, asked, spares, explains, errors)
@@ -54,7 +55,7 @@ fn open_plain<X: Files + AllocGlobal, E: Write>(
     explains: Explains,
     errors: &mut E,
 ) -> Option<Session>
-    requires { asked.now.plain ≡ true }
+    requires { is_plain asked.now.form ≡ true }
     ensures { MatchOption result (SaysSome (E.contents errors.old) (E.contents errors.new))
         (λ session. IsOpened source.now (defaults_view asked.now) spares session (E.contents errors.old) (E.contents errors.new)) }
 {

@@ -16,6 +16,7 @@ use Rattle.fw_session.specs.Handling.{Answered, IsAskedByBlock, ItemAnswered, bl
 use Rattle.std.proofs.lemmas.Bool.{eqb-true, eqb-false}
 use Rattle.std.proofs.lemmas.List.{take_all}
 use Rattle.fw_session.proofs.BlockLemmas.{block_answered}
+use Rattle.fw_session.proofs.ListLemmas.{headline_of, headline_up_to}
 use Rattle.fw_session.proofs.StreamLemmas.{counts_none, counts_then}
 
 pub after_text : (rules : Rules) (h : NamedSession) (xs ys : List Item) (ns ms : List Note) → AllStand rules h xs ns →
@@ -44,7 +45,7 @@ after_stand rules h (x ∷ xs) ys (n ∷ ns) ms s t = (s.0, after_stand rules (t
 
 pub answered_none : (rules : Rules) (h : NamedSession) (out : Option (List ℕ)) (n : ℕ) → AllAnswered rules h [] out out n n h
 unfolding turns AllStand
-answered_none rules h out n = record { notes = []; stand = tt; text = Appends-nil out; count = counts_none n; session = refl }
+answered_none rules h out n = record { notes = []; stand = tt; text = Appends-nil out; count = counts_none n; session = refl; headline = headline_of rules h h [] [] tt refl }
 
 pub answered_then : (rules : Rules) (h h' h'' : NamedSession) (xs ys : List Item) (out out' out'' : Option (List ℕ)) (n n' n'' : ℕ) →
     AllAnswered rules h xs out out' n n' h' → AllAnswered rules h' ys out' out'' n' n'' h'' → AllAnswered rules h (xs ++ ys) out out'' n n'' h''
@@ -55,12 +56,15 @@ answered_then rules h h' h'' xs ys out out' out'' n n' n'' p q =
     let count : Counts n' n'' (turns rules mid ys q.notes).text = subst (λ s. Counts n' n'' (turns rules s ys q.notes).text) p.session q.count in
     let table : h'' ≡ (turns rules mid ys q.notes).session = subst (λ s. h'' ≡ (turns rules s ys q.notes).session) p.session q.session in
     let e = after_text rules h xs ys p.notes q.notes p.stand in
+    let both : AllStand rules h (xs ++ ys) (p.notes ++ q.notes) = after_stand rules h xs ys p.notes q.notes p.stand stand in
+    let left : h'' ≡ (turns rules h (xs ++ ys) (p.notes ++ q.notes)).session = table ∙ sym (after_held rules h xs ys p.notes q.notes p.stand) in
     record {
       notes = p.notes ++ q.notes;
-      stand = after_stand rules h xs ys p.notes q.notes p.stand stand;
+      stand = both;
       text = subst (λ t. Appends out out'' t) (sym e) (Appends-trans out out' out'' (turns rules h xs p.notes).text (turns rules mid ys q.notes).text p.text text);
       count = subst (λ t. Counts n n'' t) (sym e) (counts_then n n' n'' (turns rules h xs p.notes).text (turns rules mid ys q.notes).text p.count count);
-      session = table ∙ sym (after_held rules h xs ys p.notes q.notes p.stand);
+      session = left;
+      headline = headline_of rules h h'' (xs ++ ys) (p.notes ++ q.notes) both left;
     }
 
 pub answered_cut_short : (rules : Rules) (h h' h'' : NamedSession) (xs ys : List Item) (out out' out'' : Option (List ℕ)) (n n' n'' : ℕ) →
@@ -77,6 +81,9 @@ answered_cut_short rules h h' h'' xs ys out out' out'' n n' n'' p q =
     let b = (turns rules mid q.before q.notes).text in
     let e : (turns rules h (xs ++ q.before) (p.notes ++ q.notes)).text ++ q.front ≡ a ++ (b ++ q.front) = ap (λ t. t ++ q.front) (after_text rules h xs q.before p.notes q.notes p.stand) ∙ append_assoc a b q.front in
     let k : (turns rules h (xs ++ q.before) (p.notes ++ q.notes)).session ≡ (turns rules mid q.before q.notes).session = after_held rules h xs q.before p.notes q.notes p.stand in
+    let both : AllStand rules h (xs ++ q.before) (p.notes ++ q.notes) = after_stand rules h xs q.before p.notes q.notes p.stand stand in
+    let then_may : MayStand rules (turns rules h (xs ++ q.before) (p.notes ++ q.notes)).session q.item q.note = subst (λ s. MayStand rules s q.item q.note) (sym k) may in
+    let left : h'' ≡ (turn rules (turns rules h (xs ++ q.before) (p.notes ++ q.notes)).session q.item q.note).session = subst (λ s. h'' ≡ (turn rules s q.item q.note).session) (sym k) table in
     record {
       before = xs ++ q.before;
       item = q.item;
@@ -84,16 +91,17 @@ answered_cut_short rules h h' h'' xs ys out out' out'' n n' n'' p q =
       cut = ap (λ t. xs ++ t) q.cut ∙ sym (append_assoc xs q.before (q.item ∷ q.after));
       last = q.last;
       notes = p.notes ++ q.notes;
-      stand = after_stand rules h xs q.before p.notes q.notes p.stand stand;
+      stand = both;
       note = q.note;
-      may = subst (λ s. MayStand rules s q.item q.note) (sym k) may;
+      may = then_may;
       front = q.front;
       rest = q.rest;
       text = subst (λ s. (turn rules s q.item q.note).text ≡ q.front ++ q.rest) (sym k) text;
       left = q.left;
       wrote = subst (λ t. Appends out out'' t) (sym e) (Appends-trans out out' out'' a (b ++ q.front) p.text wrote);
       count = subst (λ t. Counts n n'' t) (sym e) (counts_then n n' n'' a (b ++ q.front) p.count count);
-      session = subst (λ s. h'' ≡ (turn rules s q.item q.note).session) (sym k) table;
+      session = left;
+      headline = headline_up_to rules h h'' (xs ++ q.before) (p.notes ++ q.notes) q.item q.note both then_may left;
     }
 
 one_alone : (x item : Item) (before after : List Item) → x ∷ [] ≡ before ++ item ∷ after → (item ≡ x) × (after ≡ [])
@@ -125,6 +133,7 @@ cut_short_more rules h h' block line out out' n n' p = record {
   wrote = p.wrote;
   count = p.count;
   session = p.session;
+  headline = p.headline;
 }
 
 pub answers_then : (rules : Rules) (h h' h'' : NamedSession) (xs ys : List Item) (out out' out'' : Option (List ℕ)) (n n' n'' : ℕ) (ok : Bool) →
@@ -147,6 +156,7 @@ answers_one rules h h' item out out' n n' true p =
       text = subst (λ t. Appends out out' t) (sym e) p.wrote.0;
       count = subst (λ t. Counts n n' t) (sym e) p.wrote.1;
       session = p.session;
+      headline = headline_of rules h h' (item ∷ []) (p.note ∷ []) (p.may, tt) p.session;
     }
 answers_one rules h h' item out out' n n' false p = record {
   before = [];
@@ -165,6 +175,7 @@ answers_one rules h h' item out out' n n' false p = record {
   wrote = p.wrote.4;
   count = p.wrote.5;
   session = p.session;
+  headline = headline_up_to rules h h' [] [] item p.note tt p.may p.session;
 }
 
 pub answers_line : (rules : Rules) (h h' : NamedSession) (line : List ℕ) (a : Asked) (out out' : Option (List ℕ)) (n n' : ℕ) (ok : Bool) → a ≡ asked_by_line line → Answered rules h a out out' n n' h' ok → AnsweredOrCut rules h (Dot line ∷ []) out out' n n' h' ok

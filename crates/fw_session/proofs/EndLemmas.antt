@@ -12,8 +12,9 @@ use Rattle.fw_session.specs.Ends.{Ends, input_limit, read_limit}
 use Rattle.fw_session.specs.Handling.{Handled, HandledUntilCut, IsPending}
 use Rattle.std.proofs.lemmas.List.{take-append-le, length-take-le}
 use Rattle.std.proofs.Common.{Err}
+use Rattle.fw_session.specs.declared.session_end.SessionEnd.{SessionEnd}
 use Rattle.fw_session.specs.declared.session_end.Stop.{Stop}
-use Rattle.fw_session.specs.Talks.{HandlesPiece, Reading, HandlesAll, HandlesSome, Finishes}
+use Rattle.fw_session.specs.Talks.{HandlesPiece, Reading, HandlesAll, HandlesSome, Finishes, LeavesOff}
 use Rattle.fw_session.specs.declared.talk.Talk.{Talk}
 use Rattle.fw_session.specs.declared.session_end.SessionEnding.{SessionEnding}
 use Rattle.fw_session.specs.declared.session_end.SessionEnding.TheVariants.{Done, ReadFault, TooLong, WriteFault, Memory}
@@ -29,6 +30,12 @@ pub ended_as : (e e' : SessionEnding) (rules : Rules) (h : NamedSession) (talk :
     Ends e rules h i i' o o' r talk.written (session_of talk) → (names : List (Option (List ℕ))) × Ends e' rules h i i' o o' r' w' (named_session now names)
 ended_as e e' rules h talk now i i' o o' r r' w' a b c d x =
     let names = names_of talk.names.items in (names, ends_as e e' rules h (session_of talk) (named_session now names) i i' o o' r r' talk.written w' (ap (λ v. named_session v names) a) b c d x)
+
+-- what is handed out after a fault of reading
+pub left_off_as : (rules : Rules) (h : NamedSession) (talk : Talk) (end : SessionEnd) (i i' o o' o'' : Option (List ℕ)) (read r' : ℕ) → LeavesOff talk o' o'' end → r' ≡ read →
+    Ends ReadFault rules h i i' o o' read talk.written (session_of talk) → (names : List (Option (List ℕ))) × Ends end.ending rules h i i' o o'' r' end.written (named_session end.session names)
+left_off_as rules h talk end i i' o o' o'' read r' left is x =
+    ended_as ReadFault end.ending rules h talk end.session i i' o o'' read r' end.written left.0 left.1 is left.2 (subst (λ v. Ends ReadFault rules h i i' o v read talk.written (session_of talk)) (sym left.3) x)
 
 pub finishes_as : (e e' : SessionEnding) (rules : Rules) (h : NamedSession) (bytes : List ℕ) (talk : Talk) (now : Held) (o o' : Option (List ℕ)) (n w' : ℕ) → now ≡ talk.session → e' ≡ e → w' ≡ talk.written →
     Finishes rules h bytes o o' n talk.written (session_of talk) e → (names : List (Option (List ℕ))) × Finishes rules h bytes o o' n w' (named_session now names) e'

@@ -8,15 +8,15 @@ use Rattle.env_session.specs.Session.{Held, opening, undone}
 use Rattle.env_session.specs.Laws.{IsSameState}
 use Rattle.env_session.specs.declared.undo.UndoFault.TheVariants.{Gone}
 use Rattle.hush_run.specs.Meaning.{Rules}
-use Rattle.env_requests.specs.Requests.{Undo, Note, Through, Refused, Stopped, Undone, Answer, gives, answer_to, MayBe}
+use Rattle.env_requests.specs.Requests.{Request, Reply, Undo, Note, Through, Refused, Stopped, Undone, Answer, gives, answer_to, MayBe}
 use Rattle.env_requests.proofs.KeepLemmas.{marks_stand, undo_restores, spares_opening}
 use Rattle.fw_session.specs.Input.{Item, Dot, items_of}
 use Rattle.fw_session.specs.Asked.{Asked, Asks, no_memory, asked_by, asked_by_line}
-use Rattle.fw_session.specs.Turns.{NamedSession, undone_text, text_of, done, turn, turns, MayDo, MayStand, AllStand}
+use Rattle.fw_session.specs.Turns.{NamedSession, undone_text, text_of, done, turn, turns, MayDo, MayStand, AllStand, requests_of, replies_of}
 use Rattle.fw_session.specs.Ends.{AllAnswered, Ends, LastUndoRestores}
 use Rattle.fw_session.specs.declared.session_end.SessionEnding.{SessionEnding}
 use Rattle.fw_session.specs.declared.session_end.SessionEnding.TheVariants.{Done, ReadFault, TooLong, WriteFault, Memory}
-use Rattle.fw_session.proofs.ListLemmas.{Requested, requested_none, turns_first}
+use Rattle.fw_session.proofs.ListLemmas.{Requested, turns_requested}
 
 -- the last of some items
 record Last (rules : Rules) (t : NamedSession) (items : List Item) (item : Item) (notes : List Note) : Type 0 where
@@ -71,13 +71,13 @@ undo_left rules h Through front printed some may e =
 undo_left rules h Refused front printed some may e = absurd may
 undo_left rules h (Stopped k) front printed some may e = absurd (other_text (same_end front no_memory printed undone_text refl e))
 
-restored : (rules : Rules) (h : Held) (t : NamedSession) (note : Note) (asked : Asked) (front printed : List ℕ) → 0 < length h.marks → Requested rules h t.held → asked ≡ Asks Undo None → MayDo rules t asked note →
+restored : (rules : Rules) (h : Held) (t : NamedSession) (note : Note) (asked : Asked) (front printed : List ℕ) (requests : List Request) (told : List Reply) → 0 < length h.marks → Requested rules h t.held requests told → asked ≡ Asks Undo None → MayDo rules t asked note →
     front ++ (done rules t asked note).text ≡ printed ++ undone_text → IsSameState (opening h) (done rules t asked note).session.held.now
-restored rules h t note asked front printed some r is may e =
+restored rules h t note asked front printed requests told some r is may e =
     let may' : MayBe rules t.held Undo note = subst (λ v. MayDo rules t v note) is may in
     let text : front ++ (done rules t (Asks Undo None) note).text ≡ printed ++ undone_text = subst (λ v. front ++ (done rules t v note).text ≡ printed ++ undone_text) is e in
-    let there : 0 < length t.held.marks = subst (λ (v : Held). 0 < length v.marks) (sym r.left) (marks_stand rules h r.requests r.notes 0 some (spares_opening r.requests) r.may).0 in
-    let same : IsSameState (opening h) (undone 0 t.held).now = subst (λ (v : Held). IsSameState (opening h) (undone 0 v).now) (sym r.left) (undo_restores rules h r.requests r.notes some r.may) in
+    let there : 0 < length t.held.marks = subst (λ (v : Held). 0 < length v.marks) (sym r.left) (marks_stand rules h requests r.notes 0 some (spares_opening requests) r.may).0 in
+    let same : IsSameState (opening h) (undone 0 t.held).now = subst (λ (v : Held). IsSameState (opening h) (undone 0 v).now) (sym r.left) (undo_restores rules h requests r.notes some r.may) in
     let left : (answer_to rules t.held Undo note).left ≡ undone 0 t.held = undo_left rules t.held note front printed there may' text in
     subst (λ v. IsSameState (opening h) (done rules t v note).session.held.now) (sym is) (subst (λ (v : Held). IsSameState (opening h) v.now) (sym left) same)
 
@@ -97,9 +97,9 @@ last_restored rules h h' items line begun printed n n' some is a =
     let t = (turns rules h items l.before).session in
     let text : printed ++ undone_text ≡ (begun ++ (turns rules h items l.before).text) ++ (turn rules t (Dot line) l.note).text =
     a.text ∙ ap (λ v. begun ++ v) l.text ∙ sym (append_assoc begun (turns rules h items l.before).text (turn rules t (Dot line) l.note).text) in
-    let r : Requested rules h.held t.held = turns_first rules items l.before h t.held l.stand (requested_none rules t.held) in
+    let r : Requested rules h.held t.held (requests_of rules h items l.before) (replies_of rules h items l.before) = turns_requested rules items l.before h l.stand in
     subst (λ v. IsSameState (opening h.held) v.held.now) (sym (a.session ∙ l.session))
-    (restored rules h.held t l.note (asked_by_line line) (begun ++ (turns rules h items l.before).text) printed some r is l.may (sym text))
+    (restored rules h.held t l.note (asked_by_line line) (begun ++ (turns rules h items l.before).text) printed _ _ some r is l.may (sym text))
 
 pub ends_restored : (e : SessionEnding) (rules : Rules) (h h' : NamedSession) (i i' o o' : Option (List ℕ)) (r w : ℕ) → 0 < length h.held.marks → Ends e rules h i i' o o' r w h' → LastUndoRestores e h.held i o o' h'.held
 ends_restored Done rules h h' i i' o o' r w some ends bytes line begun printed items e is cut undo out out' =

@@ -1,8 +1,10 @@
 -- What the writer took, and its count.
-use Rattle.std.proofs.Common.{◌≡◌, ℕ, ◌+◌, ◌-◌, ◌≤◌, ◌++◌, min, List, [], ◌∷◌, length, take, drop, Option, Bool, true, false, refl, sym, ap, subst, ◌∙◌, arith, append_assoc, length-append, length-take, length-drop}
+use Rattle.std.proofs.Common.{◌≡◌, ℕ, ◌+◌, ◌-◌, ◌≤◌, ◌++◌, min, List, [], ◌∷◌, length, take, drop, Option, Bool, true, false, refl, sym, ap, subst, ◌∙◌, arith, append_assoc, append-nil, length-append, length-take, length-drop}
 use Rattle.std.proofs.lemmas.List.{take_all, take-append-drop}
 use Rattle.std.proofs.KnownBytes.{Appends-trans, Appends-nil}
 use Rattle.std.specs.Io.KnownBytes.{Appends}
+use Rattle.std.specs.Prelude.{MatchBool}
+use Rattle.fw_engines.specs.Streams.{AppendsFront, AppendsPart}
 use Rattle.fw_session.specs.Streams.{counted, Counts, Writes}
 
 pub counts_none : (n : ℕ) → Counts n n []
@@ -71,3 +73,8 @@ writes_last out out' n n' (x ∷ xs) b b' ok none eb p = absurd (omega (arith, n
 pub count_is : (n : ℕ) (text : List ℕ) → Counts 0 n text → n ≡ counted (length text)
 unfolding counted
 count_is n text c = c 0 refl ∙ ap counted (omega arith)
+
+-- a text is written as far as the writer takes it
+pub as_far_as : (r : Bool) (a b : Option (List ℕ)) (text : List ℕ) → MatchBool r (Appends a b text) (AppendsPart a b text) → AppendsFront a b text
+as_far_as true a b text whole = (text, [], sym (append-nil text), whole)
+as_far_as false a b text (front, rest, is, more, part) = (front, rest, is, part)

@@ -7,13 +7,13 @@ use Rattle.hush_run.specs.Meaning.{Rules}
 use Rattle.env_session.specs.Session.{Held, opening}
 use Rattle.env_session.specs.Laws.{IsSameState}
 use Rattle.env_requests.specs.Headline.{Headline}
-use Rattle.env_requests.specs.Requests.{Request, Undo, Note, Reply}
+use Rattle.env_requests.specs.Requests.{Undo, Note}
 use Rattle.fw_session.specs.Asked.{Asks, asked_by_line}
-use Rattle.fw_session.specs.Turns.{NamedSession, undone_text, turn, turns, MayStand, AllStand}
+use Rattle.fw_session.specs.Turns.{NamedSession, undone_text, turn, turns, MayStand, AllStand, request_of, requests_of, reply_of, replies_of}
 use Rattle.fw_session.specs.declared.session_end.SessionEnding.{SessionEnding}
 use Rattle.fw_session.specs.declared.session_end.SessionEnding.TheVariants.{Done, ReadFault, TooLong, WriteFault, Memory}
 
--- for some notes, all these items were answered
+-- for some notes, all these items were answered, and the headline holds of the requests that they are
 pub record AllAnswered (rules : Rules) (h : NamedSession) (items : List Item) (out out' : Option (List ℕ)) (n n' : ℕ)
     (h' : NamedSession) : Type 0 where
   pub notes : List Note
@@ -21,12 +21,19 @@ pub record AllAnswered (rules : Rules) (h : NamedSession) (items : List Item) (o
   pub text : Appends out out' (turns rules h items notes).text
   pub count : Counts n n' (turns rules h items notes).text
   pub session : h' ≡ (turns rules h items notes).session
+  pub headline : Headline rules h.held (requests_of rules h items notes) (replies_of rules h items notes) h'.held
 
 -- nothing follows a dot line; a block is answered at the dot line after it, or at the end, and is followed by
 -- at most that line
 abbrev pub IsLast : Item → List Item → Type 0
 IsLast (Block text) after = (after ≡ []) ⊎ ((line : List ℕ) × (after ≡ Dot line ∷ []))
 IsLast (Dot line) after = after ≡ []
+
+-- the same of the items before one, and of that one
+abbrev pub HeadlineUpTo : Rules → NamedSession → (before : List Item) → List Note → Item → Note → NamedSession → Type 0
+HeadlineUpTo rules h before notes item note h' =
+    Headline rules h.held (requests_of rules h before notes ++ request_of rules (turns rules h before notes).session item note)
+    (replies_of rules h before notes ++ reply_of rules (turns rules h before notes).session item note) h'.held
 
 -- some were answered, and of the next one's text only a prefix was written; it was done, and nothing after it
 -- was begun
@@ -48,6 +55,7 @@ pub record CutShort (rules : Rules) (h : NamedSession) (items : List Item) (out 
   pub wrote : Appends out out' ((turns rules h before notes).text ++ front)
   pub count : Counts n n' ((turns rules h before notes).text ++ front)
   pub session : h' ≡ (turn rules (turns rules h before notes).session item note).session
+  pub headline : HeadlineUpTo rules h before notes item note h'
 
 abbrev pub AnsweredOrCut : Rules → NamedSession → List Item → Option (List ℕ) → Option (List ℕ) → ℕ → ℕ →
     NamedSession → Bool → Type 0
@@ -83,11 +91,6 @@ Ends WriteFault rules h input input' out out' read written h' =
 Ends Memory rules h input input' out out' read written h' =
     (bytes : List ℕ) × IsRead input input' bytes read
     × ((front : List ℕ) × (rest : List ℕ) × (bytes ≡ front ++ rest) × AllAnswered rules h (to_last_dot (items_of front)) out out' 0 written h')
-
--- requests were obeyed, one after the other: what the headline states of a list of them holds of the session
--- that is left
-abbrev pub AreRequests : Rules → Held → Held → Type 0
-AreRequests rules h h' = (requests : List Request) × (told : List Reply) × Headline rules h requests told h'
 
 -- after a whole input that ends with a `.undo`, for which `[Undone]` was printed, what is shown is what was
 -- shown at the opening

@@ -12,7 +12,7 @@ use Rattle.hush_commands.specs.declared.departure.Departure.{Departure}
 use Rattle.hush_commands.specs.declared.departure.Leaving.{Leaving}
 use Rattle.hush_commands.specs.declared.departure.Leaving.TheVariants.{Boots, Resets, Asks}
 use Rattle.hush_run.specs.declared.outcome.Course.{Course}
-use Rattle.fw_engines.specs.Streams.{Writers}
+use Rattle.fw_engines.specs.Streams.{AppendsFront, Writers}
 use Rattle.fw_engines.specs.Tool.{Prints, Texts}
 use Rattle.fw_session.specs.declared.script_run.RunEnd.{RunEnd}
 
@@ -78,3 +78,14 @@ RunsScript rules must_boot tree old new before after ended =
     (course : Course) × Runs rules tree old new course.outcome × EndsIn rules tree old course.outcome course.place
     × Departs rules tree old course.outcome course.departure
     × (ended.ending ≡ course.outcome.ending) × Prints before after (course_texts must_boot course) ended.end
+
+-- the commands that were run are printed as far as standard error takes them, if they are wanted
+abbrev pub SaysTrace : (traced : Bool) → Option (List ℕ) → Option (List ℕ) → Type 0
+SaysTrace true old new = (text : List ℕ) × AppendsFront old new text
+SaysTrace false old new = new ≡ old
+
+-- a script was run, its commands printed, and then its course, which is the same whether they are wanted or not
+abbrev pub TracesScript : Rules → (must_boot traced : Bool) → Option Chains → (old new : Held) → (before after : Writers) → RunEnd → Type 0
+TracesScript rules must_boot traced tree old new before after ended =
+    (said : Option (List ℕ)) × SaysTrace traced before.errors said
+    × RunsScript rules must_boot tree old new (record { output = before.output; errors = said }) after ended

@@ -8,6 +8,7 @@ use Rattle.fw_session.specs.NamedSessions.{session_of}
 use Rattle.fw_session.specs.Ends.{AllAnswered, CutShort, input_limit}
 use Rattle.fw_session.specs.Handling.{Handled, HandledUntilCut, IsPending}
 use Rattle.fw_session.specs.declared.talk.Talk.{Talk}
+use Rattle.fw_session.specs.declared.session_end.SessionEnd.{SessionEnd}
 use Rattle.fw_session.specs.declared.session_end.Stop.{Stop}
 use Rattle.fw_session.specs.declared.session_end.SessionEnding.{SessionEnding}
 use Rattle.fw_session.specs.declared.session_end.SessionEnding.TheVariants.{Done, ReadFault, TooLong, WriteFault, Memory}
@@ -52,6 +53,11 @@ Finishes rules h bytes out out' n n' h' WriteFault = CutShort rules h (items_of 
 Finishes rules h bytes out out' n n' h' ReadFault = ⊥
 Finishes rules h bytes out out' n n' h' TooLong = ⊥
 Finishes rules h bytes out out' n n' h' Memory = ⊥
+
+-- a fault of reading: what waits is not answered
+abbrev pub LeavesOff : Talk → Option (List ℕ) → Option (List ℕ) → SessionEnd → Type 0
+LeavesOff talk out out' end =
+    (end.session ≡ talk.session) × (end.ending ≡ ReadFault) × (end.written ≡ talk.written) × (out' ≡ out)
 
 -- how far a call is: what the reader gave, and what was handled of it
 pub record Reading (rules : Rules) (h : NamedSession) (input input' : Option (List ℕ)) (out out' : Option (List ℕ))

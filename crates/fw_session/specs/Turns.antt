@@ -1,5 +1,5 @@
 -- What the blocks and dot lines of a session print and leave (docs/dry-runs.md, "What is printed").
-use Rattle.std.specs.Prelude.{ℕ, suc, Bool, true, false, List, [], ◌∷◌, ◌++◌, length, take, codes, decimal, Option, Some, None, Ok, Err}
+use Rattle.std.specs.Prelude.{ℕ, suc, Bool, true, false, List, [], ◌∷◌, ◌++◌, length, map, take, codes, decimal, Option, Some, None, Ok, Err}
 use Rattle.std.specs.Str.{bytes_eq}
 use Rattle.envimg_core.specs.Environment.{Environment}
 use Rattle.env_session.specs.Session.{Held}
@@ -8,7 +8,7 @@ use Rattle.hush_commands.specs.Saving.{saved_line}
 use Rattle.hush_run.specs.declared.ending.Ending.{Ending}
 use Rattle.hush_run.specs.Meaning.{Rules, bodies_of}
 use Rattle.hush_run.specs.Runs.{ending_name}
-use Rattle.env_requests.specs.Requests.{UndoTo, Note, Reply, Ran, Wrote, Imported, Saved, Printed, Marked, Undone, Answer, answer_to, MayBe, listing}
+use Rattle.env_requests.specs.Requests.{Request, UndoTo, Note, Reply, Ran, Wrote, Imported, Saved, Printed, Marked, Undone, Answer, answer_to, MayBe, listing}
 use Rattle.fw_session.specs.Input.{Item}
 use Rattle.fw_session.specs.Asked.{Asked, Says, Asks, Seeks, with_newline, no_memory, asked_by}
 
@@ -125,3 +125,36 @@ AllStand rules t [] [] = Unit {0}
 AllStand rules t [] (note ∷ notes) = ⊥
 AllStand rules t (item ∷ items) [] = ⊥
 AllStand rules t (item ∷ items) (note ∷ notes) = MayStand rules t item note × AllStand rules (turn rules t item note).session items notes
+
+-- ---- the requests of an input, which the headline is about
+
+abbrev pub request_sought : Option ℕ → List Request
+request_sought None = []
+request_sought (Some n) = UndoTo n ∷ []
+
+-- what is asked for as a request to the session, if it is one: an undo to the last mark of a name is one to its number
+abbrev pub request_in : NamedSession → Asked → List Request
+request_in t (Says text) = []
+request_in t (Asks request name) = request ∷ []
+request_in t (Seeks name) = request_sought (last_named name (standing t))
+
+abbrev pub replies_to : Rules → Held → List Request → Note → List Reply
+replies_to rules h requests note = map (λ request. (answer_to rules h request note).reply) requests
+
+unfoldable pub request_of : Rules → NamedSession → Item → Note → List Request
+request_of rules t item note = request_in t (asked_by (bodies_of rules.shell) item note)
+
+-- and what is replied to it
+unfoldable pub reply_of : Rules → NamedSession → Item → Note → List Reply
+reply_of rules t item note = replies_to rules t.held (request_in t (asked_by (bodies_of rules.shell) item note)) note
+
+-- the requests that the items make, one after another, and the replies to them
+unfoldable pub requests_of : Rules → NamedSession → List Item → List Note → List Request
+requests_of rules t [] notes = []
+requests_of rules t (item ∷ items) [] = []
+requests_of rules t (item ∷ items) (note ∷ notes) = request_of rules t item note ++ requests_of rules (turn rules t item note).session items notes
+
+unfoldable pub replies_of : Rules → NamedSession → List Item → List Note → List Reply
+replies_of rules t [] notes = []
+replies_of rules t (item ∷ items) [] = []
+replies_of rules t (item ∷ items) (note ∷ notes) = reply_of rules t item note ++ replies_of rules (turn rules t item note).session items notes

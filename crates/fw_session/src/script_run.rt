@@ -1,23 +1,28 @@
 //! A script that is run over a session for its own status.
-ghost use Rattle.std.specs.Prelude.{◌≡◌, [], get_or, MatchBool};
+ghost use Rattle.std.specs.Prelude.{◌≡◌, ℕ, List, [], get_or, is_some, MatchBool};
 ghost use Rattle.env_requests.specs.Views.{rules_of};
 ghost use Rattle.hush_syntax.specs.Scripts.{tree_of};
-ghost use Rattle.fw_session.specs.ScriptRun.{RunsScript, course_texts, ended_by_itself, ended_by_limit, ended_so, has_booted, is_well, no_boot, reset_line};
-ghost use Rattle.hush_run.specs.Runs.{ending_name};
-ghost use Rattle.fw_engines.specs.Streams.{AppendsPart};
+ghost use Rattle.fw_session.specs.ScriptRun.{SaysTrace, TracesScript, course_texts, ended_by_itself, ended_by_limit, ended_so, has_booted, is_well, no_boot, reset_line};
+ghost use Rattle.hush_run.specs.Runs.{Departs, EndsIn, Runs, ending_name};
+ghost use Rattle.fw_engines.specs.Streams.{AppendsFront, AppendsPart};
 ghost use Rattle.std.specs.Io.KnownBytes.{Appends};
 ghost use Rattle.fw_engines.specs.Tool.{Prints};
 
 use env_requests::RunRules;
 use env_session::Session;
-use fw_engines::streams::{write_parts, write_text};
+use fw_engines::streams::{write_parts, write_text, write_two};
 use fw_engines::{OUT_OF_MEMORY, StreamFault, ToolEnd};
 use hush_commands::FieldQueue;
-use hush_run::{Course, Departure, Ending, Leaving, Outcome, StartedName, run_in};
+use hush_run::{
+    Course, Departure, Ending, Leaving, Outcome, StartedName, Trace, run_in, run_traced,
+};
 use hush_syntax::Script;
 use itoa::Buffer;
 use std::alloc::Global;
 use std::io::Write;
+
+/// What is printed behind the commands of a run that aren't all of them.
+const TRACE_ENDS: &[u8] = b"fwenv: the trace ends here\n";
 
 /// How the run of a script ended, and what was printed of it.
 #[derive(Clone, Copy, Debug, PartialEq, Eq)]
@@ -29,7 +34,8 @@ pub struct RunEnd {
 }
 
 /// Runs a script over a session by these rules, and prints its text on `output`. The status is 0 if it reached its end or
-/// an `exit` with status 0, and booted if it had to; else 1, and then `errors` gets a line on how it ended.
+/// an `exit` with status 0, and booted if it had to; else 1, and then `errors` gets a line on how it ended. Before that,
+/// and before the run's text, `errors` gets the commands that were run, if the script has a name by which they are wanted.
 /// docs/dry-runs.md has the texts.
 pub fn run<W: Write, E: Write>(
     alloc: Global,
@@ -37,26 +43,68 @@ pub fn run<W: Write, E: Write>(
     script: &Script,
     rules: &RunRules<'_>,
     must_boot: bool,
+    traced: Option<&[u8]>,
     output: &mut W,
     errors: &mut E,
 ) -> RunEnd
-    ensures { RunsScript (rules_of rules.now) must_boot (tree_of script.now) session.old session.new
+    ensures { TracesScript (rules_of rules.now) must_boot (is_some traced.entry) (tree_of script.now) session.old session.new
         (record { output = W.contents output.old; errors = E.contents errors.old })
         (record { output = W.contents output.new; errors = E.contents errors.new }) result }
 {
-    let course = run_in(
-        rules.shell,
-        alloc,
-        session,
-        script,
-        rules.stand_ins,
-        rules.board,
-        rules.limits,
-    );
+    let course = course_of(alloc, session, script, rules, traced, errors);
     RunEnd {
         ending: course.outcome.ending,
         end: print_course(&course, must_boot, output, errors),
     }
+}
+
+/// The course of a run, of which the commands are printed if the script has a name by which they are wanted.
+fn course_of<E: Write>(
+    alloc: Global,
+    session: &mut Session,
+    script: &Script,
+    rules: &RunRules<'_>,
+    traced: Option<&[u8]>,
+    errors: &mut E,
+) -> Course
+    ensures runs { Runs (rules_of rules.now) (tree_of script.now) session.old session.new result.outcome }
+    ensures place { EndsIn (rules_of rules.now) (tree_of script.now) session.old result.outcome result.place }
+    ensures departure { Departs (rules_of rules.now) (tree_of script.now) session.old result.outcome result.departure }
+    ensures said { SaysTrace (is_some traced.entry) (E.contents errors.old) (E.contents errors.new) }
+{
+    match traced {
+        None => run_in(
+            rules.shell,
+            alloc,
+            session,
+            script,
+            rules.stand_ins,
+            rules.board,
+            rules.limits,
+        ),
+        Some(name) => {
+            let (course, trace) = run_traced(
+                rules.shell,
+                alloc,
+                session,
+                script,
+                rules.stand_ins,
+                rules.board,
+                rules.limits,
+                name,
+            );
+            say_trace(&trace, errors);
+            course
+        }
+    }
+}
+
+/// Prints the commands of a run as far as the writer takes them.
+fn say_trace<E: Write>(trace: &Trace, errors: &mut E)
+    ensures { (text : List ℕ) × AppendsFront (E.contents errors.old) (E.contents errors.new) text }
+{
+    let end: &[u8] = if trace.is_whole() { b"" } else { TRACE_ENDS };
+    let _ = write_two(errors, trace.text(), end);
 }
 
 /// Prints the text of a run, and how it ended if it didn't end well, or had to boot and didn't.

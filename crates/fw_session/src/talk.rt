@@ -1,10 +1,10 @@
 //! A session over a reader and a writer.
-ghost use Rattle.std.specs.Prelude.{◌≡◌, [], ℕ, List, Option};
+ghost use Rattle.std.specs.Prelude.{◌≡◌, [], ℕ, List, MatchBool, Option};
 ghost use Rattle.fw_session.specs.NamedSessions.{named_session, session_of, unnamed};
 ghost use Rattle.fw_session.specs.BlockFaults.{TellsFaults};
-ghost use Rattle.fw_session.specs.Ends.{Ends, AreRequests, LastUndoRestores};
+ghost use Rattle.fw_session.specs.Ends.{Ends, LastUndoRestores};
 ghost use Rattle.fw_session.specs.Handling.{IsPending};
-ghost use Rattle.fw_session.specs.Talks.{Finishes};
+ghost use Rattle.fw_session.specs.Talks.{Finishes, LeavesOff};
 ghost use Rattle.env_requests.specs.Views.{rules_of};
 ghost use Rattle.hush_run.specs.Meaning.{bodies_of};
 ghost use Rattle.hush_run.specs.Runs.{rules};
@@ -55,7 +55,6 @@ pub fn session<R: Read, W: Write>(
     ensures ends { (names : List (Option (List ℕ))) × Ends result.ending (rules stand_ins.now limits.now) (unnamed session)
         (R.remaining input.old) (R.remaining input.new) (W.contents output.old) (W.contents output.new) result.read
         result.written (named_session result.session names) }
-    ensures requests { AreRequests (rules stand_ins.now limits.now) session result.session }
     ensures undone { LastUndoRestores result.ending session (R.remaining input.old) (W.contents output.old)
         (W.contents output.new) result.session }
 {
@@ -83,7 +82,6 @@ pub fn session_in<R: Read, W: Write, F: Write>(
     ensures ends { (names : List (Option (List ℕ))) × Ends result.ending (rules_of rules.now) (unnamed session)
         (R.remaining input.old) (R.remaining input.new) (W.contents output.old) (W.contents output.new) result.read
         result.written (named_session result.session names) }
-    ensures requests { AreRequests (rules_of rules.now) session result.session }
     ensures undone { LastUndoRestores result.ending session (R.remaining input.old) (W.contents output.old)
         (W.contents output.new) result.session }
     ensures told { TellsFaults (bodies_of rules.now.shell) F.contents faults.old faults.new }
@@ -93,7 +91,7 @@ pub fn session_in<R: Read, W: Write, F: Write>(
     answer_all(alloc, session, rules, input, output, faults)
 }
 
-/// The same, of which the other two clauses follow.
+/// The same, of which the other clause follows.
 fn answer_all<R: Read, W: Write, F: Write>(
     alloc: Global,
     session: Session,
@@ -113,8 +111,8 @@ fn answer_all<R: Read, W: Write, F: Write>(
     while read < INPUT_LIMIT {
         let most = (INPUT_LIMIT - read).min(PIECE);
         match input.read(&mut piece[..most]) {
-            Err(_) => return ended(talk, SessionEnding::ReadFault, read),
-            Ok(0) => return finished(talk, rules, output, faults, read),
+            Err(_) => return left_off(talk, rules, output, faults, false, read),
+            Ok(0) => return left_off(talk, rules, output, faults, true, read),
             Ok(count) => {
                 read += count;
                 match handle_piece(&mut talk, rules, output, faults, &piece[..count]) {
@@ -126,8 +124,8 @@ fn answer_all<R: Read, W: Write, F: Write>(
         }
     }
     match input.read(&mut piece[..1]) {
-        Err(_) => ended(talk, SessionEnding::ReadFault, read),
-        Ok(0) => finished(talk, rules, output, faults, read),
+        Err(_) => left_off(talk, rules, output, faults, false, read),
+        Ok(0) => left_off(talk, rules, output, faults, true, read),
         Ok(_) => ended(talk, SessionEnding::TooLong, read),
     }
 }
@@ -162,6 +160,32 @@ fn ended(talk: Talk, ending: SessionEnding, read: usize) -> SessionEnd
         ending,
         read: read as u64,
         written: talk.written,
+    }
+}
+
+/// Nothing more is read. At the end of the input (`is_end`) what waits is answered; if the reader failed it isn't, since
+/// the block or the line may go on.
+#[tactic(auto, using(crate::proofs::FaultLemmas::tells_none))]
+fn left_off<W: Write, F: Write>(
+    talk: Talk,
+    rules: &RunRules<'_>,
+    output: &mut W,
+    faults: &mut Option<F>,
+    is_end: bool,
+    read: usize,
+) -> SessionEnd
+    requires { IsPending talk.bytes.items talk.start }
+    ensures read { result.read ≡ read }
+    ensures told { TellsFaults (bodies_of rules.now.shell) F.contents faults.old faults.new }
+    ensures ends { MatchBool is_end ((names : List (Option (List ℕ))) × Finishes (rules_of rules.now) (session_of talk)
+        talk.bytes.items (W.contents output.old) (W.contents output.new) talk.written result.written
+        (named_session result.session names) result.ending)
+        (LeavesOff talk (W.contents output.old) (W.contents output.new) result) }
+{
+    if is_end {
+        finished(talk, rules, output, faults, read)
+    } else {
+        ended(talk, SessionEnding::ReadFault, read)
     }
 }
 

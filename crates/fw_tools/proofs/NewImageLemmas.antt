@@ -65,7 +65,7 @@ saved_so h erased stored shape vars is same second_is saved_blank =
 
 -- the image that is put out is that of the text's variables
 pub made_image : (asked : ImageRequest) (old new : Writers) (said : Option (List ℕ)) (shape : Shape) (vars : Contents) (image : List ℕ) (status : ℕ) →
-    shape ≡ shape_for asked → AreDefaultsFrom false (room_of shape) vars → image ≡ image_bytes shape asked.both vars.env → said ≡ old.errors →
+    shape ≡ shape_for asked → AreDefaultsFrom asked.text.form (room_of shape) vars → image ≡ image_bytes shape asked.both vars.env → said ≡ old.errors →
     PutsOutOrStops asked.output image (record { output = old.output; errors = said }) new status → MakesImage asked old new status
 made_image asked old new said shape vars image status is are made silent puts =
     put_out (subst (λ e. PutsOutOrStops asked.output image (record { output = old.output; errors = e }) new status) silent puts)
@@ -74,7 +74,7 @@ made_image asked old new said shape vars image status is are made silent puts =
     put_out (inl stopped) = inl stopped
     put_out (inr puts) =
         let out = subst (λ bytes. PutsOut asked.output bytes old new status) (made ∙ ap (λ s. image_bytes s asked.both vars.env) is) puts in
-        inr (vars, subst (λ s. AreDefaultsFrom false (room_of s) vars) is are, out)
+        inr (vars, subst (λ s. AreDefaultsFrom asked.text.form (room_of s) vars) is are, out)
 
 -- the image that is printed
 pub printed_out : (output : Option (Bor (List ℕ))) (image : List ℕ) (old new : Writers) (status : ℕ) (end : ToolEnd) → output ≡ None →

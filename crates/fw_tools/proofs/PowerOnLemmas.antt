@@ -48,7 +48,7 @@ power_is rules tree shape shape' defaults defaults' first first' s d f = λ i. r
 
 -- what is told of such a board
 pub tells : (asked : PowerOns) (given : Hardware) (session : Held) (tree : Option Chains) (power : Power) (r : Result BootText AllocError) →
-    read_in (bodies_of asked.dry.shell) power_on_text ≡ Some tree → power ≡ power_for asked given session tree → IfOk r (BootsAs power) →
+    read_in (bodies_of asked.dry.shell) power_on_text ≡ Some tree → power ≡ power_for asked given session tree → IfOk r (BootsAs asked.dot power asked.ways) →
     IfOk r (IsToldOf asked given session)
-tells asked given session tree power (Ok told) reads is told_as = (tree, reads, subst (λ p. BootsAs p told) is told_as)
+tells asked given session tree power (Ok told) reads is told_as = (tree, reads, subst (λ p. BootsAs asked.dot p asked.ways told) is told_as)
 tells asked given session tree power (Err e) reads is told_as = tt

@@ -1,11 +1,8 @@
 -- How a dry run is left, put together.
-use Rattle.std.proofs.Common.{◌≡◌, ℕ, Bool, true, false, List, Option, Some, None, inl, inr, refl, sym, ap, subst}
-use Rattle.std.specs.Prelude.{MatchOption, Result, Ok, Err, IfOk, unwrap_or}
-use Rattle.std.specs.Result.{result_ok}
+use Rattle.std.proofs.Common.{◌≡◌, ℕ, Bool, true, false, List, Option, Some, None, inl, inr, refl, subst}
+use Rattle.std.specs.Prelude.{MatchOption}
 use Rattle.env_session.specs.Session.{Held}
-use Rattle.hush_commands.specs.Stubs.{Statuses}
-use Rattle.hush_commands.specs.Hardware.{hardware}
-use Rattle.hush_commands.specs.declared.board_rules.Rule.{Rule}
+use Rattle.hush_commands.specs.Hardware.{Hardware}
 use Rattle.fw_session.specs.declared.session_end.SessionEnding.{SessionEnding}
 use Rattle.fw_arguments.specs.DryRuns.{DryRun}
 use Rattle.fw_files.specs.Copies.{warned_of}
@@ -14,24 +11,16 @@ use Rattle.fw_files.specs.declared.source.Source.{Source}
 use Rattle.env_session.specs.declared.session.Stored.{Stored}
 use Rattle.fw_files.specs.Said.{SaysSome}
 use Rattle.fw_files.proofs.SaidLemmas.{not_waited, said_then, waited_said}
-use Rattle.fw_files.specs.Files.{AreRulesOf, AreStubsOf}
 use Rattle.fw_tools.specs.SessionRun.{ClosesDryRun, Reports, TriesOver, TriesWith, WaitsAndWarns, text_for}
+use Rattle.fw_tools.specs.WantedHardware.{IsHardwareOf}
 use Rattle.fw_engines.specs.Streams.{AppendsFront, Streams}
 use Rattle.fw_tools.proofs.WarnLemmas.{may_warn, no_warning}
 
-pub tried_over : {E : Type 0} (run : DryRun) (session : Held) (old : Streams) (outcome : Result Statuses E) (stand_ins : Statuses) (rules : List Rule) (errors : Option (List ℕ)) (new : Streams) (status : ℕ) →
-    Some stand_ins ≡ result_ok outcome → IfOk outcome (AreStubsOf run.stand_ins) → AreRulesOf false run.board rules → errors ≡ old.errors →
-    TriesWith run (hardware rules stand_ins) session (record { input = old.input; output = old.output; errors = errors }) new status → TriesOver run session old new status
-tried_over run session old (Ok s) stand_ins rules errors new status is stands reads same tries =
-    inr (
-      hardware rules stand_ins,
-      (subst (AreStubsOf run.stand_ins) (sym (ap (λ o. unwrap_or o stand_ins) is)) stands, reads),
-      subst (λ e. TriesWith run (hardware rules stand_ins) session (record { input = old.input; output = old.output; errors = e }) new status) same tries,
-    )
-tried_over run session old (Err e) stand_ins rules errors new status is stands reads same tries = absurd (no is)
-  where
-    no : Some stand_ins ≡ None → ⊥
-    no e = cc
+pub tried_over : (run : DryRun) (session : Held) (old : Streams) (given : Hardware) (errors : Option (List ℕ)) (new : Streams) (status : ℕ) →
+    IsHardwareOf false run given → errors ≡ old.errors → TriesWith run given session (record { input = old.input; output = old.output; errors = errors }) new status →
+    TriesOver run session old new status
+tried_over run session old given errors new status is same tries =
+    inr (given, is, subst (λ e. TriesWith run given session (record { input = old.input; output = old.output; errors = e }) new status) same tries)
 
 pub reported : (kept : Bool) (end : SessionEnding) (old new : Option (List ℕ)) (status : ℕ) → Reports (text_for end) old new status → ClosesDryRun kept end old new status
 reported true end old new status reports = inr (old, (old, not_waited old old refl, no_warning old), reports)

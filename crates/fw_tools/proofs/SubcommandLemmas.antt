@@ -194,7 +194,8 @@ script_run_small run session old new status (inl stopped) = omega (arith, stoppe
 script_run_small run session old new status (inr (stand_ins, text, stand, is, inl refused)) = omega (arith, refused.2)
 script_run_small run session old new status (inr (stand_ins, text, stand, is, inr (tree, reads, r))) =
     run_closes_small (ScriptRuns.is_kept run.dry.write r.2) r.2.end r.1 new.errors status
-    (run_small r.2.end.fault r.2.end.status old (record { output = new.output; errors = r.1 }) (course_texts run.must_boot r.3.0) (texts_small run.must_boot r.3.0) r.3.5) r.4
+    (run_small r.2.end.fault r.2.end.status (record { output = old.output; errors = r.3.0 }) (record { output = new.output; errors = r.1 }) (course_texts run.must_boot r.3.2.0) (texts_small run.must_boot r.3.2.0) r.3.2.5)
+    r.4
 
 job_small : (job : Job) (session : Held) (old new : Streams) (status : ℕ) → DoesJob job session old new status → status ≤ 1
 job_small (Tool task) session old new status (unread, uses) = tool_small task session _ _ status uses

@@ -50,5 +50,5 @@ PutsOutOrStops output image old new status = Stops old new status ⊎ PutsOut ou
 abbrev pub MakesImage : ImageRequest → Writers → Writers → ℕ → Type 0
 MakesImage asked old new status =
     Stops old new status
-    ⊎ ((vars : Contents) × AreDefaultsFrom false (room_of (shape_for asked)) vars
+    ⊎ ((vars : Contents) × AreDefaultsFrom asked.text.form (room_of (shape_for asked)) vars
     × PutsOut asked.output (image_bytes (shape_for asked) asked.both vars.env) old new status)

@@ -20,7 +20,7 @@ use Rattle.fw_engines.specs.declared.tool_end.ToolEnd.{ToolEnd}
 use Rattle.fw_engines.specs.declared.tool_end.StreamFault.TheVariants.{Memory}
 use Rattle.fw_files.specs.Said.{Says, Stops}
 use Rattle.fw_tools.specs.NewImages.{image_bytes}
-use Rattle.fw_tools.specs.WantedHardware.{IsHardwareOf, Wanted}
+use Rattle.fw_tools.specs.WantedHardware.{IsHardwareOf}
 
 -- one copy that has the room of the session's
 abbrev pub one_copy : Shape → Shape
@@ -39,7 +39,8 @@ power_for asked given session tree = record {
 -- what is told of its power-ons
 abbrev pub IsToldOf : PowerOns → Hardware → Held → BootText → Type 0
 IsToldOf asked given session told =
-    (tree : Option Chains) × (read_in (bodies_of asked.dry.shell) power_on_text ≡ Some tree) × BootsAs (power_for asked given session tree) told
+    (tree : Option Chains) × (read_in (bodies_of asked.dry.shell) power_on_text ≡ Some tree)
+    × BootsAs asked.dot (power_for asked given session tree) asked.ways told
 
 -- that is printed, or less than that; or memory ran out before
 abbrev pub PrintsBoots : PowerOns → Hardware → Held → Option (List ℕ) → Option (List ℕ) → ToolEnd → Type 0
@@ -52,12 +53,8 @@ abbrev pub ReportsBoots : PowerOns → Hardware → Held → Writers → Writers
 ReportsBoots asked given session old new status =
     (end : ToolEnd) × PrintsBoots asked given session old.output new.output end × Says end.fault old.errors new.errors × (status ≡ end.status)
 
--- what is wanted to stand in for hardware: answers may be open
-abbrev pub wanted_to_boot : PowerOns → Wanted
-wanted_to_boot asked = record { stand_ins = asked.dry.stand_ins; board = asked.dry.board; may_ask = true; boots = asked.boots; resets = asked.resets }
-
--- or before that a file can't be used, or memory runs out
+-- answers may be open; or before that a file can't be used, or memory runs out
 abbrev pub BootsOver : PowerOns → Held → Writers → Writers → ℕ → Type 0
 BootsOver asked session old new status =
     Stops old new status
-    ⊎ ((given : Hardware) × IsHardwareOf (wanted_to_boot asked) given × ReportsBoots asked given session old new status)
+    ⊎ ((given : Hardware) × IsHardwareOf true asked.dry given × ReportsBoots asked given session old new status)

@@ -14,7 +14,7 @@ use Rattle.hush_run.specs.Runs.{rules_in}
 use Rattle.fw_engines.specs.ScriptFaults.{fault_line}
 use Rattle.hush_run.specs.declared.ending.Ending.{Ending}
 use Rattle.hush_run.specs.declared.ending.Ending.TheVariants as ending
-use Rattle.fw_session.specs.ScriptRun.{RunsScript}
+use Rattle.fw_session.specs.ScriptRun.{TracesScript}
 use Rattle.fw_session.specs.declared.script_run.RunEnd.{RunEnd}
 use Rattle.fw_engines.specs.Streams.{AppendsFront, Writers}
 use Rattle.fw_engines.specs.declared.tool_end.ToolEnd.{ToolEnd}
@@ -22,7 +22,7 @@ use Rattle.fw_engines.specs.declared.tool_end.StreamFault.TheVariants.{Memory}
 use Rattle.fw_arguments.specs.DryRuns.{GivenScript, Names, Words, File, ScriptRun}
 use Rattle.fw_files.specs.Copies.{MayWarn}
 use Rattle.fw_files.specs.Said.{Says, SaysSome, Stops, message_of}
-use Rattle.fw_tools.specs.WantedHardware.{IsHardwareOf, Wanted}
+use Rattle.fw_tools.specs.WantedHardware.{IsHardwareOf}
 
 -- a byte of a name in quotes; a quote is outside of them
 abbrev pub quoted : ℕ → List ℕ
@@ -72,7 +72,7 @@ ClosesRun false end old new status = Says end.fault old new × (status ≡ end.s
 abbrev pub RunsTree : ScriptRun → Hardware → Option Chains → Held → Writers → Writers → ℕ → Type 0
 RunsTree run given tree session old new status =
     (after : Held) × (between : Option (List ℕ)) × (ended : RunEnd)
-    × RunsScript (rules_in run.dry.shell given run.dry.limits) run.must_boot tree session after old (record { output = new.output; errors = between }) ended
+    × TracesScript (rules_in run.dry.shell given run.dry.limits) run.must_boot run.trace tree session after old (record { output = new.output; errors = between }) ended
     × ClosesRun (is_kept run.dry.write ended) ended.end between new.errors status
 
 -- a text is run, if it is a script by the rules of the shell
@@ -81,13 +81,9 @@ RunsText run given text session old new status =
     ((new.output ≡ old.output) × Refuses (bodies_of run.dry.shell) (name_of_script run.script) text old.errors new.errors × (status ≡ 1))
     ⊎ ((tree : Option Chains) × (read_in (bodies_of run.dry.shell) text ≡ Some tree) × RunsTree run given tree session old new status)
 
--- what is wanted to stand in for hardware: no board is asked
-abbrev pub wanted_for : ScriptRun → Wanted
-wanted_for run = record { stand_ins = run.dry.stand_ins; board = run.dry.board; may_ask = false; boots = run.boots; resets = run.resets }
-
--- or before that a file can't be used, or memory runs out
+-- no board is asked; or before that a file can't be used, or memory runs out
 abbrev pub RunsOver : ScriptRun → Held → Writers → Writers → ℕ → Type 0
 RunsOver run session old new status =
     Stops old new status
-    ⊎ ((given : Hardware) × (text : List ℕ) × IsHardwareOf (wanted_for run) given × IsTextOf run.script text
+    ⊎ ((given : Hardware) × (text : List ℕ) × IsHardwareOf false run.dry given × IsTextOf run.script text
     × RunsText run given text session old new status)

@@ -11,9 +11,9 @@ use Rattle.fw_session.specs.declared.session_end.SessionEnding.{SessionEnding}
 use Rattle.fw_session.specs.declared.session_end.SessionEnding.TheVariants as ending
 use Rattle.fw_arguments.specs.DryRuns.{DryRun}
 use Rattle.fw_files.specs.Copies.{MayWarn}
-use Rattle.fw_files.specs.Files.{AreRulesOf, AreStubsOf}
 use Rattle.fw_files.specs.Locks.{HasWaited}
 use Rattle.fw_files.specs.Said.{SaysSome, Stops, message_of}
+use Rattle.fw_tools.specs.WantedHardware.{IsHardwareOf}
 use Rattle.fw_engines.specs.Streams.{AppendsFront, Streams, writers_of}
 use Rattle.fw_engines.specs.declared.tool_end.StreamFault.TheVariants.{Read, Write, Memory}
 
@@ -53,12 +53,8 @@ TriesWith run given session old new status =
     × Ends end (rules_in run.shell given run.limits) (unnamed session) old.input new.input old.output new.output read written after
     × ClosesDryRun (is_kept run.write end) end old.errors new.errors status
 
--- what stands in for hardware
-abbrev pub IsHardwareOf : DryRun → Hardware → Type 0
-IsHardwareOf run given = AreStubsOf run.stand_ins given.stubs × AreRulesOf false run.board given.rules
-
--- or before that a file of these can't be used, or memory runs out
+-- no board is asked; or before that a file of these can't be used, or memory runs out
 abbrev pub TriesOver : DryRun → Held → Streams → Streams → ℕ → Type 0
 TriesOver run session old new status =
     ((new.input ≡ old.input) × Stops (writers_of old) (writers_of new) status)
-    ⊎ ((given : Hardware) × IsHardwareOf run given × TriesWith run given session old new status)
+    ⊎ ((given : Hardware) × IsHardwareOf false run given × TriesWith run given session old new status)

@@ -1,5 +1,5 @@
 -- What a subcommand does over a session, and what it prints (docs/tools.md, "Subcommands over files").
-use Rattle.std.specs.Prelude.{◌≡◌, ◌⊎◌, ℕ, ◌==◌, ◌&&◌, Bool, true, false, if◌then◌else◌, List, map, Option, Result, Ok, Err}
+use Rattle.std.specs.Prelude.{◌≡◌, ◌⊎◌, ℕ, ◌==◌, ◌&&◌, Bool, true, false, if◌then◌else◌, List, map, Option, Some, None, Result, Ok, Err}
 use Rattle.env_session.specs.Session.{Held}
 use Rattle.envimg_core.specs.Pieces.{Entry}
 use Rattle.envimg_core.specs.declared.choice.Choice.{Choice}
@@ -7,7 +7,7 @@ use Rattle.envimg_core.specs.declared.choice.Choice.TheVariants.{Neither}
 use Rattle.envcfg_core.specs.Entries as text_entries
 use Rattle.envcfg_core.specs.Import.{import_of}
 use Rattle.clap.specs.Words.{Text}
-use Rattle.fw_arguments.specs.Calls.{Boots, Call, Checks, Defaults, Job, Tool, Tries, Runs, Task, spares, writes}
+use Rattle.fw_arguments.specs.Calls.{Boots, Call, Checks, Defaults, Job, Tool, Tries, Runs, Task, keeps_lock, spares, writes}
 use Rattle.fw_tools.specs.CheckRuns.{ChecksFile, ChecksOver}
 use Rattle.fw_files.specs.Copies.{MayWarn}
 use Rattle.fw_files.specs.CopyReport.{ReportsOn}
@@ -80,6 +80,11 @@ hold_for job = if writes job then Alone else Shared
 abbrev pub Closes : ToolEnd → Option (List ℕ) → Option (List ℕ) → ℕ → Type 0
 Closes end old new status =
     (SaysSome old new × (status ≡ 1)) ⊎ ((warned : Option (List ℕ)) × MayWarn old warned × Says end.fault warned new × (status ≡ end.status))
+
+-- a job keeps the locks on its copies, if they are in devices, until it has written them
+abbrev pub keeps_locks : (image : Option ℕ) → Job → Bool
+keeps_locks None job = keeps_lock job
+keeps_locks (Some size) job = false
 
 -- the copies are left as they are by a task that changes nothing, and by one of which only changes are saved, if no name
 -- changed and a copy was good

@@ -2,22 +2,22 @@
 ghost use Rattle.std.specs.Prelude.{◌≡◌, IfOk, IfSome, false, unwrap_or};
 ghost use Rattle.hush_commands.specs.Hardware.{hardware};
 ghost use Rattle.fw_arguments.specs.PowerOns.{power_ons_view};
+ghost use Rattle.fw_boots.specs.Boots.{BootsAs, power_of};
 ghost use Rattle.fw_engines.specs.Tool.{PrintsText};
 ghost use Rattle.fw_tools.specs.NewImages.{image_bytes};
-ghost use Rattle.fw_tools.specs.PowerOns.{BootsOver, IsToldOf, PrintsBoots, one_copy, wanted_to_boot};
-ghost use Rattle.fw_tools.specs.WantedHardware.{wanted_view};
+ghost use Rattle.fw_tools.specs.PowerOns.{BootsOver, IsToldOf, PrintsBoots, one_copy};
 
-use crate::hardware::{GivenHardware, WantedHardware, hardware_or_say};
+use crate::hardware::{GivenHardware, hardware_or_say};
 use crate::new_image::new_image;
 use env_requests::RunRules;
 use env_session::Session;
 use envimg_core::{Geometry, Layout};
 use envvars_core::Memory;
 use fw_arguments::PowerOns;
-use fw_boots::{Boot, BootText, Limits, boot_text, power_on_script};
+use fw_boots::{Boot, BootText, Limits, boot_graph, boot_text, power_on_script};
 use fw_engines::streams::write_text;
 use fw_engines::{StreamFault, ToolEnd};
-use fw_files::{System, report};
+use fw_files::{Explains, System, report};
 use std::alloc::{AllocError, Global};
 use std::io::Write;
 
@@ -36,22 +36,9 @@ pub(crate) fn boot_given<X: System + AllocGlobal, W: Write, E: Write>(
         (record { output = W.contents output.old; errors = E.contents errors.old })
         (record { output = W.contents output.new; errors = E.contents errors.new }) (unwrap_or result 1) }
 {
-    let hardware = hardware_or_say(rt, &wanted_to_boot(asked), errors)?;
+    let hardware = hardware_or_say(rt, &asked.dry, true, Explains::Reason, errors)?;
     let end = print_boots(rt.alloc(), session, asked, &hardware, output);
     Some(report(end, errors))
-}
-
-/// What is wanted to stand in for hardware: answers may be open.
-fn wanted_to_boot<'m, 'w>(asked: &PowerOns<'m, 'w>) -> WantedHardware<'m, 'w>
-    ensures { wanted_view result ≡ wanted_to_boot (power_ons_view asked.now) }
-{
-    WantedHardware {
-        stand_ins: asked.dry.stand_ins,
-        board: asked.dry.board,
-        may_ask: true,
-        boots: asked.boots,
-        resets: asked.resets,
-    }
 }
 
 /// Prints what the power-ons lead to.
@@ -116,7 +103,23 @@ fn told_of(
         stored: asked.stored as usize,
         ways: asked.ways as usize,
     };
-    boot_text(alloc, &boot, limits)
+    text_or_graph(alloc, asked.dot, &boot, limits)
+}
+
+/// What is told of a board's power-ons, as a text or as a graph.
+fn text_or_graph(
+    alloc: Global,
+    is_graph: bool,
+    boot: &Boot<'_>,
+    limits: Limits,
+) -> Result<BootText, AllocError>
+    ensures { IfOk result (BootsAs is_graph (power_of boot.now) limits.ways) }
+{
+    if is_graph {
+        boot_graph(alloc, boot, limits)
+    } else {
+        boot_text(alloc, boot, limits)
+    }
 }
 
 /// The shape of one copy that has the room of a session's.

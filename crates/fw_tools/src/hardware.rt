@@ -1,11 +1,12 @@
 //! What stands in for the hardware of a dry run.
 ghost use Rattle.std.specs.Prelude.{◌≡◌, IfOk, MatchOption, map, option_map};
-ghost use Rattle.fw_arguments.specs.DryRuns.{texts};
+ghost use Rattle.fw_arguments.specs.DryRuns.{dry_run_view, texts};
 ghost use Rattle.fw_files.specs.Files.{AreRulesOf};
 ghost use Rattle.fw_files.specs.Said.{SaysSome};
 ghost use Rattle.hush_commands.specs.Hardware.{hardware};
-ghost use Rattle.fw_tools.specs.WantedHardware.{AreStandInsOf, IsHardwareOf, wanted_view, with_leavings};
+ghost use Rattle.fw_tools.specs.WantedHardware.{AreStandInsOf, IsHardwareOf, with_leavings};
 
+use fw_arguments::DryRun;
 use fw_engines::streams::write_three;
 use fw_files::{Explains, FileFault, System, read_board, read_stand_ins, value_or_say};
 use hush_commands::BoardRules;
@@ -22,21 +23,6 @@ const NO_BOOT: &[u8] =
 const NO_RESET: &[u8] =
     b"' for '--resets <NAME>': no stand-in has this name\n\nFor more information, try '--help'.\n";
 
-/// What is wanted to stand in for hardware.
-#[derive(Clone, Copy)]
-pub(crate) struct WantedHardware<'m, 'w> {
-    /// The path of the stand-ins, if there are any.
-    pub(crate) stand_ins: Option<&'w str>,
-    /// The path of the board file, if there is one.
-    pub(crate) board: Option<&'w str>,
-    /// Whether answers of it may be open.
-    pub(crate) may_ask: bool,
-    /// The names of stand-ins that boot.
-    pub(crate) boots: Option<&'m [&'w str]>,
-    /// The names of stand-ins that reset the board.
-    pub(crate) resets: Option<&'m [&'w str]>,
-}
-
 /// What stands in for the hardware of a dry run.
 #[derive(Drop)]
 pub(crate) struct GivenHardware {
@@ -47,7 +33,7 @@ pub(crate) struct GivenHardware {
 }
 
 /// The rules of a board file, of which answers may be open if the board may be asked; a fault is reported on `errors`.
-pub(crate) fn board_or_say<X: System + AllocGlobal, E: Write>(
+fn board_or_say<X: System + AllocGlobal, E: Write>(
     rt: &X,
     path: Option<&str>,
     may_ask: bool,
@@ -66,34 +52,38 @@ pub(crate) fn board_or_say<X: System + AllocGlobal, E: Write>(
     )
 }
 
-/// What stands in for hardware; a fault is reported on `errors`.
+/// What stands in for the hardware of a dry run, and may leave answers open if the board may be asked; a fault is reported
+/// on `errors`.
 pub(crate) fn hardware_or_say<X: System + AllocGlobal, E: Write>(
     rt: &X,
-    wanted: &WantedHardware<'_, '_>,
+    run: &DryRun<'_, '_>,
+    may_ask: bool,
+    explains: Explains,
     errors: &mut E,
 ) -> Option<GivenHardware>
     ensures { MatchOption result (SaysSome (E.contents errors.old) (E.contents errors.new))
-        (λ given. IsHardwareOf (wanted_view wanted.now) (hardware given.board given.stand_ins) × (E.contents errors.new ≡ E.contents errors.old)) }
+        (λ given. IsHardwareOf may_ask (dry_run_view run.now) (hardware given.board given.stand_ins) × (E.contents errors.new ≡ E.contents errors.old)) }
 {
-    let stand_ins = stand_ins_or_say(rt, wanted, errors)?;
-    let board = board_or_say(rt, wanted.board, wanted.may_ask, Explains::Reason, errors)?;
+    let stand_ins = stand_ins_or_say(rt, run, explains, errors)?;
+    let board = board_or_say(rt, run.board, may_ask, explains, errors)?;
     Some(GivenHardware { stand_ins, board })
 }
 
-/// The stand-ins, with those wanted made to leave the board; a fault is reported on `errors`, and so is a name of which
-/// there is no stand-in.
+/// The stand-ins, with those of the names that are given made to leave the board; a fault is reported on `errors`, and so
+/// is a name of which there is no stand-in.
 fn stand_ins_or_say<X: System + AllocGlobal, E: Write>(
     rt: &X,
-    wanted: &WantedHardware<'_, '_>,
+    run: &DryRun<'_, '_>,
+    explains: Explains,
     errors: &mut E,
 ) -> Option<Stubs>
     ensures { MatchOption result (SaysSome (E.contents errors.old) (E.contents errors.new))
-        (λ stand_ins. AreStandInsOf (wanted_view wanted.now) stand_ins × (E.contents errors.new ≡ E.contents errors.old)) }
+        (λ stand_ins. AreStandInsOf (dry_run_view run.now) stand_ins × (E.contents errors.new ≡ E.contents errors.old)) }
 {
-    let path = wanted.stand_ins.unwrap_or("");
-    let outcome = stand_ins_of(rt, wanted);
-    let stand_ins = value_or_say(rt.alloc(), errors, Explains::Reason, path, outcome)?;
-    match name_at_fault(&stand_ins, wanted) {
+    let path = run.stand_ins.unwrap_or("");
+    let outcome = stand_ins_of(rt, run);
+    let stand_ins = value_or_say(rt.alloc(), errors, explains, path, outcome)?;
+    match name_at_fault(&stand_ins, run) {
         None => Some(stand_ins),
         Some((name, fault)) => {
             let _ = write_three(errors, INVALID_VALUE, name.as_bytes(), fault);
@@ -102,14 +92,11 @@ fn stand_ins_or_say<X: System + AllocGlobal, E: Write>(
     }
 }
 
-/// The first name wanted of which there is no stand-in, and what is said of it.
-fn name_at_fault<'w>(
-    stand_ins: &Stubs,
-    wanted: &WantedHardware<'_, 'w>,
-) -> Option<(&'w str, &'static [u8])> {
-    match name_without(stand_ins, wanted.boots) {
+/// The first name given of which there is no stand-in, and what is said of it.
+fn name_at_fault<'w>(stand_ins: &Stubs, run: &DryRun<'_, 'w>) -> Option<(&'w str, &'static [u8])> {
+    match name_without(stand_ins, run.boots) {
         Some(name) => Some((name, NO_BOOT)),
-        None => match name_without(stand_ins, wanted.resets) {
+        None => match name_without(stand_ins, run.resets) {
             Some(name) => Some((name, NO_RESET)),
             None => None,
         },
@@ -126,16 +113,13 @@ fn name_without<'a>(stand_ins: &Stubs, names: Option<&[&'a str]>) -> Option<&'a 
     None
 }
 
-/// The stand-ins, with those wanted made to leave the board.
-fn stand_ins_of<X: System + AllocGlobal>(
-    rt: &X,
-    wanted: &WantedHardware<'_, '_>,
-) -> Result<Stubs, FileFault>
-    ensures { IfOk result (AreStandInsOf (wanted_view wanted.now)) }
+/// The stand-ins, with those of the names that are given made to leave the board.
+fn stand_ins_of<X: System + AllocGlobal>(rt: &X, run: &DryRun<'_, '_>) -> Result<Stubs, FileFault>
+    ensures { IfOk result (AreStandInsOf (dry_run_view run.now)) }
 {
-    let mut stand_ins = read_stand_ins(rt, wanted.stand_ins)?;
-    leave_given(rt.alloc(), &mut stand_ins, Leaving::Boots, wanted.boots)?;
-    leave_given(rt.alloc(), &mut stand_ins, Leaving::Resets, wanted.resets)?;
+    let mut stand_ins = read_stand_ins(rt, run.stand_ins)?;
+    leave_given(rt.alloc(), &mut stand_ins, Leaving::Boots, run.boots)?;
+    leave_given(rt.alloc(), &mut stand_ins, Leaving::Resets, run.resets)?;
     Ok(stand_ins)
 }
 

@@ -1,12 +1,11 @@
 //! `run`: a script is run over a session for its own status.
-ghost use Rattle.std.specs.Prelude.{◌≡◌, unwrap_or};
+ghost use Rattle.std.specs.Prelude.{◌≡◌, is_some, unwrap_or};
 ghost use Rattle.hush_syntax.specs.Scripts.{tree_of};
 ghost use Rattle.hush_commands.specs.Hardware.{hardware};
 ghost use Rattle.fw_arguments.specs.DryRuns.{script_run_view};
-ghost use Rattle.fw_tools.specs.ScriptRuns.{ClosesRun, RunsOver, RunsText, RunsTree, is_kept, wanted_for};
-ghost use Rattle.fw_tools.specs.WantedHardware.{wanted_view};
+ghost use Rattle.fw_tools.specs.ScriptRuns.{ClosesRun, RunsOver, RunsText, RunsTree, is_kept};
 
-use crate::hardware::{GivenHardware, WantedHardware, hardware_or_say};
+use crate::hardware::{GivenHardware, hardware_or_say};
 use crate::script_source::{name_of_script, script_or_say, text_or_say};
 use env_requests::RunRules;
 use env_session::Session;
@@ -31,22 +30,9 @@ pub(crate) fn run_given<X: System + AllocGlobal, W: Write, E: Write>(
         (record { output = W.contents output.old; errors = E.contents errors.old })
         (record { output = W.contents output.new; errors = E.contents errors.new }) (unwrap_or result 1) }
 {
-    let hardware = hardware_or_say(rt, &wanted_for(asked), errors)?;
+    let hardware = hardware_or_say(rt, &asked.dry, false, Explains::Reason, errors)?;
     let text = text_or_say(rt, &asked.script, errors)?;
     Some(run_text(rt, source, opened, asked, &hardware, &text, output, errors))
-}
-
-/// What is wanted to stand in for hardware: no board is asked.
-fn wanted_for<'m, 'w>(asked: &ScriptRun<'m, 'w>) -> WantedHardware<'m, 'w>
-    ensures { wanted_view result ≡ wanted_for (script_run_view asked.now) }
-{
-    WantedHardware {
-        stand_ins: asked.dry.stand_ins,
-        board: asked.dry.board,
-        may_ask: false,
-        boots: asked.boots,
-        resets: asked.resets,
-    }
 }
 
 /// Runs a text, if it is a script.
@@ -101,10 +87,22 @@ fn run_script<X: System + AllocGlobal, W: Write, E: Write>(
         script,
         &rules,
         asked.must_boot,
+        traced_name(asked),
         output,
         errors,
     );
     leave(rt, source, asked.dry.write, current, session, ended, errors)
+}
+
+/// The name of the script, if the commands that are run are wanted.
+fn traced_name<'a>(asked: &'a ScriptRun<'_, '_>) -> Option<&'a [u8]>
+    ensures { is_some result ≡ (script_run_view asked.now).trace }
+{
+    if asked.trace {
+        Some(name_of_script(&asked.script).as_bytes())
+    } else {
+        None
+    }
 }
 
 /// Writes the copies that the script saved back if that was asked for, whatever its status, and answers the exit status.

@@ -8,16 +8,13 @@ ghost use Rattle.fw_arguments.specs.DryRuns.{dry_run_view};
 ghost use Rattle.fw_files.specs.Said.{SaysSome};
 ghost use Rattle.fw_tools.specs.SessionRun.{ClosesDryRun, Reports, TriesOver, WaitsAndWarns, is_kept, text_for};
 
-use crate::hardware::{GivenHardware, board_or_say};
+use crate::hardware::{GivenHardware, hardware_or_say};
 use env_requests::RunRules;
 use env_session::{Session, Stored};
 use fw_arguments::{DryRun, LockFiles};
 use fw_engines::StreamFault;
 use fw_engines::streams::say;
-use fw_files::{
-    Explains, Hold, Source, System, lock_copies, message_of, read_stand_ins, value_or_say,
-    write_back,
-};
+use fw_files::{Explains, Hold, Source, System, lock_copies, message_of, write_back};
 use fw_session::{SessionEnd, SessionEnding, session_in};
 use std::io::{Read, Write};
 
@@ -29,7 +26,7 @@ pub(crate) fn talk<X: System + AllocGlobal, R: Read, W: Write, E: Write>(
     rt: &X,
     source: &Source,
     opened: Session,
-    run: &DryRun<'_>,
+    run: &DryRun<'_, '_>,
     locks: LockFiles<'_>,
     input: &mut R,
     output: &mut W,
@@ -40,15 +37,7 @@ pub(crate) fn talk<X: System + AllocGlobal, R: Read, W: Write, E: Write>(
         (record { input = R.remaining input.new; output = W.contents output.new; errors = E.contents errors.new })
         (unwrap_or result 1) }
 {
-    let stand_ins = value_or_say(
-        rt.alloc(),
-        errors,
-        Explains::Nothing,
-        run.stand_ins.unwrap_or(""),
-        read_stand_ins(rt, run.stand_ins),
-    )?;
-    let board = board_or_say(rt, run.board, false, Explains::Nothing, errors)?;
-    let given = GivenHardware { stand_ins, board };
+    let given = hardware_or_say(rt, run, false, Explains::Nothing, errors)?;
     let end = answer(rt, opened, run, &given, input, output);
     Some(leave(rt, source, run.write, locks, end, errors))
 }
@@ -58,7 +47,7 @@ pub(crate) fn talk<X: System + AllocGlobal, R: Read, W: Write, E: Write>(
 fn answer<X: System + AllocGlobal, R: Read, W: Write>(
     rt: &X,
     opened: Session,
-    run: &DryRun<'_>,
+    run: &DryRun<'_, '_>,
     given: &GivenHardware,
     input: &mut R,
     output: &mut W,

@@ -1,7 +1,7 @@
 //! The subcommands over the files that the arguments name.
-ghost use Rattle.std.specs.Prelude.{◌≡◌, ◌≤◌, Some, None, MatchOption, if◌then◌else◌, unwrap_or};
+ghost use Rattle.std.specs.Prelude.{◌≡◌, ◌≤◌, Some, None, IfSome, MatchOption, if◌then◌else◌, is_some, unwrap_or};
 ghost use Rattle.fw_files.specs.Opening.{AreCopiesIn, AreWantedIn};
-ghost use Rattle.fw_tools.specs.Subcommands.{Closes, DoesJob, Uses, UsesTool, hold_for, is_left};
+ghost use Rattle.fw_tools.specs.Subcommands.{Closes, DoesJob, Uses, UsesTool, hold_for, is_left, keeps_locks};
 ghost use Rattle.fw_arguments.specs.Calls.{call_view, job_view, keeps_lock, task_view};
 ghost use Rattle.fw_files.specs.Locks.{HasWaited};
 ghost use Rattle.fw_files.specs.Said.{SaysSome};
@@ -71,7 +71,8 @@ fn copies_for<X: System + AllocGlobal, E: Write>(
     call: &Call<'_, '_>,
     errors: &mut E,
 ) -> Option<(Source, Option<Locks<X::File>>)>
-    ensures { MatchOption result (SaysSome (E.contents errors.old) (E.contents errors.new))
+    ensures locks { IfSome result (λ found. is_some found.1 ≡ keeps_locks call.now.image (job_view call.now.job)) }
+    ensures found { MatchOption result (SaysSome (E.contents errors.old) (E.contents errors.new))
         (λ found. AreWantedIn call.now.image call.now.order call.now.copy found.0 × HasWaited (E.contents errors.old) (E.contents errors.new)) }
 {
     let (read, locks) = copies_in(rt, call, errors)?;
@@ -85,7 +86,8 @@ fn copies_in<X: System + AllocGlobal, E: Write>(
     call: &Call<'_, '_>,
     errors: &mut E,
 ) -> Option<(Source, Option<Locks<X::File>>)>
-    ensures { MatchOption result (SaysSome (E.contents errors.old) (E.contents errors.new))
+    ensures locks { IfSome result (λ found. is_some found.1 ≡ keeps_locks call.now.image (job_view call.now.job)) }
+    ensures found { MatchOption result (SaysSome (E.contents errors.old) (E.contents errors.new))
         (λ found. AreCopiesIn call.now.image call.now.order found.0 × HasWaited (E.contents errors.old) (E.contents errors.new)) }
 {
     match call.image {
@@ -103,7 +105,8 @@ fn copies_in_devices<X: System + AllocGlobal, E: Write>(
     call: &Call<'_, '_>,
     errors: &mut E,
 ) -> Option<(Source, Option<Locks<X::File>>)>
-    ensures { MatchOption result (SaysSome (E.contents errors.old) (E.contents errors.new))
+    ensures locks { IfSome result (λ found. is_some found.1 ≡ keeps_lock (job_view call.now.job)) }
+    ensures found { MatchOption result (SaysSome (E.contents errors.old) (E.contents errors.new))
         (λ found. AreCopiesIn None call.now.order found.0 × HasWaited (E.contents errors.old) (E.contents errors.new)) }
 {
     let config = config_or_say(rt, call.config, Explains::by(call), errors)?;
@@ -122,7 +125,8 @@ fn copies_under<X: System + AllocGlobal, L: Drop, E: Write>(
     locks: L,
     errors: &mut E,
 ) -> Option<(Source, Option<L>)>
-    ensures { MatchOption result (SaysSome (E.contents errors.old) (E.contents errors.new))
+    ensures locks { IfSome result (λ found. is_some found.1 ≡ keeps_lock (job_view call.now.job)) }
+    ensures found { MatchOption result (SaysSome (E.contents errors.old) (E.contents errors.new))
         (λ found. AreCopiesIn None call.now.order found.0 × (E.contents errors.new ≡ E.contents errors.old)) }
 {
     let source = read_source(rt, call.order, config, Explains::by(call), errors)?;

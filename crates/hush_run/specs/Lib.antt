@@ -3,6 +3,7 @@ pub mod Meaning
 pub mod Stacks
 pub mod Runs
 pub mod Laws
+pub mod Traces
 -- What the steps of the code do: no promise speaks of these.
 pub mod Counting
 pub mod Resume

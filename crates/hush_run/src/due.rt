@@ -125,6 +125,7 @@ fn node_due(
 {
     let script = calls.top();
     let step = descend(script, frames, node);
+    progress.trace.stand_in(frames);
     match node_step(given, session, progress, script, step) {
         Ok(After::Goes(due)) => Ok(due),
         Ok(After::Leaves(own)) => leave_text(calls, frames, &mut progress.status, own),
@@ -156,6 +157,7 @@ fn binding_due(
     let Some(field) = left.fields().next() else {
         unreachable!()
     };
+    progress.trace.stand_in(frames);
     match bind_step(given, session, progress, script.text(), name, field) {
         Ok(bound) => {
             if !bound {

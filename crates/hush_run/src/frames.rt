@@ -107,6 +107,19 @@ impl Frames {
         self.items.push_reserved(frame);
     }
 
+    /// The names that the `run` was given whose text runs: none of a text that answers a call, and no value in the script
+    /// itself.
+    pub(crate) fn started(&self) -> Option<&FieldQueue> {
+        let mut above = self.items.len();
+        while above > 0 {
+            above -= 1;
+            if let Frame::Started { names } = &self.items[above] {
+                return Some(names);
+            }
+        }
+        None
+    }
+
     /// Takes the frame on top, if there is one.
     pub fn pop(&mut self) -> Option<Frame>
         ensures some { IfSome result (λ frame. self.old ≡ record self.new { frames = frame ∷ self.new.frames }) }

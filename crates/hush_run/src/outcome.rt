@@ -13,6 +13,7 @@ use crate::ending::Ending;
 use crate::frames::{Calls, Frames};
 use crate::progress::{Given, Progress};
 use crate::started_name::{StartedName, running_name};
+use crate::trace::Trace;
 use env_session::Session;
 use hush_commands::{BoardRules, Departure, Shell, Stubs};
 use hush_syntax::Script;
@@ -115,10 +116,56 @@ pub fn run_in(
         board,
         limits: *limits,
     };
+    let (course, _trace) = run_by(&given, session, script, Trace::none(alloc));
+    course
+}
+
+/// The same, and the commands that the run does as a text of at most as many bytes as it may print itself, in which the
+/// script has this name. That changes nothing of the run.
+pub fn run_traced(
+    shell: Shell,
+    alloc: Global,
+    session: &mut Session,
+    script: &Script,
+    stand_ins: &Stubs,
+    board: &BoardRules,
+    limits: &Limits,
+    name: &[u8],
+) -> (Course, Trace)
+    ensures runs { Runs (rules_in shell (hardware board.now stand_ins.now) limits.now) (tree_of script.now)
+        session.old session.new result.0.outcome }
+    ensures place { EndsIn (rules_in shell (hardware board.now stand_ins.now) limits.now) (tree_of script.now)
+        session.old result.0.outcome result.0.place }
+    ensures departure { Departs (rules_in shell (hardware board.now stand_ins.now) limits.now) (tree_of script.now)
+        session.old result.0.outcome result.0.departure }
+{
+    let given = Given {
+        alloc,
+        shell,
+        stand_ins,
+        board,
+        limits: *limits,
+    };
+    let trace = Trace::of(alloc, name, limits.output());
+    run_by(&given, session, script, trace)
+}
+
+/// The course of a run with what it is given, and its trace.
+fn run_by(
+    given: &Given<'_>,
+    session: &mut Session,
+    script: &Script,
+    trace: Trace,
+) -> (Course, Trace)
+    ensures runs { Runs (rules_of given.now) (tree_of script.now) session.old session.new result.0.outcome }
+    ensures place { EndsIn (rules_of given.now) (tree_of script.now) session.old result.0.outcome result.0.place }
+    ensures departure { Departs (rules_of given.now) (tree_of script.now) session.old result.0.outcome
+        result.0.departure }
+{
     // Does nothing: it tells the prover that the depth is at most MOST_DEPTH.
-    let _depth = limits.depth();
-    let mut progress = Progress::new(&given);
-    let (ending, place) = run_script(&given, session, &mut progress, script);
+    let _depth = given.limits.depth();
+    let mut progress = Progress::new(given, trace);
+    let (ending, place) = run_script(given, session, &mut progress, script);
     let Progress {
         locals: _,
         status,
@@ -127,6 +174,7 @@ pub fn run_in(
         departure,
         fields: _,
         name: _,
+        trace,
     } = progress;
     let outcome = Outcome {
         ending,
@@ -134,11 +182,12 @@ pub fn run_in(
         steps,
         text: output.into_text(),
     };
-    Course {
+    let course = Course {
         outcome,
         place,
         departure,
-    }
+    };
+    (course, trace)
 }
 
 /// Runs a script from where the session and the progress are: how it ended, and in which variable's text.

@@ -6,6 +6,7 @@ ghost use Rattle.run_limits.specs.Limits.{most_steps};
 ghost use Rattle.hush_run.specs.Meaning.{Rules, Goes, step, fails, fields_of, fields_after, list_words_of, first_state};
 
 use crate::ending::Ending;
+use crate::trace::Trace;
 use env_session::Session;
 use hush_commands::{
     BoardRules, Departure, FieldBuffer, Locals, Message, Output, Scope, Shell, Stubs,
@@ -38,13 +39,15 @@ pub(crate) struct Progress {
     pub(crate) fields: FieldBuffer,
     /// The name that it assigns to.
     pub(crate) name: Vec<u8>,
+    /// The commands that were done, if they are wanted.
+    pub(crate) trace: Trace,
 }
 
 impl Progress {
     ghost use Rattle.hush_run.specs.Steps.{state_of, rules_of, value_of, FieldsAre, MayStep, Did};
 
     /// Status 0, no local variables and no text. It takes no memory.
-    pub(crate) fn new(given: &Given<'_>) -> Progress
+    pub(crate) fn new(given: &Given<'_>, trace: Trace) -> Progress
         ensures { (held : Held) → state_of held result ≡ first_state (rules_of given.now) held }
     {
         Progress {
@@ -55,6 +58,7 @@ impl Progress {
             departure: None,
             fields: FieldBuffer::new(given.alloc),
             name: Vec::new(given.alloc),
+            trace,
         }
     }
 
@@ -81,6 +85,8 @@ impl Progress {
             status: self.status,
         };
         self.fields.expand(&scope, words, given.limits.word())?;
+        self.trace
+            .note_command(given.alloc, text, words, &self.fields);
         Ok(())
     }
 
@@ -110,12 +116,13 @@ impl Progress {
         Ok(())
     }
 
-    /// If one more step may be counted, expands the word of an assignment to the one field of that step.
+    /// If one more step may be counted, expands the word of an assignment to this name to the one field of that step.
     pub(crate) fn expand_value(
         &mut self,
         given: &Given<'_>,
         session: &Session,
         text: &Text,
+        name: Word,
         word: Word,
     ) -> Result<(), Ending>
         ensures same { (held : Held) → state_of held self.new ≡ state_of held self.old }
@@ -132,6 +139,8 @@ impl Progress {
             status: self.status,
         };
         self.fields.expand_value(&scope, word, given.limits.word())?;
+        self.trace
+            .note_assigned(given.alloc, text, name, &self.fields);
         Ok(())
     }
 

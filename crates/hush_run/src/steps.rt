@@ -77,7 +77,7 @@ pub(crate) fn assign_step(
         (λ rules begin. step rules (assigned rules (name_in text.now name) (word_atoms text.now value)))
         (λ u rules begin. Goes) (state_of session.now progress.old) (state_of session.now progress.new) result }
 {
-    progress.expand_value(given, session, text, value)?;
+    progress.expand_value(given, session, text, name, value)?;
     read_name(text, name, &mut progress.name)?;
     if is_call(given.shell, &progress.name) {
         return call_step(given, session, progress, text, name, value);
@@ -155,6 +155,9 @@ pub(crate) fn bind_step(
         (state_of session.now progress.old) (state_of session.now progress.new) result }
 {
     progress.may_step(given)?;
+    progress
+        .trace
+        .note_assignment(given.alloc, text, name, field);
     read_name(text, name, &mut progress.name)?;
     if refuses(given, session, &progress.name) {
         progress.refuse_name(Message::IsVariable)?;
@@ -326,7 +329,7 @@ fn started_status(shell: Shell, script: &Script, status: u8) -> u8
 }
 
 /// Reads the name that a word is, in place of what `name` holds; an empty one if it isn't one.
-fn read_name(text: &Text, word: Word, name: &mut Vec<u8>) -> Result<(), AllocError>
+pub(crate) fn read_name(text: &Text, word: Word, name: &mut Vec<u8>) -> Result<(), AllocError>
     ensures { OnOk result (name.new.items ≡ name_in text.now word) }
 {
     name.clear();

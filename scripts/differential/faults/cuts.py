@@ -103,6 +103,7 @@ READING = [
     (b"text", call([b"session", b"--write", b"--stubs", b"text"], {b"text": STAND_INS}, ASKED)),
     (b"text", call([b"run", *STRICT, b"--write", b"-f", b"text"], {b"text": b"setenv a $m; saveenv\nsaveenv; echo 'b\nc'\nfalse || exit 0\n"})),
     (b"text", Case("a new image", [b"image", b"--env", b"text", b"--size", b"20"], FILES | {b"text": b"a=1\n#q\nm=2\\\n3\n"})),
+    (b"text", Case("an image of a source", [b"image", b"--env-source", b"text", b"--size", b"20"], FILES | {b"text": b"a=1\nm=2\n 3\na+=4\n"})),
     (b"dump", Case("a dump", [b"find", b"dump"], FILES | {b"dump": DUMP})),
     (b"board", power_ons(b"bootcmd=mmc || booti\n", b"mmc 1 -> 0\nmmc -> ?\nbooti -> boots\n")),
     (b"text", whole_environment([b"-e", b"run a || printenv"])),

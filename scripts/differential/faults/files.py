@@ -18,7 +18,11 @@ from model.program import CANNOT_READ, CANNOT_WRITE, CANNOT_WRITE_OUTPUT, CHANGE
 ABSENT, SHORT = CANNOT_READ % b"absent", b"fwenv: device is too short\n"
 CONFIGURED = [
     ("an empty configuration", b"", b"fwenv: fw.config: NoCopy\n"),
-    ("a configuration in YAML", b"uboot:\n  size : 0x4000\n  devices: \r\n    - path : device\n", b"fwenv: fw.config is YAML: fwenv reads lines of DEVICE OFFSET SIZE\n"),
+    (
+        "a configuration in YAML",
+        b"uboot:\n  size : 0x4000\n  devices: \r\n    - path : device\n",
+        b"fwenv: fw.config is YAML: fwenv reads lines of DEVICE OFFSET SIZE\n",
+    ),
     ("a colon in another place", b"# one:\n: 0x4000\n", b"fwenv: fw.config: NoCopy\n"),
     ("a colon that ends no line", b"a: 0x4000\n", b"fwenv: fw.config: NoCopy\n"),
     ("a copy beside a colon", b"uboot:\ndevice 7 a\ndevice 20 a\n", b""),

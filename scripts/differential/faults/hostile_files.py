@@ -17,7 +17,7 @@ TEXTS = calls(
 )
 # The same for subcommands that report why, and what they report of what isn't a file
 EXPLAINED = calls(
-    "status / status -c / restore -c fw.config / restore -c fw.config text --default / run -e true --env / "
+    "status / status -c / restore -c fw.config / restore -c fw.config text --default / run -e true --env / run -e true --env-source / "
     "run -c fw.config -e true --stubs / run -c fw.config -f / check -c fw.config --stubs / check -f"
 )
 REASONS = [
@@ -115,12 +115,14 @@ def pipes():
 def raw_flash():
     """Raw flash, which would have to be erased first: it is read, and no byte of it is written."""
     cannot = CANNOT_WRITE % b"device"
+    image = [b"image", b"--env", b"text", b"--size", b"0x40", b"--output", b"device"]
     for name, words, status, output, errors in (
         ("raw flash that is read", PRINTENV, 0, b"a=b\n", b""),
         ("raw flash that would be written", [*SETENV, b"c"], 1, b"", cannot),
         ("raw flash that a session would write", SESSION, 1, b"Saved copy 2\n", cannot),
+        ("raw flash in the place of a new image", image, 1, b"", cannot),
     ):
-        case = row(name, words, b".save\n", status, output, errors, as_it_is, over_copies())
+        case = row(name, words, b".save\n", status, output, errors, as_it_is, over_copies() | {b"text": b"a=b\n"})
         case.preload, case.variables = "raw", {"RAW_PATH": "device"}
         yield case
 

@@ -67,9 +67,7 @@ def images():
 
 def every_kind():
     """Names that come again, without `=`, without a value, and an entry without a name."""
-    return b"".join(
-        b"n%03d=%05d\0p%03d=%05d\0p%03d\0q%03d=1\0q%03d=\0=x\0" % (n, i, n, i, n, n, n) for i in range(24_380) for n in [i % 1000]
-    )
+    return b"".join(b"n%03d=%05d\0p%03d=%05d\0p%03d\0q%03d=1\0q%03d=\0=x\0" % (n, i, n, i, n, n, n) for i in range(24_380) for n in [i % 1000])
 
 
 def undone(changes):
@@ -178,7 +176,9 @@ def board_files():
     covered = alike.removesuffix(last + b" -> 7\n") + name % 0 + b" -> 7\n"
     yield by_board(b"true", b"", covered, b"fwenv: board:512: an earlier line answers all of these calls\n")
     words = b"".join(b"a " * 2040 + b"%04d -> 7\n" % number for number in range(512))
-    yield by_board(b"a; a " + b"a " * 2039 + b"0511; echo $?", b"Unknown command 'a' - try 'help'\n+ " + b"a " * 2040 + b"0511\n7\n[Finished 0 3]\n", words)
+    yield by_board(
+        b"a; a " + b"a " * 2039 + b"0511; echo $?", b"Unknown command 'a' - try 'help'\n+ " + b"a " * 2040 + b"0511\n7\n[Finished 0 3]\n", words
+    )
     beginnings = b"".join(b"a* " * 1300 + b"b%04d* -> 7\n" % number for number in range(512))
     yield by_board(b"true", b"[Finished 0 1]\n", beginnings)
     yield by_board(b"true", b"", beginnings + b"x\n", b"fwenv: board:513: more than 512 rules\n")
@@ -190,4 +190,8 @@ def one(rows, at):
 
 def chunks():
     """Each row is a chunk, since it takes long."""
-    return [functools.partial(one, rows, at) for rows in (texts, images, changes, tools, started, orders, scripts, board_files) for at in range(len(list(rows())))]
+    return [
+        functools.partial(one, rows, at)
+        for rows in (texts, images, changes, tools, started, orders, scripts, board_files)
+        for at in range(len(list(rows())))
+    ]

@@ -31,9 +31,12 @@ WITHOUT_FILES = [
 ]  # fmt: skip
 # Tools over two copies: their arguments, and perhaps the file `text`
 TOOLS = [
-    *((words, b"") for words in calls(
-        "printenv / printenv a / printenv --copy 2 / export --copy=1 / printenv q a / setenv a b / setenv a bc / setenv a=b c / export / status"
-    )),
+    *(
+        (words, b"")
+        for words in calls(
+            "printenv / printenv a / printenv --copy 2 / export --copy=1 / printenv q a / setenv a b / setenv a bc / setenv a=b c / export / status"
+        )
+    ),
     *(([b"setenv", b"-s", b"text"], text) for text in (b"a c\na b\n", b"a c\nb c\na d\n")),
     *(([b"import", b"text"], text) for text in (b"a=c\na=b\n", b"a=bc\nq=1\na=\n")),
     *(([b"restore", b"text"], text) for text in (b"a=c\n", b"a=bcd\n")),
@@ -189,6 +192,9 @@ def tools():
     yield refusing(Case("an import of a type without memory", arguments(b"import", b"text"), files), WARNING)
     for options in calls("--size 40 / --size 40 --copies 2 --both / --size 40 --copies 2 --output out"):
         yield refusing(Case("an image without memory", [b"image", b"--env", b"text", *options], {b"text": b"# b\nb=1\na=2\\\n3\n"}))
+    source = b"a=x\nb=1\n 2\na+=y\nc=\n"
+    yield refusing(Case("a source without memory", calls("image --size 40 --env-source text")[0], {b"text": source}))
+    yield refusing(Case("a source at fault without memory", calls("image --size 40 --env-source text")[0], {b"text": source + b"a+=\n"}))
     yield refusing(Case("a dump without memory", [b"find", b"dump"], {b"dump": Geometry(2, 512).image(0, b"a=1\0b=2\0") * 2}))
     for tool in (b"printenv", b"export", b"status"):
         yield refusing(Case(f"{tool.decode()} of 2,500 variables without memory", arguments(tool), OVER_MANY))

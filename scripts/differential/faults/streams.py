@@ -204,7 +204,7 @@ TYPED = [
     (b".undo\n", b"[Undone]\n"),
     (b".print\n", b"a=b\n"),
     (b".save\n", b"Saved copy 2\n"),
-    (b"echo \"c\n", b"[Syntax]\n"),
+    (b'echo "c\n', b"[Syntax]\n"),
     (b".mark\n", b"[Unknown]\n"),
     (b"for i in 1 2 3 4 5; do echo " + LONG + b"; done\n", (LONG + b"\n") * 5 + b"[Finished 0 11]\n"),
     (b".x\n", b"[Unknown]\n"),

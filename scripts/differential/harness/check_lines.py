@@ -14,6 +14,7 @@ def finding(said, code):
 
 
 not_run = finding("error: `run {}` names a variable that is not defined", "run-undefined")
+any_target = finding("note: what this runs is not known, so it is not followed", "run-unknown")
 not_called = finding("error: no builtin and no stand-in is called `{}`", "unknown-command")
 no_operator = finding("error: `test` has no operator `{}` here, and is false", "test-operator")
 no_operator_of_board = finding("error: `test` has no operator `{}` here", "test-operator")

@@ -143,8 +143,11 @@ class Runner:
         with case.around(self) if case.around else contextlib.nullcontext({}) as given:
             moves = [move(given.get(at, stream), at) for at, stream in enumerate(self.streams)]
             process = os.posix_spawnp(
-                case.prefix[0] if case.prefix else self.program, [*words, *case.arguments], self.environment(case),
-                file_actions=moves, setsigdef=[signal.SIGPIPE],
+                case.prefix[0] if case.prefix else self.program,
+                [*words, *case.arguments],
+                self.environment(case),
+                file_actions=moves,
+                setsigdef=[signal.SIGPIPE],
             )
             signal.signal(signal.SIGALRM, lambda *_: os.kill(process, signal.SIGKILL))
             signal.alarm(WAITED)

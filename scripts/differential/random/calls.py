@@ -20,7 +20,7 @@ ENVIRONMENTS = [
     {b".flags": b"n:d,o:so,r:sr,c:bc", b"a": b"1 2", b"n": b"3", b"c": b"1"},
     {b"#c": b"1", b" d": b"2", b"m": b"x\\\ny", b"e\nf": b"3", b"\xff": b"\xfe"},
     {b"o": b"1", b".flags": b"o:so", b"long": b"0123456789" * 5},
-    {b"bootcmd": b"run a none; c=1", b"a": b"usb\r; laod", b"b": b"run bootcmd; for a in 1; do usb &", b"preboot": b"b="},
+    {b"bootcmd": b"run a none; run $c q$c; run b$?; c=1", b"a": b"usb\r; laod", b"b": b"run bootcmd; for a in 1; do usb &", b"preboot": b"b="},
     {b"a": b"echo $q; saveenv", b"b": b"run a; exit 2", b"n": b"run n", b"q": b"mmc; usb", b"r": b"'", b" d": b"setenv a"},
 ]
 INPUTS = [
@@ -55,7 +55,12 @@ BOOTED = [
     {b"bootcmd": b"mmc || usb; test $b = 1 && setenv b 2; saveenv; mmc x; usb", b"b": b"1"},
     {b"bootcmd": b"mmc x || usb $a; setenv a; saveenv; usb", b"a": b"two\nlines", b"bootdelay": b"3"},
 ]
-ASKING = [b"mmc -> ?\nusb -> boots\n", b"mmc x -> ?\nm* -> 1\nusb -> boots\n", b"test -e -> ?\nmmc -> resets\nusb -> boots\n", b"mmc -> ?\nmmc x -> 0\n"]
+ASKING = [
+    b"mmc -> ?\nusb -> boots\n",
+    b"mmc x -> ?\nm* -> 1\nusb -> boots\n",
+    b"test -e -> ?\nmmc -> resets\nusb -> boots\n",
+    b"mmc -> ?\nmmc x -> 0\n",
+]
 # Those of kinds, and two that no kind has
 CODES = [*[*KINDS] * 6, b"syntax ", b""]
 COUNTS = [b"1", b"2", b"2", b"007", b"100000", b"0100000", b"10000001"]
@@ -180,11 +185,13 @@ class Calls:
             options.append(self.option(b"--board", self.text(b"board", self.numbers.choice(boards))))
         if is_whole:
             text = text_of(self.numbers.choice(BOOTED)) if tool == b"boot" else self.entries_text(95)
-            options.append(self.option(b"--env", self.text(b"env", text)))
+            form = self.numbers.choice([*[b"--env"] * 9, b"--env-source"])
+            options.append(self.option(form, self.text(b"env", text)))
         if self.chance((4 if tool == b"boot" else 30) if is_whole else 2):
             options.append(self.option(b"--size", self.numbers.choice(SIZES)))
         if tool == b"session":
-            return options + self.write(is_whole), []
+            left = [self.option(self.numbers.choice([b"--boots", b"--resets"]), name) for name in self.some(BOOTS, self.chance(5))]
+            return options + self.write(is_whole) + left, []
         options.append(self.option(b"--shell", self.numbers.choice(SHELLS)))
         if not any(option[0].startswith(b"--steps") for option in options):
             options.append([b"--steps=200"])
@@ -193,7 +200,7 @@ class Calls:
         if tool == b"boot":
             return options + left + self.power_ons(is_whole), []
         given, words = self.given_script()
-        return options + self.write(is_whole) + given + left + [[b"--must-boot"]] * self.chance(6), words
+        return options + self.write(is_whole) + given + left + [[b"--must-boot"]] * self.chance(6) + [[b"--trace"]] * self.chance(10), words
 
     def write(self, is_whole):
         return [[b"--write"]] * self.chance(5 if is_whole else 60)
@@ -201,7 +208,7 @@ class Calls:
     def power_ons(self, is_whole):
         """The options of power-ons alone."""
         limits = [self.option(name, self.numbers.choice(COUNTS)) for name in (b"--stored", b"--ways") if self.chance(8)]
-        return limits + (self.wanted_copy() if not is_whole or self.chance(5) else [])
+        return limits + [[b"--dot"]] * self.chance(10) + (self.wanted_copy() if not is_whole or self.chance(5) else [])
 
     def board_script(self):
         """A script at random, perhaps with a fault or a carriage return."""
@@ -261,7 +268,24 @@ class Calls:
         return self.dry_run(tool, is_whole) if tool in DRY else ([], [])
 
     def subcommand(self):
-        tools = [b"printenv", b"setenv", b"setenv", b"import", b"export", b"restore", b"status", b"session", b"run", b"run", b"boot", b"check", b"check"]
+        tools = [
+            b"printenv",
+            b"setenv",
+            b"setenv",
+            b"import",
+            b"export",
+            b"export",
+            b"export",
+            b"restore",
+            b"status",
+            b"session",
+            b"run",
+            b"run",
+            b"boot",
+            b"check",
+            b"check",
+            b"check",
+        ]
         tool = self.numbers.choice(tools)
         is_whole = tool in WHOLE and self.chance({b"check": 70, b"boot": 95}.get(tool, 35))
         self.board()

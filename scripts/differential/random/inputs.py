@@ -16,11 +16,10 @@ LIMITS = [b"--steps=50", b"--depth=3", b"--word=64", b"--output=256"]
 WORDS = arguments(b"session", b"--default", b"default", b"--stubs", b"stand-ins", b"--write", *LIMITS)
 INPUTS = [
     b"setenv a 1; echo $a\n.mark p\nif usb x\nthen echo b\nelse setenv a 2\nfi\n.save \t\r\n.mark q\n\n.print\n"
-    b"setenv b 3; exit 4\n.undo q\n.undo\tp\n.undo q\n.undo\n.print\n.what\necho \"c\n.mark\nsetenv c 1",
+    b'setenv b 3; exit 4\n.undo q\n.undo\tp\n.undo q\n.undo\n.print\n.what\necho "c\n.mark\nsetenv c 1',
     b"run s\n.save\nrun s; env delete x\n.save\n.print\n.undo\n.save",
     b"for i in $x; do echo $i; done\n.mark a\n.mark a\nsetenv n 2\n.undo a\nsetexpr n $n + 9; setenv n q\n.print\n",
-    b"# a comment\n.\n..\n.save x\n.mark a b\n.mark 012345678901234567890123456789012\n\n\n.save\n"
-    b"while true; do echo; done",
+    b"# a comment\n.\n..\n.save x\n.mark a b\n.mark 012345678901234567890123456789012\n\n\n.save\n" b"while true; do echo; done",
 ]
 TOKENS = [
     b".", b"\n", b"\n.", b"\n.save\n", b"\n.undo\n", b"\n.mark a\n", b"\n.undo a\n", b"\n.print\n", b"\r\n", b"\0",

@@ -103,7 +103,8 @@ def random_boot(seed, number):
     words, files = made.copies(made.variables())
     limits = [b"--stored=%d" % made.any([1, 2, 4]), b"--ways=%d" % made.any([0, 1, 5, 20])] if made.chance(10) else []
     shell = [b"--shell=strict"] if made.chance(15) else []
-    words = [b"boot", *words, b"--board", b"board", b"--steps=300", *limits, *shell]
+    graph = [b"--dot"] if made.chance(30) else []
+    words = [b"boot", *words, b"--board", b"board", b"--steps=300", *limits, *shell, *graph]
     return Case(f"random board {number}", words, files | {b"board": made.rules()}, seconds=2)
 
 

@@ -78,7 +78,25 @@ BOARDS = [
     b"fdt -> fdt again\nmmc/dev -> if test -n ${t}; then true; else t=1; false; fi\n",
     b"load* a b 0 -> 3\nload -> ${0}\ncp.* -> 0\nmmc -> ?\n",
 ]
-BOARD_TOKENS = [b" ", b"\t", b"\r", b"\n", b"\0", b"#", b"*", b"->", b" -> ", b" -> boots\n", b"\nresets -> resets\n", b"\n-usb\n", b"256", b"\nusb\n", b"\nsetexpr.* 0\n", b"$", b"'"]
+BOARD_TOKENS = [
+    b" ",
+    b"\t",
+    b"\r",
+    b"\n",
+    b"\0",
+    b"#",
+    b"*",
+    b"->",
+    b" -> ",
+    b" -> boots\n",
+    b"\nresets -> resets\n",
+    b"\n-usb\n",
+    b"256",
+    b"\nusb\n",
+    b"\nsetexpr.* 0\n",
+    b"$",
+    b"'",
+]
 STAND_IN_TOKENS = [b" ", b"\t", b"\r", b"\n", b"\0", b"#", b"255", b"256", b"000", b"\nusb 2\n", b"\nsetexpr.q 0\n", b"\nenv\n"]
 STAND_IN_NAMES = b"mmc usb ext4load load fdt bootz \\# mmc/dev fastboot_device fastboot_devices".split()
 ASKED = b"".join(b"%s; echo $?\n.x\n" % name for name in STAND_IN_NAMES)
@@ -96,8 +114,7 @@ def configured(text, _numbers):
 
 
 def over_board(name, words, text, numbers):
-    """A call over copies that were never written and a default environment, or over that environment as it was saved.
-    """
+    """A call over copies that were never written and a default environment, or over that environment as it was saved."""
     copies = WRITTEN if numbers and numbers.randrange(2) else NEVER_WRITTEN
     files = board(FORM, copies) | {b"default": text_of(DEFAULTS), b"text": text}
     return Case(name, words, files)

@@ -2,7 +2,7 @@
 
 from differential.harness.boards import BLANK, CONFIG, PAIR, STRICT, arguments, board, calls
 from differential.harness.running import Case
-from model.arguments import ENV_AND, NO_COPY, NO_NUMBER, NO_SHELL, READ_TWICE, SIZE_ALONE
+from model.arguments import AND_ENV, NO_COPY, NO_NUMBER, NO_SHELL, READ_TWICE, SIZE_ALONE
 from model.image import Geometry, entries
 from model.program import NO_SECOND, NOT_A_STAND_IN, WARNING, Answer
 
@@ -66,7 +66,7 @@ stored 3
 """
 # A board that tells of a failed try, and forgets it at the next one; and one whose second try may not come to its end
 TRIES = (
-    b"a=x y\nbootcmd=if test -n \"${failed}\"; then setenv failed; saveenv; load usb && bootm 2; "
+    b'a=x y\nbootcmd=if test -n "${failed}"; then setenv failed; saveenv; load usb && bootm 2; '
     b"else load mmc && bootm 1; setenv failed 1; setenv a; saveenv; fi; reset\n"
 )
 TRIED = b"""stored 1
@@ -84,7 +84,7 @@ stored 3
 3 stored environments, 6 ways: 3 boot, 3 reset, 0 give up, 0 unknown
 """
 LOOPS = (
-    b"bootcmd=if test -n \"${failed}\"; then while load usb; do true; done; load usb || run bootcmd; "
+    b'bootcmd=if test -n "${failed}"; then while load usb; do true; done; load usb || run bootcmd; '
     b"else load mmc && bootm 1; setenv failed 1; saveenv; fi; reset\n"
 )
 LOOPED = b"""stored 1
@@ -233,11 +233,50 @@ stored 2
 1 stored environment, 1 way: 1 boot, 0 reset, 0 give up, 0 unknown
 """ + LIMIT, b"--ways=2"),
 ]  # fmt: skip
+# Graphs: a slot that fails for good; each end; up to a limit; what DOT has in quotes, and bytes that are no text
+GRAPHS = [
+    ("a graph", b"a=1\nbootcmd=test -n \"${a}\" && load mmc && bootm; setenv a; saveenv; reset", SLOTS, b"""digraph boot {
+  label="2 stored environments, 3 ways: 1 boot, 2 reset, 0 give up, 0 unknown\\l";
+  s1 [label="stored 1\\l" shape=box];
+  s2 [label="stored 2\\l  a (gone)\\lnever boots again\\l" shape=box color=red penwidth=2];
+  s1 -> boots [label="load mmc = 0\\lboots: bootm\\l" color=darkgreen];
+  s1 -> s2 [label="load mmc = 1\\lresets: reset\\l"];
+  s2 -> s2 [label="resets: reset\\l"];
+}
+""", 1),
+    ("each end", b"a=1\nbootcmd=if test ${a} = 1; then setenv a 2; saveenv; bootm; elif load mmc; then load usb; bootz; fi", b"load -> ?\nbootm -> boots\nbootz -> run bootcmd\n", b"""digraph boot {
+  label="2 stored environments, 4 ways: 1 boot, 0 reset, 1 give up, 2 unknown\\l";
+  s1 [label="stored 1\\l" shape=box];
+  s2 [label="stored 2\\l  a=2\\lboots only if a limit of the run isn't met\\l" shape=box color=orange penwidth=2];
+  s1 -> s2 [label="boots: bootm\\l" color=darkgreen];
+  s2 -> unknown [label="load mmc = 0\\lload usb = 0\\lunknown: Depth\\l" color=orange];
+  s2 -> unknown [label="load mmc = 0\\lload usb = 1\\lunknown: Depth\\l" color=orange];
+  s2 -> "gives up" [label="load mmc = 1\\lgives up\\l" color=red];
+}
+""", 1),
+    ("a graph up to a limit", b"bootcmd=setenv a 1; saveenv; reset", SLOTS, b"""digraph boot {
+  label="2 stored environments, 1 way: 0 boot, 1 reset, 0 give up, 0 unknown\\la limit was met: there are more ways than these\\l";
+  s1 [label="stored 1\\l" shape=box];
+  s2 [label="stored 2\\l  a=1\\l" shape=box];
+  s1 -> s2 [label="resets: reset\\l"];
+}
+""", 1, b"--stored=1"),
+    ("quotes", b"a=x\\\\\"&<N>\\\n\ty\x1f\x7f\x80\xff\xc3\xa9~\nbootcmd=setenv b \"${a}\"; saveenv; load '\"' '\\\\N' '&amp;' && bootm", SLOTS, b"""digraph boot {
+  label="2 stored environments, 4 ways: 2 boot, 0 reset, 2 give up, 0 unknown\\l";
+  s1 [label="stored 1\\l" shape=box];
+  s2 [label="stored 2\\l  b=x\\\\\\"&amp;<N>\\l\\\\x09y\\\\x1f\\\\x7f\\\\x80\\\\xff\\\\xc3\\\\xa9~\\l" shape=box];
+  s1 -> s2 [label="load \\" \\\\N &amp;amp; = 0\\lboots: bootm\\l" color=darkgreen];
+  s1 -> s2 [label="load \\" \\\\N &amp;amp; = 1\\lgives up\\l" color=red];
+  s2 -> boots [label="load \\" \\\\N &amp;amp; = 0\\lboots: bootm\\l" color=darkgreen];
+  s2 -> "gives up" [label="load \\" \\\\N &amp;amp; = 1\\lgives up\\l" color=red];
+}
+""", 0),
+]  # fmt: skip
 # What is printed of arguments that are wrong, and such arguments; nothing is read
 WRONG_WORDS = {
     None: (
         "boot bootcmd / boot --write / boot --overwrite / boot --must-boot / boot -e true / boot -f script / boot --stored / "
-        "boot --stored 1 --stored 1 / boot --boots / run --stored 1 ok / session --ways 1"
+        "boot --stored 1 --stored 1 / boot --boots / boot --dot --dot / boot --dot=x / run --dot ok / check --dot / run --stored 1 ok / session --ways 1"
     ),
     NO_NUMBER % (b"100001", b"--stored", 100_000): "boot --stored 100001 / boot --ways=x --stored=100001",
     NO_NUMBER % (b"10000001", b"--ways", 10_000_000): "boot --ways 10000001 / boot --stored 100000 --ways 10000001",
@@ -246,10 +285,10 @@ WRONG_WORDS = {
     NO_NUMBER % (b"x", b"--steps", 1_000_000): "boot --stored=x --steps=x",
     NO_SHELL % b"x": "boot --shell=x --steps=x",
     NO_COPY % b"3": "boot --copy 3 --shell=x",
-    ENV_AND % b"-c <FILE>": "boot -c absent --env absent / boot -c absent --env absent --copy 1",
-    ENV_AND % b"--default <FILE>": "boot --default absent --env absent",
-    ENV_AND % b"--need-copy": "boot --copy 1 --need-copy --env absent",
-    ENV_AND % b"--copy <N>": "boot --copy 1 --env absent / boot --env absent --copy x",
+    AND_ENV % b"-c <FILE>": "boot -c absent --env absent / boot -c absent --env absent --copy 1",
+    AND_ENV % b"--default <FILE>": "boot --default absent --env absent",
+    AND_ENV % b"--need-copy": "boot --copy 1 --need-copy --env absent",
+    AND_ENV % b"--copy <N>": "boot --copy 1 --env absent / boot --env absent --copy x",
     SIZE_ALONE: "boot --size 0x4000",
     READ_TWICE: "boot --env - --board - / boot -c - --stubs -",
 }
@@ -270,6 +309,12 @@ def over_text(name, environment, file, output, *options):
 def rows():
     for each in ROWS:
         yield over_text(*each)
+
+
+def graphs():
+    for name, environment, file, output, status, *options in GRAPHS:
+        words = [b"boot", b"--dot", b"--env", b"env", b"--board", b"board", *options]
+        yield row(name, words, FILES | {b"env": environment, b"board": file}, output, status)
 
 
 def endless():
@@ -329,4 +374,4 @@ def words():
 
 
 def chunks():
-    return [rows, endless, files, faults, words]
+    return [rows, graphs, endless, files, faults, words]

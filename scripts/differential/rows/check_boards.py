@@ -4,6 +4,7 @@ each script that is followed once a mistake is planted in it, at its place. Over
 import re
 
 from differential.harness.boards import STRICT, text_of
+
 from differential.harness.check_lines import (
     lacked_test, lines, no_script, not_assigned, not_called, not_defined, not_run, on_board, place, returned, row, with_stand_ins,
 )  # fmt: skip

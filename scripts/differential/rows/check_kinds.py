@@ -2,8 +2,9 @@
 over an environment and alone, with stand-ins and without."""
 
 from differential.harness.boards import STRICT
+
 from differential.harness.check_lines import (
-    lacked, lacked_test, lines, no_functions, no_operator, no_operator_of_board, no_script, not_assigned, not_called, not_defined, not_run,
+    any_target, lacked, lacked_test, lines, no_functions, no_operator, no_operator_of_board, no_script, not_assigned, not_called, not_defined, not_run,
     of_file, on_board, over, place, returned, row, several, with_stand_ins, without,
 )  # fmt: skip
 from differential.rows.script_faults import EMPTY_BODIES, NEAR_SCRIPTS, NO_SCRIPTS, NO_STAND_INS, NULS
@@ -43,11 +44,18 @@ STARTS = [
     (b"r\\\nun none", [not_run("2:4", "none")]),
     (b"env run none; env 'run' ok none", []),
     (
-        b"run $none ${none} \"$none\" n$x $? $",
-        [not_run("1:34", "$"), not_defined("1:5", "none"), not_defined("1:11", "none"), not_defined("1:19", "none")],
+        b'run $none ${none} "$none" n$x $? $',
+        [
+            *map(any_target, ("1:5", "1:11", "1:19", "1:31")),
+            not_run("1:34", "$"),
+            not_defined("1:5", "none"),
+            not_defined("1:11", "none"),
+            not_defined("1:19", "none"),
+        ],
     ),
-    (b"run $x none", [not_run("1:8", "none")]),
-    (b"$run none; ${x} none; \"$run\" none; r$x none", []),
+    (b"run $x none", [any_target("1:5"), not_run("1:8", "none")]),
+    (b"run n$x 'n'${x} ''$x \"$x\"n $?n", several(any_target, "1:17 x 1:22 x 1:28 x")),
+    (b'$run none; ${x} none; "$run" none; r$x none', []),
     (b"env $x none; env x run none; run", []),
     (b"Run none; echo run none; setenv b run none; b='run none'", []),
     (b"# run none\nrun ok # none", []),
@@ -67,7 +75,7 @@ STARTS = [
     (b"env print none; env delete none; env run none; run none", [not_run("1:52", "none")]),
     (b"env exists; env exists $x none; env exists -f none; run none", [not_run("1:57", "none")]),
     (b"Setenv none; setenv2 none; run none", [not_run("1:32", "none")]),
-    (b"$x none; \"$run\" none; echo setenv none; run none", [not_run("1:45", "none")]),
+    (b'$x none; "$run" none; echo setenv none; run none', [not_run("1:45", "none")]),
     (b"env test $x; Test $x none; test2 $none; none=$x; run none", [not_run("1:54", "none")]),
     (b"for none in 1; do echo $none; done; none=1; run none", [not_run("1:49", "none")]),
     (b"setenv b 'setenv none 1'; # setenv none\nrun none", [not_run("2:5", "none")]),
@@ -116,7 +124,7 @@ CALLED = [
     (b"for c0 in c1; do c2; done", [not_called("1:18", "c2")]),
     (b"while c1; do c2; done\nuntil c3; do c4; done", several(not_called, "1:7 c1 1:14 c2 2:7 c3 2:14 c4")),
     (b"'laod' x", [not_called("1:1", "laod")]),
-    (b"la\\od; l\"ao\"d; l\\\naod", several(not_called, "1:1 laod 1:8 laod 1:16 laod")),
+    (b'la\\od; l"ao"d; l\\\naod', several(not_called, "1:1 laod 1:8 laod 1:16 laod")),
     (b"'' x; \"\"mmc", [not_called("1:1", "")]),
     (b"'mmc' dev; l\\oad", []),
     (b"\xff\xc3\xa9", [not_called("1:1", "\udcff\xe9")]),
@@ -127,8 +135,11 @@ CALLED = [
     (b"mmc2; mm; MMC", several(not_called, "1:1 mmc2 1:7 mm 1:11 MMC")),
     (b"setenv.x b 1; printe b; ec; tru.b", several(not_called, "1:1 setenv.x 1:15 printe 1:25 ec 1:29 tru.b")),
     (b"us.b; load.q a; lo; mmc", several(not_called, "1:1 us.b 1:7 load.q 1:17 lo")),
-    (b"set b 1; sete.x b; e; .b; usb2.b; Echo; env.x print", several(not_called, "1:1 set 1:10 sete.x 1:20 e 1:23 .b 1:27 usb2.b 1:35 Echo 1:41 env.x")),
-    (b"$laod x; \"$mmc\"; l${x}; laod$?; $l", several(not_defined, "1:1 laod 1:10 mmc 1:33 l")),
+    (
+        b"set b 1; sete.x b; e; .b; usb2.b; Echo; env.x print",
+        several(not_called, "1:1 set 1:10 sete.x 1:20 e 1:23 .b 1:27 usb2.b 1:35 Echo 1:41 env.x"),
+    ),
+    (b'$laod x; "$mmc"; l${x}; laod$?; $l', several(not_defined, "1:1 laod 1:10 mmc 1:33 l")),
     (b"echo laod; b=laod; setenv b 'laod'; # laod", []),
     (b"if then", [no_script("1:4", "Unexpected")]),
     (b"laod; 'x", [no_script("1:7", "Quote")]),
@@ -152,7 +163,7 @@ OPERATORS = [
     (b"test -f x y", [no_operator("1:6", "-f")]),
     (b'test -f "$x" y', [no_operator("1:6", "-f")]),
     (b"test $x -e y", [no_operator("1:9", "-e")]),
-    (b"test \"-e\" x; test '-'e x; test \\-e x; \"test\" -e x", several(no_operator, "1:6 -e 1:19 -e 1:32 -e 1:46 -e")),
+    (b'test "-e" x; test \'-\'e x; test \\-e x; "test" -e x', several(no_operator, "1:6 -e 1:19 -e 1:32 -e 1:46 -e")),
     (b"test \\\n -e x", [no_operator("2:2", "-e")]),
     (b"test = y; test a = b = c; test a -a b; test -n a -n b", several(no_operator, "1:6 = 1:22 = 1:34 -a 1:50 -n")),
     (b"test -n a; test -z ''; test a = b; test a != b; test a < b; test a > b", []),
@@ -282,7 +293,7 @@ SUBSTITUTED = [
     ),
     (b"true && echo $n1 || echo $n2", [not_defined("1:14", "n1"), not_defined("1:26", "n2")]),
     (b"laod $none", [not_called("1:1", "laod"), not_defined("1:6", "none")]),
-    (b"run $none lost", [not_run("1:11", "lost"), not_defined("1:5", "none")]),
+    (b"run $none lost", [any_target("1:5"), not_run("1:11", "lost"), not_defined("1:5", "none")]),
     (b"a=$none", [not_assigned("1:1", "a"), not_defined("1:3", "none")]),
     (b"for a in $none; do echo $lost; done", [not_assigned("1:5", "a"), not_defined("1:10", "none"), not_defined("1:25", "lost")]),
     (b"echo $none; laod", [not_defined("1:6", "none"), not_called("1:13", "laod")]),
@@ -323,6 +334,8 @@ DEFINED = [
     b"'test' $none; te\\st $other; echo $none$other",
     b"if false; then while false; do for b in 1; do setenv none; done; done; fi; echo $none",
     b"echo $bootfile $dnsip $domain $fdtcontroladdr $fileaddr $filesize",
+    b"echo $boardver $bootargs $devnum $devtype $distro_bootpart $dnsip2 $llipaddr $mtddevname $mtddevnum $ntpserverip",
+    b"echo $prefix $stderr $stdin $stdout $timeoffset",
     b"echo $bootcount $ethact $ethaddr $fdtaddr $mtdids $mtdparts $partition $ver",
     b"$gatewayip $hostname $ipaddr; b=$netmask; for b in $rootpath; do echo \"${serverip}\"; done",
 ]  # fmt: skip
@@ -363,7 +376,7 @@ def every_way(script, found, stand_ins=STAND_INS):
     for shell, told in ([], on_board(found)), (STRICT, found):
         for words, seen in ((with_stand_ins(shell), told), (shell, without(told, "stand-in"))):
             yield over(VARIABLES | {b"s": script}, [b"s", *words], lines(seen, "s"), files)
-            yield of_file(script, words, lines(without(seen, "`run ", "assigned", "nothing defines"), "a:1 b"), files)
+            yield of_file(script, words, lines(without(seen, "`run ", "what this runs", "assigned", "nothing defines"), "a:1 b"), files)
 
 
 def no_scripts():
@@ -416,7 +429,9 @@ def calls():
     for script, found in [*CALLED, (MIXED, MIXED_FOUND)]:
         yield from every_way(script, found)
     yield of_file(b"mmc; true", with_stand_ins(), lines([not_called("1:1", "mmc")], "a:1 b"), {b"stand-ins": b""})
-    yield of_file(b"mmc\r\ntrue\r\n", with_stand_ins(), lines([returned("1:4"), not_called("1:1", "mmc\r"), not_called("2:1", "true\r")], "a:1 b"), files)
+    yield of_file(
+        b"mmc\r\ntrue\r\n", with_stand_ins(), lines([returned("1:4"), not_called("1:1", "mmc\r"), not_called("2:1", "true\r")], "a:1 b"), files
+    )
     for text, errors in NO_STAND_INS:
         files = {b"stand-ins": text}
         yield over(VARIABLES, with_stand_ins([b"a"]), b"", files, errors=errors)
@@ -426,7 +441,7 @@ def calls():
 def lacked_commands():
     for script, found in LACKED:
         yield from every_way(script, found, OTHERS)
-        there = without(found, "this shell has no", "nothing defines", "`run ")
+        there = without(found, "this shell has no", "nothing defines", "`run ", "what this runs")
         yield of_file(script, with_stand_ins(), lines(there, "a:1 b"), {b"stand-ins": THESE})
 
 

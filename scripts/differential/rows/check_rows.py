@@ -4,8 +4,9 @@ call and the lines that it prints; with an error among them the status is 1. Not
 import re
 
 from differential.harness.boards import CONFIG, STRICT, arguments, board, calls, text_of
+
 from differential.harness.check_lines import (
-    NOTHING, cut_off, hidden, lacked, last, lines, no_script, no_operator_of_board, no_variable, not_assigned, not_called, not_defined, not_run, not_typed, on_board, returned,
+    NOTHING, any_target, cut_off, hidden, lacked, last, lines, no_script, no_operator_of_board, no_variable, not_assigned, not_called, not_defined, not_run, not_typed, on_board, returned,
     row, with_stand_ins, without,
 )  # fmt: skip
 from differential.harness.running import Case
@@ -13,7 +14,7 @@ from differential.rows import check_kinds
 from differential.rows.check_kinds import STAND_INS
 from differential.rows.script_rows import NO_ENVIRONMENTS, NO_SIZES, absent, longer
 from differential.rows.tool_rows import FIRST, PAIR, SECOND
-from model.arguments import ENV_AND, FILE_AND, NO_CODE, NO_SHELL, NO_SIZE, SIZE_ALONE
+from model.arguments import AND_ENV, FILE_AND, NO_CODE, NO_SHELL, NO_SIZE, SIZE_ALONE
 from model.dry_run import LONGEST
 from model.image import Geometry
 from model.program import WARNING, Answer
@@ -51,7 +52,15 @@ FOLLOWED = [
     (b"bootcmd=true && run 'it''s' || run two\\\\ words\nits=run n1\ntwo words=run n2\n", [], [not_run("its:1:5", "n1"), not_run("two words:1:5", "n2")]),
     (b"bootcmd=env run a\na=run n\n", [], []),
     (b"bootcmd=if false; then while false; do run a; done; fi\na=run n\n", [], [not_run("a:1:5", "n")]),
-    (b"bootcmd=for i in 1 2; do run a$i; run \"$x\"; done\na1=run n\nx=a1\n", [], []),
+    (b"bootcmd=for i in 1 2; do run a$i; run \"$x\"; done\na1=run n\nx=a1\n", [], [any_target("bootcmd:1:31"), not_run("a1:1:5", "n")]),
+    (b"bootcmd=run boot_$?\nboot_b=run n2\nboot_a=run n1\nboot=run n3\naboot_=run n4\n", [], [not_run("boot_a:1:5", "n1"), not_run("boot_b:1:5", "n2")]),
+    (b"bootcmd=run x_$? b x_1\nb=run n\nx_2=run n2\nx_1=run n1 x_3\nx_3=run n3\n", [], [not_run(f"x_{n}:1:5", f"n{n}") for n in (1, 2, 3)] + [not_run("b:1:5", "n")]),
+    (b"bootcmd=run b x_$?\nb=run n\nx_1=run n1\n", [], [not_run("b:1:5", "n"), not_run("x_1:1:5", "n1")]),
+    (b"bootcmd=run 'x'_\"$?\"y$? x_$?; run x_2\nx_=run n1\nx_2=run n2\nx=run n3\n", [], [not_run("x_:1:5", "n1"), not_run("x_2:1:5", "n2")]),
+    (b"bootcmd=run boot$? X$?\nbootcmd2=run n\nx=run m\n", [], [not_run("bootcmd2:1:5", "n")]),
+    (b"bootcmd=run $?x ''$? z$?\nx=run n\n", [], [any_target("bootcmd:1:5"), any_target("bootcmd:1:9")]),
+    (b"a=run \xc3\xa9$?\n\xc3\xa9=run n\n\xc3\xaa=run m\n", [b"a"], [not_run("\u00e9:1:5", "n")]),
+    (b"bootcmd=env run a$?; ru$? a; echo run a$?\na=run n\n", [], []),
     (b"bootcmd=run a '\na='\n", [], [no_script("bootcmd:1:7", "Quote")]),
     (b"bootcmd=run a; run b\na=echo '\nb=run n\n", [], [no_script("a:1:6", "Quote"), not_run("b:1:5", "n")]),
     (b"bootcmd=run a; x=1\na=x=2\nx=1\n", [], [not_assigned("bootcmd:1:8", "x"), not_assigned("a:1:1", "x")]),
@@ -63,6 +72,7 @@ GIVEN = [
     (b"bootcmd=echo $n; run b\nb=setenv n 1\n", [], []),
     (b"bootcmd=run b; echo $n\nb=for n in 1; do true; done\n", [], []),
     (b"bootcmd=echo $n\npreboot=n=1\n", [], []),
+    (b"bootcmd=run b_$?; echo $n\nb_1=setenv n 1\n", [], []),
     (b"bootcmd=run b\nb=run c; echo $n\nc=test $n\n", [], []),
     (b"bootcmd=echo $n\nb=n=1\n", [], [not_defined("bootcmd:1:6", "n")]),
     (b"bootcmd=echo $n; env run b\nb=n=1\n", [], [not_defined("bootcmd:1:6", "n")]),
@@ -84,6 +94,7 @@ FORESEEN = [
     (b"bootcmd=if test -n ${uenvcmd}; then run uenvcmb; fi\n", [], [not_run("bootcmd:1:33", "uenvcmb")]),
     (b"bootcmd=run b; run n\nb=setenv n 1\n", [], []),
     (b"bootcmd=run n b\nb=run c\nc=test $n\n", [], []),
+    (b"bootcmd=run n b_$?\nb_1=setenv n 1\n", [], []),
     (b"bootcmd=run n\npreboot=setexpr n 1 + 1\n", [], []),
     (b"bootcmd=run n\nb=setenv n 1\n", [], [not_run("bootcmd:1:5", "n")]),
     (b"bootcmd=run n\nb=setenv n 1\n", [b"bootcmd", b"b"], []),
@@ -124,8 +135,8 @@ WRONG = {
         "-f script --shell x a / -f script a / a -f - / -f script '' / -c absent -f script / -f script --default absent / -f=script --env=absent / "
         "-f script --size x / -f script --size 4000 --env absent -c absent a"
     ),
-    ENV_AND % b"-c <FILE>": "--env absent -c absent / --default=absent --size=x --env absent -c=absent",
-    ENV_AND % b"--default <FILE>": "a --default=absent --env absent",
+    AND_ENV % b"-c <FILE>": "--env absent -c absent / --default=absent --size=x --env absent -c=absent",
+    AND_ENV % b"--default <FILE>": "a --default=absent --env absent",
     SIZE_ALONE: "--size 4000 / --size x -c absent a",
     NO_SIZE % b"x": "--env absent --size=x a / --env absent --size=x --shell=x",
     NO_SHELL % b"x": "--shell x / --shell x --ignore y / --shell=x -f absent / -c absent --shell=x a",
@@ -203,10 +214,11 @@ def limits():
 
 
 # A script in which each kind of finding of a script is, and variables beside it
-EACH_KIND = b"run none; x=$y; laod; test a == b\nbreak\r"
+EACH_KIND = b"run none; x=$y; laod; test a == b\nbreak\r\nrun $x"
 EACH_FOUND = [
     returned("2:6"), not_run("1:5", "none"), hidden("1:11", "x"), not_defined("1:13", "y"), not_called("1:17", "laod"),
     no_operator_of_board("1:30", "=="), not_called("2:1", "break\r"),
+    any_target("3:5"),
 ]  # fmt: skip
 BESIDE = {b"x": b"1", b"n": b"a", b".flags": b"n:d"}
 
@@ -225,11 +237,19 @@ def counting():
     for code in codes:
         left = [each for each in found if code_of(each) != code]
         yield row("a kind that is left out", [*words, b"--ignore", code.encode()], files, lines(left), scripts=1)
-        yield row("a kind alone", [*words, *(b"--ignore=" + each.encode() for each in codes if each != code)], files, lines(without(found, *(f"[{each}]" for each in codes if each != code))))
+        yield row(
+            "a kind alone",
+            [*words, *(b"--ignore=" + each.encode() for each in codes if each != code)],
+            files,
+            lines(without(found, *(f"[{each}]" for each in codes if each != code))),
+        )
     yield row("all left out", [*words, b"--strict", *(b"--ignore=" + each.encode() for each in codes)], files, b"", scripts=1, status=0)
     for strict in ([], [b"--strict"]):
-        hides = row("a warning", [b"--env", b"env", *strict, b"s"], {b"env": b"x=1\ns=x=2\n"}, lines([hidden("s:1:1", "x")]), scripts=1, status=len(strict))
+        hides = row(
+            "a warning", [b"--env", b"env", *strict, b"s"], {b"env": b"x=1\ns=x=2\n"}, lines([hidden("s:1:1", "x")]), scripts=1, status=len(strict)
+        )
         yield hides
+        yield row("a note", [b"--env", b"env", *strict, b"s"], {b"env": b"x=1\ns=run $x\n"}, lines([any_target("s:1:5")]), scripts=1, status=0)
         yield row("no warning", [b"--env", b"env", *strict, b"s"], {b"env": b"x=1\ns=y=2\n"}, b"", scripts=1, status=0)
         left_out = [*strict, b"--ignore", b"hidden-assignment"]
         yield row("a warning left out", [b"--env", b"env", *left_out, b"s"], {b"env": b"x=1\ns=x=2\n"}, b"", scripts=1, status=0)
@@ -241,7 +261,13 @@ def counting():
     text = b"bootcmd=run a; run b\na=run b\nb=run c c\nx=1\n"
     yield row("three scripts", [b"--env", b"env"], {b"env": text}, lines([not_run("b:1:5", "c"), not_run("b:1:7", "c")]), scripts=3)
     many_left = [b"--env", b"env", b"--ignore", b"undefined-name", b"s"]
-    yield row("many that are left out", many_left, {b"env": text_of({b"s": b"echo $n\n" * 1_500 + b"break\n"})}, lines([lacked("1501:1", "break")], "s"), seconds=1)
+    yield row(
+        "many that are left out",
+        many_left,
+        {b"env": text_of({b"s": b"echo $n\n" * 1_500 + b"break\n"})},
+        lines([lacked("1501:1", "break")], "s"),
+        seconds=1,
+    )
 
 
 def opened():

@@ -2,7 +2,7 @@
 
 from differential.harness.boards import calls
 from differential.harness.running import Case
-from model.arguments import BOTH_ALONE, NO_COPIES, NO_PAIR_SIZE, NO_SIZE
+from model.arguments import BOTH_ALONE, NO_COPIES, NO_PAIR_SIZE, NO_SIZE, NO_TEXT, TWO_TEXTS
 from model.image import ERASED, Geometry
 from model.program import Answer
 
@@ -34,7 +34,9 @@ REFUSED = [
 ]
 # What is printed of arguments that are wrong, and such arguments; nothing is read or written
 WRONG_WORDS = {
-    None: "image / image --env text / image --size 20 / image --env text --size 20 x / image --env text --size 20 -c x / image --env text --size 20 --write",
+    NO_TEXT: "image --size 20 / image --size x --copies 3",
+    TWO_TEXTS: "image --env text --env-source text --size 20 / image --env-source absent --env absent --size x --copies 3",
+    None: "image / image --env text / image --env text --size 20 x / image --env text --size 20 -c x / image --env text --size 20 --write",
     NO_COPIES % b"3": "image --env text --size x --copies 3 --both --output out",
     NO_COPIES % b"": "image --env text --size 20 --copies=",
     BOTH_ALONE: "image --env text --size x --both / image --env text --size 20 --copies 1 --both",
@@ -59,6 +61,7 @@ def made():
     image = SINGLE.image(0, b"")
     yield row("no variables", calls("image --size 20 --env -")[0], {}, output=image)
     yield row("a text from standard input", calls("image --size 20 --env=-")[0], {}, output=SINGLE.image(0, AREA), given=TEXT)
+    yield row("a source", calls("image --env-source text --size 20")[0], {b"text": b"b=2\na=x\n y\n"}, output=SINGLE.image(0, b"a=x y\0b=2\0"))
     yield row("types that are kept", calls("--big-endian image --size 20 --env text")[0], {b"text": b".flags=n:dr\nn=1\n"},
               output=Geometry(1, 32, "big").image(0, b".flags=n:dr\0n=1\0"))  # fmt: skip
 

@@ -15,8 +15,12 @@ SECOND_LINE = b"second copy  device at 0x25, 32 bytes: "
 CURRENT = b"good, flag 3, current\n"
 AFTER_FIRST = b"variables    1, 5 of 27 bytes used\nnext save    second copy, flag 4\n"
 NONE = b"variables    none, no copy is good\n"
-BOTH = FIRST_LINE + b"good, flag 3\n" + SECOND_LINE + b"good, flag 4, current\n" + (
-    b"variables    2, 9 of 27 bytes used\nnext save    first copy, flag 5\n"
+BOTH = (
+    FIRST_LINE
+    + b"good, flag 3\n"
+    + SECOND_LINE
+    + b"good, flag 4, current\n"
+    + (b"variables    2, 9 of 27 bytes used\nnext save    first copy, flag 5\n")
 )
 
 

@@ -6,12 +6,13 @@ import re
 from differential.harness.boards import BLANK, CONFIG, EMPTIED, FIRST, PAIR, SAVED, SECOND, STRICT, arguments, board, calls, in_each_shell
 from differential.harness.running import Case
 from differential.rows.script_faults import EMPTY_BODIES, NEAR_SCRIPTS, NO_SCRIPTS, NO_STAND_INS, NULS, refused
-from model.arguments import ENV_AND, NO_NUMBER, NO_SCRIPT, NO_SHELL, NO_SIZE, READ_TWICE, SEVERAL_SCRIPTS, SIZE_ALONE
+from model.arguments import AND_ENV, NO_NUMBER, NO_SCRIPT, NO_SHELL, NO_SIZE, READ_TWICE, SEVERAL_SCRIPTS, SIZE_ALONE
 from model.dry_run import LONGEST
 from model.image import LARGEST, Geometry
 from model.program import LOOK_AT, NO_GOOD_COPY, NOT_A_STAND_IN, WARNING, Answer
 from model.report import FAULTS
 from model.script import UNKNOWN
+from model.trace import ENDS as TRACE_ENDS
 from model.variables import NOT_DEFINED
 
 
@@ -93,7 +94,7 @@ NAMES = [
     ([b"ok", b"--steps", b"2"], b"", stopped(b"Steps", 2, b"ok")),
     ([b"ok", b"bad", b"--steps", b"4"], b"fine\n", stopped(b"Steps", 4, b"bad")),
     ([b"ok", b"bad", b"--steps", b"3"], b"fine\n", stopped(b"Steps", 3)),
-    ([b"x\"\\y", b"--output", b"3"], b"", stopped(b"Output", 2, b"x\"\\y")),
+    ([b'x"\\y', b"--output", b"3"], b"", stopped(b"Output", 2, b'x"\\y')),
 ]
 # A script among the arguments, the text, and what is reported, if the status isn't 0; likewise
 NESTED = b"setenv d 'run e; echo 1'; setenv e 'echo 2'; run d"
@@ -195,6 +196,32 @@ BOOTS = [
     ([b"--must-boot", b"--boots", b"booti", b"--resets", b"mmc"], b"run boot", b"+ usb\n+ mmc dev 0\n", no_boot(b'reset by "mmc" in "boot"', 5)),
     ([b"--must-boot", b"--boots", b"mmc", b"--resets", b"mmc"], b"mmc", b"+ mmc\n", no_boot(b'reset by "mmc"', 1)),
 ]
+# Options, a script, its text, the trace, and what is reported behind that, if the status isn't 0; in each shell, unless one is named
+TRACED = [
+    ([], b"echo a", b"a\n", b"-e:1:1: echo a\n", b""),
+    ([], b"", b"", b"", b""),
+    ([], b"# nothing\n\n  echo 'a  b' $a\n\techo; false", b"a  b 1\n\n", b"-e:3:3: echo a  b 1\n-e:4:2: echo\n-e:4:8: false\n", finished(1, 3)),
+    ([], b'echo "x\ny"; echo z', b"x\ny\nz\n", b"-e:1:1: echo x\ny\n-e:2:5: echo z\n", b""),
+    ([], b"true && false || ${none} $a$a", UNKNOWN % b"11", b"-e:1:1: true\n-e:1:9: false\n-e:1:18: 11\n", finished(1, 3)),
+    ([], b"false && true || echo b", b"", b"-e:1:1: false\n", finished(1, 1), b"--shell=board"),
+    ([], b"false && true || echo b", b"b\n", b"-e:1:1: false\n-e:1:18: echo b\n", b"", *STRICT),
+    ([], b"${none}", b"", b"-e:1:1: \n", b""),
+    ([], b"x='1 2'; y=; echo $x$y", b"1 2\n", b"-e:1:1: x=1 2\n-e:1:10: y=\n-e:1:14: echo 1 2\n", b""),
+    ([], b"x\\\n=2;echo $x", b"2\n", b"-e:1:1: x=2\n-e:2:4: echo 2\n", b""),
+    ([], b"for i in a b; do echo $i; done", b"a\nb\n", b"-e:1:5: i=a\n-e:1:18: echo a\n-e:1:5: i=b\n-e:1:18: echo b\n", b""),
+    ([], b"if true; then run ok\nfi; false", b"fine\n", b"-e:1:4: true\n-e:1:15: run ok\nok:1:1: echo fine\n-e:2:5: false\n", finished(1, 5)),
+    ([], b"run bad ok", b"", b"-e:1:1: run bad ok\nbad:1:1: false\nbad:1:8: true\nbad:1:16: false\n", finished(1, 5)),
+    ([], b"run ok absent", b"fine\n" + NOT_DEFINED % b"absent", b"-e:1:1: run ok absent\nok:1:1: echo fine\n", finished(1, 4)),
+    ([], b"run 'two words'", b"blank\n", b"-e:1:1: run two words\ntwo words:1:1: echo blank\n", b""),
+    ([], b"exit 3; echo a", b"", b"-e:1:1: exit 3\n", exited(3, 1)),
+    ([b"--steps=1"], b"echo a; echo b", b"a\n", b"-e:1:1: echo a\n", stopped(b"Steps", 1)),
+    ([b"--word=4"], b"echo abcd; echo abcde", b"abcd\n", b"-e:1:1: echo abcd\n", stopped(b"Word", 1)),
+    ([b"--output=16"], b"echo; echo; echo", b"\n\n\n", b"-e:1:1: echo\n" + TRACE_ENDS, b""),
+    ([b"--output=13"], b"echo; true", b"\n", b"-e:1:1: echo\n" + TRACE_ENDS, b""),
+    ([b"--output=12"], b"echo; x=", b"\n", TRACE_ENDS, b""),
+    ([b"--output=0"], b"true; false", b"", TRACE_ENDS, finished(1, 2)),
+    ([b"--must-boot", b"--board=board"], b"mmc a\nusb", b"+ mmc a\n+ usb\n", b"-e:1:1: mmc a\nanswer:1:1: m=a\nanswer:1:9: true\n-e:2:1: usb\n", b""),
+]
 # Options over two copies, of which the first is current: the text, what is reported, and both copies afterwards
 AGAIN = PAIR.image(9, b"a=b\0")
 SAVES = [
@@ -223,21 +250,21 @@ WRONG_WORDS = {
     SEVERAL_SCRIPTS: "run -e true ok / run ok -f script / run -e true -f script / run -f - -e true ok bad / run -e '' ''",
     None: (
         "run -e true -e true / run -f script -f script / run -e / run -e -x / run -f / run --boots / run -x / run -n ok / "
-        "run --env env --env env ok / run --must-boot=1 ok / run --must-boot --must-boot ok / run --resets / session --boots booti / session -e true / printenv --env env / setenv --size 10 a b / "
+        "run --env env --env env ok / run --must-boot=1 ok / run --must-boot --must-boot ok / run --resets / session --boots / session --boots x --resets / session --must-boot / session --trace / check --boots booti / run --trace=1 ok / run --trace --trace ok / boot --trace / session -e true / printenv --env env / setenv --size 10 a b / "
         "printenv --need-copy --need-copy / --need-copy printenv / status --need-copy"
     ),
-    ENV_AND % b"--write": (
+    AND_ENV % b"--write": (
         "run --write --env absent ok / run --write --size=x --env absent ok / session --write --env absent / "
         "run --steps=x --write --env absent / run --write --env absent"
     ),
-    ENV_AND % b"-c <FILE>": (
+    AND_ENV % b"-c <FILE>": (
         "run -c absent --env absent ok / run --write --need-copy --default=d -c=c --env absent ok / session --env absent -c absent"
     ),
-    ENV_AND % b"--default <FILE>": (
+    AND_ENV % b"--default <FILE>": (
         "run --env absent --default absent ok / run --write --need-copy --default=d --env absent ok / "
         "session --env absent --default absent"
     ),
-    ENV_AND % b"--need-copy": (
+    AND_ENV % b"--need-copy": (
         "run --env absent --need-copy ok / run --write --need-copy --env absent ok / session --env absent --need-copy"
     ),
     SIZE_ALONE: "run --size 0x4000 ok / run --size x -c absent ok / session --size 0x4000 / run --steps=x --size 8",
@@ -290,15 +317,58 @@ NO_ENVIRONMENTS = [
     (b".flags=n:d\nn=3\\\n4\n", None, b"fwenv: env: BadType in line 2\n"),
     (b"a=1\\\n2\nb=3\n", b"0xe", b"fwenv: env: Full in line 3\n"),
     (b"a=1\n=2\n", None, b"fwenv: env: EmptyName in line 2\n"),
-    (b"a=1\nb\nc\n", None, b"fwenv: env:2: no = in this line\n"),
-    (b"# x\n \n\tb # c\n", None, b"fwenv: env:3: no = in this line\n"),
-    (b"a=1\\\n2\nb=\\\n\n c", None, b"fwenv: env:5: no = in this line\n"),
-    (b"a=1\n#include <env.h>\n/* the board */\nb+=2\n", None, b"fwenv: env:3: no = in this line\n"),
+    (b"a=1\nb\nc\n", None, b"fwenv: env:2: no = in this line; for a source in U-Boot's own form use --env-source\n"),
+    (b"# x\n \n\tb # c\n", None, b"fwenv: env:3: no = in this line; for a source in U-Boot's own form use --env-source\n"),
+    (b"a=1\\\n2\nb=\\\n\n c", None, b"fwenv: env:5: no = in this line; for a source in U-Boot's own form use --env-source\n"),
+    (
+        b"a=1\n#include <env.h>\n/* the board */\nb+=2\n",
+        None,
+        b"fwenv: env:3: no = in this line; for a source in U-Boot's own form use --env-source\n",
+    ),
     (b"b\n=2\n", None, b"fwenv: env: EmptyName in line 2\n"),
-    (b"a=" + b"x" * 16_377 + b"\nb\n", None, b"fwenv: env:2: no = in this line\n"),
+    (b"a=" + b"x" * 16_377 + b"\nb\n", None, b"fwenv: env:2: no = in this line; for a source in U-Boot's own form use --env-source\n"),
     (b"a=1\0\n", None, b"fwenv: env: Nul\n"),
     (None, None, absent(b"env")),
     (b"\n" * (LONGEST + 1), None, longer(b"env")),
+]
+# A source of U-Boot, and its variables: what scripts/env2string.awk of U-Boot makes of it, tried with mawk and gawk
+SOURCES = [
+    (b"", b""),
+    (b"a=1\nb=2\na=3\n", b"a=3\nb=2\n"),
+    (b"a+=x\n", b"a=x\n"),
+    (b"a=1\nb=\na+=2\n", b"a=12\n"),
+    (b"a=1\na=\nb=2\n", b"a=1\nb=2\n"),
+    (b"b=1\na=\n", b"b=1\n"),
+    (b"b=1\na=\nc=\n x\n", b"b=1\nc=x\n"),
+    (b"a=1\nfoo\n", b"a=1 foo\n"),
+    (b"a=\n  foo  \n\tbar\n", b"a=foo   bar\n"),
+    (b"a=x \n y", b"a=x  y\n"),
+    (b"a++=x\na+=y\n", b"a=y\na+=x\n"),
+    (b"x=1\n\ta=c\n=b\n c d=e\n", b"x=1 a=c =b c d=e\n"),
+    (b"a=\"q\" 'r' %s & /* c */ # d\n", b"a=\"q\" 'r' %s & /* c */ # d\n"),
+    (b"a= \nb=1\n", b"a= \nb=1\n"),
+    (b"a=1\n\n \t\n c\n", b"a=1 c\n"),
+    (b'# 0 "board.env"\na=1\n# 7 "a\\b.env" 2\n b\n', b"a=1 b\n"),
+    (b"a==1\n8=\xc3\xa9\n", b"8=\xc3\xa9\na==1\n"),
+]
+# Such a source that is refused, the line, and why
+NO_SOURCES = [
+    (b"a=1\n\0\r", 2, b"a byte 0"),
+    (b"a=1\r\n", 1, b"a carriage return"),
+    (b"\n  #include <env/ti/mmc.env>\n", 2, b"a line for the C preprocessor, which has to be run before"),
+    (b"a=1\n#b=1\n", 2, b"a line for the C preprocessor, which has to be run before"),
+    (b"# 1 the board\n", 1, b"a line for the C preprocessor, which has to be run before"),
+    (b"a=1\n /* the board\\ */\n", 2, b"a comment for the C preprocessor, which has to be run before"),
+    (b"a=1\nb=x\\\n y\n", 2, b"a backslash, which U-Boot's build changes"),
+    (b"a\\+=v\n", 1, b"a backslash, which U-Boot's build changes"),
+    (b"a\tb=c\n", 1, b"a tab in the name"),
+    (b"1\ta=c\n", 1, b"a tab in the name"),
+    (b"a=1\n7b=1\n", 2, b"a name that begins with a digit from 0 to 7, which U-Boot's build loses"),
+    (b"+=\n", 1, b"no name before +="),
+    (b"a=1\na+=\n 2\n", 2, b"nothing after +="),
+    (b"\n\nfoo bar\na=1\n", 3, b"no variable before this line"),
+    (b"  a=1\n", 1, b"no variable before this line"),
+    (b"b=1\na=\n\nc=\n", 4, b"two variables without a value at the end, by which U-Boot's build loses all"),
 ]
 # Subcommands over copies of which none is good, the file `text` being a text for import
 NEED_COPY = calls(
@@ -414,6 +484,21 @@ def booted():
         yield over_text("wrong stand-ins", [b"--stubs", b"stand-ins", b"ok"], b"", errors, {b"stand-ins": text})
 
 
+def traced():
+    files = {b"board": b"mmc -> m=${1}; true\nusb -> boots\n"}
+    for options, script, output, trace, errors, *each in TRACED:
+        for words in in_each_shell([*options, *each]):
+            words, status = [*words, b"--trace", b"-e", script], int(errors != b"")
+            yield over_text("a trace", words, output, trace + errors, files, status=status)
+            # (which changes nothing else)
+            yield over_text("no trace", [word for word in words if word != b"--trace"], output, errors, files)
+    output, trace = b"fine\n", b"run:1:1: run ok\nok:1:1: echo fine\n"
+    yield over_text("a trace of a variable", [b"--trace", b"ok"], output, trace, status=0)
+    yield over_text("a trace of a file", [b"--trace", b"-f", b"script"], output, b"script:2:1: echo fine\n", {b"script": b"\necho fine"}, status=0)
+    yield over_text("a trace of standard input", [b"--trace", b"-f-"], output, b"-:1:1: echo fine\n", given=b"echo fine", status=0)
+    yield over_text("a trace of no script", [b"--trace", b"-e", b"'"], b"", refused(b"-e", 1, 1, "Quote"))
+
+
 def saves():
     for options, output, errors, *left in SAVES:
         files = board(PAIR, [FIRST, SECOND]) | {b"stand-ins": STAND_INS}
@@ -474,6 +559,14 @@ def environments():
         # (a session doesn't report why a file can't be read)
         errors = re.sub(rb"(cannot read env): .*", rb"\1", errors)
         yield row("no session over it", [b"session", *sized], files, b"", errors, given=b".print\n", seconds=2)
+    for text, output in SOURCES:
+        files = {b"env": text}
+        yield row("a source", [b"run", b"--env-source", b"env", b"-e", b"printenv"], files, output, b"")
+        yield row("a source from standard input", [b"run", b"--env-source=-", b"-e", b"printenv"], {}, output, b"", given=text)
+        yield row("a session over it", [b"session", b"--env-source", b"env"], files, output, b"", given=b".print\n")
+    for text, line, why in NO_SOURCES:
+        for tool in (b"run a", b"session", b"check", b"boot", b"image --size 20"):
+            yield row("no source", [*tool.split(), b"--env-source", b"env"], {b"env": text}, b"", b"fwenv: env:%d: %s\n" % (line, why))
     given, output = b"setenv a 2\n.save\n.undo\n.print\n", b"[Finished 0 1]\nSaved copy 1\n[Undone]\na=1\n"
     yield row("an undo to it", [b"session", b"--env", b"env", b"--big-endian"], {b"env": b"a=1\n"}, output, b"", given=given)
     yield row("a big-endian one", [b"run", b"--big-endian", b"--env", b"env", b"-e", b"printenv"], {b"env": b"a=1\n"}, b"a=1\n", b"")
@@ -518,4 +611,4 @@ def order():
 
 
 def chunks():
-    return [names, scripts, no_scripts, script_files, booted, saves, without_copies, words, environments, no_good_copy, good_copies, order]
+    return [names, scripts, no_scripts, script_files, booted, traced, saves, without_copies, words, environments, no_good_copy, good_copies, order]

@@ -5,7 +5,7 @@ from differential.harness.boards import EMPTIED, FIRST, PAIR, SAVED, SECOND, arg
 from differential.harness.running import Case
 from model.arguments import LIMITS, NO_NUMBER
 from model.image import ERASED, Geometry
-from model.program import WARNING, Answer
+from model.program import NOT_A_STAND_IN, WARNING, Answer
 
 SMALL = Geometry(1, 16)
 NAME = b"abcdefghijklmnopqrstuvwxyz012345"
@@ -79,13 +79,25 @@ BOUNDED = [
     (
         "the limits of each block",
         b"echo a\n.x\necho b\n",
-        b"a\n[Finished 0 1]\n[Unknown]\nb\n[Finished 0 1]\n", b"--steps", b"1", b"--output", b"2",
+        b"a\n[Finished 0 1]\n[Unknown]\nb\n[Finished 0 1]\n",
+        b"--steps",
+        b"1",
+        b"--output",
+        b"2",
     ),
     ("the usual steps", b"while true; do true; done\n", b"[Steps 0 100000]\n"),
     (
         "all that may be asked for",
         b"echo a\n",
-        b"a\n[Finished 0 1]\n", b"--steps", b"1000000", b"--depth", b"16", b"--word", b"65536", b"--output", b"16777216",
+        b"a\n[Finished 0 1]\n",
+        b"--steps",
+        b"1000000",
+        b"--depth",
+        b"16",
+        b"--word",
+        b"65536",
+        b"--output",
+        b"16777216",
     ),
     ("leading zeros", b"echo a; echo b\n", b"a\n[Steps 0 1]\n", b"--steps", b"00000000000000000000000001"),
 ]
@@ -111,6 +123,20 @@ STAND_INS = [
     (b"x\nx\n", b"echo a\n", b"", b"fwenv: stand-ins: Twice in line 2\n"),
     (b"\0" * (2**24 + 1), b"echo a\n", b"", b"fwenv: cannot read stand-ins\n"),
     (None, b"echo a\n", b"", b"fwenv: cannot read stand-ins\n"),
+]
+# Options, the input, and what is printed, if the stand-ins are these: the run ends at a command that leaves the board, and the session goes on
+LEAVING = b"booti\nmmc\nusb 1\n"
+LEFT = [
+    ([], b"booti 1; echo a\n.x\necho b\n", b"+ booti 1\na\n[Finished 0 2]\n[Unknown]\nb\n[Finished 0 1]\n"),
+    ([b"--boots", b"booti"], b"booti 1; echo a\n.x\necho b\n", b"+ booti 1\n[Exited 0 1]\n[Unknown]\nb\n[Finished 0 1]\n"),
+    ([b"--resets=mmc", b"--boots=booti"], b"x=1\nmmc; booti\n.x\nfalse\nbooti\n", b"+ mmc\n[Exited 0 2]\n[Unknown]\n+ booti\n[Exited 0 2]\n"),
+    ([b"--boots", b"usb", b"--shell", b"board"], b"usb; echo a", b"+ usb\na\n[Finished 0 2]\n"),
+]
+# Names that no stand-in has
+NO_NAMES = [
+    ([b"--boots", b"boot"], b"boot", b"--boots"),
+    ([b"--resets", b"absent", b"--boots", b"booti"], b"absent", b"--resets"),
+    ([b"--resets", b"absent", b"--boots", b"true"], b"true", b"--boots"),
 ]
 # Two copies, of which the first is current: the input, what is printed, the second copy and the first one, and the options
 WRITES = [
@@ -189,6 +215,16 @@ def stood_in():
     yield over_small_board("the default text first", b"", b"", *words, errors=b"fwenv: cannot read absent\n")
 
 
+def left():
+    given = {b"stand-ins": LEAVING}
+    for words, text, output in LEFT:
+        yield over_small_board("a command that leaves the board", text, output, b"--stubs", b"stand-ins", *words, files=given)
+    for words, name, option in NO_NAMES:
+        errors = NOT_A_STAND_IN % (name, option)
+        yield over_small_board("no such stand-in", b"echo a\n", b"", b"--stubs", b"stand-ins", *words, files=given, errors=errors)
+    yield over_small_board("no stand-ins", b"echo a\n", b"", b"--boots", b"booti", errors=NOT_A_STAND_IN % (b"booti", b"--boots"))
+
+
 def wrong_numbers():
     """A fault of the command line is reported before any file is opened; of two the first in the order of
     docs/dry-runs.md is reported."""
@@ -229,4 +265,4 @@ def pieces():
 
 
 def chunks():
-    return [answered, stood_in, wrong_numbers, written, undone, pieces]
+    return [answered, stood_in, left, wrong_numbers, written, undone, pieces]

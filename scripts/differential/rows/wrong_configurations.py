@@ -92,7 +92,11 @@ def is_spared(board, files):
 
 def accepts(board, right, wanted, found):
     """The answer is the model's; a right configuration is written under, and a wrong one spares the copies."""
-    return found.is_as(wanted) and found.status == 0 and not is_spared(board, found.files) if right else found.is_as(wanted) and is_spared(board, found.files)
+    return (
+        found.is_as(wanted) and found.status == 0 and not is_spared(board, found.files)
+        if right
+        else found.is_as(wanted) and is_spared(board, found.files)
+    )
 
 
 def case(name, board, configuration, call, is_client, options):

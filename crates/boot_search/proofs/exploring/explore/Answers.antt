@@ -1,11 +1,14 @@
-use Rattle.std.proofs.Common.{◌+◌, ◌≤◌, ◌<◌, arith, map, length}
-use Rattle.boot_search.specs.Reports.{bytes_of}
-use Rattle.std.specs.Prelude.{IsTrue}
+use Rattle.std.proofs.Common.{rules, ◌≡◌, ◌∙◌, ◌+◌, ◌≤◌, ◌<◌, ◌++◌, ◌∷◌, [], None, ℕ, List, sym, ap, subst, arith, map, length}
+use Rattle.boot_search.specs.declared.exploring.Stored.{Stored}
+use Rattle.boot_search.specs.declared.exploring.Way.{Way}
+use Rattle.boot_search.specs.Reports.{AreSteps, Step, bytes_of, reached_of, step_of, texts_of}
+use Rattle.std.specs.Prelude.{IsTrue, slice_get}
 use Rattle.std.proofs.Math.Dec.{leb}
 use Rattle.std.proofs.lemmas.Bool.{and_parts, leb-true}
 use Rattle.boot_search.proofs.Lists.{get_from_Contains}
 use Rattle.boot_search.proofs.ReportLemmas.{grows_state, reaches_listed, listed_reaches}
 use Rattle.boot_search.proofs.PlaceLemmas.{covers_more, covers_all, stored_long}
+use Rattle.boot_search.proofs.PlacesLemmas.{first_steps}
 use Rattle.boot_search.proofs.exploring.explore.Goals as goal
 
 pub returns-then-from-len-clause-report : goal.returns-then-from-len-clause-report
@@ -29,12 +32,31 @@ returns-then-from-len-clause-only g c state has =
     let k = get_from_Contains (map bytes_of c.loop-from.stored.items) state has in
     listed_reaches (g.B.Board.runs c.args.board.now) c.args.start.now _ _ _ r.first r.steps (k.0 + 1) k.0 state (omega arith) k.1
 
+pub loop-from-init : goal.loop-from-init
+loop-from-init g c =
+    let e = c.in_ok-add_stored.ensures in
+    let runs = g.B.Board.runs c.args.board.now in
+    let new = c.add_stored.new.stored.items in
+    let none : c.new-stored.result.items ≡ [] = search rules in
+    let no_ways : c.new-ways.result.items ≡ [] = search rules in
+    let texts : texts_of new ≡ c.args.start.now ∷ [] = e.texts ∙ ap (λ (xs : List Stored). texts_of xs ++ c.args.start.now ∷ []) none in
+    let reached : reached_of new ≡ None ∷ [] = e.reached ∙ ap (λ (xs : List Stored). reached_of xs ++ None ∷ []) none in
+    let steps : AreSteps runs (texts_of new) (reached_of new) [] = first_steps runs c.args.start.now (texts_of new) (reached_of new) texts reached in
+    record {
+      places = e.places;
+      first = ap (λ (t : List (List ℕ)). slice_get t 0) texts;
+      steps = subst (λ (ws : List Step). AreSteps runs (texts_of new) (reached_of new) ws) (sym (ap (map step_of) no_ways)) steps;
+      covers = λ whole i l. absurd (omega (arith, l));
+      few = omega (arith, ap (λ (ws : List Way). length ws) no_ways);
+    }
+
 pub loop-from-preserved : goal.loop-from-preserved
 loop-from-preserved g c =
     let runs = g.B.Board.runs c.args.board.now in
     let e = c.in_ok-all.ensures in
     let within : c.loop-from.from < length (map bytes_of c.loop-from.stored.items) = omega (arith, stored_long c.loop-from.stored, c.len.ensures, c.if-from-len.false) in
     record {
+      places = e.places;
       first = grows_state e.grows 0 c.args.start.now c.loop-from.invariant.first;
       steps = e.listed;
       covers = λ whole. covers_more runs c.loop-from.from within e.grows (c.loop-from.invariant.covers (and_parts _ _ whole).0) (e.covers (and_parts _ _ whole).1);

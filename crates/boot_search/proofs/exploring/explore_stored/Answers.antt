@@ -22,6 +22,7 @@ loop-ending-preserved g c =
     let x = c.ending-item.result in
     let l = c.loop-ending-test.true in
     record {
+      places = c.in_ok-add_way.ensures.places;
       steps = one_more_steps runs c.args.from found i x state l c.ending-item.is at c.loop-ending.invariant.grows c.in_ok-add_way.ensures.added sound c.loop-ending.invariant.steps;
       grows = one_more_grows runs c.args.from found i x state l c.ending-item.is at c.loop-ending.invariant.grows c.in_ok-add_way.ensures.added;
       listed = one_more_listed runs c.args.from found i x state l c.ending-item.is at c.loop-ending.invariant.grows c.in_ok-add_way.ensures.added c.loop-ending.invariant.listed;

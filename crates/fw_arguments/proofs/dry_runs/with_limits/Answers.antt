@@ -6,8 +6,8 @@ use Rattle.fw_arguments.proofs.dry_runs.with_limits.Goals as goal
 
 pub returns-in-Ok : goal.returns-in-Ok
 returns-in-Ok c =
-    script_is c.args.shell (rows_of (found_of c.args.found.now)) _ c.args.limits _ _ _ (script_view c.in-Ok.script) c.in-Ok.ensures
-    c.dry_run_within.ensures c.values.ensures c.values-in-Ok.ensures c.is_given.ensures
+    script_is c.args.shell (rows_of (found_of c.args.found.now)) _ c.args.limits _ _ (script_view c.in-Ok.script) c.in-Ok.ensures
+    c.dry_run_within.ensures c.is_given.ensures c.is_given-in-Ok.ensures
 
 pub returns-in-Err : goal.returns-in-Err
 returns-in-Err c =

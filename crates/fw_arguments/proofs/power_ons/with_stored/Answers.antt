@@ -7,8 +7,8 @@ use Rattle.fw_arguments.proofs.power_ons.with_stored.Goals as goal
 
 pub returns-in-Ok : goal.returns-in-Ok
 returns-in-Ok c =
-    power_ons_are c.args.shell (rows_of (found_of c.args.found.now)) _ c.args.limits _ _ c.args.stored c.in-Ok.ways c.in-Ok.ensures
-    c.dry_run_within.ensures c.values.ensures c.values-in-Ok.ensures
+    power_ons_are c.args.shell (rows_of (found_of c.args.found.now)) _ c.args.limits c.args.stored c.in-Ok.ways _ c.in-Ok.ensures
+    c.dry_run_within.ensures c.is_given.ensures
 
 pub returns-in-Err : goal.returns-in-Err
 returns-in-Err c =

@@ -1,12 +1,12 @@
 use Rattle.std.proofs.Common.{◌≡◌, drop, map}
 use Rattle.std.specs.List.{flat_map}
-use Rattle.fw_check.specs.Checking.{with_names}
+use Rattle.fw_check.specs.Following.{follow_fronts}
 use Rattle.fw_check.specs.Looking.{rules_in}
-use Rattle.fw_check.specs.Naming.{run_names}
+use Rattle.fw_check.specs.Naming.{run_fronts}
 use Rattle.fw_check.specs.Statements.{statement_of}
 use Rattle.fw_check.proofs.run_names.follow_items.Given as goal
 
 abbrev pub invariant-loop-item : goal.invariant-loop-item
 invariant-loop-item l =
-    with_names l.vars.env l.names (flat_map (run_names (rules_in l.lookups)) (map (statement_of l.text) (drop l.item-index l.items)))
-    ≡ with_names l.vars.env l.initial.names (flat_map (run_names (rules_in l.lookups)) (map (statement_of l.text) l.items))
+    follow_fronts l.names (flat_map (run_fronts (rules_in l.lookups)) (map (statement_of l.text) (drop l.item-index l.items)))
+    ≡ follow_fronts l.initial.names (flat_map (run_fronts (rules_in l.lookups)) (map (statement_of l.text) l.items))

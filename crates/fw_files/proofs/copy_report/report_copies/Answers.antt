@@ -1,7 +1,6 @@
-use Rattle.std.proofs.Common.{◌≡◌, inl, inr, refl, ap, subst, ◌∙◌}
-use Rattle.std.specs.Prelude.{Ok, unwrap_or}
+use Rattle.std.proofs.Common.{◌≡◌, inr, ◌∙◌}
+use Rattle.std.specs.Prelude.{Ok}
 use Rattle.envcfg_core.specs.Config.{config_of, config_view}
-use Rattle.fw_files.specs.Said.{Says}
 use Rattle.fw_files.proofs.CopyReportLemmas.{surveyed}
 use Rattle.fw_files.proofs.FileLemmas.{of_value}
 use Rattle.fw_files.proofs.SaidLemmas.{waited_from}

@@ -1,9 +1,8 @@
-use Rattle.std.proofs.Common.{refl}
-use Rattle.fw_files.proofs.SaidLemmas.{not_waited}
+use Rattle.fw_files.proofs.SaidLemmas.{silent_front}
 use Rattle.fw_files.proofs.devices.lock_path.Goals as goal
 
 pub returns-then-is_pipe : goal.returns-then-is_pipe
-returns-then-is_pipe g c = not_waited _ _ refl
+returns-then-is_pipe g c = silent_front _ _
 
 pub returns-in-Err : goal.returns-in-Err
-returns-in-Err g c = not_waited _ _ refl
+returns-in-Err g c = silent_front _ _

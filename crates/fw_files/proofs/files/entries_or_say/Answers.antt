@@ -10,7 +10,7 @@ use Rattle.fw_files.proofs.files.entries_or_say.Goals as goal
 pub returns : goal.returns
 returns g c =
     let spelled : IfOk c.import_from.result (λ entries. (text : List ℕ) × (import_of text ≡ Ok (map entry_view entries.items))) =
-    IfOk-weaker c.import_from.result _ _ (λ entries is. (c.deref.result.now, is)) c.import_from.ensures in
+    IfOk-weaker c.import_from.result _ _ (λ entries is. (c.deref.result.now, is)) c.import_from.ensures.read in
     let new = g.E.Write.contents c.value_or_say-2.new.errors in
     let said = subst (λ e. MatchOption c.value_or_say-2.result (SaysSome e new) (λ _. new ≡ e)) c.in_ok-text.ensures.said c.value_or_say-2.ensures.said in
     of_outcome _ c.import_from.result c.value_or_say-2.result _ _ c.value_or_say-2.ensures.value spelled said

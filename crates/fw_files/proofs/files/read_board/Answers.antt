@@ -1,6 +1,5 @@
 use Rattle.std.proofs.Common.{Bor, List, Option, option_map, subst, sym, ℕ}
-use Rattle.std.specs.Prelude.{IfOk, Ok}
-use Rattle.hush_commands.specs.declared.board_rules.Rule.{Rule}
+use Rattle.std.specs.Prelude.{IfOk}
 use Rattle.fw_files.specs.Files.{AreRulesOf}
 use Rattle.fw_files.proofs.files.read_board.Goals as goal
 

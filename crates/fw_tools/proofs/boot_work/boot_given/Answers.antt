@@ -1,7 +1,6 @@
 use Rattle.std.proofs.Common.{inr, subst}
 use Rattle.fw_files.specs.Said.{Says}
 use Rattle.hush_commands.specs.Hardware.{hardware}
-use Rattle.fw_tools.specs.WantedHardware.{IsHardwareOf}
 use Rattle.fw_tools.proofs.boot_work.boot_given.Goals as goal
 
 pub returns : goal.returns
@@ -9,7 +8,7 @@ returns g c =
     let given = hardware c.in_ok-hardware.hardware.board c.in_ok-hardware.hardware.stand_ins in
     inr (
       given,
-      subst (λ wanted. IsHardwareOf wanted given) c.wanted_to_boot.ensures c.in_ok-hardware.ensures.0,
+      c.in_ok-hardware.ensures.0,
       (
         c.print_boots-end.result,
         c.print_boots-end.ensures,

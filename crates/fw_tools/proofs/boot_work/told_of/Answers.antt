@@ -14,5 +14,5 @@ returns c =
     let session = c.args.session.now in
     let tree = tree_of c.in_ok-script.script in
     let first = c.deref.ensures.value ∙ c.in-Ok.ensures ∙ ap (λ shape. image_bytes shape false session.now.env) c.in-Some.ensures in
-    tells asked given session tree _ c.boot_text.result c.in_ok-script.ensures
-    (power_is (rules_in asked.dry.shell given asked.dry.limits) tree _ _ _ _ _ _ c.in-Some.ensures c.defaults.ensures first) c.boot_text.ensures
+    tells asked given session tree _ c.text_or_graph.result c.in_ok-script.ensures
+    (power_is (rules_in asked.dry.shell given asked.dry.limits) tree _ _ _ _ _ _ c.in-Some.ensures c.defaults.ensures first) c.text_or_graph.ensures

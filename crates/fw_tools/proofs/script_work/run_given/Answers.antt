@@ -2,7 +2,6 @@ use Rattle.std.proofs.Common.{inr, subst, ◌∙◌, ℕ, List, Option}
 use Rattle.fw_arguments.specs.DryRuns.{script_run_view}
 use Rattle.hush_commands.specs.Hardware.{hardware}
 use Rattle.fw_tools.specs.ScriptRuns.{RunsText}
-use Rattle.fw_tools.specs.WantedHardware.{IsHardwareOf}
 use Rattle.fw_tools.proofs.script_work.run_given.Goals as goal
 
 pub returns : goal.returns
@@ -16,7 +15,7 @@ returns g c =
     inr (
       given,
       c.in_ok-text.text.items,
-      subst (λ wanted. IsHardwareOf wanted given) c.wanted_for.ensures c.in_ok-hardware.ensures.0,
+      c.in_ok-hardware.ensures.0,
       c.in_ok-text.ensures.0,
       subst (λ t. of t (g.E.Write.contents c.args.errors.now)) c.deref.ensures.value same,
     )

@@ -9,7 +9,7 @@ use Rattle.fw_tools.proofs.subcommands.use_files.Goals as goal
 
 pub returns-in_err-session : goal.returns-in_err-session
 returns-in_err-session g c =
-    inl (refl, ((refl, said_then _ _ _ (waited_said _ _ c.in_ok-source.ensures.1) c.in_err-session.ensures), ap (λ o. unwrap_or o 1) c.from_residual-in_err-session.ensures))
+    inl (refl, ((refl, said_then _ _ _ (waited_said _ _ c.in_ok-source.ensures.found.1) c.in_err-session.ensures), ap (λ o. unwrap_or o 1) c.from_residual-in_err-session.ensures))
 
 pub returns : goal.returns
 returns g c =
@@ -18,5 +18,5 @@ returns g c =
     let session = c.in_ok-session.session in
     let opened = c.in_ok-session.ensures in
     let spared = subst (λ s. Spares session.now.current s source.geometry source.first.bytes.items (second_bytes source.second)) c.spares.ensures opened.2.spared in
-    let opening = opens_so call.image call.order call.copy (spares call) source opened.0 session c.in_ok-source.ensures.0 opened.2.opens spared in
-    opened_session call opened.0 _ _ session _ _ _ c.in_ok-source.ensures.1 opened.1 opening opened.2.accepted c.work.ensures
+    let opening = opens_so call.image call.order call.copy (spares call) source opened.0 session c.in_ok-source.ensures.found.0 opened.2.opens spared in
+    opened_session call opened.0 _ _ session _ _ _ c.in_ok-source.ensures.found.1 opened.1 opening opened.2.accepted c.work.ensures

@@ -1,5 +1,5 @@
 use Rattle.std.proofs.Common.{map, ap, sym, ◌∙◌, ◌++◌, ◌∷◌, []}
-use Rattle.fw_check.specs.Checking.{is_among}
+use Rattle.fw_check.specs.Following.{is_among}
 use Rattle.fw_check.specs.NameSets.{set_of}
 use Rattle.fw_check.proofs.NameLemmas.{items-more, same-more}
 use Rattle.fw_check.proofs.followed.Names.add.Goals as goal

@@ -1,5 +1,5 @@
 use Rattle.std.proofs.Common.{map, ap, sym, ◌∙◌}
-use Rattle.fw_check.specs.Checking.{is_among}
+use Rattle.fw_check.specs.Following.{is_among}
 use Rattle.fw_check.proofs.followed.Names.new.Goals as goal
 
 pub invariant_of-result : goal.invariant_of-result

@@ -1,0 +1,7 @@
+use Rattle.std.proofs.Common.{◌≡◌, ◌++◌, drop}
+use Rattle.std.specs.List.{flat_map}
+use Rattle.boot_search.specs.DotText.{quoted_byte}
+use Rattle.boot_search.proofs.dot_words.push_quoted_bytes.Given as goal
+
+abbrev pub invariant-loop-byte : goal.invariant-loop-byte
+invariant-loop-byte l = l.text.items ++ flat_map quoted_byte (drop l.byte-index l.words) ≡ l.initial.text.items ++ flat_map quoted_byte l.words

@@ -1,0 +1,10 @@
+use Rattle.std.proofs.Common.{true}
+use Rattle.fw_boots.specs.Boots.{power_of}
+use Rattle.fw_boots.proofs.PowerLemmas.{told_as}
+use Rattle.fw_boots.proofs.boot.boot_graph.Goals as goal
+
+pub returns : goal.returns
+returns c =
+    let of = c.in_ok-survey.ensures in
+    told_as true (power_of c.args.boot.now) c.args.limits.ways c.in_ok-survey.survey c.dot_text.result (of.report, of.boots, of.may_boot, of.few)
+    c.dot_text.ensures.text c.dot_text.ensures.status

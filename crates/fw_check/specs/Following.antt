@@ -1,0 +1,68 @@
+-- Which scripts are read (docs/check.md, "Which scripts").
+use Rattle.std.specs.Prelude.{ℕ, ◌==◌, ◌&&◌, Bool, not, List, [], ◌∷◌, ◌++◌, length, map, fold, filter, nat_eq, codes, is_some, if◌then◌else◌, refl}
+use Rattle.std.specs.List.{list_any, starts_with}
+use Rattle.std.specs.Ordering.{eq_by_cmp}
+use Rattle.std.specs.Coded.{Coded, code_by, coded×, coded_ℕ, coded_list}
+use Rattle.std.specs.FinMap as finite
+use Rattle.std.specs.FinMap.{entries, get}
+use Rattle.envimg_core.specs.Environment.{Environment, bytes_cmp}
+use Rattle.fw_check.specs.Literals.{Front}
+
+abbrev pub is_among : List (List ℕ) → List ℕ → Bool
+is_among names name = list_any (eq_by_cmp bytes_cmp name) names
+
+abbrev pub is_set : Environment → List ℕ → Bool
+is_set env name = is_some (get env name)
+
+-- a name is added after those that are there already, if it is defined and not among them
+abbrev pub with_name : Environment → List (List ℕ) → List ℕ → List (List ℕ)
+with_name env names name = if is_set env name && not (is_among names name) then names ++ name ∷ [] else names
+
+abbrev pub with_names : Environment → List (List ℕ) → List (List ℕ) → List (List ℕ)
+with_names env names more = fold (with_name env) names more
+
+-- the names of an environment, in ascending order of their bytes
+abbrev pub names_of : Environment → List (List ℕ)
+names_of env = map (λ p. p.0) (entries env)
+
+-- those of these names that begin so
+abbrev pub names_with : (beginning : List ℕ) → List (List ℕ) → List (List ℕ)
+names_with beginning names = filter (λ name. starts_with nat_eq name beginning) names
+
+-- what an argument of `run` may name: itself if it has no substitution, else each name that begins as it does; one that
+-- begins with a substitution isn't followed
+abbrev pub named_by : Environment → Front → List (List ℕ)
+named_by env front =
+    if front.whole then front.bytes ∷ []
+    else if length front.bytes == 0 then []
+    else names_with front.bytes (names_of env)
+
+-- an environment, and the names that are followed in it
+pub record Followed : Type 0 where
+  pub env : Environment
+  pub names : List (List ℕ)
+
+abbrev pub followed_code : Coded Followed
+followed_code =
+    code_by (Environment × List (List ℕ)) (coded× (finite.code (coded_list coded_ℕ) (coded_list coded_ℕ)) (coded_list (coded_list coded_ℕ)))
+    (λ v. (v.env, v.names)) (λ p. record { env = p.0; names = p.1 }) (λ _. refl)
+
+abbrev pub follow_names : Followed → List (List ℕ) → Followed
+follow_names f more = record { env = f.env; names = with_names f.env f.names more }
+
+abbrev pub follow_front : Followed → Front → Followed
+follow_front f front = follow_names f (named_by f.env front)
+
+abbrev pub follow_fronts : Followed → List Front → Followed
+follow_fronts f fronts = fold follow_front f fronts
+
+-- the names that a check begins with if it is given none
+abbrev pub usual_names : List (List ℕ)
+usual_names = codes "bootcmd" ∷ codes "altbootcmd" ∷ codes "preboot" ∷ []
+
+abbrev pub first_names : List (List ℕ) → List (List ℕ)
+first_names [] = usual_names
+first_names (name ∷ names) = name ∷ names
+
+abbrev pub begin_with : Environment → List (List ℕ) → Followed
+begin_with env names = follow_names (record { env = env; names = [] }) names

@@ -1,8 +1,0 @@
-use Rattle.fw_files.proofs.SaidLemmas.{once_waited}
-use Rattle.fw_files.proofs.devices.locked.Goals as goal
-
-pub returns-then-wait_for_lock : goal.returns-then-wait_for_lock
-returns-then-wait_for_lock g c = once_waited c.args.path.now _ _ c.wait_for_lock.ensures
-
-pub returns-else-wait_for_lock : goal.returns-else-wait_for_lock
-returns-else-wait_for_lock g c = once_waited c.args.path.now _ _ c.wait_for_lock.ensures
