@@ -9,7 +9,7 @@ _fwenv_names() {
         case ${COMP_WORDS[at]} in
             -c) words+=(-c "${COMP_WORDS[at + 1]}") ;;
             --big-endian) words+=(--big-endian) ;;
-            --env | --env-source | --size) text+=("${COMP_WORDS[at]}" "${COMP_WORDS[at + 1]}") ;;
+            --env | --env-source | --env-plain | --size) text+=("${COMP_WORDS[at]}" "${COMP_WORDS[at + 1]}") ;;
         esac
     done
     if [ ${#text[@]} != 0 ]; then words=(run "${text[@]}" -e printenv); fi
@@ -23,9 +23,9 @@ _fwenv() {
     local word=${COMP_WORDS[COMP_CWORD]} before=${COMP_WORDS[COMP_CWORD - 1]} command='' at
     local commands='printenv setenv import export restore status find image run boot check session help'
     local options='-c --default --need-copy --big-endian -h --help'
-    local codes='carriage-return syntax other-shell unknown-command test-operator run-undefined run-unknown hidden-assignment'
-    codes+=' undefined-name no-variable no-script value-type'
-    local dry_run=' --shell --stubs --board --steps --depth --word --output --env --env-source --size'
+    local codes='carriage-return syntax other-shell unknown-command exit test-operator run-undefined run-unknown hidden-assignment'
+    codes+=' quoted-for undefined-name no-variable no-script value-type'
+    local dry_run=' --shell --stubs --board --steps --depth --word --output --env --env-source --env-plain --size'
     for ((at = 1; at < COMP_CWORD; at++)); do
         case " $commands " in *" ${COMP_WORDS[at]} "*)
             command=${COMP_WORDS[at]}
@@ -46,12 +46,16 @@ _fwenv() {
             ;;
     esac
     case $before in
-        -c | --default | --stubs | --board | --env | --env-source | -s | -f)
+        -c | --default | --stubs | --board | --known | --env | --env-source | --env-plain | -s | -f)
             compopt -o default
             return
             ;;
         --shell)
             mapfile -t COMPREPLY < <(compgen -W 'board strict' -- "$word")
+            return
+            ;;
+        --format)
+            mapfile -t COMPREPLY < <(compgen -W 'text gcc json' -- "$word")
             return
             ;;
         --copy)
@@ -72,10 +76,10 @@ _fwenv() {
         import | restore) options+=' --overwrite' ;;
         status) options='-c --big-endian -h --help' ;;
         find) options='-h --help' ;;
-        image) options='--env --env-source --size --copies --both --output --big-endian -h --help' ;;
+        image) options='--env --env-source --env-plain --size --copies --both --output --big-endian -h --help' ;;
         run) options+="$dry_run --write --overwrite --boots --resets --must-boot --trace -e -f" ;;
-        boot) options+="$dry_run --copy --boots --resets --stored --ways --dot" ;;
-        check) options='-c --default --big-endian -h --help --shell --stubs --ignore --strict --env --env-source --size -f' ;;
+        boot) options+="$dry_run --copy --boots --resets --bootcount --after --cuts --stored --ways --dot" ;;
+        check) options='-c --default --big-endian -h --help --shell --stubs --board --known --ignore --strict --format --env --env-source --env-plain --size -f' ;;
         session) options+="$dry_run --write --overwrite --boots --resets" ;;
         help) options=$commands ;;
     esac

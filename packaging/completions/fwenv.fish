@@ -10,7 +10,7 @@ function __fwenv_names
     if contains -- --big-endian $tokens
         set -a call --big-endian
     end
-    for option in --env --env-source
+    for option in --env --env-source --env-plain
         if set -l at (contains -i -- $option $tokens)
             set call run $option $tokens[(math $at + 1)] -e printenv
             if set -l at (contains -i -- --size $tokens)
@@ -51,15 +51,18 @@ complete -c fwenv -n "__fish_seen_subcommand_from run session" -l write -d 'Writ
 complete -c fwenv -n "__fish_seen_subcommand_from run boot check session" -l shell -xa 'board strict' -d 'Whose rules count'
 complete -c fwenv -n "__fish_seen_subcommand_from setenv import restore run session" -l overwrite -d 'Write even if a copy is good in another way'
 complete -c fwenv -n "__fish_seen_subcommand_from run boot check session" -l stubs -rF -d 'Stand-ins'
-complete -c fwenv -n "__fish_seen_subcommand_from check" -l ignore -xa 'carriage-return syntax other-shell unknown-command test-operator run-undefined run-unknown hidden-assignment undefined-name no-variable no-script value-type' -d 'Kind of finding that is left out'
+complete -c fwenv -n "__fish_seen_subcommand_from check" -l ignore -xa 'carriage-return syntax other-shell unknown-command exit test-operator run-undefined run-unknown hidden-assignment quoted-for undefined-name no-variable no-script value-type' -d 'Kind of finding that is left out'
+complete -c fwenv -n "__fish_seen_subcommand_from check" -l known -rF -d 'Names that the board sets'
 complete -c fwenv -n "__fish_seen_subcommand_from check" -l strict -d 'Warnings count as errors'
-complete -c fwenv -n "__fish_seen_subcommand_from run boot session" -l board -rF -d 'What a board answers'
+complete -c fwenv -n "__fish_seen_subcommand_from check" -l format -xa 'text gcc json' -d 'How findings are printed'
+complete -c fwenv -n "__fish_seen_subcommand_from run boot check session" -l board -rF -d 'What a board answers'
 complete -c fwenv -n "__fish_seen_subcommand_from run boot session" -l steps -x -d 'Steps of a script'
 complete -c fwenv -n "__fish_seen_subcommand_from run boot session" -l depth -x -d 'Starts inside one another'
 complete -c fwenv -n "__fish_seen_subcommand_from run boot session" -l word -x -d 'Bytes of a word'
 complete -c fwenv -n "__fish_seen_subcommand_from run boot session" -l output -x -d 'Bytes that a script prints'
 complete -c fwenv -n "__fish_seen_subcommand_from image" -l env -rF -d 'Text with the variables'
 complete -c fwenv -n "__fish_seen_subcommand_from run boot check session image" -l env-source -rF -d 'The same in the form of a source of U-Boot'
+complete -c fwenv -n "__fish_seen_subcommand_from run boot check session image" -l env-plain -rF -d 'The same as plain lines'
 complete -c fwenv -n "__fish_seen_subcommand_from image" -l size -x -d 'Size of a copy, in hexadecimal'
 complete -c fwenv -n "__fish_seen_subcommand_from image" -l copies -xa '1 2' -d 'Copies'
 complete -c fwenv -n "__fish_seen_subcommand_from image" -l both -d 'Both copies have the variables'
@@ -68,6 +71,9 @@ complete -c fwenv -n "__fish_seen_subcommand_from run boot check session" -l env
 complete -c fwenv -n "__fish_seen_subcommand_from run boot check session" -l size -x -d 'Size of its image, in hexadecimal'
 complete -c fwenv -n "__fish_seen_subcommand_from run boot session" -l boots -x -d 'Command that does not come back'
 complete -c fwenv -n "__fish_seen_subcommand_from run boot session" -l resets -x -d 'Command that resets the board'
+complete -c fwenv -n "__fish_seen_subcommand_from boot" -l bootcount -d 'Power-ons are counted in the environment'
+complete -c fwenv -n "__fish_seen_subcommand_from boot" -l after -rF -d 'Script that the booted system may run'
+complete -c fwenv -n "__fish_seen_subcommand_from boot" -l cuts -d 'The power may fail at each save'
 complete -c fwenv -n "__fish_seen_subcommand_from boot" -l stored -x -d 'Stored environments that are powered on from'
 complete -c fwenv -n "__fish_seen_subcommand_from boot" -l ways -x -d 'Ways that are listed'
 complete -c fwenv -n "__fish_seen_subcommand_from boot" -l dot -d 'Print a graph for Graphviz'

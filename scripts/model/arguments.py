@@ -15,7 +15,9 @@ from model.texts import SIZE
 FLAGS, OPENING_FLAGS, OPENING_VALUES = {"--big-endian"}, {"--need-copy"}, {"-c", "--default"}
 # Those of what writes copies
 WRITING_FLAGS = OPENING_FLAGS | {"--overwrite"}
-WHOLE_VALUES = {"--stubs", "--env", "--env-source", "--size"}
+# The options with a text that is an environment
+ENVIRONMENTS = {"--env", "--env-source", "--env-plain"}
+WHOLE_VALUES = ENVIRONMENTS | {"--stubs", "--size"}
 DRY_VALUES = WHOLE_VALUES | {"--board", "--shell", "--steps", "--depth", "--word", "--output"}
 # Of each subcommand: its flags, its options with a value, and how many other arguments it takes
 FORMS = {
@@ -26,16 +28,21 @@ FORMS = {
     "restore": (WRITING_FLAGS, OPENING_VALUES, (1, 1)),
     "status": (set(), {"-c"}, (0, 1)),
     "find": (set(), set(), (1, 1)),
-    "image": ({"--both"}, {"--env", "--env-source", "--size", "--copies", "--output"}, (0, 0)),
+    "image": ({"--both"}, ENVIRONMENTS | {"--size", "--copies", "--output"}, (0, 0)),
     "session": (WRITING_FLAGS | {"--write"}, OPENING_VALUES | DRY_VALUES | {"--boots", "--resets"}, (0, 0)),
     "run": (WRITING_FLAGS | {"--write", "--must-boot", "--trace"}, OPENING_VALUES | DRY_VALUES | {"--boots", "--resets", "-e", "-f"}, (0, None)),
-    "boot": (OPENING_FLAGS | {"--dot"}, OPENING_VALUES | DRY_VALUES | {"--copy", "--boots", "--resets", "--stored", "--ways"}, (0, 0)),
-    "check": ({"--strict"}, OPENING_VALUES | WHOLE_VALUES | {"-f", "--shell", "--ignore"}, (0, None)),
+    "boot": (
+        OPENING_FLAGS | {"--dot", "--bootcount", "--cuts"},
+        OPENING_VALUES | DRY_VALUES | {"--copy", "--boots", "--resets", "--after", "--stored", "--ways"},
+        (0, 0),
+    ),
+    "check": ({"--strict"}, OPENING_VALUES | WHOLE_VALUES | {"-f", "--shell", "--board", "--known", "--ignore", "--format"}, (0, None)),
 }
 # Options whose value names a text, which - takes from standard input
-TEXTS = {"-c", "--default", "--env", "--env-source", "--stubs", "--board", "-s", "-f"}
-# Options that may be given more than once
-REPEATED = {"--boots", "--resets", "--ignore"}
+TEXTS = ENVIRONMENTS | {"-c", "--default", "--stubs", "--board", "--known", "--after", "-s", "-f"}
+# Options that may be given more than once, and those of `check`
+REPEATED = {"--boots", "--resets", "--ignore", "--after"}
+CHECKED = {"-f"}
 # How the stand-ins leave the board that these name
 LEAVINGS = {"--boots": Reply.BOOTS, "--resets": Reply.RESETS}
 # The limits of a dry run: the usual one, None for that of the shell, and the largest
@@ -72,8 +79,13 @@ NO_SHELL = b"""error: invalid value '%s' for '--shell <SHELL>'
 For more information, try '--help'.
 """
 NO_CODE = b"""error: invalid value '%s' for '--ignore <CODE>'
-  [possible values: carriage-return, syntax, other-shell, unknown-command, test-operator, run-undefined, run-unknown, hidden-assignment, undefined-name, \
+  [possible values: carriage-return, syntax, other-shell, unknown-command, exit, test-operator, run-undefined, run-unknown, hidden-assignment, quoted-for, undefined-name, \
 no-variable, no-script, value-type]
+
+For more information, try '--help'.
+"""
+NO_FORMAT = b"""error: invalid value '%s' for '--format <FORMAT>'
+  [possible values: text, gcc, json]
 
 For more information, try '--help'.
 """
@@ -95,6 +107,10 @@ NO_PAIR_SIZE = b"""error: invalid value '%s' for '--size <N>': not the size of o
 
 For more information, try '--help'.
 """
+MANY_SCRIPTS = b"""error: '--after <FILE>' can be given at most 254 times
+
+For more information, try '--help'.
+"""
 READ_TWICE = b"""error: '-' is standard input, which can be read once
 
 For more information, try '--help'.
@@ -104,24 +120,24 @@ NO_SIZE = b"""error: invalid value '%s' for '--size <N>': not the size of an ima
 For more information, try '--help'.
 """
 USUAL_SIZE = b"0x4000"
-AND_ENV = b"""error: the argument '%s' cannot be used with '--env <FILE>' or '--env-source <FILE>'
+AND_ENV = b"""error: the argument '%s' cannot be used with '--env <FILE>', '--env-source <FILE>' or '--env-plain <FILE>'
 
 For more information, try '--help'.
 """
 # What only a board has, in the order in which it is reported
 NOT_WITH_ENV = {"-c": b"-c <FILE>", "--default": b"--default <FILE>", "--need-copy": b"--need-copy", "--copy": b"--copy <N>", "--write": b"--write"}
-TWO_TEXTS = b"""error: the argument '--env <FILE>' cannot be used with '--env-source <FILE>'
+TWO_TEXTS = b"""error: only one of '--env <FILE>', '--env-source <FILE>' and '--env-plain <FILE>' can be given
 
 For more information, try '--help'.
 """
 NO_TEXT = b"""error: the following required arguments were not provided:
-  <--env <FILE>|--env-source <FILE>>
+  <--env <FILE>|--env-source <FILE>|--env-plain <FILE>>
 
 Usage: fwenv image [OPTIONS] --size <N>
 
 For more information, try '--help'.
 """
-SIZE_ALONE = b"""error: the argument '--size <N>' is only for '--env <FILE>' or '--env-source <FILE>'
+SIZE_ALONE = b"""error: the argument '--size <N>' is only for '--env <FILE>', '--env-source <FILE>' or '--env-plain <FILE>'
 
 For more information, try '--help'.
 """
@@ -156,7 +172,7 @@ Usage: fwenv run [OPTIONS] [NAMES]...
 
 For more information, try '--help'.
 """
-FILE_AND = b"""error: the argument '-f <FILE>' cannot be used with '[NAMES]...', '-c <FILE>', '--default <FILE>', '--env <FILE>', '--env-source <FILE>' or '--size <N>'
+FILE_AND = b"""error: the argument '-f <FILE>' cannot be used with '[NAMES]...', '-c <FILE>', '--default <FILE>', '--env <FILE>', '--env-source <FILE>', '--env-plain <FILE>', '--size <N>' or '--known <FILE>'
 
 Usage: fwenv check [OPTIONS] [NAMES]...
 
@@ -207,6 +223,13 @@ class Call:
         """How many stored environments are powered on from, and how many ways are listed."""
         return tuple(self.number(option, *limits) for option, limits in POWER_ON_LIMITS.items())
 
+    def scripts_after(self):
+        """The files of what the system may run."""
+        paths = self.options.get("--after", [])
+        if len(paths) > 254:
+            raise Wrong(MANY_SCRIPTS)
+        return paths
+
     def number(self, option, usual, most):
         """The number that an option gives, which is at most this one."""
         text = self.options.get(option, b"%d" % usual)
@@ -225,9 +248,20 @@ class Call:
                 raise Wrong(NO_CODE % code)
         return tuple(self.options.get("--ignore", ()))
 
+    def format(self):
+        """How findings are printed."""
+        name = self.options.get("--format", b"text")
+        if name not in (b"text", b"gcc", b"json"):
+            raise Wrong(NO_FORMAT % name)
+        return name
+
+    def is_repeated(self, option):
+        return option in REPEATED or (self.tool == "check" and option in CHECKED)
+
     def refuse_second_input(self):
         """Standard input is read once, by one text or by a session."""
-        texts = [self.options[option] for option in TEXTS & self.options.keys()]
+        given = [(option, self.options[option]) for option in TEXTS & self.options.keys()]
+        texts = [path for option, value in given for path in (value if self.is_repeated(option) else [value])]
         if self.tool in ("import", "restore", "status", "find"):
             texts += self.words
         if texts.count(b"-") + (self.tool == "session") > 1:
@@ -241,7 +275,7 @@ class Call:
 
     def refuse_beside_file(self):
         """A check of a file is one of that file alone."""
-        if self.words or self.options.keys() & {"-c", "--default", "--env", "--env-source", "--size"}:
+        if self.words or self.options.keys() & (ENVIRONMENTS | {"-c", "--default", "--size", "--known"}):
             raise Wrong(FILE_AND)
 
     def refuse_overwrite_alone(self):
@@ -255,12 +289,12 @@ class Call:
 
     def refuse_two_texts(self):
         """An environment is one text."""
-        if self.options.keys() >= {"--env", "--env-source"}:
+        if len(self.options.keys() & ENVIRONMENTS) > 1:
             raise Wrong(TWO_TEXTS)
 
     def size_in_memory(self):
         """The size of the image under an environment that is only a text; None if the copies are a board's."""
-        if not self.options.keys() & {"--env", "--env-source"}:
+        if not self.options.keys() & ENVIRONMENTS:
             if "--size" in self.options:
                 raise Wrong(SIZE_ALONE)
             self.refuse_overwrite_alone()
@@ -275,7 +309,7 @@ class Call:
     def new_geometry(self):
         """That of a new image."""
         self.refuse_two_texts()
-        if not self.options.keys() & {"--env", "--env-source"}:
+        if not self.options.keys() & ENVIRONMENTS:
             raise Wrong(NO_TEXT)
         copies = self.options.get("--copies", b"1")
         if copies not in (b"1", b"2"):
@@ -305,14 +339,14 @@ def option_of(word):
 def read_option(call, word, rest, flags, values):
     """Takes an option, and from the rest its value."""
     name, value = option_of(word)
-    is_again = name in call.options and name not in REPEATED
+    is_again = name in call.options and not call.is_repeated(name)
     if name not in flags | values or is_again or (name in flags and value is not None):
         raise Wrong
     if name in values and value is None:
         if not rest or (rest[0][:1] == b"-" and rest[0] != b"-"):
             raise Wrong
         value = rest.pop(0)
-    call.options[name] = [*call.options.get(name, []), value] if name in REPEATED else value
+    call.options[name] = [*call.options.get(name, []), value] if call.is_repeated(name) else value
 
 
 def read_subcommand(tool, options, rest):

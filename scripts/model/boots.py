@@ -1,20 +1,22 @@
 """What `fwenv boot` prints: every power-on of a board, from all that it can come to store (docs/boot.md)."""
 
+import re
+
 from model.board_file import Reply
 from model.grammar import parse
 from model.image import ERASED, entries
-from model.script import Leave, Question, Run, Stop
+from model.script import Leave, PowerCut, Question, Run, Stop
 from model.session import Session
 
 # How a power-on ends, as it is told and counted
 BOOTS, RESETS, GIVES_UP, UNKNOWN = b"boots", b"resets", b"gives up", b"unknown"
 COUNTED = {BOOTS: b"boot", RESETS: b"reset", GIVES_UP: b"give up", UNKNOWN: b"unknown"}
 LEFT = {Reply.BOOTS: BOOTS, Reply.RESETS: RESETS}
-# What a board runs when it is switched on
-POWER_ON = (
-    b"if env exists preboot; then run preboot; else true; fi; "
-    b'if test $? != 0 -a "${bootdelay}" != -1; then false || run bootcmd; elif test "${bootdelay}" != -1; then run bootcmd; fi'
-)
+# What a board runs when it is switched on; it may count between the two
+PREBOOT = b"if env exists preboot; then run preboot; else true; fi; "
+POWER_ON = PREBOOT + (b'if test $? != 0 -a "${bootdelay}" != -1; then false || run bootcmd; elif test "${bootdelay}" != -1; then run bootcmd; fi')
+# The question which script the system runs, which is no call
+AFTER = b"after"
 # The nodes of ends in a drawing, and how edges with such an end are drawn
 END_NODES = {BOOTS: b"boots", GIVES_UP: b'"gives up"', UNKNOWN: b"unknown"}
 END_STYLES = {BOOTS: b" color=darkgreen", RESETS: b"", GIVES_UP: b" color=red", UNKNOWN: b" color=orange"}
@@ -24,8 +26,11 @@ LIMIT_MET = b"a limit was met: there are more ways than these\n"
 class Board:
     """A board over a session, which is opened anew for each power-on."""
 
-    def __init__(self, session, stand_ins, limits, leavings, shell, rules):
+    def __init__(self, session, stand_ins, limits, leavings, shell, rules, counts=False, after=(), cuts=False):
         self.geometry, self.defaults = session.geometry, session.environment.defaults
+        self.counts, self.after = counts, after
+        # a save is done, or the power fails before it, or in the middle of the only copy
+        self.saves = {1: 3, 2: 2}[session.geometry.copies] if cuts else 0
         self.rules = stand_ins, limits, leavings, shell, rules
         self.first = frozenset(session.environment.values.items())
 
@@ -36,13 +41,46 @@ class Board:
 
     def power_on(self, stored, answers):
         """How a power-on ends, by what, and what is stored then; it may raise a question."""
-        session = self.session(stored)
-        made = Run(session, *self.rules, answers)
-        end, by = GIVES_UP, ()
+        made = Run(self.session(stored), *self.rules, answers, saves=self.saves)
+        tree = parse(self.counted(stored, answers) if self.counts else POWER_ON, made.shell)
+        end, by, left = self.run(made, tree)
+        if end != BOOTS or not self.after:
+            return end, by, left
+        if AFTER not in answers:
+            raise Question(AFTER, len(self.after) + 1)
+        if not answers[AFTER]:
+            return end, by, left
+        system = Run(self.session(left), *self.rules, answers, saves=self.saves)
+        system.called_save = joined  # other questions than those of the power-on
+        system_end, limit, left = self.run(system, self.after[answers[AFTER] - 1])
+        return (UNKNOWN, limit, left) if system_end == UNKNOWN else (BOOTS, by, left)
+
+    def counted(self, stored, answers):
+        """What a board that counts runs, by what `preboot` leaves."""
+        made = Run(self.session(stored), *self.rules, answers)
         try:
-            made.chains(parse(POWER_ON, made.shell))
+            self.run(made, parse(PREBOOT.removesuffix(b"; "), made.shell))
+        except Question:
+            pass
+        numbers = {name: number(made.environment.values.get(name, b"")) for name in (b"upgrade_available", b"bootcount", b"bootlimit")}
+        is_new, limit = numbers[b"upgrade_available"] > 0, numbers[b"bootlimit"]
+        count = 1 + (numbers[b"bootcount"] if is_new else 0)
+        save = b"saveenv; " if is_new else b""
+        start = b"run" if made.status == 0 else b"false || run"
+        command = b"altbootcmd" if is_new and 0 < limit < count else b"bootcmd"
+        return b'%ssetenv bootcount %d; %sif test "${bootdelay}" != -1; then %s %s; fi' % (PREBOOT, count, save, start, command)
+
+    def run(self, made, tree):
+        """How the run of a tree ends, by what, and what is stored then."""
+        session, end, by = made.session, GIVES_UP, ()
+        try:
+            made.chains(tree)
         except Leave:
             pass
+        except PowerCut as cut:
+            end, by = RESETS, (b"power cut",)
+            if cut.args[0] == 2:
+                return end, by, frozenset(self.defaults.items())
         except Stop as stop:
             if made.departure:
                 end, by = LEFT[made.departure[0]], made.departure[1]
@@ -59,9 +97,20 @@ class Board:
             try:
                 yield tuple(answers.items()), *self.power_on(stored, answers)
             except Question as question:
-                waiting += [answers | {question.args[0]: status} for status in (1, 0)]
+                call, *choices = question.args
+                waiting += [answers | {call: choice} for choice in reversed(range(*(choices or [2])))]
         if waiting:
             yield None
+
+
+def joined(words):
+    """Words as one."""
+    return (b" ".join(words),)
+
+
+def number(text):
+    """The number that a text begins with; a very large one counts as a smaller one."""
+    return min(int(re.match(rb"[0-9]*", text)[0] or b"0"), 0xFFFFFFFF)
 
 
 class Graph:
@@ -111,9 +160,13 @@ def changes(first, stored):
         yield b"  %s (gone)\n" % name
 
 
+def answered(question, choice):
+    return b"%s = %d" % (question if question is AFTER else b" ".join(question), choice)
+
+
 def told(way):
     _, answers, end, by, to = way
-    asked = b", ".join(b"%s = %d" % (b" ".join(call), status) for call, status in answers)
+    asked = b", ".join(answered(*answer) for answer in answers)
     return b"%s%s%s; stored %d\n" % (asked + b": " if asked else b"", end, b": " + b" ".join(by) if by else b"", to + 1)
 
 
@@ -178,7 +231,7 @@ def look(graph):
 
 def edge(way):
     at, answers, end, by, to = way
-    label = b"".join(b"%s = %d\n" % (b" ".join(call), status) for call, status in answers)
+    label = b"".join(answered(*answer) + b"\n" for answer in answers)
     label += end + (b": " + b" ".join(by) if by else b"") + b"\n"
     node = b"s%d" % (to + 1) if end == RESETS or to != at else END_NODES[end]
     return b"  s%d -> %s [label=%s%s];\n" % (at + 1, node, quoted(label), END_STYLES[end])

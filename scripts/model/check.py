@@ -4,10 +4,12 @@ Each kind of finding is a function of its own: of a text, or of a command and wh
 order in which one command gets them."""
 
 import itertools
+import json
 import re
 from collections import Counter
 from dataclasses import dataclass, field
 
+from model.board_file import Reply, lacks, names_of
 from model.calculations import COMPARISONS
 from model.grammar import parse
 from model.script_run import SENTENCES, line_and_column
@@ -21,8 +23,8 @@ STARTED = (b"bootcmd", b"altbootcmd", b"preboot")
 ERROR, WARNING, NOTE = b"error", b"warning", b"note"
 # The kinds of findings by their codes, in the order of the table
 KINDS = {
-    b"carriage-return": WARNING, b"syntax": ERROR, b"other-shell": ERROR, b"unknown-command": ERROR, b"test-operator": ERROR,
-    b"run-undefined": ERROR, b"run-unknown": NOTE, b"hidden-assignment": WARNING, b"undefined-name": WARNING, b"no-variable": ERROR,
+    b"carriage-return": WARNING, b"syntax": ERROR, b"other-shell": ERROR, b"unknown-command": ERROR, b"exit": WARNING, b"test-operator": ERROR,
+    b"run-undefined": ERROR, b"run-unknown": NOTE, b"hidden-assignment": WARNING, b"quoted-for": WARNING, b"undefined-name": WARNING, b"no-variable": ERROR,
     b"no-script": ERROR, b"value-type": ERROR,
 }  # fmt: skip
 NOT_DEFINED = b"no variable of this name is defined"
@@ -33,6 +35,8 @@ CARRIAGE_RETURN = b"a carriage return stands in the script"
 NO_TARGET = b"`run %s` names a variable that is not defined"
 ANY_TARGET = b"what this runs is not known, so it is not followed"
 NO_COMMAND = b"no builtin and no stand-in is called `%s`"
+EXITS = b"U-Boot before 2025 ignores `exit` and goes on"
+CUTS = b"a board cuts this word of a `for` at its blanks, in quotes too"
 NO_OPERATOR = b"`test` has no operator `%s` here"
 IS_VARIABLE = b"`%s` is an environment variable, "
 # What the strict shell makes of both, and a board of the second
@@ -53,6 +57,8 @@ SET_BY_UBOOT = {
 }  # fmt: skip
 # Commands whose first argument names the variable that they set
 SETTING = {b"setenv", b"setexpr", b"setexpr.b", b"setexpr.w", b"setexpr.l", b"setexpr.q"}
+# The variables of a boot menu, and what comes before the script of an entry
+ENTRY_NAME, TITLE = re.compile(rb"bootmenu_[0-9]+"), re.compile(rb"[^=]*=?")
 # No further line is added once there are this many bytes; then it is reported that there is more
 MOST = 65_536
 MORE = b"more is found, and not printed\n"
@@ -67,53 +73,78 @@ class Finding:
     kind: bytes
     sentence: bytes
 
-    def where(self, name, text):
-        return b"%s:%d:%d" % (name, *line_and_column(text, self.place))
-
 
 @dataclass
 class Known:
-    """The shell; the values of the environment, or None if only one script is checked; the stand-ins, or None if there is no file of
-    them; the names that a substitution may have; and those that `run` may."""
+    """The shell; the values of the environment, or None if only one script is checked; the stand-ins, and the rules of a board, both None
+    if there is no file of either; the names that a substitution may have; and those that `run` may."""
 
     shell: object = STRICT
     values: dict = None
     stand_ins: dict = None
+    board: list = None
     defined: set = frozenset()
     started: set = frozenset()
 
 
+# How a file, a variable and the check as a whole are told of
+FILE, VARIABLE, WHOLE = "file", "variable", None
+TEXT, GCC, JSON = b"text", b"gcc", b"json"
+
+
+def as_text(name, place, kind, sentence):
+    return b"%s: %s: %s [%s]" % (b":".join([name, *(b"%d" % number for number in place)]), KINDS[kind], sentence, kind)
+
+
+def on_one_line(line):
+    """As compilers print it: with no byte that ends a line or can't be printed."""
+    return re.sub(rb"[\0-\x1f\x7f]", b"?", line)
+
+
+def as_json(subject, name, place, kind, sentence):
+    line, column = place or (None, None)
+    told = {"code": kind, "column": column, "file": None, "line": line, "message": sentence, "severity": KINDS[kind], "variable": None}
+    if subject:
+        told[subject] = name
+    text = {key: value.decode(errors="replace") if isinstance(value, bytes) else value for key, value in told.items()}
+    return json.dumps(text, ensure_ascii=False, separators=(",", ":")).encode()
+
+
 @dataclass
 class Report:
-    """What is asked: the codes of the kinds that are left out, and whether warnings count as errors. The lines, whether something was
+    """What is asked: the codes of the kinds that are left out, whether warnings count as errors, and the format. The lines, whether something was
     found that has no line, how many scripts were looked at, and how many errors and warnings were found."""
 
     ignored: tuple = ()
     is_strict: bool = False
+    format: bytes = TEXT
     text: bytes = b""
     is_cut: bool = False
     scripts: int = 0
     found: Counter = field(default_factory=Counter)
 
-    def add_line(self, where, kind, sentence):
+    def add_line(self, subject, name, place, kind, sentence):
         if kind in self.ignored:
             return
         if len(self.text) < MOST:
-            self.text += b"%s: %s: %s [%s]\n" % (where, KINDS[kind], sentence, kind)
+            line = as_json(subject, name, place, kind, sentence) if self.format == JSON else as_text(name, place, kind, sentence)
+            self.text += (on_one_line(line) if self.format == GCC else line) + b"\n"
         else:
             self.is_cut = True
         self.found[KINDS[kind]] += 1
 
-    def add(self, name, text, findings):
+    def add(self, subject, name, text, findings):
         self.scripts += 1
         for finding in findings:
-            self.add_line(finding.where(name, text), finding.kind, finding.sentence)
+            self.add_line(subject, name, line_and_column(text, finding.place), finding.kind, finding.sentence)
 
     def printed(self):
-        return self.text + MORE * self.is_cut
+        return self.text + MORE * (self.is_cut and self.format == TEXT)
 
     def last(self):
-        return LAST % (counted(self.scripts, b"script"), counted(self.found[ERROR], b"error"), counted(self.found[WARNING], b"warning"))
+        """What is on standard error."""
+        more = MORE * (self.is_cut and self.format != TEXT)
+        return more + LAST % (counted(self.scripts, b"script"), counted(self.found[ERROR], b"error"), counted(self.found[WARNING], b"warning"))
 
     def status(self):
         return int(self.found[ERROR] > 0 or (self.is_strict and self.found[WARNING] > 0))
@@ -161,7 +192,19 @@ def named(command):
 def called(command, known):
     """The name that the shell finds by it."""
     name = named(command)
-    return name if name is None else known.shell.called(name, set(known.stand_ins or ()))
+    return name if name is None else known.shell.called(name, answering(known))
+
+
+def answering(known):
+    """The names of stand-ins and of rules."""
+    return set(known.stand_ins or ()) | names_of(known.board or ())
+
+
+def answered(name, known):
+    """Whether a rule, or a stand-in that a rule doesn't keep from it, may answer calls of a name."""
+    rules = [rule for rule in known.board or () if name in names_of([rule])]
+    lacking = [rule for rule in rules if rule.answer is Reply.LACKS]
+    return len(rules) > len(lacking) or (not lacking and name in (known.stand_ins or ()))
 
 
 def started(command, known):
@@ -252,19 +295,30 @@ def lacked(command):
 def lacked_command(command, known):
     """A command that other shells have, unless a stand-in answers it."""
     name = named(command)
-    if lacked(command) is None or name in (known.stand_ins or {}):
+    if lacked(command) is None or answered(name, known):
         return []
     return [Finding(command[1][0].place, b"other-shell", lacked(command))]
 
 
 def unknown_command(command, known):
-    """A command that only hardware has and that no stand-in answers."""
-    name = named(command)
+    """A command that only hardware has and that nothing answers, or a builtin that the board lacks."""
+    name, found = named(command), called(command, known)
     if name is None or lacked(command) is not None or known.stand_ins is None:
         return []
-    if called(command, known) in BUILTINS | known.stand_ins.keys():
+    if answered(name, known) or answered(found, known) or (found in BUILTINS and not lacks(known.board, found)):
         return []
     return [Finding(command[1][0].place, b"unknown-command", NO_COMMAND % name)]
+
+
+def ignored_exit(command, known):
+    """An `exit`, which older boards ignore."""
+    return [Finding(command[1][0].place, b"exit", EXITS)] if called(command, known) == b"exit" else []
+
+
+def cut_word(command, _known):
+    """Words of a `for` without a substitution that have a blank, at which a board cuts."""
+    words = command[2] if command[0] == "for" else []
+    return [Finding(word.place, b"quoted-for", CUTS) for word in words if re.search(rb"[ \n]", literal(word) or b"")]
 
 
 def undefined_target(command, known):
@@ -349,7 +403,9 @@ def undefined_substitution(command, known):
     return [each for each, before in zip(found, [None, *found]) if each != before]
 
 
-SEARCHES = (lacked_command, unknown_command, unknown_operator, undefined_target, refused_assignment, undefined_substitution)
+SEARCHES = (
+    lacked_command, unknown_command, ignored_exit, unknown_operator, undefined_target, refused_assignment, cut_word, undefined_substitution,
+)  # fmt: skip
 
 
 # Scripts
@@ -371,22 +427,49 @@ def findings(text, known):
     return found + [each for command in commands(tree) for search in SEARCHES for each in search(command, known)]
 
 
-def of_script(shell, name, text, stand_ins, ignored, is_strict):
-    """One script of a file."""
-    report = Report(ignored, is_strict)
-    report.add(name, text, findings(text, Known(shell, None, stand_ins)))
+def of_files(shell, scripts, stand_ins, board, *asked):
+    """The scripts of files, each a path and its text."""
+    report = Report(*asked)
+    for path, text in scripts:
+        report.add(FILE, path, text, findings(text, Known(shell, None, stand_ins, board)))
     return report
 
 
 def commands_of(name, known):
     """The commands of a variable's script; what isn't a script has none."""
-    tree, _ = tree_of(known.values[name], known.shell)
-    return commands(tree or [])
+    return commands_in(text_of_script(name, known.values), known)
+
+
+def is_entry(name, values):
+    """Whether a variable is an entry of a boot menu that has a script."""
+    return ENTRY_NAME.fullmatch(name) and b"=" in values[name]
+
+
+def text_of_script(name, values):
+    """The script of a variable: of an entry of a boot menu what is after the first `=`, at its place."""
+    value = values[name]
+    if not ENTRY_NAME.fullmatch(name):
+        return value
+    at = TITLE.match(value).end()
+    return re.sub(rb"[^\n]", b" ", value[:at]) + value[at:]
+
+
+def commands_in(text, known):
+    tree, _ = tree_of(text, known.shell)
+    return list(commands(tree or []))
+
+
+def commands_of_answers(known):
+    """The commands of the texts that answer calls."""
+    texts = [rule.answer for rule in known.board or () if isinstance(rule.answer, bytes)]
+    return [command for text in texts for command in commands_in(text, known)]
 
 
 def visited(known, names):
-    """The variables that are checked, each once: those that are named, and after them those that each of them starts."""
-    found = list(dict.fromkeys(name for name in names if name in known.values))
+    """The variables that are checked, each once: those that are named, those that answers start, and after them those that each of them
+    starts."""
+    started_by_answers = [target for command in commands_of_answers(known) for target in targets(command, known)]
+    found = list(dict.fromkeys(name for name in [*names, *started_by_answers] if name in known.values))
     for name in found:
         for command in commands_of(name, known):
             for target in targets(command, known):
@@ -396,8 +479,9 @@ def visited(known, names):
 
 
 def names_by(kind, known, scripts):
-    """The names that are given or foreseen by the commands of these variables."""
-    return {name for script in scripts for command in commands_of(script, known) for name in kind(command, known)}
+    """The names that are given or foreseen by the commands of answers and of these variables."""
+    found = [*commands_of_answers(known), *(command for script in scripts for command in commands_of(script, known))]
+    return {name for command in found for name in kind(command, known)}
 
 
 def not_typed(values):
@@ -406,20 +490,22 @@ def not_typed(values):
     return [name for name, value in sorted(values.items()) if not TYPES[given.get(name, PLAIN)[0]].fullmatch(value)]
 
 
-def of_environment(shell, values, stand_ins, names, ignored, is_strict):
-    """The scripts that are named, and those that they start; then whether there was one, and the types of all variables."""
-    report = Report(ignored, is_strict)
+def of_environment(shell, values, stand_ins, board, own, names, *asked):
+    """The scripts that are named, and those that they start; then whether there was one, and the types of all variables. `own` are names
+    that the board's own code sets."""
+    report = Report(*asked)
     for name in names:
         if name not in values:
-            report.add_line(name, b"no-variable", NOT_DEFINED)
-    known = Known(shell, values, stand_ins)
-    scripts = visited(known, names or STARTED)
-    known.defined = values.keys() | names_by(given, known, scripts) | SET_BY_UBOOT
+            report.add_line(VARIABLE, name, (), b"no-variable", NOT_DEFINED)
+    known = Known(shell, values, stand_ins, board)
+    scripts = visited(known, names or [*STARTED, *sorted(name for name in values if is_entry(name, values))])
+    known.defined = values.keys() | names_by(given, known, scripts) | SET_BY_UBOOT | set(own)
     known.started = values.keys() | names_by(foreseen, known, scripts)
     for name in scripts:
-        report.add(name, values[name], findings(values[name], known))
+        script = text_of_script(name, values)
+        report.add(VARIABLE, name, script, findings(script, known))
     if not scripts:
-        report.add_line(b"check", b"no-script", NOTHING)
+        report.add_line(WHOLE, b"check", (), b"no-script", NOTHING)
     for name in not_typed(values):
-        report.add_line(name, b"value-type", NOT_TYPED)
+        report.add_line(VARIABLE, name, (), b"value-type", NOT_TYPED)
     return report

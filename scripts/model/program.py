@@ -4,7 +4,7 @@
 from dataclasses import dataclass
 
 from model import board_file, boots, check, dump, report, script_run, texts
-from model.arguments import LEAVINGS, VERSION, Wrong, read_arguments
+from model.arguments import LEAVINGS, NOT_UTF8, VERSION, Wrong, read_arguments
 from model.dry_run import LONGEST, DryRun
 from model.grammar import parse
 from model.image import ERASED, LARGEST, Geometry, entries
@@ -76,6 +76,13 @@ class Answer:
     files: dict
 
 
+def stopped_status(arguments):
+    """The status if a call can't be done, or what it prints can't be written: a check has one of its own. Its arguments begin with
+    `check`, but for those that begin with `-`."""
+    asked = next((word for word in arguments if not word.startswith(b"-")), b"")
+    return 2 if asked == b"check" else 1
+
+
 class Ended(Exception):
     """A fault that ends the program: its text on standard error."""
 
@@ -97,10 +104,11 @@ class Program:
             self.explains = call.tool in EXPLAINING
             status = getattr(self, "call_" + call.tool)(call)
         except Wrong as wrong:
-            return Answer(1, b"", wrong.text, self.files)
+            status = 1 if wrong.text == NOT_UTF8 else stopped_status(arguments)
+            return Answer(status, b"", wrong.text, self.files)
         except Ended as ended:
             self.errors += ended.args[0]
-            status = 1
+            status = stopped_status(arguments)
         return Answer(status, self.output, self.errors, self.files)
 
     def say(self, text):
@@ -151,7 +159,7 @@ class Program:
         return text
 
     def parsed(self, path, parse):
-        text = self.own_text(path) if parse is texts.import_entries else self.text(path)
+        text = self.own_text(path) if parse in (texts.import_entries, texts.initial_entries) else self.text(path)
         try:
             return parse(text)
         except TextFault as fault:
@@ -181,9 +189,11 @@ class Program:
     def defaults(self, call, geometry):
         """The values of the default environment."""
         source = call.options.get("--env-source")
-        path = source or call.options.get("--env", call.options.get("--default"))
+        initial = call.options.get("--env-plain")
+        path = source or initial or call.options.get("--env", call.options.get("--default"))
+        read = texts.initial_entries if initial else texts.import_entries
         environment = Environment(geometry.room)
-        entries = [] if path is None else self.source(path) if source else self.parsed(path, texts.import_entries)
+        entries = [] if path is None else self.source(path) if source else self.parsed(path, read)
         for line, _, _ in entries:
             if not source and b"=" not in self.text(path).split(b"\n")[line - 1]:
                 raise Ended(NO_EQUALS % (path, line))
@@ -360,10 +370,20 @@ class Program:
         if path is None:
             return []
         try:
-            return board_file.rules_of(self.text(path), call.tool == "boot")
+            return board_file.rules_of(self.text(path), call.tool in ("boot", "check"))
         except board_file.BoardFault as fault:
             line, kind = fault.args
             raise Ended(b"fwenv: %s:%d: %s\n" % (path, line, board_file.SENTENCES[kind]))
+
+    def known_names(self, call):
+        """The names that the board's own code sets."""
+        path = call.options.get("--known")
+        if path is None:
+            return ()
+        try:
+            return texts.known_names(self.text(path))
+        except texts.TextFault as fault:
+            raise Ended(b"fwenv: %s:%d: not a name of a variable\n" % (path, fault.args[1]))
 
     def script(self, call):
         """The name by which a script is reported, and its text."""
@@ -373,6 +393,14 @@ class Program:
             return b"run", script_run.starts(call.words)
         return call.options["-f"], self.own_text(call.options["-f"])
 
+    @staticmethod
+    def tree(name, text, shell):
+        """The tree of a script that is reported by this name."""
+        try:
+            return parse(text, shell)
+        except Fault as fault:
+            raise Ended(script_run.fault_line(name, text, fault))
+
     def call_run(self, call):
         call.size_in_memory()
         limits, shell = call.limits(), call.shell()
@@ -381,10 +409,7 @@ class Program:
         stand_ins = self.leaving_stand_ins(call)
         board = self.board(call)
         name, text = self.script(call)
-        try:
-            tree = parse(text, shell)
-        except Fault as fault:
-            raise Ended(script_run.fault_line(name, text, fault))
+        tree = self.tree(name, text, shell)
         trace = Trace(name, text, limits[-1]) if "--trace" in call.options else None
         outcome = run(session, tree, stand_ins, limits, call.leavings(), shell, board, trace)
         self.output = outcome.text
@@ -400,10 +425,11 @@ class Program:
 
     def call_boot(self, call):
         call.size_in_memory(), call.wanted_copy()
-        limits, shell, (stored, ways) = call.limits(), call.shell(), call.power_on_limits()
+        limits, shell, (stored, ways), paths = call.limits(), call.shell(), call.power_on_limits(), call.scripts_after()
         session = self.opened(call)
-        stand_ins = self.leaving_stand_ins(call)
-        board = boots.Board(session, stand_ins, limits, call.leavings(), shell, self.board(call))
+        stand_ins, rules = self.leaving_stand_ins(call), self.board(call)
+        after = [self.tree(path, self.own_text(path), shell) for path in paths]
+        board = boots.Board(session, stand_ins, limits, call.leavings(), shell, rules, "--bootcount" in call.options, after, "--cuts" in call.options)
         self.output, status = boots.report(board, stored, ways, "--dot" in call.options)
         return status
 
@@ -412,13 +438,14 @@ class Program:
         if is_file:
             call.refuse_beside_file()
         call.size_in_memory()
-        shell, counting = call.shell(), (call.ignored(check.KINDS), "--strict" in call.options)
+        shell, asked = call.shell(), (call.ignored(check.KINDS), "--strict" in call.options, call.format())
         values = None if is_file else self.opened(call).environment.values
-        stand_ins = self.stand_ins(call) if "--stubs" in call.options else None
+        hardware = (self.stand_ins(call), self.board(call)) if call.options.keys() & {"--stubs", "--board"} else (None, None)
         if is_file:
-            found = check.of_script(shell, *self.script(call), stand_ins, *counting)
+            scripts = [(path, self.own_text(path)) for path in call.options["-f"]]
+            found = check.of_files(shell, scripts, *hardware, *asked)
         else:
-            found = check.of_environment(shell, values, stand_ins, call.words, *counting)
+            found = check.of_environment(shell, values, *hardware, self.known_names(call), call.words, *asked)
         self.output = found.printed()
         self.say(found.last())
         return found.status()

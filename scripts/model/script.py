@@ -23,6 +23,10 @@ class Question(Exception):
     """A call whose answer is open: the words of it."""
 
 
+class PowerCut(Exception):
+    """The power has failed at a save; what that was answered."""
+
+
 class Leave(Exception):
     """The text ends here that `run` started."""
 
@@ -61,7 +65,7 @@ def option_of(words, option):
 class Run:
     """A run of a script over a session, by one of the shells."""
 
-    def __init__(self, session, stand_ins, limits, leavings=None, shell=STRICT, board=(), answers=None, trace=None):
+    def __init__(self, session, stand_ins, limits, leavings=None, shell=STRICT, board=(), answers=None, trace=None, saves=0):
         self.shell = shell
         self.trace = trace  # of its commands, if they are wanted
         self.session = session
@@ -71,6 +75,8 @@ class Run:
         self.departure = None
         self.board = board  # the rules of a board file
         self.answers = answers  # to calls whose answer is open
+        self.saves = saves  # how many answers each save has; none if it is no question
+        self.called_save = tuple  # what the question of a save is, by its words
         self.names = stand_ins.keys() | names_of(board)
         self.max_steps, self.max_depth, self.max_word, self.max_output = limits
         self.locals = {}
@@ -380,8 +386,19 @@ class Run:
         if words:
             self.wrong_use(name)
         else:
+            self.ask_for_save()
             self.done(0, b"Saved copy %d\n" % (self.session.next_copy() + 1))
             self.session.save()
+
+    def ask_for_save(self):
+        """Whether the power fails at this save."""
+        if not self.saves:
+            return
+        call = self.called_save([*self.fields, b"at step %d" % (self.steps + 1)])
+        if call not in self.answers:
+            raise Question(call, self.saves)
+        if self.answers[call]:
+            raise PowerCut(self.answers[call])
 
     def exists(self, name, words):
         if len(words) != 1:

@@ -232,6 +232,16 @@ def import_entries(text):
     return found
 
 
+def initial_entries(text):
+    """Of lines as U-Boot's build prints them: a backslash at a line's end stands for itself, unless one before it makes it literal."""
+    lines = []
+    for line in text.split(b"\n"):
+        # backslashes at the end of a line, in pairs and perhaps one more
+        is_odd = len(re.search(rb"\\*$", line)[0]) % 2
+        lines.append(line + b"\\" * is_odd)
+    return import_entries(b"\n".join(lines))
+
+
 def set_script_entries(text):
     refuse_nul(text)
     found = []
@@ -254,6 +264,18 @@ def exported(name, value):
 
 
 # Stand-in files
+
+
+def known_names(text):
+    """The names of variables that a board's own code sets, one a line."""
+    found = []
+    for number, line in lines_of(text):
+        line = line.removesuffix(b"\r").lstrip(b" \t")
+        if re.search(rb"[ \t=\0]", line) and line[:1] != b"#":
+            raise TextFault("NoName", number)
+        if line[:1] not in (b"", b"#"):
+            found.append(line)
+    return found
 
 
 def stand_ins(text):

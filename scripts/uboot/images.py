@@ -8,10 +8,12 @@ the others don't differ.
 import random
 import re
 import struct
+import subprocess
 import zlib
 
 from board import ENVIRONMENT_SIZE
 from differential.harness.boards import lines_of
+from model.dump import ENTRY
 from rows import Difference, Row
 
 COUNT = 20
@@ -97,6 +99,18 @@ def both_ways(number, pair):
     shown = copy.run("printenv")
     if (shown.stdout, shown.stderr) != (lines_of({name: stored(left[name]) for name in left}), b""):
         yield f"back from the board: {shown.stdout!r}, {shown.stderr!r}, {left!r}"
+    yield from faults_of_dump(copy, len(left))
+
+
+def faults_of_dump(copy, count):
+    """`find` meets in the whole flash, after the board's `saveenv`, what it saved and nothing else; of an odd first name nothing."""
+    found = subprocess.run([copy.program, "find", copy.image], capture_output=True, timeout=60)
+    with open(copy.image, "rb") as flash:
+        is_met = ENTRY.match(flash.read(ENVIRONMENT_SIZE)[4:])
+    there = f"# good as a single image, {count} variables\n{copy.image} 0x0 {ENVIRONMENT_SIZE:#x}\n"
+    line = there if is_met else f"# no environment in {copy.image}\n"
+    if (found.returncode, found.stdout, found.stderr) != (0 if is_met else 1, line.encode(), b""):
+        yield f"found in the flash: {found.stdout[:300]!r}, {found.stderr!r}"
 
 
 def faults_of_environment(number, pair):

@@ -54,16 +54,15 @@ FAULTS = (
         "boot_extlinux",
         "sysboot",
         "no `extlinux.conf` is read",
-        "The U-Boot of this board has no command `sysboot`, by which its scripts read `extlinux.conf`. A disk that has that file, as Debian's "
-        "`u-boot-menu` writes it, is found, `EXTLINUX FAILED: continuing...` is printed, and the search goes on.",
+        "This U-Boot has no command `sysboot`. A disk with that file, as Debian's `u-boot-menu` writes it, is found, "
+        "`EXTLINUX FAILED: continuing...` is printed, and the search goes on.",
     ),
     Fault(
         "am335x_boneblack am335x_evm",
         "bootcmd",
         "bootcmd_nand0",
         "NAND is never tried",
-        "`boot_targets` has `nand0`, and the script for it is called `bootcmd_nand`. So `distro_bootcmd` prints this line in the place of a "
-        "boot from NAND.",
+        "`boot_targets` has `nand0`, but its script is called `bootcmd_nand`.",
         how="run",
     ),
     Fault(
@@ -78,8 +77,8 @@ FAULTS = (
         "emmc_android_boot",
         "bcb abootimg adtimg",
         "Android can't boot",
-        "The U-Boot of this board lacks three commands that `bootcmd` comes to. Without `bcb` the branches that set `apart` are never "
-        "taken, and `part start mmc 1 boot_start` lacks a word.",
+        "This U-Boot lacks three commands that `bootcmd` comes to. Without `bcb` the branches that set `apart` are never taken, and "
+        "`part start mmc 1 boot_start` lacks a word.",
     ),
     Fault(
         "am57xx_evm dra7xx_evm",
@@ -93,7 +92,7 @@ FAULTS = (
         "bootcmd",
         "init_console",
         "an error at each start",
-        'The variable is in another board\'s environment. The line `## Error: "init_console" not defined` is printed, and the boot goes on.',
+        "The variable is in another board's environment. The error is printed, and the boot goes on.",
     ),
     Fault(
         "mx6cuboxi",
@@ -159,6 +158,9 @@ def look(program, folder, path):
     for start in {b"preboot", b"bootcmd", b"altbootcmd"} & set(variables):
         lines += [("run", start.decode(), line) for line in called(program, below, "run", name, start.decode())[1] if "not defined" in line]
     for how, start, line in lines:
+        # what releases of U-Boot do in different ways is no fault
+        if line.endswith("[exit]"):
+            continue
         if match := FOUND.fullmatch(line):
             found.lines[how, match[1] or start, match[2] or match[3]].append(line)
         else:
@@ -203,7 +205,7 @@ def shown(program, folder, fault, boards):
         if match and (match[2] or match[3]) in fault.names.split():
             firsts.setdefault((match[1], match[2] or match[3]), line)
     names, tail = " and ".join(f"`{name}`" for name in fault.boards.split()), " | grep Error" if fault.how == "run" else ""
-    head = f"**{names}, {' and '.join(releases)}: {fault.title}.** {fault.means}"
+    head = f"**{names}{f', {releases[0]}' if len(releases) == 1 else ''}: {fault.title}.** {fault.means}"
     return "\n".join((head, "", "```text", f"$ {command}{tail}", *firsts.values(), "```", ""))
 
 

@@ -22,7 +22,7 @@ use Rattle.hush_commands.specs.declared.shell.Shell.{Shell}
 use Rattle.hush_commands.specs.Carrying.{Done, done_of, deletion_of}
 use Rattle.hush_commands.proofs.LeavingLemmas.{Leaves as IsLeft, done_leaves, deletion_leaves}
 use Rattle.hush_commands.specs.Following.{follow_of}
-use Rattle.hush_run.specs.Meaning.{Rules, Starting, Variable, Answer, answered, Begin, State, Out, Goes, Leaves, Ends, ◌>>=◌, ◌then◌, Effect, Does, Exits, Stops, done, step, with_status, carries, fails, goes_on, turns, if_ok, in_turn, deletions, follows, have_value, followed, simple, bindings, for, joins, leaves_chain, after_skip, refuses, started_status, fields_of, list_of, exiting, effect, fields_after, called, is_call, bound_to, assigned_to, assigned, command, otherwise, chain, linked, chains, script, start, looked_up, in_list, in_text, in_answer, entered, ended, meaning, bodies_of}
+use Rattle.hush_run.specs.Meaning.{Rules, Starting, Variable, Answer, answered, Begin, State, Out, Goes, Leaves, Ends, ◌>>=◌, ◌then◌, Effect, Does, Exits, Stops, done, step, with_status, carries, fails, goes_on, turns, if_ok, in_turn, deletions, follows, have_value, followed, simple, bindings, for, joins, leaves_chain, after_skip, refuses, started_status, fields_of, list_of, exiting, effect, effect_in, asked, asks_save, fields_after, called, is_call, bound_to, assigned_to, assigned, command, otherwise, chain, linked, chains, script, start, looked_up, in_list, in_text, in_answer, entered, ended, meaning, bodies_of}
 use Rattle.hush_run.specs.Meaning.Reason.{Word}
 use Rattle.env_requests.specs.Laws.{run_left, writes_or_saves, RunIsRequests, RunKeepsMarks}
 
@@ -124,6 +124,12 @@ effect_acts : (shell : Shell) (stand_ins : Hardware) (fields : List (List ℕ)) 
 unfolding effect
 effect_acts shell stand_ins fields s = exiting_acts s.held (follow_of shell stand_ins fields) _ (carries_acts (done_of shell stand_ins fields s.status s.held) s (done_leads shell stand_ins fields s.status s.held))
 
+-- nothing of a save that is asked for
+effect_in_acts : (rules : Rules) (fields : List (List ℕ)) (s : State) → Acts s.held (effect_in rules fields s)
+effect_in_acts rules fields s =
+    by_bool (asks_save rules fields s) (Acts s.held) (asked fields s) (effect rules.shell rules.stand_ins fields s)
+    (nothing s.held) (effect_acts rules.shell rules.stand_ins fields s)
+
 assigned_acts : (shell : Shell) (name : List ℕ) (o : Option (List ℕ)) (s : State) → Acts s.held (assigned_to shell name o s)
 assigned_acts shell name None s = tt
 assigned_acts shell name (Some value) s = by_bool (refuses shell s name) (Acts s.held) (fails IsVariable name s) (Does (record s { locals = map.insert s.locals name value; status = 0 })) (fails_acts IsVariable name s) (nothing s.held)
@@ -192,7 +198,7 @@ module _ (rules : Rules) (begin : Begin) (starts : (x : Starting) → Changes (b
   simple_changes has_value (Some fields) s =
       let f = followed has_value (follow_of rules.shell rules.stand_ins fields) in
       bind_comes s.held _ (follows rules begin f)
-      (step_changes rules (effect rules.shell rules.stand_ins fields) (effect_acts rules.shell rules.stand_ins fields) s)
+      (step_changes rules (effect_in rules fields) (effect_in_acts rules fields) s)
       (follows_change f)
 
   mutual

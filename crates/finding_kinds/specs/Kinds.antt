@@ -12,10 +12,12 @@ code_of kind.CarriageReturn = codes "carriage-return"
 code_of kind.Syntax = codes "syntax"
 code_of kind.OtherShell = codes "other-shell"
 code_of kind.UnknownCommand = codes "unknown-command"
+code_of kind.Exit = codes "exit"
 code_of kind.TestOperator = codes "test-operator"
 code_of kind.RunUndefined = codes "run-undefined"
 code_of kind.RunUnknown = codes "run-unknown"
 code_of kind.HiddenAssignment = codes "hidden-assignment"
+code_of kind.QuotedFor = codes "quoted-for"
 code_of kind.UndefinedName = codes "undefined-name"
 code_of kind.NoVariable = codes "no-variable"
 code_of kind.NoScript = codes "no-script"
@@ -26,10 +28,12 @@ severity_of kind.CarriageReturn = severity.Warning
 severity_of kind.Syntax = severity.Error
 severity_of kind.OtherShell = severity.Error
 severity_of kind.UnknownCommand = severity.Error
+severity_of kind.Exit = severity.Warning
 severity_of kind.TestOperator = severity.Error
 severity_of kind.RunUndefined = severity.Error
 severity_of kind.RunUnknown = severity.Note
 severity_of kind.HiddenAssignment = severity.Warning
+severity_of kind.QuotedFor = severity.Warning
 severity_of kind.UndefinedName = severity.Warning
 severity_of kind.NoVariable = severity.Error
 severity_of kind.NoScript = severity.Error
@@ -38,8 +42,8 @@ severity_of kind.ValueType = severity.Error
 -- all of them
 abbrev pub all_kinds : List FindingKind
 all_kinds =
-    kind.CarriageReturn ∷ kind.Syntax ∷ kind.OtherShell ∷ kind.UnknownCommand ∷ kind.TestOperator ∷ kind.RunUndefined
-    ∷ kind.RunUnknown ∷ kind.HiddenAssignment ∷ kind.UndefinedName ∷ kind.NoVariable ∷ kind.NoScript ∷ kind.ValueType ∷ []
+    kind.CarriageReturn ∷ kind.Syntax ∷ kind.OtherShell ∷ kind.UnknownCommand ∷ kind.Exit ∷ kind.TestOperator ∷ kind.RunUndefined
+    ∷ kind.RunUnknown ∷ kind.HiddenAssignment ∷ kind.QuotedFor ∷ kind.UndefinedName ∷ kind.NoVariable ∷ kind.NoScript ∷ kind.ValueType ∷ []
 
 abbrev pub is_called : List ℕ → FindingKind → Bool
 is_called text k = bytes_eq (code_of k) text

@@ -1,4 +1,4 @@
-//! What a check is asked.
+//! What a check is asked, and how it tells.
 ghost use Rattle.std.specs.Prelude.{◌≡◌, map};
 ghost use Rattle.std.specs.List.{list_any};
 ghost use Rattle.finding_kinds.specs.Choices.{choice_view, is_ignored};
@@ -6,13 +6,26 @@ ghost use Rattle.finding_kinds.specs.Kinds.{is_called};
 
 use crate::kinds::FindingKind;
 
-/// What counts.
+/// How findings are printed.
+#[derive(Clone, Copy, Debug, PartialEq, Eq)]
+pub enum Format {
+    /// Lines to be read.
+    Text,
+    /// Lines as compilers print them, one for each finding.
+    Gcc,
+    /// A JSON object for each finding, one a line.
+    Json,
+}
+
+/// What counts, and how it is told.
 #[derive(Clone, Copy, Debug)]
 pub struct Choice<'c> {
     /// The codes of the kinds that are left out.
     pub ignored: Option<&'c [&'c str]>,
     /// Whether a warning counts as an error.
     pub strict: bool,
+    /// How findings are printed.
+    pub format: Format,
 }
 
 impl<'c> Choice<'c> {

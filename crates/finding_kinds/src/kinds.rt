@@ -25,6 +25,8 @@ pub enum FindingKind {
     OtherShell,
     /// A command that is neither a builtin nor a stand-in.
     UnknownCommand,
+    /// An `exit`, which older boards ignore.
+    Exit,
     /// A word of `test` that is written as an operator, but isn't one.
     TestOperator,
     /// A `run` of a variable that isn't defined.
@@ -33,6 +35,8 @@ pub enum FindingKind {
     RunUnknown,
     /// An assignment to a name that the environment holds.
     HiddenAssignment,
+    /// A word of a `for` with a blank in quotes, at which boards cut.
+    QuotedFor,
     /// A substitution of a name that nothing defines.
     UndefinedName,
     /// A name that the check was given, of no variable.
@@ -44,15 +48,17 @@ pub enum FindingKind {
 }
 
 /// All of them, in the order of the table.
-const ALL: [FindingKind; 12] = [
+const ALL: [FindingKind; 14] = [
     FindingKind::CarriageReturn,
     FindingKind::Syntax,
     FindingKind::OtherShell,
     FindingKind::UnknownCommand,
+    FindingKind::Exit,
     FindingKind::TestOperator,
     FindingKind::RunUndefined,
     FindingKind::RunUnknown,
     FindingKind::HiddenAssignment,
+    FindingKind::QuotedFor,
     FindingKind::UndefinedName,
     FindingKind::NoVariable,
     FindingKind::NoScript,
@@ -69,10 +75,12 @@ impl FindingKind {
             FindingKind::Syntax => "syntax",
             FindingKind::OtherShell => "other-shell",
             FindingKind::UnknownCommand => "unknown-command",
+            FindingKind::Exit => "exit",
             FindingKind::TestOperator => "test-operator",
             FindingKind::RunUndefined => "run-undefined",
             FindingKind::RunUnknown => "run-unknown",
             FindingKind::HiddenAssignment => "hidden-assignment",
+            FindingKind::QuotedFor => "quoted-for",
             FindingKind::UndefinedName => "undefined-name",
             FindingKind::NoVariable => "no-variable",
             FindingKind::NoScript => "no-script",
@@ -86,7 +94,9 @@ impl FindingKind {
     {
         match self {
             FindingKind::CarriageReturn
+            | FindingKind::Exit
             | FindingKind::HiddenAssignment
+            | FindingKind::QuotedFor
             | FindingKind::UndefinedName => Severity::Warning,
             FindingKind::RunUnknown => Severity::Note,
             _ => Severity::Error,

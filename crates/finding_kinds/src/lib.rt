@@ -5,5 +5,5 @@
 mod choice;
 mod kinds;
 
-pub use choice::Choice;
+pub use choice::{Choice, Format};
 pub use kinds::{FindingKind, Severity, is_code};

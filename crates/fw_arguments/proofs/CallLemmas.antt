@@ -11,7 +11,7 @@ use Rattle.hush_commands.specs.declared.shell.Shell.{Shell}
 use Rattle.fw_arguments.specs.DryRuns.{DryRun, GivenScript, and_then, run_within, script_of, script_within}
 use Rattle.fw_arguments.specs.Values.{first_or, is_given}
 use Rattle.run_limits.specs.Limits.{Bounds}
-use Rattle.fw_arguments.specs.PowerOns.{with_stored, ways_of}
+use Rattle.fw_arguments.specs.PowerOns.{scripts_of, with_ways}
 use Rattle.fw_arguments.specs.Report.{Subject, asked_of, asked_once, in_order, report_of, subject_of}
 use Rattle.fw_arguments.specs.StandardInput.{read_twice, reads_twice}
 use Rattle.fw_arguments.specs.GivenTexts.{GivenText}
@@ -48,19 +48,20 @@ script_is shell rows dry limits must_boot trace script p d m t =
     λ i. and_then (p i) (λ k. Ok (record { dry = d i; must_boot = m i; trace = t i; script = k }))
 
 -- power-ons with what was found for them
-pub power_ons_are : (shell : Shell) (rows : List Row) (dry : DryRun) (limits : Bounds) (stored ways : ℕ) (dot : Bool) →
-    Ok ways ≡ ways_of rows → dry ≡ run_within shell rows limits → dot ≡ is_given (codes "dot") rows →
-    Ok (record { dry = dry; stored = stored; ways = ways; dot = dot }) ≡ with_stored shell rows limits stored
-power_ons_are shell rows dry limits stored ways dot p d g = λ i. and_then (p i) (λ k. Ok (record { dry = d i; stored = stored; ways = k; dot = g i }))
+pub power_ons_are : (shell : Shell) (rows : List Row) (dry : DryRun) (limits : Bounds) (stored ways : ℕ) (dot counts cuts : Bool) (after : List Text) →
+    Ok after ≡ scripts_of rows → dry ≡ run_within shell rows limits → dot ≡ is_given (codes "dot") rows → counts ≡ is_given (codes "bootcount") rows → cuts ≡ is_given (codes "cuts") rows →
+    Ok (record { dry = dry; stored = stored; ways = ways; dot = dot; counts = counts; cuts = cuts; after = after }) ≡ with_ways shell rows limits stored ways
+power_ons_are shell rows dry limits stored ways dot counts cuts after p d g n u =
+    λ i. and_then (p i) (λ k. Ok (record { dry = d i; stored = stored; ways = ways; dot = g i; counts = n i; cuts = u i; after = k }))
 
 pub report_is : (order chosen : Order) (rows : List Row) (subject : Subject) →
     chosen ≡ either_order order (order_by (source_in (codes "big-endian") rows)) → Ok subject ≡ subject_of rows → Ok (record { order = chosen; subject = subject }) ≡ report_of order rows
 report_is order chosen rows subject p q = λ i. in_order (p i) (q i)
 
--- a check of a script in a file, if an environment is named as well
-pub refused_file : (rows : List Row) (path text : List ℕ) → text ≡ file_alone → names_environment rows ≡ true → Err text ≡ file_check_of path rows
-refused_file rows path text is named =
-    ap Err is ∙ ap (λ (b : Bool). if b then Err file_alone else and_then (rules_of rows) (λ rules. Ok (file_check_by path rows rules))) (sym named)
+-- a check of scripts in files, if an environment is named as well
+pub refused_file : (rows : List Row) (paths : List Text) (text : Text) → text ≡ file_alone → names_environment rows ≡ true → Err text ≡ file_check_of paths rows
+refused_file rows paths text is named =
+    ap Err is ∙ ap (λ (b : Bool). if b then Err file_alone else and_then (rules_of rows) (λ rules. Ok (file_check_by paths rows rules))) (sym named)
 
 -- ---- standard input and new images
 

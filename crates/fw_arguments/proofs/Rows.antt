@@ -175,6 +175,10 @@ pub boot_drawn : faults (codes "fwenv" ∷ codes "boot" ∷ codes "--dot" ∷ co
 unfolding clap_on_literals
 boot_drawn = refl
 
+pub boot_counted : faults (codes "fwenv" ∷ codes "boot" ∷ codes "--bootcount" ∷ codes "--after" ∷ codes "a" ∷ codes "--after=b" ∷ []) ≡ []
+unfolding clap_on_literals
+boot_counted = refl
+
 pub no_write_of_a_boot : faults (codes "fwenv" ∷ codes "boot" ∷ codes "--write" ∷ []) ≡ UnknownArgument ∷ []
 unfolding clap_on_literals
 no_write_of_a_boot = refl

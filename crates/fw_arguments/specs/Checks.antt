@@ -1,30 +1,36 @@
 -- What the arguments of `check` ask for (docs/check.md).
-use Rattle.std.specs.Prelude.{◌||◌, ◌++◌, Bool, not, List, Option, Some, None, Result, Ok, Err, codes, if◌then◌else◌, option_map}
+use Rattle.std.specs.Prelude.{◌||◌, ◌++◌, Bool, not, List, map, Option, Some, None, Result, Ok, Err, codes, if◌then◌else◌, option_map}
 use Rattle.std.specs.List.{find}
 use Rattle.clap.specs.Words.{Row, Text, first_of}
 use Rattle.hush_commands.specs.declared.shell.Shell.{Shell}
 use Rattle.finding_kinds.specs.Choices.{Choice, choice_view}
 use Rattle.finding_kinds.specs.Kinds.{is_code}
+use Rattle.finding_kinds.specs.declared.choice.Format.{Format}
 use Rattle.finding_kinds.specs.declared.choice.Choice as choices
 use Rattle.fw_arguments.specs.DryRuns.{and_then, texts}
+use Rattle.fw_arguments.specs.Formats.{format_of}
 use Rattle.fw_arguments.specs.Shells.{board_shell, shell_of}
 use Rattle.fw_arguments.specs.Values.{all_values, is_given}
 use Rattle.fw_arguments.specs.declared.check_requests.EnvironmentCheck as environments
 use Rattle.fw_arguments.specs.declared.check_requests.FileCheck as files
 
--- a check over an environment: whose rules count, the stand-ins' file, if there is one, what counts, and the names that it begins with
+-- a check over an environment: whose rules count, the stand-ins' file, the board file and that of known names, if there
+-- are any, what counts, and the names that it begins with
 pub record EnvironmentCheck : Type 0 where
   pub shell : Shell
   pub stand_ins : Option Text
+  pub board : Option Text
+  pub known : Option Text
   pub choice : Choice
   pub names : List Text
 
--- a check of the script in a file
+-- a check of the scripts in files
 pub record FileCheck : Type 0 where
   pub shell : Shell
   pub stand_ins : Option Text
+  pub board : Option Text
   pub choice : Choice
-  pub path : Text
+  pub paths : List Text
 
 -- the first of these that isn't a code
 abbrev pub wrong_code : List Text → Option Text
@@ -33,16 +39,16 @@ wrong_code texts = find (λ text. not (is_code text)) texts
 -- what is wrong with it
 abbrev pub bad_code : Text
 bad_code =
-    codes "' for '--ignore <CODE>'\n  [possible values: carriage-return, syntax, other-shell, unknown-command, test-operator, run-undefined, run-unknown, hidden-assignment, undefined-name, no-variable, no-script, value-type]\n\nFor more information, try '--help'.\n"
+    codes "' for '--ignore <CODE>'\n  [possible values: carriage-return, syntax, other-shell, unknown-command, exit, test-operator, run-undefined, run-unknown, hidden-assignment, quoted-for, undefined-name, no-variable, no-script, value-type]\n\nFor more information, try '--help'.\n"
 
-abbrev pub choice_by : List Row → Choice
-choice_by rows = record { ignored = all_values (codes "ignore") rows; strict = is_given (codes "strict") rows }
+abbrev pub choice_by : List Row → Format → Choice
+choice_by rows format = record { ignored = all_values (codes "ignore") rows; strict = is_given (codes "strict") rows; format = format }
 
 abbrev pub choice_unless : Option Text → List Row → Result Choice Text
 choice_unless (Some word) rows = Err (codes "error: invalid value '" ++ word ++ bad_code)
-choice_unless None rows = Ok (choice_by rows)
+choice_unless None rows = and_then (format_of rows) (λ format. Ok (choice_by rows format))
 
--- what counts
+-- what counts, and how it is told
 abbrev pub choice_of : List Row → Result Choice Text
 choice_of rows = choice_unless (wrong_code (all_values (codes "ignore") rows)) rows
 
@@ -52,7 +58,7 @@ rules_of rows = and_then (shell_of board_shell rows) (λ shell. and_then (choice
 
 abbrev pub environment_check_by : List Row → Shell × Choice → EnvironmentCheck
 environment_check_by rows rules =
-    record { shell = rules.0; stand_ins = first_of (codes "stubs") rows; choice = rules.1; names = all_values (codes "names") rows }
+    record { shell = rules.0; stand_ins = first_of (codes "stubs") rows; board = first_of (codes "board") rows; known = first_of (codes "known") rows; choice = rules.1; names = all_values (codes "names") rows }
 
 abbrev pub environment_check_of : List Row → Result EnvironmentCheck Text
 environment_check_of rows = and_then (rules_of rows) (λ rules. Ok (environment_check_by rows rules))
@@ -60,20 +66,20 @@ environment_check_of rows = and_then (rules_of rows) (λ rules. Ok (environment_
 -- whether an environment is named, or variables of one
 abbrev pub names_environment : List Row → Bool
 names_environment rows =
-    is_given (codes "names") rows || (is_given (codes "config") rows || (is_given (codes "default") rows || (is_given (codes "env") rows || (is_given (codes "env-source") rows || is_given (codes "size") rows))))
+    is_given (codes "names") rows || (is_given (codes "config") rows || (is_given (codes "default") rows || (is_given (codes "env") rows || (is_given (codes "env-source") rows || (is_given (codes "env-plain") rows || (is_given (codes "size") rows || is_given (codes "known") rows))))))
 
--- what is wrong if the script of a file is asked for as well
+-- what is wrong if the scripts of files are asked for as well
 abbrev pub file_alone : Text
 file_alone =
-    codes "error: the argument '-f <FILE>' cannot be used with '[NAMES]...', '-c <FILE>', '--default <FILE>', '--env <FILE>', '--env-source <FILE>' or '--size <N>'\n\nUsage: fwenv check [OPTIONS] [NAMES]...\n\nFor more information, try '--help'.\n"
+    codes "error: the argument '-f <FILE>' cannot be used with '[NAMES]...', '-c <FILE>', '--default <FILE>', '--env <FILE>', '--env-source <FILE>', '--env-plain <FILE>', '--size <N>' or '--known <FILE>'\n\nUsage: fwenv check [OPTIONS] [NAMES]...\n\nFor more information, try '--help'.\n"
 
-abbrev pub file_check_by : Text → List Row → Shell × Choice → FileCheck
-file_check_by path rows rules = record { shell = rules.0; stand_ins = first_of (codes "stubs") rows; choice = rules.1; path = path }
+abbrev pub file_check_by : List Text → List Row → Shell × Choice → FileCheck
+file_check_by paths rows rules = record { shell = rules.0; stand_ins = first_of (codes "stubs") rows; board = first_of (codes "board") rows; choice = rules.1; paths = paths }
 
-abbrev pub file_check_of : Text → List Row → Result FileCheck Text
-file_check_of path rows =
+abbrev pub file_check_of : List Text → List Row → Result FileCheck Text
+file_check_of paths rows =
     if names_environment rows then Err file_alone
-    else and_then (rules_of rows) (λ rules. Ok (file_check_by path rows rules))
+    else and_then (rules_of rows) (λ rules. Ok (file_check_by paths rows rules))
 
 -- the code's answers, in this form
 abbrev pub rules_view : Shell × choices.Choice → Shell × Choice
@@ -81,7 +87,7 @@ rules_view rules = (rules.0, choice_view rules.1)
 
 abbrev pub environment_check_view : environments.EnvironmentCheck → EnvironmentCheck
 environment_check_view c =
-    record { shell = c.shell; stand_ins = option_map (λ p. p.now) c.stand_ins; choice = choice_view c.choice; names = texts c.names }
+    record { shell = c.shell; stand_ins = option_map (λ p. p.now) c.stand_ins; board = option_map (λ p. p.now) c.board; known = option_map (λ p. p.now) c.known; choice = choice_view c.choice; names = texts c.names }
 
 abbrev pub file_check_view : files.FileCheck → FileCheck
-file_check_view c = record { shell = c.shell; stand_ins = option_map (λ p. p.now) c.stand_ins; choice = choice_view c.choice; path = c.path.now }
+file_check_view c = record { shell = c.shell; stand_ins = option_map (λ p. p.now) c.stand_ins; board = option_map (λ p. p.now) c.board; choice = choice_view c.choice; paths = map (λ p. p.now) c.paths.now }

@@ -83,7 +83,7 @@ request_with order rows text = and_then (layout_of rows) (request_by order rows 
 -- the text with the variables, of which one has to be given
 abbrev pub no_text : Text
 no_text =
-    codes "error: the following required arguments were not provided:\n  <--env <FILE>|--env-source <FILE>>\n\nUsage: fwenv image [OPTIONS] --size <N>\n\nFor more information, try '--help'.\n"
+    codes "error: the following required arguments were not provided:\n  <--env <FILE>|--env-source <FILE>|--env-plain <FILE>>\n\nUsage: fwenv image [OPTIONS] --size <N>\n\nFor more information, try '--help'.\n"
 
 abbrev pub text_or_none : Option GivenText → Result GivenText Text
 text_or_none None = Err no_text

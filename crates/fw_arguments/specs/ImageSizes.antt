@@ -21,10 +21,10 @@ abbrev pub help_ends : Text
 help_ends = 10 ∷ 10 ∷ codes "For more information, try '--help'." ++ 10 ∷ []
 
 abbrev pub and_env : Text → Text
-and_env other = codes "error: the argument '" ++ other ++ codes "' cannot be used with '--env <FILE>' or '--env-source <FILE>'" ++ help_ends
+and_env other = codes "error: the argument '" ++ other ++ codes "' cannot be used with '--env <FILE>', '--env-source <FILE>' or '--env-plain <FILE>'" ++ help_ends
 
 abbrev pub size_alone : Text
-size_alone = codes "error: the argument '--size <N>' is only for '--env <FILE>' or '--env-source <FILE>'" ++ help_ends
+size_alone = codes "error: the argument '--size <N>' is only for '--env <FILE>', '--env-source <FILE>' or '--env-plain <FILE>'" ++ help_ends
 
 -- what is wrong if copies are to be written over, and not to be written
 abbrev pub overwrite_alone : Text

@@ -9,6 +9,7 @@ pub mod PowerOns
 pub mod ProgramNames
 pub mod Report
 pub mod Shells
+pub mod Formats
 pub mod StandardInput
 pub mod Table
 pub mod Values

@@ -1,7 +1,7 @@
 -- What the arguments of `status` and of any subcommand ask for (docs/status.md).
 use Rattle.std.specs.Prelude.{Bool, true, false, List, [], ◌∷◌, ◌++◌, Option, Some, None, Result, Ok, Err, codes, if◌then◌else◌}
 use Rattle.std.specs.Str.{bytes_eq}
-use Rattle.clap.specs.Words.{Row, Text, first_of}
+use Rattle.clap.specs.Words.{Row, Text, all_of, first_of}
 use Rattle.envimg_core.specs.declared.geometry.Order.{Order}
 use Rattle.fw_arguments.specs.Calls.{Call, call_of, call_view}
 use Rattle.fw_arguments.specs.Checks.{FileCheck, file_check_of, file_check_view}
@@ -25,7 +25,7 @@ pub record Report : Type 0 where
   pub order : Order
   pub subject : Subject
 
--- what a subcommand asks for: work over a session, a report, the check of the script in a file, a new image, or the search of the dump at a path
+-- what a subcommand asks for: work over a session, a report, the check of the scripts in files, a new image, or the search of the dump at a path
 pub data Asked : Type 0 where
   Work : Call → Asked
   Look : Report → Asked
@@ -70,15 +70,15 @@ abbrev pub made : Result ImageRequest Text → Result Asked Text
 made (Ok image) = Ok (Make image)
 made (Err text) = Err text
 
--- the script in a file is checked if one is given, else the scripts of an environment
-abbrev pub checked_by : Option Text → Order → List Row → Result Asked Text
+-- the scripts in files are checked if some are given, else those of an environment
+abbrev pub checked_by : Option (List Text) → Order → List Row → Result Asked Text
 checked_by None order rows = worked (call_of order (codes "check") rows)
-checked_by (Some path) order rows = checked (file_check_of path rows)
+checked_by (Some paths) order rows = checked (file_check_of paths rows)
 
 abbrev pub asked_once : Order → Text → List Row → Result Asked Text
 asked_once order name rows =
     if bytes_eq name (codes "status") then looked (report_of order rows)
-    else if bytes_eq name (codes "check") then checked_by (first_of (codes "script") rows) order rows
+    else if bytes_eq name (codes "check") then checked_by (all_of (codes "script") rows) order rows
     else if bytes_eq name (codes "image") then made (image_request_of order rows)
     else if bytes_eq name (codes "find") then Ok (Find (first_or [] (codes "file") rows))
     else worked (call_of order name rows)

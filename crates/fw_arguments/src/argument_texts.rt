@@ -55,6 +55,9 @@ pub(crate) const BAD_STORED: &[u8] =
 pub(crate) const BAD_WAYS: &[u8] =
     b"' for '--ways <N>': not a number from 0 to 10000000\n\nFor more information, try '--help'.\n";
 
+pub(crate) const MANY_SCRIPTS: &[u8] =
+    b"error: '--after <FILE>' can be given at most 254 times\n\nFor more information, try '--help'.\n";
+
 pub(crate) const BAD_SHELL: &[u8] =
     b"' for '--shell <SHELL>'\n  [possible values: board, strict]\n\n\
       For more information, try '--help'.\n";
@@ -79,38 +82,38 @@ pub(crate) const BOTH_ALONE: &[u8] =
 
 /// Standard error if an environment without a board is asked for, and something that only a board has.
 pub(crate) const CONFIG_AND_ENV: &[u8] =
-    b"error: the argument '-c <FILE>' cannot be used with '--env <FILE>' or '--env-source <FILE>'\n\n\
+    b"error: the argument '-c <FILE>' cannot be used with '--env <FILE>', '--env-source <FILE>' or '--env-plain <FILE>'\n\n\
       For more information, try '--help'.\n";
 
 pub(crate) const DEFAULT_AND_ENV: &[u8] =
-    b"error: the argument '--default <FILE>' cannot be used with '--env <FILE>' or '--env-source <FILE>'\n\n\
+    b"error: the argument '--default <FILE>' cannot be used with '--env <FILE>', '--env-source <FILE>' or '--env-plain <FILE>'\n\n\
       For more information, try '--help'.\n";
 
 pub(crate) const NEED_COPY_AND_ENV: &[u8] =
-    b"error: the argument '--need-copy' cannot be used with '--env <FILE>' or '--env-source <FILE>'\n\n\
+    b"error: the argument '--need-copy' cannot be used with '--env <FILE>', '--env-source <FILE>' or '--env-plain <FILE>'\n\n\
       For more information, try '--help'.\n";
 
 pub(crate) const WANTED_COPY_AND_ENV: &[u8] =
-    b"error: the argument '--copy <N>' cannot be used with '--env <FILE>' or '--env-source <FILE>'\n\n\
+    b"error: the argument '--copy <N>' cannot be used with '--env <FILE>', '--env-source <FILE>' or '--env-plain <FILE>'\n\n\
       For more information, try '--help'.\n";
 
 pub(crate) const WRITE_AND_ENV: &[u8] =
-    b"error: the argument '--write' cannot be used with '--env <FILE>' or '--env-source <FILE>'\n\n\
+    b"error: the argument '--write' cannot be used with '--env <FILE>', '--env-source <FILE>' or '--env-plain <FILE>'\n\n\
       For more information, try '--help'.\n";
 
 /// Standard error if two texts are given as the environment.
 pub(crate) const TWO_TEXTS: &[u8] =
-    b"error: the argument '--env <FILE>' cannot be used with '--env-source <FILE>'\n\n\
+    b"error: only one of '--env <FILE>', '--env-source <FILE>' and '--env-plain <FILE>' can be given\n\n\
       For more information, try '--help'.\n";
 
 /// Standard error if `image` has no text.
 pub(crate) const NO_TEXT: &[u8] =
-    b"error: the following required arguments were not provided:\n  <--env <FILE>|--env-source <FILE>>\n\n\
+    b"error: the following required arguments were not provided:\n  <--env <FILE>|--env-source <FILE>|--env-plain <FILE>>\n\n\
       Usage: fwenv image [OPTIONS] --size <N>\n\nFor more information, try '--help'.\n";
 
 /// Standard error if a size is given without such an environment.
 pub(crate) const SIZE_ALONE: &[u8] =
-    b"error: the argument '--size <N>' is only for '--env <FILE>' or '--env-source <FILE>'\n\n\
+    b"error: the argument '--size <N>' is only for '--env <FILE>', '--env-source <FILE>' or '--env-plain <FILE>'\n\n\
       For more information, try '--help'.\n";
 
 /// Standard error if a dry run is to write over copies, and not to write.
@@ -130,11 +133,15 @@ pub(crate) const SEVERAL_SCRIPTS: &[u8] =
 /// What is wrong if the script of a file is to be checked and an environment is named.
 pub(crate) const FILE_ALONE: &[u8] =
     b"error: the argument '-f <FILE>' cannot be used with '[NAMES]...', '-c <FILE>', \
-    '--default <FILE>', '--env <FILE>', '--env-source <FILE>' or '--size <N>'\n\nUsage: fwenv check [OPTIONS] [NAMES]...\n\n\
+    '--default <FILE>', '--env <FILE>', '--env-source <FILE>', '--env-plain <FILE>', '--size <N>' or '--known <FILE>'\n\nUsage: fwenv check [OPTIONS] [NAMES]...\n\n\
     For more information, try '--help'.\n";
+
+pub(crate) const BAD_FORMAT: &[u8] =
+    b"' for '--format <FORMAT>'\n  [possible values: text, gcc, json]\n\n\
+      For more information, try '--help'.\n";
 
 /// What is wrong with a code of a kind of finding, after it.
 pub(crate) const BAD_CODE: &[u8] =
     b"' for '--ignore <CODE>'\n  [possible values: carriage-return, syntax, other-shell, \
-    unknown-command, test-operator, run-undefined, run-unknown, hidden-assignment, undefined-name, no-variable, \
+    unknown-command, exit, test-operator, run-undefined, run-unknown, hidden-assignment, quoted-for, undefined-name, no-variable, \
     no-script, value-type]\n\nFor more information, try '--help'.\n";

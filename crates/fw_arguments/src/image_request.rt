@@ -19,7 +19,7 @@ use envimg_core::{Layout, Order};
 /// The least size of one of two copies, in bytes.
 const PAIR_MIN: u32 = 9;
 
-/// A new image: `image (--env FILE | --env-source FILE) --size N [--copies N] [--both] [--big-endian] [--output FILE]`.
+/// A new image: `image (--env FILE | --env-source FILE | --env-plain FILE) --size N [--copies N] [--both] [--big-endian] [--output FILE]`.
 #[derive(Clone, Copy, Debug)]
 pub struct ImageRequest<'w> {
     /// The text with its variables.

@@ -11,6 +11,7 @@ mod call;
 mod check_requests;
 mod command_line;
 mod dry_runs;
+mod formats;
 mod given_text;
 mod image_request;
 mod image_size;

@@ -1,11 +1,12 @@
 //! What the words of `boot` ask for.
-ghost use Rattle.std.specs.Prelude.{◌≡◌};
+ghost use Rattle.std.specs.Prelude.{◌≡◌, length};
+ghost use Rattle.fw_arguments.specs.DryRuns.{texts};
 ghost use Rattle.clap.specs.Words.{found_of, rows_of};
-ghost use Rattle.fw_arguments.specs.PowerOns.{power_ons_by, power_ons_of, power_ons_view, power_ons_within, stored_of, ways_of, with_stored};
+ghost use Rattle.fw_arguments.specs.PowerOns.{power_ons_by, power_ons_of, power_ons_view, power_ons_within, scripts_of, stored_of, ways_of, with_stored, with_ways};
 ghost use Rattle.fw_arguments.specs.WordFaults.{word_seen};
 
-use crate::argument_texts::{BAD_STORED, BAD_WAYS};
-use crate::arguments::is_given;
+use crate::argument_texts::{BAD_STORED, BAD_WAYS, MANY_SCRIPTS};
+use crate::arguments::{is_given, values};
 use crate::dry_runs::{DryRun, dry_run_within, number, read_limits};
 use crate::shells::read_shell;
 use crate::table::{BOARD_SHELL, USUAL_STORED, USUAL_WAYS};
@@ -20,8 +21,11 @@ const MOST_STORED: u32 = 100_000;
 /// The most ways that `--ways` allows.
 const MOST_WAYS: u32 = 10_000_000;
 
-/// Power-ons with every answer of the hardware: `boot [--stored N] [--ways N] [--dot]`, with the options of a dry run that
-/// writes nothing.
+/// The most scripts that `--after` may name.
+const MOST_SCRIPTS: usize = 254;
+
+/// Power-ons with every answer of the hardware: `boot [--bootcount] [--after FILE].. [--cuts] [--stored N] [--ways N] [--dot]`, with
+/// the options of a dry run that writes nothing.
 #[derive(Clone, Copy, Debug)]
 pub struct PowerOns<'m, 'w> {
     /// The options of a dry run.
@@ -32,6 +36,12 @@ pub struct PowerOns<'m, 'w> {
     pub ways: u32,
     /// Whether a graph is printed.
     pub dot: bool,
+    /// Whether power-ons are counted.
+    pub counts: bool,
+    /// Whether the power may fail at each save.
+    pub cuts: bool,
+    /// The paths of scripts that the system may run once it has booted.
+    pub after: Option<&'m [&'w str]>,
 }
 
 /// The power-ons that the words of `boot` ask for, or what is wrong with its shell or its numbers.
@@ -83,13 +93,53 @@ fn with_stored<'m, 'w>(
     ensures { word_seen power_ons_view result ≡ with_stored shell (rows_of (found_of found.now)) limits stored }
 {
     match read_ways(found) {
-        Ok(ways) => Ok(PowerOns {
+        Ok(ways) => with_ways(found, shell, limits, stored, ways),
+        Err(fault) => Err(fault),
+    }
+}
+
+/// The same by at most so many ways.
+fn with_ways<'m, 'w>(
+    found: &'m ArgMatches<'w>,
+    shell: Shell,
+    limits: Limits,
+    stored: u32,
+    ways: u32,
+) -> Result<PowerOns<'m, 'w>, WordFault<'w>>
+    ensures { word_seen power_ons_view result ≡ with_ways shell (rows_of (found_of found.now)) limits stored ways }
+{
+    match read_scripts(found) {
+        Ok(after) => Ok(PowerOns {
             dry: dry_run_within(found, shell, limits),
             stored,
             ways,
             dot: is_given(found, "dot"),
+            counts: is_given(found, "bootcount"),
+            cuts: is_given(found, "cuts"),
+            after,
         }),
         Err(fault) => Err(fault),
+    }
+}
+
+/// The scripts that the system may run once it has booted.
+fn read_scripts<'m, 'w>(found: &'m ArgMatches<'w>) -> Result<Option<&'m [&'w str]>, WordFault<'w>>
+    ensures { word_seen texts result ≡ scripts_of (rows_of (found_of found.now)) }
+{
+    let paths = values(found, "after");
+    if count(paths) > MOST_SCRIPTS {
+        return Err(WordFault::of(MANY_SCRIPTS));
+    }
+    Ok(paths)
+}
+
+/// How many there are.
+fn count(paths: Option<&[&str]>) -> usize
+    ensures { result ≡ length (texts paths.entry) }
+{
+    match paths {
+        None => 0,
+        Some(paths) => paths.len(),
     }
 }
 

@@ -1,13 +1,13 @@
 //! What the arguments of `status` and of any subcommand ask for.
 ghost use Rattle.std.specs.Prelude.{◌≡◌, codes, option_copied};
-ghost use Rattle.clap.specs.Words.{first_of, found_of, rows_of};
+ghost use Rattle.clap.specs.Words.{all_of, found_of, rows_of};
 ghost use Rattle.fw_arguments.specs.Calls.{call_of};
 ghost use Rattle.fw_arguments.specs.ImageRequests.{image_request_of};
 ghost use Rattle.fw_arguments.specs.Report.{asked_of, asked_once, asked_view, checked_by, looked, made, report_of, report_view, subject_by, subject_of, subject_view, worked};
 ghost use Rattle.fw_arguments.specs.WordFaults.{word_seen};
 
 use crate::argument_texts::{CONFIG_AND_FILE, READ_TWICE};
-use crate::arguments::{chosen_order, either_order, first, first_or, is_given};
+use crate::arguments::{chosen_order, either_order, first, first_or, is_given, values};
 use crate::call::{Call, read_call};
 use crate::check_requests::{FileCheck, read_file_check};
 use crate::image_request::{ImageRequest, read_image_request};
@@ -24,7 +24,7 @@ pub enum Asked<'m, 'w> {
     Work(Call<'m, 'w>),
     /// A report of what is stored.
     Look(Report<'w>),
-    /// A check of the script in a file.
+    /// A check of the scripts in files.
     Check(FileCheck<'m, 'w>),
     /// A new image.
     Make(ImageRequest<'w>),
@@ -88,16 +88,17 @@ fn ask<'m, 'w>(
     ask_to_work(order, name, found)
 }
 
-/// The check that the arguments of `check` ask for: of the script in a file, if one is given, else of an environment.
+/// The check that the arguments of `check` ask for: of the scripts in files, if some are given, else of an environment.
 fn ask_to_check<'m, 'w>(
     order: Order,
     found: &'m ArgMatches<'w>,
 ) -> Result<Asked<'m, 'w>, WordFault<'w>>
-    ensures { word_seen asked_view result ≡ checked_by (first_of (codes "script") (rows_of (found_of found.now))) order (rows_of (found_of found.now)) }
+    ensures { word_seen asked_view result
+        ≡ checked_by (all_of (codes "script") (rows_of (found_of found.now))) order (rows_of (found_of found.now)) }
 {
-    match first(found, "script") {
+    match values(found, "script") {
         None => ask_to_work(order, "check", found),
-        Some(path) => match read_file_check(path, found) {
+        Some(paths) => match read_file_check(paths, found) {
             Ok(check) => Ok(Asked::Check(check)),
             Err(fault) => Err(fault),
         },

@@ -78,6 +78,13 @@ pub const BOARD_SHELL: &str = "board";
 
 pub const STRICT_SHELL: &str = "strict";
 
+/// The names of the formats of findings.
+pub const TEXT_FORMAT: &str = "text";
+
+pub const GCC_FORMAT: &str = "gcc";
+
+pub const JSON_FORMAT: &str = "json";
+
 /// `-c FILE`
 pub const CONFIG: Row = Row {
     id: "config",
@@ -270,6 +277,14 @@ pub const ENV_SOURCE: Row = Row {
     help: "The same as --env with a source in U-Boot's own text form, as board.env, after the C preprocessor",
 };
 
+/// `--env-plain FILE`
+pub const ENV_PLAIN: Row = Row {
+    id: "env-plain",
+    names: Names::Long("env-plain"),
+    takes: Takes::One("FILE"),
+    help: "The same as --env with plain lines as U-Boot's build prints its default environment, u-boot-initial-env",
+};
+
 /// `--size N`
 pub const SIZE: Row = Row {
     id: "size",
@@ -366,6 +381,30 @@ pub const TRACE: Row = Row {
     help: "Prints each command that is run on standard error, and where it begins",
 };
 
+/// `--bootcount`
+pub const BOOTCOUNT: Row = Row {
+    id: "bootcount",
+    names: Names::Long("bootcount"),
+    takes: Takes::Nothing,
+    help: "Power-ons are counted in the environment, as by U-Boot with CONFIG_BOOTCOUNT_ENV",
+};
+
+/// `--after FILE`
+pub const AFTER: Row = Row {
+    id: "after",
+    names: Names::Long("after"),
+    takes: Takes::Many("FILE"),
+    help: "A script that the system may run once it has booted",
+};
+
+/// `--cuts`
+pub const CUTS: Row = Row {
+    id: "cuts",
+    names: Names::Long("cuts"),
+    takes: Takes::Nothing,
+    help: "The power may fail at each save",
+};
+
 /// `--stored N`
 pub const STORED: Row = Row {
     id: "stored",
@@ -406,6 +445,14 @@ pub const GIVEN_FILE: Row = Row {
     help: "The file of a script, or - for standard input, in place of NAMES",
 };
 
+/// `-f FILE` of `check`
+pub const CHECK_FILES: Row = Row {
+    id: "script",
+    names: Names::Letter('f'),
+    takes: Takes::Many("FILE"),
+    help: "The file of a script, or - for standard input, in place of NAMES; any number of times",
+};
+
 /// `NAMES` of `run`
 pub const RUN_NAMES: Row = Row {
     id: "names",
@@ -422,6 +469,14 @@ pub const CHECK_NAMES: Row = Row {
     help: "The variables whose scripts are looked at first; without names bootcmd, altbootcmd and preboot",
 };
 
+/// `--known FILE`
+pub const KNOWN: Row = Row {
+    id: "known",
+    names: Names::Long("known"),
+    takes: Takes::One("FILE"),
+    help: "Names of variables that the board's own code sets, one a line",
+};
+
 /// `--ignore CODE`
 pub const IGNORE: Row = Row {
     id: "ignore",
@@ -436,6 +491,14 @@ pub const STRICT: Row = Row {
     names: Names::Long("strict"),
     takes: Takes::Nothing,
     help: "Warnings count as errors",
+};
+
+/// `--format FORMAT`
+pub const FORMAT: Row = Row {
+    id: "format",
+    names: Names::Long("format"),
+    takes: Takes::Usual("FORMAT", TEXT_FORMAT),
+    help: "How findings are printed: text, gcc, each on one line as compilers do, or json, an object a line",
 };
 
 /// `-c FILE`, `--config FILE`
@@ -572,6 +635,7 @@ pub const IMAGE: Called = Called {
     options: &[
         IMAGE_ENV,
         ENV_SOURCE,
+        ENV_PLAIN,
         IMAGE_SIZE,
         COPIES,
         BOTH,
@@ -588,8 +652,8 @@ pub const RUN: Called = Called {
     example: "Example:\n  fwenv run --env board.txt --stubs stand-ins.txt --boots booti bootcmd",
     options: &[
         CONFIG, DEFAULT, NEED_COPY, BIG_ENDIAN, RUN_WRITE, OVERWRITE, SHELL, STUBS, BOARD, STEPS,
-        DEPTH, WORD, OUTPUT, ENV, ENV_SOURCE, SIZE, BOOTS, RESETS, MUST_BOOT, TRACE, GIVEN_TEXT,
-        GIVEN_FILE, RUN_NAMES,
+        DEPTH, WORD, OUTPUT, ENV, ENV_SOURCE, ENV_PLAIN, SIZE, BOOTS, RESETS, MUST_BOOT, TRACE,
+        GIVEN_TEXT, GIVEN_FILE, RUN_NAMES,
     ],
 };
 
@@ -601,7 +665,8 @@ pub const BOOT: Called = Called {
     example: "Example:\n  fwenv boot -c fw_env.config --board board.txt",
     options: &[
         CONFIG, DEFAULT, NEED_COPY, COPY, BIG_ENDIAN, SHELL, STUBS, BOARD, STEPS, DEPTH, WORD,
-        OUTPUT, ENV, ENV_SOURCE, SIZE, BOOTS, RESETS, STORED, WAYS, DOT,
+        OUTPUT, ENV, ENV_SOURCE, ENV_PLAIN, SIZE, BOOTS, RESETS, BOOTCOUNT, AFTER, CUTS, STORED,
+        WAYS, DOT,
     ],
 };
 
@@ -617,12 +682,16 @@ pub const CHECK: Called = Called {
         BIG_ENDIAN,
         SHELL,
         STUBS,
+        BOARD,
+        KNOWN,
         IGNORE,
         STRICT,
+        FORMAT,
         ENV,
         ENV_SOURCE,
+        ENV_PLAIN,
         SIZE,
-        GIVEN_FILE,
+        CHECK_FILES,
         CHECK_NAMES,
     ],
 };
@@ -649,6 +718,7 @@ pub const SESSION: Called = Called {
         OUTPUT,
         ENV,
         ENV_SOURCE,
+        ENV_PLAIN,
         SIZE,
         BOOTS,
         RESETS,

@@ -9,18 +9,19 @@ use Rattle.hush_commands.specs.declared.shell.Shell.{Shell}
 use Rattle.finding_kinds.specs.declared.kinds.FindingKind.TheVariants as kind
 use Rattle.fw_check.specs.Findings.{Finding, Known, Report, assigned_findings, found_at, is_defined, is_return, refused_sentence, return_findings, return_sentence, with_finding, with_findings}
 use Rattle.fw_check.specs.Found.{Found, found_more}
+use Rattle.fw_check.specs.Lines.{Subject}
 
-pub report-none : (name text : List ℕ) (r : Report) → with_findings name text r [] ≡ r
-report-none name text r = refl
+pub report-none : (subject : Subject) (text : List ℕ) (r : Report) → with_findings subject text r [] ≡ r
+report-none subject text r = refl
 
-pub report-append : (name text : List ℕ) (r : Report) (xs ys : List Finding) → with_findings name text (with_findings name text r xs) ys ≡ with_findings name text r (xs ++ ys)
-report-append name text r xs ys = sym (fold-append (with_finding name text) r xs ys)
+pub report-append : (subject : Subject) (text : List ℕ) (r : Report) (xs ys : List Finding) → with_findings subject text (with_findings subject text r xs) ys ≡ with_findings subject text r (xs ++ ys)
+report-append subject text r xs ys = sym (fold-append (with_finding subject text) r xs ys)
 
 pub found-none : (f : Found) → found_more f [] ≡ f
-found-none f = ap (λ (r : Report). let g : Found = record f { report = r } in g) (report-none f.name f.text f.report)
+found-none f = ap (λ (r : Report). let g : Found = record f { report = r } in g) (report-none f.subject f.text f.report)
 
 pub found-append : (f : Found) (xs ys : List Finding) → found_more (found_more f xs) ys ≡ found_more f (xs ++ ys)
-found-append f xs ys = ap (λ (r : Report). let g : Found = record f { report = r } in g) (report-append f.name f.text f.report xs ys)
+found-append f xs ys = ap (λ (r : Report). let g : Found = record f { report = r } in g) (report-append f.subject f.text f.report xs ys)
 
 -- ---- what is found if a name has a property, and if it hasn't
 

@@ -8,3 +8,4 @@ mod FollowLemmas
 mod TypeLemmas
 mod VisitLemmas
 pub mod Rows
+mod LineLemmas

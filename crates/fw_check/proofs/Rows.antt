@@ -10,6 +10,7 @@ use Rattle.hush_syntax.specs.Grammar.{Command, Simple, Assign, For, Chains, Firs
 use Rattle.hush_commands.specs.Builtins.{builtin_of}
 use Rattle.hush_commands.specs.declared.shell.Shell.TheVariants.{Strict, Board}
 use Rattle.hush_commands.specs.CommandNames.{with_name}
+use Rattle.hush_commands.specs.Hardware.{hardware}
 use Rattle.hush_commands.specs.Stubs.{Statuses}
 use Rattle.finding_kinds.specs.declared.kinds.FindingKind.TheVariants as kind
 use Rattle.fw_check.specs.Called.{Given, called_by, given_with}
@@ -26,7 +27,7 @@ abbrev value : List ℕ → List Atom
 value name = Mark ∷ Value name true ∷ Mark ∷ []
 
 abbrev strict : Given
-strict = given_with Strict None
+strict = given_with Strict None []
 
 abbrev more : Command → Chains → Chains
 more c cs = More (First c End) cs
@@ -104,11 +105,11 @@ foreseen_row : flat_map (foreseen_names strict) (of_script (Some setting)) ≡ c
 foreseen_row = refl
 
 -- a board takes a beginning that only one command has, and what is before a dot
-beginning_row : (stubs : Statuses) → entries stubs ≡ [] → get stubs (codes "seten") ≡ None → called_by (given_with Board (Some stubs)) (word (codes "seten")) ≡ Some (codes "setenv")
+beginning_row : (stubs : Statuses) → entries stubs ≡ [] → get stubs (codes "seten") ≡ None → called_by (given_with Board (Some (hardware [] stubs)) []) (word (codes "seten")) ≡ Some (codes "setenv")
 unfolding builtin_of with_name
 beginning_row stubs none absent = simp (none, absent)
 
-width_row : (stubs : Statuses) → get stubs (codes "test.x") ≡ None → called_by (given_with Board (Some stubs)) (word (codes "test.x")) ≡ Some (codes "test")
+width_row : (stubs : Statuses) → get stubs (codes "test.x") ≡ None → called_by (given_with Board (Some (hardware [] stubs)) []) (word (codes "test.x")) ≡ Some (codes "test")
 unfolding builtin_of
 width_row stubs absent = simp absent
 

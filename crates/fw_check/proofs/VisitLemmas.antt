@@ -11,11 +11,12 @@ use Rattle.hush_syntax.specs.declared.syntax_fault.FaultKind.TheVariants.{Memory
 use Rattle.hush_syntax.specs.declared.syntax_fault.SyntaxFault.{SyntaxFault}
 use Rattle.hush_run.specs.Meaning.{bodies_of}
 use Rattle.finding_kinds.specs.declared.kinds.FindingKind.TheVariants as kind
-use Rattle.fw_check.specs.Checking.{AreVisited, Faulty, Reports, Script, Visit, after_visit, in_all, known_after, reading_findings, value_in}
-use Rattle.fw_check.specs.Called.{Given}
+use Rattle.fw_check.specs.Checking.{AreVisited, Faulty, Reports, Script, Visit, after_visit, in_all, known_after, reading_findings, script_in}
+use Rattle.fw_check.specs.Called.{Given, in_answers}
 use Rattle.fw_check.specs.Findings.{Known, Report, fault_sentence, found_at, return_findings, with_findings, with_script}
-use Rattle.fw_check.specs.Following.{Followed, follow_fronts, is_among}
+use Rattle.fw_check.specs.Following.{Followed, begin_from, follow_fronts}
 use Rattle.fw_check.specs.Found.{Found, found_more}
+use Rattle.fw_check.specs.Lines.{Subject, Variable}
 use Rattle.fw_check.specs.NameSets.{no_names, with_all}
 use Rattle.fw_check.specs.Naming.{foreseen_in, given_in, run_in}
 use Rattle.fw_check.specs.Reports.{GoesOn, Reads, ReadsItems}
@@ -36,17 +37,17 @@ module _ (known : Option Known) (given : Given) where
       (Faulty fault, (h.0, ap (read_in (bodies_of given.shell)) (sym same) ∙ unread h.0, subst (λ t. IsFaultOf t fault) same (first h.0)), h.1)
   read-fault (Err e) source text fault old new same unread first h = tt
 
-  pub script-checked : (name text : List ℕ) (report counted after : Report) (first second third : Found) → counted ≡ with_script report → first ≡ record { name = name; text = text; report = counted } →
-      second ≡ found_more first (return_findings first.text) → Reads known given text second third → after ≡ third.report → GoesOn known given name text report after
-  script-checked name text report counted after first second third one begun returned h done =
+  pub script-checked : (subject : Subject) (text : List ℕ) (report counted after : Report) (first second third : Found) → counted ≡ with_script report → first ≡ record { subject = subject; text = text; report = counted } →
+      second ≡ found_more first (return_findings first.text) → Reads known given text second third → after ≡ third.report → GoesOn known given subject text report after
+  script-checked subject text report counted after first second third one begun returned h done =
       let ys = reading_findings known given text h.0 in
       let two = h.2 ∙ ap (λ (f : Found). found_more f ys) returned ∙ found-append first (return_findings first.text) ys
       ∙ ap (λ (f : Found). found_more f (return_findings f.text ++ ys)) begun in
-      let ends = λ (r : Report). with_findings name text r (return_findings text ++ ys) in
+      let ends = λ (r : Report). with_findings subject text r (return_findings text ++ ys) in
       (h.0, h.1, done ∙ ap (λ (f : Found). f.report) two ∙ ap ends one)
 
   -- a visit, and then the others
-  pub report-first : (env : Environment) (name : List ℕ) (names : List (List ℕ)) (report after final : Report) → GoesOn known given name (value_in env name) report after →
+  pub report-first : (env : Environment) (name : List ℕ) (names : List (List ℕ)) (report after final : Report) → GoesOn known given (Variable name) (script_in env name) report after →
       Reports env known given names after final → Reports env known given (name ∷ names) report final
   report-first env name names report after final h rest =
       let v : Visit = record { name = name; reading = h.0 } in
@@ -65,52 +66,52 @@ take-whole [] (suc index) e = refl
 take-whole (x ∷ names) zero e = absurd (let no : ◌≡◌ {A = Option (List ℕ)} (Some x) None = e in cc)
 take-whole (x ∷ names) (suc index) e = ap (λ (ns : List (List ℕ)). x ∷ ns) (take-whole names index e)
 
--- this is the set of the names in the scripts of these
-abbrev IsSet : Environment → (names_in : List ℕ → List (List ℕ)) → List (List ℕ) → (List ℕ → Bool) → Type 0
-IsSet env names_in visited set = set ≡ with_all no_names (in_all names_in env visited)
+-- this is the set with the names in the scripts of these
+abbrev IsSet : Environment → (names_in : List ℕ → List (List ℕ)) → (before : List ℕ → Bool) → List (List ℕ) → (List ℕ → Bool) → Type 0
+IsSet env names_in before visited set = set ≡ with_all before (in_all names_in env visited)
 
--- from these names on the first ones were visited, and these are the sets of what their scripts give and foresee
-pub record Follows (rules : Given) (env : Environment) (first now : Followed) (index : ℕ) (given foreseen : List ℕ → Bool) : Type 0 where
+-- from these names on the first ones were visited, and these are the sets with what their scripts give and foresee
+pub record Follows (rules : Given) (env : Environment) (first now : Followed) (index : ℕ) (gave foresaw given foreseen : List ℕ → Bool) : Type 0 where
   pub same : now.env ≡ env
   pub visited : (rest : List (List ℕ)) → AreVisited rules now index rest → AreVisited rules first 0 (take index now.names ++ rest)
-  pub gives : IsSet env (given_in rules) (take index now.names) given
-  pub foresees : IsSet env (foreseen_in rules) (take index now.names) foreseen
+  pub gives : IsSet env (given_in rules) gave (take index now.names) given
+  pub foresees : IsSet env (foreseen_in rules) foresaw (take index now.names) foreseen
 
-pub follows-none : (rules : Given) (env : Environment) (f : Followed) (given foreseen : List ℕ → Bool) → f.env ≡ env → given ≡ no_names → foreseen ≡ no_names → Follows rules env f f 0 given foreseen
-follows-none rules env f given foreseen same none nor = record { same = same; visited = λ rest h. h; gives = none; foresees = nor }
+pub follows-none : (rules : Given) (env : Environment) (f : Followed) (given foreseen : List ℕ → Bool) → f.env ≡ env → Follows rules env f f 0 given foreseen given foreseen
+follows-none rules env f given foreseen same = record { same = same; visited = λ rest h. h; gives = refl; foresees = refl }
 
 module _ (rules : Given) (env : Environment) (first now more : Followed) (index : ℕ) (name : List ℕ) (same : now.env ≡ env) (here : slice_get now.names index ≡ Some name)
-    (followed : more ≡ follow_fronts now (run_in rules (value_in env name))) where
+    (followed : more ≡ follow_fronts now (run_in rules (script_in env name))) where
   next-visited : take (index + 1) more.names ≡ take index now.names ++ name ∷ []
   next-visited =
-      let l = fronts-longer now (run_in rules (value_in env name)) in
+      let l = fronts-longer now (run_in rules (script_in env name)) in
       (λ i. take (let e : index + 1 ≡ suc index = omega arith in e i) ((ap (λ (f : Followed). f.names) followed ∙ l.1) i)) ∙ take-next now.names l.0 index name here
 
-  next-names : (names_in : List ℕ → List (List ℕ)) → in_all names_in env (take (index + 1) more.names) ≡ in_all names_in env (take index now.names) ++ names_in (value_in env name)
+  next-names : (names_in : List ℕ → List (List ℕ)) → in_all names_in env (take (index + 1) more.names) ≡ in_all names_in env (take index now.names) ++ names_in (script_in env name)
   next-names names_in =
-      ap (in_all names_in env) next-visited ∙ flat_map-append (λ n. names_in (value_in env n)) (take index now.names) (name ∷ [])
-      ∙ ap (λ (ns : List (List ℕ)). in_all names_in env (take index now.names) ++ ns) (append-nil (names_in (value_in env name)))
+      ap (in_all names_in env) next-visited ∙ flat_map-append (λ n. names_in (script_in env n)) (take index now.names) (name ∷ [])
+      ∙ ap (λ (ns : List (List ℕ)). in_all names_in env (take index now.names) ++ ns) (append-nil (names_in (script_in env name)))
 
-  next-set : (names_in : List ℕ → List (List ℕ)) (old new : List ℕ → Bool) → IsSet env names_in (take index now.names) old → new ≡ with_all old (names_in (value_in env name)) →
-      IsSet env names_in (take (index + 1) more.names) new
-  next-set names_in old new so_far added =
-      added ∙ ap (λ (set : List ℕ → Bool). with_all set (names_in (value_in env name))) so_far
-      ∙ with-append no_names (in_all names_in env (take index now.names)) (names_in (value_in env name))
-      ∙ ap (with_all no_names) (sym (next-names names_in))
+  next-set : (names_in : List ℕ → List (List ℕ)) (before old new : List ℕ → Bool) → IsSet env names_in before (take index now.names) old → new ≡ with_all old (names_in (script_in env name)) →
+      IsSet env names_in before (take (index + 1) more.names) new
+  next-set names_in before old new so_far added =
+      added ∙ ap (λ (set : List ℕ → Bool). with_all set (names_in (script_in env name))) so_far
+      ∙ with-append before (in_all names_in env (take index now.names)) (names_in (script_in env name))
+      ∙ ap (with_all before) (sym (next-names names_in))
 
-  next-followed : more ≡ follow_fronts now (run_in rules (value_in now.env name))
-  next-followed = followed ∙ ap (λ (e : Environment). follow_fronts now (run_in rules (value_in e name))) (sym same)
+  next-followed : more ≡ follow_fronts now (run_in rules (script_in now.env name))
+  next-followed = followed ∙ ap (λ (e : Environment). follow_fronts now (run_in rules (script_in e name))) (sym same)
 
-  pub follows-next : (given foreseen gives foresees : List ℕ → Bool) → Follows rules env first now index given foreseen → gives ≡ with_all given (given_in rules (value_in env name)) →
-      foresees ≡ with_all foreseen (foreseen_in rules (value_in env name)) → Follows rules env first more (index + 1) gives foresees
-  follows-next given foreseen gives foresees so_far added foreseen_too = record {
-    same = ap (λ (f : Followed). f.env) followed ∙ fronts-env now (run_in rules (value_in env name)) ∙ same;
+  pub follows-next : (gave foresaw given foreseen gives foresees : List ℕ → Bool) → Follows rules env first now index gave foresaw given foreseen → gives ≡ with_all given (given_in rules (script_in env name)) →
+      foresees ≡ with_all foreseen (foreseen_in rules (script_in env name)) → Follows rules env first more (index + 1) gave foresaw gives foresees
+  follows-next gave foresaw given foreseen gives foresees so_far added foreseen_too = record {
+    same = ap (λ (f : Followed). f.env) followed ∙ fronts-env now (run_in rules (script_in env name)) ∙ same;
     visited = λ rest h.
         let after = subst (λ (n : ℕ). AreVisited rules more n rest) (let e : index + 1 ≡ suc index = omega arith in e) h in
         let all = so_far.visited (name ∷ rest) (here, subst (λ (f : Followed). AreVisited rules f (suc index) rest) next-followed after) in
         subst (AreVisited rules first 0) (sym (append_assoc (take index now.names) (name ∷ []) rest) ∙ ap (λ (ns : List (List ℕ)). ns ++ rest) (sym next-visited)) all;
-    gives = next-set (given_in rules) given gives so_far.gives added;
-    foresees = next-set (foreseen_in rules) foreseen foresees so_far.foresees foreseen_too;
+    gives = next-set (given_in rules) gave given gives so_far.gives added;
+    foresees = next-set (foreseen_in rules) foresaw foreseen foresees so_far.foresees foreseen_too;
   }
 
 pub no-more : (names : List (List ℕ)) (index : ℕ) (o : Option (Vec ℕ Global)) → option_map (λ v. v.items) o ≡ slice_get names index → ((v : Vec ℕ Global) → o ≡ Some v → ⊥) → slice_get names index ≡ None
@@ -118,15 +119,38 @@ no-more names index None e none = sym e
 no-more names index (Some v) e none = absurd (none v refl)
 
 module _ (rules : Given) (env : Environment) (first now : Followed) (index : ℕ) (end : slice_get now.names index ≡ None) where
-  pub visited-all : (given foreseen : List ℕ → Bool) → Follows rules env first now index given foreseen → AreVisited rules first 0 now.names
-  visited-all given foreseen f = subst (AreVisited rules first 0) (append-nil (take index now.names) ∙ take-whole now.names index end) (f.visited [] end)
+  pub visited-all : (gave foresaw given foreseen : List ℕ → Bool) → Follows rules env first now index gave foresaw given foreseen → AreVisited rules first 0 now.names
+  visited-all gave foresaw given foreseen f = subst (AreVisited rules first 0) (append-nil (take index now.names) ∙ take-whole now.names index end) (f.visited [] end)
 
-  set-all : (names_in : List ℕ → List (List ℕ)) (set : List ℕ → Bool) → IsSet env names_in (take index now.names) set → set ≡ is_among (in_all names_in env now.names)
-  set-all names_in set is =
-      is ∙ ap (λ (ns : List (List ℕ)). with_all no_names (in_all names_in env ns)) (take-whole now.names index end) ∙ all-among (in_all names_in env now.names)
+  set-all : (names_in : List ℕ → List (List ℕ)) (before set : List ℕ → Bool) → IsSet env names_in before (take index now.names) set → IsSet env names_in before now.names set
+  set-all names_in before set is = is ∙ ap (λ (ns : List (List ℕ)). with_all before (in_all names_in env ns)) (take-whole now.names index end)
 
-  pub given-all : (given foreseen : List ℕ → Bool) → Follows rules env first now index given foreseen → given ≡ (known_after rules env now.names).given
-  given-all given foreseen f = set-all (given_in rules) given f.gives
+  pub given-all : (gave foresaw given foreseen : List ℕ → Bool) → Follows rules env first now index gave foresaw given foreseen → IsSet env (given_in rules) gave now.names given
+  given-all gave foresaw given foreseen f = set-all (given_in rules) gave given f.gives
 
-  pub foreseen-all : (given foreseen : List ℕ → Bool) → Follows rules env first now index given foreseen → foreseen ≡ (known_after rules env now.names).foreseen
-  foreseen-all given foreseen f = set-all (foreseen_in rules) foreseen f.foresees
+  pub foreseen-all : (gave foresaw given foreseen : List ℕ → Bool) → Follows rules env first now index gave foresaw given foreseen → IsSet env (foreseen_in rules) foresaw now.names foreseen
+  foreseen-all gave foresaw given foreseen f = set-all (foreseen_in rules) foresaw foreseen f.foresees
+
+pub begin-env : (f : Followed) (names : List (List ℕ)) → (begin_from f names).env ≡ f.env
+begin-env f [] = refl
+begin-env f (name ∷ names) = refl
+
+-- ---- with the names that the board's own code sets, and those in the texts that answer calls
+
+module _ (rules : Given) (env : Environment) (names : List (List ℕ)) where
+  pub given-known : (none known answered all : List ℕ → Bool) → none ≡ no_names → known ≡ with_all none rules.known →
+      answered ≡ with_all known (in_answers (given_in rules) rules.hardware) → all ≡ with_all answered (in_all (given_in rules) env names) → all ≡ (known_after rules env names).given
+  given-known none known answered all first second third last =
+      let a = rules.known in
+      let b = in_answers (given_in rules) rules.hardware in
+      let d = in_all (given_in rules) env names in
+      last ∙ ap (λ (s : List ℕ → Bool). with_all s d) (third ∙ ap (λ (s : List ℕ → Bool). with_all s b) (second ∙ ap (λ (s : List ℕ → Bool). with_all s a) first))
+      ∙ with-append (with_all no_names a) b d ∙ with-append no_names a (b ++ d) ∙ all-among (a ++ (b ++ d))
+
+  pub foreseen-known : (none answered all : List ℕ → Bool) → none ≡ no_names → answered ≡ with_all none (in_answers (foreseen_in rules) rules.hardware) →
+      all ≡ with_all answered (in_all (foreseen_in rules) env names) → all ≡ (known_after rules env names).foreseen
+  foreseen-known none answered all first second last =
+      let b = in_answers (foreseen_in rules) rules.hardware in
+      let d = in_all (foreseen_in rules) env names in
+      last ∙ ap (λ (s : List ℕ → Bool). with_all s d) (second ∙ ap (λ (s : List ℕ → Bool). with_all s b) first)
+      ∙ with-append no_names b d ∙ all-among (b ++ d)

@@ -1,9 +1,11 @@
--- What a check of an environment, or of one script, prints (docs/check.md).
+-- What a check of an environment prints (docs/check.md).
 use Rattle.std.specs.Prelude.{◌≡◌, ◌≢◌, ◌⊎◌, ℕ, ◌==◌, suc, ◌&&◌, ◌||◌, Bool, not, List, [], ◌∷◌, ◌++◌, map, fold, slice_get, codes, Option, Some, None, is_some, unwrap_or, if◌then◌else◌}
 use Rattle.std.specs.List.{AllByRecursion, flat_map, list_any}
 use Rattle.std.specs.Ordering.{eq_by_cmp}
 use Rattle.std.specs.FinMap.{entries, get}
 use Rattle.finding_kinds.specs.Choices.{Choice}
+use Rattle.finding_kinds.specs.declared.choice.Format.{Format}
+use Rattle.finding_kinds.specs.declared.choice.Format.TheVariants as format
 use Rattle.finding_kinds.specs.declared.kinds.FindingKind.TheVariants as kind
 use Rattle.hush_words.specs.Parts.{written}
 use Rattle.hush_syntax.specs.FaultPlaces.{IsFaultOf}
@@ -11,8 +13,6 @@ use Rattle.hush_syntax.specs.Reading.{read_in}
 use Rattle.hush_syntax.specs.declared.nodes.Bodies.{Bodies}
 use Rattle.hush_syntax.specs.declared.syntax_fault.FaultKind.TheVariants.{Memory}
 use Rattle.hush_syntax.specs.declared.syntax_fault.SyntaxFault.{SyntaxFault}
-use Rattle.hush_commands.specs.declared.shell.Shell.{Shell}
-use Rattle.hush_commands.specs.Stubs.{Statuses}
 use Rattle.hush_run.specs.Meaning.{bodies_of}
 use Rattle.envimg_core.specs.Environment.{Environment, Pair, bytes_cmp}
 use Rattle.envvars_core.specs.Attributes.{attributes}
@@ -22,11 +22,13 @@ use Rattle.fw_engines.specs.Tool.{Prints, Texts, WritesNothing}
 use Rattle.fw_engines.specs.declared.tool_end.ToolEnd.{ToolEnd}
 use Rattle.fw_engines.specs.declared.tool_end.StreamFault.TheVariants as stream
 use Rattle.fw_check.specs.declared.items.Item.{Item}
-use Rattle.fw_check.specs.Called.{Given, given_with}
+use Rattle.fw_check.specs.Called.{Given, in_answers}
+use Rattle.fw_check.specs.Menus.{script_of}
 use Rattle.fw_check.specs.Statements.{AreItemsOf}
-use Rattle.fw_check.specs.Following.{Followed, begin_with, first_names, follow_fronts, is_among, is_set}
+use Rattle.fw_check.specs.Following.{Followed, begin_with, follow_fronts, is_among, is_set}
 use Rattle.fw_check.specs.Naming.{foreseen_in, given_in, run_in}
-use Rattle.fw_check.specs.Findings.{Finding, Known, fault_sentence, found_at, return_findings, item_findings, Report, no_lines, report_end, with_findings, with_named, with_script}
+use Rattle.fw_check.specs.Findings.{Finding, Known, fault_sentence, found_at, return_findings, item_findings, Report, no_lines, report_end, with_alone, with_findings, with_script}
+use Rattle.fw_check.specs.Lines.{Variable, Whole}
 use Rattle.fw_check.specs.Summaries.{summary}
 
 -- ---- one script
@@ -56,9 +58,21 @@ findings known given text reading = return_findings text ++ reading_findings kno
 abbrev pub is_failed : Report → Bool
 is_failed report = not (report.errors == 0) || report.choice.strict && not (report.warnings == 0)
 
+-- that there is more is said after the findings in a text, and else before the last line: nothing else is among them there
+abbrev pub output_end : Format → Bool → List ℕ
+output_end format.Text cut = report_end cut
+output_end f cut = []
+
+abbrev pub errors_start : Format → Bool → List ℕ
+errors_start format.Text cut = []
+errors_start f cut = report_end cut
+
 abbrev pub texts_of : Report → Texts
-texts_of report =
-    record { output = report.text ++ report_end report.cut; errors = summary report; status = if is_failed report then 1 else 0 }
+texts_of report = record {
+  output = report.text ++ output_end report.choice.format report.cut;
+  errors = errors_start report.choice.format report.cut ++ summary report;
+  status = if is_failed report then 1 else 0;
+}
 
 abbrev pub PrintsReport : Writers → Writers → Report → ToolEnd → Type 0
 PrintsReport old new report end = Prints old new (texts_of report) end
@@ -73,28 +87,37 @@ abbrev pub undefined_sentence : List ℕ
 undefined_sentence = codes "no variable of this name is defined"
 
 abbrev pub with_given : Environment → Report → List ℕ → Report
-with_given env report name = if is_set env name then report else with_named report kind.NoVariable name undefined_sentence
+with_given env report name = if is_set env name then report else with_alone report (Variable name) kind.NoVariable undefined_sentence
 
 -- a line for each given name that isn't defined
 abbrev pub first_report : Choice → Environment → List (List ℕ) → Report
 first_report choice env names = fold (with_given env) (no_lines choice) names
 
-abbrev pub value_in : Environment → List ℕ → List ℕ
-value_in env name = unwrap_or (get env name) []
+-- the script of a variable
+abbrev pub script_in : Environment → List ℕ → List ℕ
+script_in env name = script_of name (unwrap_or (get env name) [])
 
 -- from the name of this index on, these names are visited: those that each one's script runs are added last
 abbrev pub AreVisited : Given → Followed → ℕ → List (List ℕ) → Type 0
 AreVisited given f index [] = slice_get f.names index ≡ None
 AreVisited given f index (v ∷ vs) =
-    (slice_get f.names index ≡ Some v) × AreVisited given (follow_fronts f (run_in given (value_in f.env v))) (suc index) vs
+    (slice_get f.names index ≡ Some v) × AreVisited given (follow_fronts f (run_in given (script_in f.env v))) (suc index) vs
 
 -- the names in all these scripts, by those in a text
 abbrev pub in_all : (names_in : List ℕ → List (List ℕ)) → Environment → List (List ℕ) → List (List ℕ)
-in_all names_in env visited = flat_map (λ name. names_in (value_in env name)) visited
+in_all names_in env visited = flat_map (λ name. names_in (script_in env name)) visited
 
+-- the same, and those in the texts that answer calls
+abbrev pub in_read : (names_in : List ℕ → List (List ℕ)) → Given → Environment → List (List ℕ) → List (List ℕ)
+in_read names_in given env visited = in_answers names_in given.hardware ++ in_all names_in env visited
+
+-- what is known of names, if these are the names of the scripts that are read
 abbrev pub known_after : Given → Environment → List (List ℕ) → Known
-known_after given env visited =
-    record { env = env; given = is_among (in_all (given_in given) env visited); foreseen = is_among (in_all (foreseen_in given) env visited) }
+known_after given env visited = record {
+  env = env;
+  given = is_among (given.known ++ in_read (given_in given) given env visited);
+  foreseen = is_among (in_read (foreseen_in given) given env visited);
+}
 
 -- a variable, and what its value is read as
 pub record Visit : Type 0 where
@@ -102,17 +125,21 @@ pub record Visit : Type 0 where
   pub reading : Reading
 
 abbrev pub IsVisit : Bodies → Environment → Visit → Type 0
-IsVisit bodies env v = IsReading bodies (value_in env v.name) v.reading
+IsVisit bodies env v = IsReading bodies (script_in env v.name) v.reading
 
 abbrev pub after_visit : Environment → Option Known → Given → Report → Visit → Report
 after_visit env known given report v =
-    with_findings v.name (value_in env v.name) (with_script report) (findings known given (value_in env v.name) v.reading)
+    with_findings (Variable v.name) (script_in env v.name) (with_script report) (findings known given (script_in env v.name) v.reading)
 
 -- with what is found in the scripts of these names, `report` becomes `final`
 abbrev pub Reports : Environment → Option Known → Given → List (List ℕ) → Report → Report → Type 0
 Reports env known given names report final =
     (visits : List Visit) × (map (λ v. v.name) visits ≡ names) × AllByRecursion (IsVisit (bodies_of given.shell) env) visits
     × (fold (after_visit env known given) report visits ≡ final)
+
+-- what is followed before any script is read: these names, and what the texts run that answer calls
+abbrev pub follow_first : Given → Environment → List (List ℕ) → Followed
+follow_first given env names = follow_fronts (begin_with env names) (in_answers (run_in given) given.hardware)
 
 -- a check that begins with what is followed so far and this report ends with `final`
 abbrev pub ComesTo : Given → Followed → Report → Report → Type 0
@@ -125,14 +152,14 @@ ComesTo given f report final =
 -- a line if no script was looked at
 abbrev pub with_none : Report → Report
 with_none report =
-    if report.scripts == 0 then with_named report kind.NoScript (codes "check") (codes "there is no script to look at") else report
+    if report.scripts == 0 then with_alone report Whole kind.NoScript (codes "there is no script to look at") else report
 
 abbrev pub mistyped_sentence : List ℕ
 mistyped_sentence = codes "the value does not have the type that .flags gives it"
 
 abbrev pub with_typed : Environment → Report → Pair → Report
 with_typed env report p =
-    if has_type (attributes env p.0).kind p.1 then report else with_named report kind.ValueType p.0 mistyped_sentence
+    if has_type (attributes env p.0).kind p.1 then report else with_alone report (Variable p.0) kind.ValueType mistyped_sentence
 
 -- a line for each variable whose value doesn't have the type that `.flags` gives it, in ascending order of
 -- the names' bytes
@@ -142,15 +169,8 @@ with_types env report = fold (with_typed env) report (entries env)
 -- ---- the whole
 
 -- a check of an environment from these names on
-abbrev pub Checks : Shell → Environment → Option Statuses → Choice → List (List ℕ) → Writers → Writers → ToolEnd → Type 0
-Checks shell env stubs choice names old new end =
-    ((report : Report) × ComesTo (given_with shell stubs) (begin_with env (first_names names)) (first_report choice env names) report
+abbrev pub Checks : Given → Environment → Choice → List (List ℕ) → Writers → Writers → ToolEnd → Type 0
+Checks given env choice names old new end =
+    ((report : Report) × ComesTo given (follow_first given env names) (first_report choice env names) report
     × PrintsReport old new (with_types env (with_none report)) end)
-    ⊎ LacksMemory old new end
-
--- a check of one script, without an environment
-abbrev pub ChecksText : Shell → Option Statuses → Choice → (name text : List ℕ) → Writers → Writers → ToolEnd → Type 0
-ChecksText shell stubs choice name text old new end =
-    ((reading : Reading) × IsReading (bodies_of shell) text reading
-    × PrintsReport old new (with_findings name text (with_script (no_lines choice)) (findings None (given_with shell stubs) text reading)) end)
     ⊎ LacksMemory old new end

@@ -3,9 +3,8 @@ use Rattle.std.specs.Prelude.{ℕ, ◌==◌, ◌&&◌, ◌||◌, Bool, false, Li
 use Rattle.std.specs.List.{ends_with}
 use Rattle.hush_words.specs.Words.{Atom}
 use Rattle.hush_commands.specs.Builtins.{builtin_of}
-use Rattle.hush_commands.specs.CommandNames.{names_command}
-use Rattle.hush_commands.specs.Hardware.{hardware}
-use Rattle.hush_commands.specs.Stubs.{Statuses, status_of_name}
+use Rattle.hush_commands.specs.CommandNames.{has_answer, names_command}
+use Rattle.hush_commands.specs.Hardware.{Hardware}
 use Rattle.hush_commands.specs.declared.shell.Shell.{Shell}
 use Rattle.finding_kinds.specs.declared.kinds.FindingKind.{FindingKind}
 use Rattle.finding_kinds.specs.declared.kinds.FindingKind.TheVariants as kind
@@ -40,23 +39,23 @@ lack_of opens name =
     else if is_head opens name then Some command.Function
     else None
 
-abbrev pub has_stand_in : Option Statuses → List ℕ → Bool
+abbrev pub has_stand_in : Option Hardware → List ℕ → Bool
 has_stand_in None name = false
-has_stand_in (Some stubs) name = is_some (status_of_name stubs name)
+has_stand_in (Some h) name = has_answer h name
 
--- which commands there are is known if there are stand-ins; a shell looks the name up
-abbrev pub is_unknown : Shell → Option Statuses → List ℕ → Bool
+-- which commands there are is known if there is some hardware; a shell looks the name up
+abbrev pub is_unknown : Shell → Option Hardware → List ℕ → Bool
 is_unknown shell None name = false
-is_unknown shell (Some stubs) name = not (names_command shell (hardware [] stubs) name)
+is_unknown shell (Some h) name = not (names_command shell h name)
 
 abbrev pub or_unknown : (unknown : Bool) → Option CommandFault → Option CommandFault
 or_unknown unknown None = if unknown then Some command.Unknown else None
 or_unknown unknown (Some fault) = Some fault
 
--- what is wrong with a command of this name; a stand-in carries out any name
-abbrev pub command_fault : Shell → Option Statuses → (opens : Bool) → List ℕ → Option CommandFault
-command_fault shell stubs opens name =
-    if has_stand_in stubs name then None else or_unknown (is_unknown shell stubs name) (lack_of opens name)
+-- what is wrong with a command of this name; a rule or a stand-in may carry out any name
+abbrev pub command_fault : Shell → Option Hardware → (opens : Bool) → List ℕ → Option CommandFault
+command_fault shell h opens name =
+    if has_stand_in h name then None else or_unknown (is_unknown shell h name) (lack_of opens name)
 
 abbrev pub command_sentence : CommandFault → List ℕ → List ℕ
 command_sentence command.Bracket name = codes "this shell has no `" ++ name ++ codes "`: write `test`"

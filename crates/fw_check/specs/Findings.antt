@@ -1,7 +1,6 @@
 -- What is found in a script, and the lines that report it (docs/check.md).
 use Rattle.std.specs.Prelude.{ℕ, ◌==◌, ◌+◌, ◌-◌, ◌^◌, ◌&&◌, ◌||◌, min, nat_le, not, Bool, true, false, List, [], ◌∷◌, ◌++◌, length, fold, codes, Option, Some, None, is_some, if◌then◌else◌}
-use Rattle.std.specs.Fmt.{decimal}
-use Rattle.std.specs.List.{concat, flat_map, fold, list_any, position_or_len}
+use Rattle.std.specs.List.{flat_map, fold, list_any, position_or_len}
 use Rattle.std.specs.FinMap.{get}
 use Rattle.hush_words.specs.Parts.{Written, word_atoms}
 use Rattle.hush_words.specs.declared.parts.Word.{Word}
@@ -10,20 +9,21 @@ use Rattle.hush_syntax.specs.declared.syntax_fault.FaultKind.{FaultKind}
 use Rattle.hush_syntax.specs.declared.syntax_fault.FaultKind.TheVariants as fault
 use Rattle.hush_commands.specs.declared.shell.Shell.{Shell}
 use Rattle.hush_commands.specs.declared.shell.Shell.TheVariants.{Strict, Board}
-use Rattle.hush_commands.specs.Stubs.{Statuses}
+use Rattle.hush_commands.specs.Hardware.{Hardware}
 use Rattle.envimg_core.specs.Environment.{Environment}
 use Rattle.finding_kinds.specs.Choices.{Choice, is_ignored}
-use Rattle.finding_kinds.specs.Kinds.{code_of, severity_of}
+use Rattle.finding_kinds.specs.Kinds.{severity_of}
 use Rattle.finding_kinds.specs.declared.kinds.FindingKind.{FindingKind}
 use Rattle.finding_kinds.specs.declared.kinds.FindingKind.TheVariants as kind
 use Rattle.finding_kinds.specs.declared.kinds.Severity.{Severity}
 use Rattle.finding_kinds.specs.declared.kinds.Severity.TheVariants as severity
 use Rattle.fw_engines.specs.TextPlaces.{place_of}
-use Rattle.fw_engines.specs.declared.text_places.Place.{Place}
 use Rattle.fw_check.specs.Called.{Given, called_by}
 use Rattle.fw_check.specs.Commands.{begin_in_parentheses, command_fault, command_sentence, kind_of}
+use Rattle.fw_check.specs.JsonLines.{line_in}
+use Rattle.fw_check.specs.Lines.{Line, Subject}
 use Rattle.fw_check.specs.Literals.{Front, front_of, is_called, is_word_of, literal_of, substituted}
-use Rattle.fw_check.specs.Naming.{is_run, is_test}
+use Rattle.fw_check.specs.Naming.{is_exit, is_run, is_test}
 use Rattle.fw_check.specs.Operators.{ATerm, Expected, after_word, wrong_in}
 use Rattle.fw_check.specs.Targets.{Target}
 use Rattle.fw_check.specs.declared.commands.CommandFault.{CommandFault}
@@ -39,23 +39,9 @@ pub record Finding : Type 0 where
 abbrev pub found_at : ℕ → FindingKind → List ℕ → Finding
 found_at count kind sentence = record { count = count; kind = kind; sentence = sentence }
 
--- ---- lines
-
-abbrev pub severity_text : Severity → List ℕ
-severity_text severity.Error = codes ": error: "
-severity_text severity.Warning = codes ": warning: "
-severity_text severity.Note = codes ": note: "
-
-abbrev pub place_text : (name : List ℕ) → Place → List ℕ
-place_text name place = concat (name ∷ codes ":" ∷ decimal place.line ∷ codes ":" ∷ decimal place.column ∷ [])
-
--- what a line has after its place or its name: the sentence, and the code of its kind
-abbrev pub said_of : FindingKind → (sentence : List ℕ) → List ℕ
-said_of k sentence = concat (severity_text (severity_of k) ∷ sentence ∷ codes " [" ∷ code_of k ∷ codes "]\n" ∷ [])
-
--- the line of a finding in the script of this name and text
-abbrev pub line_of : (name text : List ℕ) → Finding → List ℕ
-line_of name text f = place_text name (place_of text f.count) ++ said_of f.kind f.sentence
+-- its line in a script that is this subject
+abbrev pub line_at : Subject → (text : List ℕ) → Finding → Line
+line_at subject text f = record { subject = subject; place = Some (place_of text f.count); kind = f.kind; sentence = f.sentence }
 
 -- ---- the report
 
@@ -109,23 +95,25 @@ noted report k =
     if is_ignored report.choice k then report
     else counted (record report { cut = report.cut || is_full report }) (severity_of k)
 
-abbrev pub with_line : Report → FindingKind → (line : List ℕ) → Report
-with_line report k line = if has_line report k then record (noted report k) { text = report.text ++ line } else noted report k
+abbrev pub with_line : Report → Line → Report
+with_line report l =
+    if has_line report l.kind then record (noted report l.kind) { text = report.text ++ line_in report.choice.format l }
+    else noted report l.kind
 
-abbrev pub with_finding : (name text : List ℕ) → Report → Finding → Report
-with_finding name text report f = with_line report f.kind (line_of name text f)
+abbrev pub with_finding : Subject → (text : List ℕ) → Report → Finding → Report
+with_finding subject text report f = with_line report (line_at subject text f)
 
-abbrev pub with_findings : (name text : List ℕ) → Report → List Finding → Report
-with_findings name text report fs = fold (with_finding name text) report fs
+abbrev pub with_findings : Subject → (text : List ℕ) → Report → List Finding → Report
+with_findings subject text report fs = fold (with_finding subject text) report fs
 
 -- a note after them that there is more
 abbrev pub report_end : Bool → List ℕ
 report_end true = codes "more is found, and not printed\n"
 report_end false = []
 
--- one more line, which has a name and no place
-abbrev pub with_named : Report → FindingKind → (name sentence : List ℕ) → Report
-with_named report k name sentence = with_line report k (name ++ said_of k sentence)
+-- one more line, which has no place
+abbrev pub with_alone : Report → Subject → FindingKind → (sentence : List ℕ) → Report
+with_alone report subject k sentence = with_line report (record { subject = subject; place = None; kind = k; sentence = sentence })
 
 -- ---- texts that aren't scripts
 
@@ -192,14 +180,25 @@ abbrev pub fault_findings : ℕ → (name : List ℕ) → Option CommandFault �
 fault_findings count name None = []
 fault_findings count name (Some fault) = found_at count (kind_of fault) (command_sentence fault name) ∷ []
 
-abbrev pub called_findings : Shell → Option Statuses → (opens : Bool) → ℕ → Option (List ℕ) → List Finding
-called_findings shell stubs opens count None = []
-called_findings shell stubs opens count (Some name) = fault_findings count name (command_fault shell stubs opens name)
+abbrev pub called_findings : Shell → Option Hardware → (opens : Bool) → ℕ → Option (List ℕ) → List Finding
+called_findings shell h opens count None = []
+called_findings shell h opens count (Some name) = fault_findings count name (command_fault shell h opens name)
 
-abbrev pub command_findings : Shell → Option Statuses → Written → List Word → List Finding
-command_findings shell stubs text [] = []
-command_findings shell stubs text (word ∷ words) =
-    called_findings shell stubs (begin_in_parentheses (words_in text words)) word.start (literal_of (word_atoms text word))
+abbrev pub command_findings : Shell → Option Hardware → Written → List Word → List Finding
+command_findings shell h text [] = []
+command_findings shell h text (word ∷ words) =
+    called_findings shell h (begin_in_parentheses (words_in text words)) word.start (literal_of (word_atoms text word))
+
+-- an `exit` ends nothing on a board with a U-Boot before 2025
+abbrev pub exit_sentence : List ℕ
+exit_sentence = codes "U-Boot before 2025 ignores `exit` and goes on"
+
+abbrev pub exit_if : Bool → ℕ → List Finding
+exit_if exits count = if exits then found_at count kind.Exit exit_sentence ∷ [] else []
+
+abbrev pub exit_findings : Given → Written → List Word → List Finding
+exit_findings given text [] = []
+exit_findings given text (word ∷ words) = exit_if (is_exit (called_by given (word_atoms text word))) word.start
 
 -- the strict shell takes the words as false
 abbrev pub operator_end : Shell → List ℕ
@@ -291,13 +290,28 @@ assigned_findings shell known count None = []
 assigned_findings shell known count (Some name) =
     if is_defined known name then found_at count kind.HiddenAssignment (refused_sentence shell name) ∷ [] else []
 
+-- a board cuts the words of a `for` at spaces and newlines, in quotes too; here, a word without a substitution
+abbrev pub is_cut : ℕ → Bool
+is_cut b = b == 32 || b == 10
+
+abbrev pub is_cut_in : Option (List ℕ) → Bool
+is_cut_in None = false
+is_cut_in (Some bytes) = list_any is_cut bytes
+
+abbrev pub cut_sentence : List ℕ
+cut_sentence = codes "a board cuts this word of a `for` at its blanks, in quotes too"
+
+abbrev pub cut_findings : Written → Word → List Finding
+cut_findings text word = if is_cut_in (literal_of (word_atoms text word)) then found_at word.start kind.QuotedFor cut_sentence ∷ [] else []
+
 -- ---- a whole script
 
 abbrev pub item_findings : Option Known → Given → Written → Item → List Finding
 item_findings known given text (item.Call words) =
-    command_findings given.shell given.stubs text words.now ++ operator_findings given text words.now
+    command_findings given.shell given.hardware text words.now ++ exit_findings given text words.now ++ operator_findings given text words.now
     ++ run_findings known given text words.now ++ flat_map (word_findings known text) words.now
 item_findings known given text (item.Assignment name value) =
     assigned_findings given.shell known name.start (literal_of (word_atoms text name)) ++ word_findings known text value
 item_findings known given text (item.Binding name words) =
-    assigned_findings given.shell known name.start (literal_of (word_atoms text name)) ++ flat_map (word_findings known text) words.now
+    assigned_findings given.shell known name.start (literal_of (word_atoms text name))
+    ++ flat_map (cut_findings text) words.now ++ flat_map (word_findings known text) words.now

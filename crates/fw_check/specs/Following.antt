@@ -1,12 +1,14 @@
 -- Which scripts are read (docs/check.md, "Which scripts").
-use Rattle.std.specs.Prelude.{ℕ, ◌==◌, ◌&&◌, Bool, not, List, [], ◌∷◌, ◌++◌, length, map, fold, filter, nat_eq, codes, is_some, if◌then◌else◌, refl}
+use Rattle.std.specs.Prelude.{ℕ, ◌==◌, ◌&&◌, Bool, not, List, [], ◌∷◌, ◌++◌, length, map, fold, filter, nat_eq, codes, is_some, unwrap_or, if◌then◌else◌, refl}
 use Rattle.std.specs.List.{list_any, starts_with}
 use Rattle.std.specs.Ordering.{eq_by_cmp}
 use Rattle.std.specs.Coded.{Coded, code_by, coded×, coded_ℕ, coded_list}
 use Rattle.std.specs.FinMap as finite
 use Rattle.std.specs.FinMap.{entries, get}
+use Rattle.memchr.specs.Find.{is_byte}
 use Rattle.envimg_core.specs.Environment.{Environment, bytes_cmp}
 use Rattle.fw_check.specs.Literals.{Front}
+use Rattle.fw_check.specs.Menus.{is_entry_name, menu_front}
 
 abbrev pub is_among : List (List ℕ) → List ℕ → Bool
 is_among names name = list_any (eq_by_cmp bytes_cmp name) names
@@ -56,13 +58,29 @@ follow_front f front = follow_names f (named_by f.env front)
 abbrev pub follow_fronts : Followed → List Front → Followed
 follow_fronts f fronts = fold follow_front f fronts
 
--- the names that a check begins with if it is given none
+-- the names that a check begins with first if it is given none
 abbrev pub usual_names : List (List ℕ)
 usual_names = codes "bootcmd" ∷ codes "altbootcmd" ∷ codes "preboot" ∷ []
 
-abbrev pub first_names : List (List ℕ) → List (List ℕ)
-first_names [] = usual_names
-first_names (name ∷ names) = name ∷ names
+-- a boot menu's entry that has a script
+abbrev pub is_entry : Environment → List ℕ → Bool
+is_entry env name = is_entry_name name && list_any (is_byte 61) (unwrap_or (get env name) [])
+
+abbrev pub with_entry : Environment → List (List ℕ) → List ℕ → List (List ℕ)
+with_entry env names name = if is_entry env name then with_name env names name else names
+
+-- the entries among these names are followed
+abbrev pub follow_menu : Followed → List (List ℕ) → Followed
+follow_menu f more = record { env = f.env; names = fold (with_entry f.env) f.names more }
+
+-- all of the environment, in order of names
+abbrev pub follow_entries : Followed → Followed
+follow_entries f = follow_menu f (names_with menu_front (names_of f.env))
+
+-- what a check begins with: the names that it is given, without any the usual ones and the entries of a boot menu
+abbrev pub begin_from : Followed → List (List ℕ) → Followed
+begin_from f [] = follow_entries (follow_names f usual_names)
+begin_from f (name ∷ names) = follow_names f (name ∷ names)
 
 abbrev pub begin_with : Environment → List (List ℕ) → Followed
-begin_with env names = follow_names (record { env = env; names = [] }) names
+begin_with env names = begin_from (record { env = env; names = [] }) names

@@ -1,12 +1,13 @@
 -- What was found so far in a script.
 use Rattle.std.specs.Prelude.{ℕ, List}
 use Rattle.fw_check.specs.Findings.{Finding, Report, with_findings}
+use Rattle.fw_check.specs.Lines.{Subject}
 
--- the script's name and text, and the report with what was found in it
+-- what the script is, its text, and the report with what was found in it
 pub record Found : Type 0 where
-  pub name : List ℕ
+  pub subject : Subject
   pub text : List ℕ
   pub report : Report
 
 abbrev pub found_more : Found → List Finding → Found
-found_more f fs = record f { report = with_findings f.name f.text f.report fs }
+found_more f fs = record f { report = with_findings f.subject f.text f.report fs }

@@ -4,16 +4,20 @@ pub mod Literals
 pub mod Called
 pub mod Naming
 pub mod Targets
+pub mod Menus
 pub mod Following
 pub mod Operators
 pub mod Commands
+pub mod Lines
+pub mod JsonLines
 pub mod Findings
 pub mod Summaries
 pub mod Checking
+pub mod Reports
+pub mod FileChecks
 -- What the steps of the code do: no promise mentions these.
 pub mod Gathering
 pub mod NameSets
 pub mod Found
 pub mod Looking
 pub mod Expecting
-pub mod Reports

@@ -14,6 +14,9 @@ is_run called = is_called (codes "run") called
 abbrev pub is_test : Option (List ℕ) → Bool
 is_test called = is_called (codes "test") called
 
+abbrev pub is_exit : Option (List ℕ) → Bool
+is_exit called = is_called (codes "exit") called
+
 -- ---- the arguments of `run`, by what they begin with
 
 abbrev pub run_by : Given → List (List Atom) → List Front

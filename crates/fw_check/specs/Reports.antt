@@ -9,6 +9,7 @@ use Rattle.fw_check.specs.Checking.{IsReading, Reading, findings, reading_findin
 use Rattle.fw_check.specs.Called.{Given}
 use Rattle.fw_check.specs.Findings.{Known, Report, item_findings, with_findings, with_script}
 use Rattle.fw_check.specs.Found.{Found, found_more}
+use Rattle.fw_check.specs.Lines.{Subject}
 
 module _ (known : Option Known) (given : Given) where
   -- what is found in the statements of a script was added
@@ -21,5 +22,5 @@ module _ (known : Option Known) (given : Given) where
   Reads text old new = (reading : Reading) × IsReading (bodies_of given.shell) text reading × (new ≡ found_more old (reading_findings known given text reading))
 
   -- a report was continued with what is found in a script
-  abbrev pub GoesOn : (name text : List ℕ) → Report → Report → Type 0
-  GoesOn name text old new = (reading : Reading) × IsReading (bodies_of given.shell) text reading × (new ≡ with_findings name text (with_script old) (findings known given text reading))
+  abbrev pub GoesOn : Subject → (text : List ℕ) → Report → Report → Type 0
+  GoesOn subject text old new = (reading : Reading) × IsReading (bodies_of given.shell) text reading × (new ≡ with_findings subject text (with_script old) (findings known given text reading))

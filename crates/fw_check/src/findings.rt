@@ -2,27 +2,18 @@
 ghost use Rattle.std.specs.Prelude.{◌≡◌, ◌++◌, [], ◌∷◌, OnOk};
 ghost use Rattle.finding_kinds.specs.declared.kinds.FindingKind.TheVariants as kind;
 ghost use Rattle.finding_kinds.specs.Choices.{choice_view};
-ghost use Rattle.fw_check.specs.Findings.{counted, fault_sentence, found_at, has_line, no_lines, noted, place_text, return_findings, said_of, severity_text, with_named, with_script};
+ghost use Rattle.fw_check.specs.Findings.{counted, fault_sentence, found_at, has_line, no_lines, noted, return_findings, with_alone, with_script};
 ghost use Rattle.fw_check.specs.Found.{found_more};
+ghost use Rattle.fw_check.specs.JsonLines.{line_in};
+ghost use Rattle.fw_check.specs.Lines.{line_view, subject_view};
 
+use crate::lines::{Line, Subject, push_line};
 use finding_kinds::{Choice, FindingKind, Severity};
-use fw_engines::{Place, Pointer};
+use fw_engines::Pointer;
 use hush_syntax::{FaultKind, SyntaxFault};
-use itoa::Buffer;
 use memchr::memchr;
 use std::alloc::{AllocError, Global};
 use std::marker::Model;
-
-/// What is between the place and the sentence of a line.
-fn severity_text(severity: Severity) -> &'static [u8]
-    ensures { result.now ≡ severity_text severity }
-{
-    match severity {
-        Severity::Error => b": error: ",
-        Severity::Warning => b": warning: ",
-        Severity::Note => b": note: ",
-    }
-}
 
 /// No further line is added once there are this many bytes.
 const MOST_TEXT: usize = 65_536;
@@ -40,6 +31,7 @@ pub(crate) struct Report<'c> {
     pub(crate) warnings: u64,
     /// What the check is asked.
     pub(crate) choice: Choice<'c>,
+    alloc: Global,
 }
 
 impl<'c> Model for Report<'c> {
@@ -70,6 +62,7 @@ impl<'c> Report<'c> {
             errors: 0,
             warnings: 0,
             choice,
+            alloc,
         }
     }
 
@@ -96,6 +89,7 @@ impl<'c> Report<'c> {
         ensures line { result ≡ has_line self.old kind }
         ensures noted { self.new ≡ noted self.old kind }
         ensures text { self.new.text ≡ self.old.text }
+        ensures choice { self.new.choice ≡ self.old.choice }
     {
         if self.choice.ignores(kind) {
             return false;
@@ -106,27 +100,41 @@ impl<'c> Report<'c> {
         !is_full
     }
 
-    /// Adds a finding in a line that begins with a name.
-    pub(crate) fn add_named(
+    /// Appends the line of a finding that was noted.
+    fn push(&mut self, line: &Line<'_>) -> Result<(), AllocError>
+        ensures { OnOk result (self.new ≡ record self.old { text = self.old.text ++ line_in self.old.choice.format (line_view line.now) }) }
+    {
+        push_line(self.alloc, self.choice.format, &mut self.text, line)
+    }
+
+    /// Adds a finding without a place.
+    pub(crate) fn add_alone(
         &mut self,
+        subject: Subject<'_>,
         kind: FindingKind,
-        name: &[u8],
         sentence: &[u8],
     ) -> Result<(), AllocError>
-        ensures { OnOk result (self.new ≡ with_named self.old kind name.now sentence.now) }
+        ensures { OnOk result
+            (self.new ≡ with_alone self.old (subject_view subject.entry) kind sentence.now) }
     {
-        if self.has_line(kind) {
-            self.text.extend_from_slice(name)?;
-            push_said(&mut self.text, kind, sentence, b"", b"")?;
+        if !self.has_line(kind) {
+            return Ok(());
         }
-        Ok(())
+        self.push(&Line {
+            subject,
+            place: None,
+            kind,
+            before: sentence,
+            name: b"",
+            after: b"",
+        })
     }
 }
 
-/// A report that is continued with what is found in a script of this name and text.
+/// A report that is continued with what is found in a script: what that is, and its text.
 #[derive(Drop)]
 pub(crate) struct Findings<'s, 'c> {
-    name: &'s [u8],
+    subject: Subject<'s>,
     source: &'s [u8],
     pointer: Pointer<'s>,
     report: Report<'c>,
@@ -135,21 +143,26 @@ pub(crate) struct Findings<'s, 'c> {
 impl<'s, 'c> Model for Findings<'s, 'c> {
     ghost use Rattle.std.specs.Prelude.{◌≡◌};
     ghost use Rattle.fw_check.specs.Found.{Found};
+    ghost use Rattle.fw_check.specs.Lines.{subject_view};
 
     ghost Value = { Found };
 
-    ghost view = { λ a. record { name = a.name.now; text = a.source.now; report = a.report } };
+    ghost view = { λ a. record { subject = subject_view a.subject; text = a.source.now; report = a.report } };
 
     ghost invariant = { λ a. a.pointer ≡ a.source.now };
 }
 
 impl<'s, 'c> Findings<'s, 'c> {
     /// Nothing is found yet.
-    pub(crate) fn new(report: Report<'c>, name: &'s [u8], source: &'s [u8]) -> Findings<'s, 'c>
-        ensures { result ≡ record { name = name.now; text = source.now; report = report.entry } }
+    pub(crate) fn new(
+        report: Report<'c>,
+        subject: Subject<'s>,
+        source: &'s [u8],
+    ) -> Findings<'s, 'c>
+        ensures { result ≡ record { subject = subject_view subject.entry; text = source.now; report = report.entry } }
     {
         Findings {
-            name,
+            subject,
             source,
             pointer: Pointer::new(source),
             report,
@@ -178,10 +191,15 @@ impl<'s, 'c> Findings<'s, 'c> {
         if !self.report.has_line(kind) {
             return Ok(());
         }
-        let place = self.pointer.place(count);
-        let text = &mut self.report.text;
-        push_place(text, self.name, place)?;
-        push_said(text, kind, before, name, after)
+        let place = Some(self.pointer.place(count));
+        self.report.push(&Line {
+            subject: self.subject,
+            place,
+            kind,
+            before,
+            name,
+            after,
+        })
     }
 
     /// Adds the fault of a text that isn't a script.
@@ -210,33 +228,6 @@ impl<'s, 'c> Findings<'s, 'c> {
 }
 
 const RETURN: &[u8] = b"a carriage return stands in the script";
-
-/// Appends a name and a place, as lines begin.
-fn push_place(text: &mut Vec<u8>, name: &[u8], place: Place) -> Result<(), AllocError>
-    ensures { OnOk result (text.new.items ≡ text.old.items ++ place_text name.now place) }
-{
-    let mut line = Buffer::new();
-    let mut column = Buffer::new();
-    push_three(text, name, b":", line.format(place.line).as_bytes())?;
-    text.extend_from_slice(b":")?;
-    text.extend_from_slice(column.format(place.column).as_bytes())
-}
-
-/// Appends what a line has after its place or its name, with a sentence in three parts.
-fn push_said(
-    text: &mut Vec<u8>,
-    kind: FindingKind,
-    before: &[u8],
-    name: &[u8],
-    after: &[u8],
-) -> Result<(), AllocError>
-    ensures { OnOk result
-        (text.new.items ≡ text.old.items ++ said_of kind (before.now ++ name.now ++ after.now)) }
-{
-    text.extend_from_slice(severity_text(kind.severity()))?;
-    push_three(text, before, name, after)?;
-    push_three(text, b" [", kind.code().as_bytes(), b"]\n")
-}
 
 /// Appends three texts.
 pub(crate) fn push_three(

@@ -1,10 +1,11 @@
 //! The names whose scripts are checked.
 ghost use Rattle.std.specs.Prelude.{◌≡◌, ◌<◌, ◌∷◌, [], IfOk, OnOk, OnSome, option_map, slice_get, map};
-ghost use Rattle.fw_check.specs.Following.{follow_front, follow_names, names_of, names_with};
+ghost use Rattle.fw_check.specs.Following.{follow_entries, follow_front, follow_menu, follow_names, names_of, names_with};
 ghost use Rattle.fw_check.specs.Looking.{front_view};
 
 use crate::followed::Names;
 use crate::literals::Front;
+use crate::menu::{MENU, is_entry};
 use crate::name_set::NameSet;
 use crate::sorted_names::SortedNames;
 use envvars_core::Vars;
@@ -86,6 +87,28 @@ impl<'v, 's> Followed<'v, 's> {
         ensures { OnOk result (self.new ≡ follow_names self.old (name.now ∷ [])) }
     {
         self.names.follow(alloc, self.vars, name)
+    }
+
+    /// Follows the entries of a boot menu that have scripts, in order of names.
+    pub(crate) fn follow_entries(&mut self, alloc: Global) -> Result<(), AllocError>
+        ensures { OnOk result (self.new ≡ follow_entries self.old) }
+    {
+        let sorted = self.sorted;
+        for name in sorted.beginning(MENU) {
+            self.follow_entry(alloc, name)?;
+        }
+        Ok(())
+    }
+
+    /// Follows a name, if it is that of such an entry.
+    fn follow_entry(&mut self, alloc: Global, name: &[u8]) -> Result<(), AllocError>
+        ensures { OnOk result (self.new ≡ follow_menu self.old (name.now ∷ [])) }
+    {
+        if is_entry(self.vars, name) {
+            self.follow_name(alloc, name)
+        } else {
+            Ok(())
+        }
     }
 
     /// Follows the names that begin so.

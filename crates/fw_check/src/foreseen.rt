@@ -31,7 +31,7 @@ pub(crate) fn foresee(
     foreseen: &mut NameSet,
 ) -> Result<(), AllocError>
     ensures { OnOk result (set_of foreseen.new ≡ with_all (set_of foreseen.old)
-        (foreseen_as lookups.now.shell (option_map (λ v. v.items) called.now) (words_in text.now words.now))) }
+        (foreseen_as lookups.now.rules.shell (option_map (λ v. v.items) called.now) (words_in text.now words.now))) }
 {
     if is_called(called, b"test") {
         foresee_tested(lookups.alloc, text, words, foreseen)
@@ -80,7 +80,7 @@ fn foresee_env(
     foreseen: &mut NameSet,
 ) -> Result<(), AllocError>
     ensures { OnOk result (set_of foreseen.new ≡ with_all (set_of foreseen.old)
-        (foreseen_by_env lookups.now.shell (words_in text.now words.now))) }
+        (foreseen_by_env lookups.now.rules.shell (words_in text.now words.now))) }
 {
     if words.is_empty() {
         return Ok(());

@@ -1,24 +1,33 @@
-//! A check of boot scripts that runs nothing: what is wrong with a script, or with those of an environment from some
+//! A check of boot scripts that runs nothing: what is wrong with scripts, or with those of an environment from some
 //! names on, as lines. docs/check.md states the rules.
 //!
-//! To read in this order: items, literals, name_set, substitutions, commands, lookups; findings, summary;
-//! operators, undefined_names, statements, script_check; followed, sorted_names, following, run_names, foreseen, gives, text_names; typed_values, visits.
+//! To read in this order: items, literals, name_set, substitutions, commands, rules, lookups; lines, json_lines, findings,
+//! summary; operators, undefined_names, differences, statements, script_check; followed, sorted_names, menu, following,
+//! run_names, foreseen, gives, text_names; starts, reading, typed_values, visits; file_checks.
 #![tactic(auto)]
 
 mod commands;
+mod differences;
+mod file_checks;
 mod findings;
 mod followed;
 mod following;
 mod foreseen;
 mod gives;
 mod items;
+mod json_lines;
+mod lines;
 mod literals;
 mod lookups;
+mod menu;
 mod name_set;
 mod operators;
+mod reading;
+mod rules;
 mod run_names;
 mod script_check;
 mod sorted_names;
+mod starts;
 mod statements;
 mod substitutions;
 mod summary;
@@ -27,5 +36,6 @@ mod typed_values;
 mod undefined_names;
 mod visits;
 
-pub use script_check::check_text;
+pub use file_checks::{FileScript, check_files};
+pub use rules::{Hardware, Rules};
 pub use visits::check;

@@ -2,15 +2,17 @@
 ghost use Rattle.std.specs.Prelude.{◌≡◌, Some, IfOk, option_map};
 ghost use Rattle.fw_check.specs.Commands.{command_fault, has_stand_in, is_unknown};
 ghost use Rattle.fw_check.specs.Findings.{is_defined, is_lacking, is_undefined};
+ghost use Rattle.hush_commands.specs.CommandNames.{name_among};
 ghost use Rattle.hush_words.specs.Parts.{word_atoms};
 ghost use Rattle.fw_check.specs.Called.{called_by, is_after_env};
-ghost use Rattle.fw_check.specs.Looking.{known_in, known_view, rules_in, stubs_in};
+ghost use Rattle.fw_check.specs.Looking.{hardware_in, known_in, known_view, rules_in};
 
 use crate::commands::{CommandFault, lack_of};
 use crate::literals::{is_word_of, literal};
 use crate::name_set::ScriptNames;
+use crate::rules::Rules;
 use envvars_core::Vars;
-use hush_commands::{Shell, Stubs, command_name, names_command, stands_for};
+use hush_commands::{BoardRules, Stubs, command_name, has_answer, names_command, stands_for};
 use hush_syntax::{Text, Word};
 use std::alloc::{AllocError, Global};
 
@@ -22,7 +24,8 @@ pub(crate) struct Variables<'k> {
     pub(crate) names: &'k ScriptNames,
 }
 
-/// The variables that U-Boot and its commands set by themselves, and the one that its scripts use whether it is defined or not.
+/// The variables that U-Boot and its commands set by themselves, and the one that its scripts use whether it is defined
+/// or not.
 const SET_BY_COMMANDS: [&[u8]; 35] = [
     b"boardver",
     b"bootargs",
@@ -88,12 +91,10 @@ impl<'k> Variables<'k> {
 #[derive(Clone, Copy)]
 pub(crate) struct Lookups<'k> {
     pub(crate) alloc: Global,
-    /// Whose rules count where shells differ.
-    pub(crate) shell: Shell,
+    /// By what rules it is read.
+    pub(crate) rules: Rules<'k>,
     /// `None` if names of variables aren't looked up.
     pub(crate) variables: Option<Variables<'k>>,
-    /// The stand-ins; `None` if names of commands aren't looked up.
-    pub(crate) stubs: Option<&'k Stubs>,
 }
 
 impl<'k> Lookups<'k> {
@@ -102,17 +103,33 @@ impl<'k> Lookups<'k> {
         ensures { IfOk result (λ name. option_map (λ v. v.items) name ≡ called_by (rules_in self.now) (word_atoms text.now word)) }
     {
         match literal(self.alloc, text, word)? {
-            Some(bytes) => Ok(Some(command_name(self.alloc, self.shell, self.stubs, &bytes)?)),
+            Some(bytes) => Ok(Some(self.command_name(&bytes)?)),
             None => Ok(None),
+        }
+    }
+
+    /// The name that the shell finds by a word.
+    fn command_name(&self, word: &[u8]) -> Result<Vec<u8>, AllocError>
+        ensures { IfOk result (λ name. name.items ≡ name_among self.now.rules.shell (hardware_in self.now) word.now) }
+    {
+        let shell = self.rules.shell;
+        match self.rules.hardware {
+            Some(hardware) => {
+                command_name(self.alloc, shell, hardware.stand_ins, hardware.board, word)
+            }
+            None => {
+                let (none, nothing) = (Stubs::empty(self.alloc), BoardRules::none(self.alloc));
+                command_name(self.alloc, shell, &none, &nothing, word)
+            }
         }
     }
 
     /// Whether a word after `env` stands for a name of which a board needs so many bytes.
     pub(crate) fn is_after_env(&self, least: usize, name: &[u8], word: &Option<Vec<u8>>) -> bool
-        ensures { result ≡ is_after_env self.now.shell least name.now (option_map (λ v. v.items) word.now) }
+        ensures { result ≡ is_after_env self.now.rules.shell least name.now (option_map (λ v. v.items) word.now) }
     {
         match word {
-            Some(word) => stands_for(self.shell, least, name, word),
+            Some(word) => stands_for(self.rules.shell, least, name, word),
             None => false,
         }
     }
@@ -149,7 +166,7 @@ impl<'k> Lookups<'k> {
 
     /// What is wrong with a command of this name; `opens`: its arguments begin with `()`.
     pub(crate) fn command_fault(&self, opens: bool, name: &[u8]) -> Option<CommandFault>
-        ensures { result ≡ command_fault self.now.shell (stubs_in self.now) opens name.now }
+        ensures { result ≡ command_fault self.now.rules.shell (hardware_in self.now) opens name.now }
     {
         if self.has_stand_in(name) {
             return None;
@@ -161,22 +178,23 @@ impl<'k> Lookups<'k> {
         }
     }
 
-    /// Whether a stand-in has this name.
+    /// Whether a rule or a stand-in may answer a call of this name.
     fn has_stand_in(&self, name: &[u8]) -> bool
-        ensures { result ≡ has_stand_in (stubs_in self.now) name.now }
+        ensures { result ≡ has_stand_in (hardware_in self.now) name.now }
     {
-        match self.stubs {
-            Some(stubs) => stubs.status(name).is_some(),
+        match self.rules.hardware {
+            Some(hardware) => has_answer(hardware.stand_ins, hardware.board, name),
             None => false,
         }
     }
 
-    /// Whether the shell finds no builtin and no stand-in by this name.
+    /// Whether the shell finds no command that is there by this name.
     fn is_unknown(&self, name: &[u8]) -> bool
-        ensures { result ≡ is_unknown self.now.shell (stubs_in self.now) name.now }
+        ensures { result ≡ is_unknown self.now.rules.shell (hardware_in self.now) name.now }
     {
-        match self.stubs {
-            Some(stubs) => !names_command(self.alloc, self.shell, stubs, name),
+        let shell = self.rules.shell;
+        match self.rules.hardware {
+            Some(hardware) => !names_command(shell, hardware.stand_ins, hardware.board, name),
             None => false,
         }
     }

@@ -1,5 +1,5 @@
-//! What is found in a script, and what is printed of a single script.
-ghost use Rattle.std.specs.Prelude.{◌≡◌, ◌≢◌, ◌⊎◌, [], ◌∷◌, ◌++◌, Some, IfOk, OnOk, if◌then◌else◌, option_map};
+//! What is found in a script, and what is printed of a report.
+ghost use Rattle.std.specs.Prelude.{◌≡◌, ◌≢◌, ◌⊎◌, [], ◌∷◌, ◌++◌, Some, IfOk, OnOk, if◌then◌else◌};
 ghost use Rattle.hush_syntax.specs.Grammar.{SpellsIn};
 ghost use Rattle.hush_syntax.specs.Scripts.{source_of, tree_of};
 ghost use Rattle.hush_run.specs.Meaning.{bodies_of};
@@ -7,57 +7,26 @@ ghost use Rattle.hush_syntax.specs.declared.syntax_fault.FaultKind.TheVariants a
 ghost use Rattle.fw_engines.specs.declared.tool_end.StreamFault.TheVariants as stream;
 ghost use Rattle.fw_engines.specs.Tool.{Prints};
 ghost use Rattle.finding_kinds.specs.declared.kinds.FindingKind.TheVariants as finding;
-ghost use Rattle.finding_kinds.specs.Choices.{choice_view};
-ghost use Rattle.fw_check.specs.Checking.{ChecksText, LacksMemory, PrintsReport, is_failed};
+ghost use Rattle.fw_check.specs.Checking.{LacksMemory, PrintsReport, errors_start, is_failed, output_end};
 ghost use Rattle.fw_check.specs.Findings.{fault_sentence, found_at, report_end};
 ghost use Rattle.fw_check.specs.Found.{found_more};
+ghost use Rattle.fw_check.specs.Lines.{subject_view};
 ghost use Rattle.fw_check.specs.Looking.{known_in, rules_in};
 ghost use Rattle.fw_check.specs.Reports.{GoesOn, Reads, ReadsItems};
 
 use crate::findings::{Findings, Report};
 use crate::items::items_of;
+use crate::lines::Subject;
 use crate::lookups::Lookups;
 use crate::statements::check_items;
 use crate::summary::summary;
-use finding_kinds::Choice;
-use fw_engines::streams::{write_text, write_two};
+use finding_kinds::Format;
+use fw_engines::streams::write_two;
 use fw_engines::{StreamFault, ToolEnd};
-use hush_commands::{Shell, Stubs};
 use hush_run::bodies_of;
 use hush_syntax::{FaultKind, Script, SyntaxFault};
 use std::alloc::{AllocError, Global};
 use std::io::Write;
-
-/// Prints on `output` what is found in one script by the rules of a shell, and on `errors` how much that is. No environment
-/// is used; with stand-ins a command that is neither a builtin nor one of them is an error. The status is 1 if something
-/// was found that counts, else 0. docs/check.md has the texts.
-///
-/// At the fault `Memory` nothing is printed.
-pub fn check_text<W: Write, E: Write>(
-    alloc: Global,
-    shell: Shell,
-    stubs: Option<&Stubs>,
-    choice: Choice<'_>,
-    name: &[u8],
-    text: &[u8],
-    output: &mut W,
-    errors: &mut E,
-) -> ToolEnd
-    ensures { ChecksText shell (option_map (λ s. s.now) stubs.entry) (choice_view choice.entry) name.now text.now
-        (record { output = W.contents output.old; errors = E.contents errors.old })
-        (record { output = W.contents output.new; errors = E.contents errors.new }) result }
-{
-    let lookups = Lookups {
-        alloc,
-        shell,
-        variables: None,
-        stubs,
-    };
-    match check_script(&lookups, Report::new(alloc, choice), name, text) {
-        Err(_) => lacks_memory(),
-        Ok(report) => print_report(alloc, &report, output, errors),
-    }
-}
 
 /// Prints the lines of a report, and how much was looked at and found.
 pub(crate) fn print_report<W: Write, E: Write>(
@@ -75,7 +44,8 @@ pub(crate) fn print_report<W: Write, E: Write>(
         Err(_) => lacks_memory(),
         Ok(last) => print_lines(
             &report.text,
-            report_end(report.cut),
+            output_end(report.choice.format, report.cut),
+            errors_start(report.choice.format, report.cut),
             &last,
             status_of(report),
             output,
@@ -84,10 +54,11 @@ pub(crate) fn print_report<W: Write, E: Write>(
     }
 }
 
-/// Prints lines and their end on `output`, and a last line on `errors`; the status is this one.
+/// Prints lines and their end on `output`, and last lines on `errors`; the status is this one.
 fn print_lines<W: Write, E: Write>(
     lines: &[u8],
     end: &[u8],
+    start: &[u8],
     last: &[u8],
     status: u8,
     output: &mut W,
@@ -95,12 +66,12 @@ fn print_lines<W: Write, E: Write>(
 ) -> ToolEnd
     ensures { Prints (record { output = W.contents output.old; errors = E.contents errors.old })
         (record { output = W.contents output.new; errors = E.contents errors.new })
-        (record { output = lines.now ++ end.now; errors = last.now; status = status }) result }
+        (record { output = lines.now ++ end.now; errors = start.now ++ last.now; status = status }) result }
 {
     if !write_two(output, lines, end) {
         return ToolEnd::stopped(StreamFault::Write);
     }
-    if !write_text(errors, last) {
+    if !write_two(errors, start, last) {
         return ToolEnd::stopped(StreamFault::Write);
     }
     ToolEnd::done(status)
@@ -120,7 +91,27 @@ fn is_failed(report: &Report<'_>) -> bool
     report.errors != 0 || (report.choice.strict && report.warnings != 0)
 }
 
-/// After the lines of a report: that there is more, if the report was cut.
+/// After the lines of a report.
+fn output_end(format: Format, cut: bool) -> &'static [u8]
+    ensures { result.now ≡ output_end format cut }
+{
+    match format {
+        Format::Text => report_end(cut),
+        _ => b"",
+    }
+}
+
+/// Before the last line.
+fn errors_start(format: Format, cut: bool) -> &'static [u8]
+    ensures { result.now ≡ errors_start format cut }
+{
+    match format {
+        Format::Text => b"",
+        _ => report_end(cut),
+    }
+}
+
+/// That there is more, if a report was cut.
 fn report_end(cut: bool) -> &'static [u8]
     ensures { result.now ≡ report_end cut }
 {
@@ -141,19 +132,19 @@ pub(crate) fn lacks_memory() -> ToolEnd
     }
 }
 
-/// Continues a report with what is found in the script of this name and text.
+/// Continues a report with what is found in a script: what that is, and its text.
 pub(crate) fn check_script<'c>(
     lookups: &Lookups<'_>,
     report: Report<'c>,
-    name: &[u8],
+    subject: Subject<'_>,
     text: &[u8],
 ) -> Result<Report<'c>, AllocError>
-    ensures { IfOk result (λ after. GoesOn (known_in lookups.now) (rules_in lookups.now) name.now text.now
+    ensures { IfOk result (λ after. GoesOn (known_in lookups.now) (rules_in lookups.now) (subject_view subject.entry) text.now
         report.entry after) }
 {
     let mut so_far = report;
     so_far.add_script();
-    let mut found = Findings::new(so_far, name, text);
+    let mut found = Findings::new(so_far, subject, text);
     found.add_return()?;
     check_reading(lookups, text, &mut found)?;
     Ok(found.report())
@@ -168,7 +159,7 @@ fn check_reading(
     ensures { OnOk result (Reads (known_in lookups.now) (rules_in lookups.now) text.now found.old found.new) }
 {
     let source = Vec::from_slice(lookups.alloc, text)?;
-    match Script::parse_in(lookups.alloc, source, bodies_of(lookups.shell)) {
+    match Script::parse_in(lookups.alloc, source, bodies_of(lookups.rules.shell)) {
         Ok(script) => check_parsed(lookups, &script, found),
         Err(fault) => add_fault(fault, found),
     }
@@ -180,7 +171,7 @@ fn check_parsed(
     script: &Script,
     found: &mut Findings<'_, '_>,
 ) -> Result<(), AllocError>
-    requires { SpellsIn (bodies_of lookups.now.shell) (tree_of script.now) (source_of script.now) }
+    requires { SpellsIn (bodies_of lookups.now.rules.shell) (tree_of script.now) (source_of script.now) }
     ensures { OnOk result (ReadsItems (known_in lookups.now) (rules_in lookups.now) (source_of script.now)
         found.old found.new) }
 {

@@ -3,12 +3,13 @@ ghost use Rattle.std.specs.Prelude.{◌≡◌, ◌++◌, [], ◌∷◌, if◌the
 ghost use Rattle.std.specs.List.{flat_map};
 ghost use Rattle.hush_words.specs.Parts.{word_atoms};
 ghost use Rattle.fw_check.specs.Commands.{command_sentence, kind_of};
-ghost use Rattle.fw_check.specs.Findings.{argument_findings, assigned_findings, begun_findings, called_findings, command_findings, found_at, item_findings, named_findings, operator_end, operator_findings, refused_end, run_findings, target_findings, test_findings, word_findings};
+ghost use Rattle.fw_check.specs.Findings.{argument_findings, assigned_findings, begun_findings, called_findings, command_findings, exit_findings, found_at, item_findings, named_findings, operator_end, operator_findings, refused_end, run_findings, target_findings, test_findings, word_findings};
 ghost use Rattle.fw_check.specs.Found.{found_more};
 ghost use Rattle.fw_check.specs.Literals.{literal_of};
-ghost use Rattle.fw_check.specs.Looking.{front_view, known_in, rules_in, stubs_in};
+ghost use Rattle.fw_check.specs.Looking.{front_view, hardware_in, known_in, rules_in};
 
 use crate::commands::{CommandFault, begin_in_parentheses};
+use crate::differences::{check_cuts, check_exit};
 use crate::findings::Findings;
 use crate::items::Item;
 use crate::literals::{Front, front_of, is_called, literal};
@@ -54,6 +55,7 @@ fn check_item(
         }
         Item::Binding { name, words } => {
             check_assigned(lookups, text, name, findings)?;
+            check_cuts(lookups, text, words, findings)?;
             check_words(lookups, text, words, findings)
         }
     }
@@ -67,7 +69,8 @@ fn check_call(
     findings: &mut Findings<'_, '_>,
 ) -> Result<(), AllocError>
     ensures { OnOk result (findings.new ≡ found_more findings.old
-        (command_findings lookups.now.shell (stubs_in lookups.now) text.now words.now
+        (command_findings lookups.now.rules.shell (hardware_in lookups.now) text.now words.now
+        ++ exit_findings (rules_in lookups.now) text.now words.now
         ++ operator_findings (rules_in lookups.now) text.now words.now
         ++ run_findings (known_in lookups.now) (rules_in lookups.now) text.now words.now
         ++ flat_map (word_findings (known_in lookups.now) text.now) words.now)) }
@@ -80,6 +83,11 @@ fn check_call(
     check_called(lookups, opens, words[0], &first, findings)?;
     let called = lookups.called(text, words[0])?;
     let (runs, tests) = (is_called(&called, b"run"), is_called(&called, b"test"));
+    check_exit(
+        is_called(&called, b"exit"),
+        words[0].start as usize,
+        findings,
+    )?;
     check_operators(lookups, text, tests, &words[1..], findings)?;
     check_targets(lookups, text, runs, &words[1..], findings)?;
     check_words(lookups, text, words, findings)
@@ -94,7 +102,7 @@ fn check_called(
     findings: &mut Findings<'_, '_>,
 ) -> Result<(), AllocError>
     ensures { OnOk result (findings.new ≡ found_more findings.old
-        (called_findings lookups.now.shell (stubs_in lookups.now) opens word.start (option_map (λ v. v.items) called.now))) }
+        (called_findings lookups.now.rules.shell (hardware_in lookups.now) opens word.start (option_map (λ v. v.items) called.now))) }
 {
     let Some(name) = called else {
         return Ok(());
@@ -153,18 +161,18 @@ fn check_operators(
     findings: &mut Findings<'_, '_>,
 ) -> Result<(), AllocError>
     ensures { OnOk result (findings.new ≡ found_more findings.old
-        (if tests then test_findings lookups.now.shell text.now words.now else [])) }
+        (if tests then test_findings lookups.now.rules.shell text.now words.now else [])) }
 {
     if !tests {
         return Ok(());
     }
-    match wrong_operator(lookups.alloc, lookups.shell, text, words)? {
+    match wrong_operator(lookups.alloc, lookups.rules.shell, text, words)? {
         Some(wrong) => findings.add(
             wrong.count,
             FindingKind::TestOperator,
             b"`test` has no operator `",
             &wrong.bytes,
-            operator_end(lookups.shell),
+            operator_end(lookups.rules.shell),
         ),
         None => Ok(()),
     }
@@ -269,7 +277,7 @@ fn check_assigned(
     findings: &mut Findings<'_, '_>,
 ) -> Result<(), AllocError>
     ensures { OnOk result (findings.new ≡ found_more findings.old
-        (assigned_findings lookups.now.shell (known_in lookups.now) word.start (literal_of (word_atoms text.now word)))) }
+        (assigned_findings lookups.now.rules.shell (known_in lookups.now) word.start (literal_of (word_atoms text.now word)))) }
 {
     let Some(name) = literal(lookups.alloc, text, word)? else {
         return Ok(());
@@ -280,7 +288,7 @@ fn check_assigned(
             FindingKind::HiddenAssignment,
             b"`",
             &name,
-            refused_end(lookups.shell),
+            refused_end(lookups.rules.shell),
         )?;
     }
     Ok(())

@@ -19,7 +19,8 @@ use hush_run::bodies_of;
 use hush_syntax::{FaultKind, Script, SyntaxFault};
 use std::alloc::AllocError;
 
-/// Follows what the script of a text runs, and adds the names that it gives and foresees to those of the other scripts. It is read by the rules of the shell.
+/// Follows what the script of a text runs, and adds the names that it gives and foresees to those of the other scripts. It is
+/// read by the rules of the shell.
 pub(crate) fn follow_text(
     lookups: &Lookups<'_>,
     text: &[u8],
@@ -33,7 +34,7 @@ pub(crate) fn follow_text(
         (set_of gathered.new.foreseen ≡ with_all (set_of gathered.old.foreseen) (foreseen_in (rules_in lookups.now) text.now)) }
 {
     let source = Vec::from_slice(lookups.alloc, text)?;
-    match Script::parse_in(lookups.alloc, source, bodies_of(lookups.shell)) {
+    match Script::parse_in(lookups.alloc, source, bodies_of(lookups.rules.shell)) {
         Ok(script) => follow_script(lookups, &script, names, gathered),
         Err(fault) => no_script(fault),
     }

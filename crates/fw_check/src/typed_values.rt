@@ -7,6 +7,7 @@ ghost use Rattle.fw_check.specs.Checking.{with_typed, with_types};
 ghost use Rattle.fw_check.specs.Looking.{is_for_type};
 
 use crate::findings::Report;
+use crate::lines::Subject;
 use envvars_core::{Refusal, Vars};
 use finding_kinds::FindingKind;
 use std::alloc::AllocError;
@@ -39,7 +40,7 @@ fn check_type(
     if has_its_type(vars, name, value) {
         return Ok(());
     }
-    report.add_named(FindingKind::ValueType, name, MISTYPED)
+    report.add_alone(Subject::Variable(name), FindingKind::ValueType, MISTYPED)
 }
 
 /// Whether a value has the type of a name, that is, isn't refused for it.

@@ -1,29 +1,27 @@
 //! What is found in the scripts of an environment.
-ghost use Rattle.std.specs.Prelude.{◌≡◌, ◌⊎◌, [], IfOk, OnOk, map, option_map};
-ghost use Rattle.fw_check.specs.Checking.{AreVisited, Checks, ComesTo, LacksMemory, PrintsReport, Reports, first_report, known_after, value_in, with_given, with_none, with_types};
-ghost use Rattle.fw_check.specs.Following.{begin_with, first_names, follow_names};
+ghost use Rattle.std.specs.Prelude.{◌≡◌, ◌⊎◌, IfOk, OnOk, map};
+ghost use Rattle.fw_check.specs.Checking.{Checks, ComesTo, LacksMemory, PrintsReport, Reports, first_report, follow_first, script_in, with_given, with_none, with_types};
 ghost use Rattle.finding_kinds.specs.Choices.{choice_view};
-ghost use Rattle.fw_check.specs.Called.{given_with};
-ghost use Rattle.fw_check.specs.Looking.{known_in, rules_in};
-ghost use Rattle.fw_check.specs.NameSets.{set_of};
+ghost use Rattle.fw_check.specs.Lines.{Variable};
+ghost use Rattle.fw_check.specs.Looking.{known_in, rules_in, rules_view};
+ghost use Rattle.fw_check.specs.Reports.{GoesOn};
 
 use crate::findings::Report;
 use crate::following::Followed;
+use crate::lines::Subject;
 use crate::lookups::{Lookups, Variables};
-use crate::name_set::ScriptNames;
+use crate::menu::script;
+use crate::reading::read_all;
+use crate::rules::Rules;
 use crate::script_check::{check_script, lacks_memory, print_report};
 use crate::sorted_names::SortedNames;
-use crate::text_names::follow_text;
+use crate::starts::follow_first;
 use crate::typed_values::check_types;
 use envvars_core::Vars;
 use finding_kinds::{Choice, FindingKind};
 use fw_engines::ToolEnd;
-use hush_commands::{Shell, Stubs};
 use std::alloc::{AllocError, Global};
 use std::io::Write;
-
-/// The names that a check begins with if it is given none.
-const USUAL: [&[u8]; 3] = [b"bootcmd", b"altbootcmd", b"preboot"];
 
 /// What is said of a given name that isn't defined.
 const UNDEFINED: &[u8] = b"no variable of this name is defined";
@@ -31,31 +29,31 @@ const UNDEFINED: &[u8] = b"no variable of this name is defined";
 /// What is said if no script was looked at.
 const NONE: &[u8] = b"there is no script to look at";
 
-/// Prints on `output` what is found in the scripts of an environment by the rules of a shell: in those of the given names,
-/// without names in those of `bootcmd`, `altbootcmd` and `preboot`, and in each that one of them runs: by an argument
-/// without a substitution, or by one that begins as its name does. Each is checked once, in the order in which they are met. With stand-ins a command that is
-/// neither a builtin nor one of them is an error. So is a `run` of a name that neither the environment has nor one of
-/// these scripts sets, tests or asks for with `env exists`. A substitution of a name that neither the environment nor one
-/// of these scripts defines is a warning. Then follow an error if there was no script, and a line for each variable of the
-/// environment whose value doesn't have the type that `.flags` gives it. On `errors` it prints how many scripts, errors
-/// and warnings there were. The status is 1 if something was found that counts, else 0. docs/check.md has the texts.
+/// Prints on `output` what is found in the scripts of an environment by these rules: in those of the given names, without
+/// names in those of `bootcmd`, `altbootcmd`, `preboot` and the entries of a boot menu, and in each that one of them, or
+/// a text that answers a call, runs: by an argument without a substitution, or by one that begins as its name does. Each
+/// is checked once, in the order in which they are met. With hardware a command that isn't there is an error. So is a
+/// `run` of a name that neither the environment has nor one of these scripts and texts sets, tests or asks for with `env
+/// exists`. A substitution of a name that neither the environment, the board's own code nor one of these defines is a
+/// warning. Then follow an error if there was no script, and a line for each variable of the environment whose value
+/// doesn't have the type that `.flags` gives it. On `errors` it prints how many scripts, errors and warnings there were.
+/// The status is 1 if something was found that counts, else 0. docs/check.md has the texts.
 ///
 /// At the fault `Memory` nothing is printed.
 pub fn check<W: Write, E: Write>(
     alloc: Global,
-    shell: Shell,
+    rules: Rules<'_>,
     vars: &Vars,
-    stubs: Option<&Stubs>,
     choice: Choice<'_>,
     names: &[&[u8]],
     output: &mut W,
     errors: &mut E,
 ) -> ToolEnd
-    ensures { Checks shell vars.now.env (option_map (λ s. s.now) stubs.entry) (choice_view choice.entry) (map (λ n. n.now) names.now)
+    ensures { Checks (rules_view rules.entry) vars.now.env (choice_view choice.entry) (map (λ n. n.now) names.now)
         (record { output = W.contents output.old; errors = E.contents errors.old })
         (record { output = W.contents output.new; errors = E.contents errors.new }) result }
 {
-    match check_all(alloc, shell, vars, stubs, choice, names) {
+    match check_all(alloc, rules, vars, choice, names) {
         Err(_) => lacks_memory(),
         Ok(report) => print_typed(alloc, vars, report, output, errors),
     }
@@ -97,20 +95,19 @@ fn report_none(report: &mut Report<'_>) -> Result<(), AllocError>
     if report.scripts != 0 {
         return Ok(());
     }
-    report.add_named(FindingKind::NoScript, b"check", NONE)
+    report.add_alone(Subject::Whole, FindingKind::NoScript, NONE)
 }
 
 /// The report on the scripts from these names on.
 fn check_all<'c, 'k>(
     alloc: Global,
-    shell: Shell,
+    rules: Rules<'k>,
     vars: &'k Vars,
-    stubs: Option<&'k Stubs>,
     choice: Choice<'c>,
     names: &[&[u8]],
 ) -> Result<Report<'c>, AllocError>
-    ensures { IfOk result (λ report. ComesTo (given_with shell (option_map (λ s. s.now) stubs.entry))
-        (begin_with vars.now.env (first_names (map (λ n. n.now) names.now)))
+    ensures { IfOk result (λ report. ComesTo (rules_view rules.entry)
+        (follow_first (rules_view rules.entry) vars.now.env (map (λ n. n.now) names.now))
         (first_report (choice_view choice.entry) vars.now.env (map (λ n. n.now) names.now)) report) }
 {
     let report = report_given(alloc, choice, vars, names)?;
@@ -119,11 +116,10 @@ fn check_all<'c, 'k>(
     follow_first(alloc, names, &mut visited)?;
     let names_alone = Lookups {
         alloc,
-        shell,
+        rules,
         variables: None,
-        stubs,
     };
-    let gathered = follow_all(&names_alone, vars, &mut visited)?;
+    let gathered = read_all(&names_alone, vars, &mut visited)?;
     let lookups = Lookups {
         variables: Some(Variables {
             vars,
@@ -158,60 +154,7 @@ fn report_name(vars: &Vars, name: &[u8], report: &mut Report<'_>) -> Result<(), 
     if vars.get(name).is_some() {
         return Ok(());
     }
-    report.add_named(FindingKind::NoVariable, name, UNDEFINED)
-}
-
-/// Follows the names that a check begins with.
-fn follow_first(
-    alloc: Global,
-    names: &[&[u8]],
-    followed: &mut Followed<'_, '_>,
-) -> Result<(), AllocError>
-    ensures { OnOk result
-        (followed.new ≡ follow_names followed.old (first_names (map (λ n. n.now) names.now))) }
-{
-    if names.is_empty() {
-        follow_names(alloc, &USUAL, followed)
-    } else {
-        follow_names(alloc, names, followed)
-    }
-}
-
-/// Follows these names.
-fn follow_names(
-    alloc: Global,
-    names: &[&[u8]],
-    followed: &mut Followed<'_, '_>,
-) -> Result<(), AllocError>
-    ensures { OnOk result (followed.new ≡ follow_names followed.old (map (λ n. n.now) names.now)) }
-{
-    for name in names {
-        followed.follow_name(alloc, name)?;
-    }
-    Ok(())
-}
-
-/// Follows what the scripts of these names run, and what theirs run. The answer is which names
-/// all these scripts give and foresee.
-fn follow_all(
-    lookups: &Lookups<'_>,
-    vars: &Vars,
-    names: &mut Followed<'_, '_>,
-) -> Result<ScriptNames, AllocError>
-    requires { names.old.env ≡ vars.now.env }
-    ensures visited { OnOk result (AreVisited (rules_in lookups.now) names.old 0 names.new.names) }
-    ensures given { IfOk result
-        (λ gathered. set_of gathered.given ≡ (known_after (rules_in lookups.now) vars.now.env names.new.names).given) }
-    ensures foreseen { IfOk result
-        (λ gathered. set_of gathered.foreseen ≡ (known_after (rules_in lookups.now) vars.now.env names.new.names).foreseen) }
-{
-    let mut gathered = ScriptNames::new(lookups.alloc);
-    let mut index = 0;
-    while let Some(name) = names.copy(lookups.alloc, index)? {
-        follow_text(lookups, value(vars, &name), names, &mut gathered)?;
-        index += 1;
-    }
-    Ok(gathered)
+    report.add_alone(Subject::Variable(name), FindingKind::NoVariable, UNDEFINED)
 }
 
 /// Continues a report with what is found in the scripts of these names.
@@ -226,14 +169,21 @@ fn report_all<'c>(
 {
     let mut so_far = report;
     for name in names {
-        so_far = check_script(lookups, so_far, name, value(vars, name))?;
+        so_far = report_variable(lookups, vars, name, so_far)?;
     }
     Ok(so_far)
 }
 
-/// The value of a variable; no bytes if there is no such variable.
-fn value<'v>(vars: &'v Vars, name: &[u8]) -> &'v [u8]
-    ensures { result.now ≡ value_in vars.now.env name.now }
+/// Continues a report with what is found in the script of a variable.
+fn report_variable<'c>(
+    lookups: &Lookups<'_>,
+    vars: &Vars,
+    name: &[u8],
+    report: Report<'c>,
+) -> Result<Report<'c>, AllocError>
+    ensures { IfOk result (λ after. GoesOn (known_in lookups.now) (rules_in lookups.now)
+        (Variable name.now) (script_in vars.now.env name.now) report.entry after) }
 {
-    vars.get(name).unwrap_or(b"")
+    let text = script(lookups.alloc, vars, name)?;
+    check_script(lookups, report, Subject::Variable(name), &text)
 }

@@ -4,7 +4,7 @@ use Rattle.std.specs.List.{list_any}
 use Rattle.envcfg_core.specs.Entries.{Entry}
 use Rattle.envimg_core.specs.Environment.{is_equals}
 use Rattle.fw_arguments.specs.declared.given_text.TextForm.{TextForm}
-use Rattle.fw_arguments.specs.declared.given_text.TextForm.TheVariants.{Import}
+use Rattle.fw_arguments.specs.declared.given_text.TextForm.TheVariants.{Import, Initial}
 use Rattle.text_parts.specs.Lines.{Line, numbered_lines}
 
 -- the first of the lines in which these entries begin, one after the other, that has no `=`
@@ -18,7 +18,8 @@ bare_among (line ∷ lines) (e ∷ es) =
 abbrev pub bare_line : List ℕ → List Entry → Option ℕ
 bare_line text entries = bare_among (numbered_lines text) entries
 
--- only a text for import is looked at
+-- only a text for import is looked at, and lines as U-Boot's build prints them
 abbrev pub bare_in : TextForm → List ℕ → List Entry → Option ℕ
 bare_in Import text entries = bare_line text entries
+bare_in Initial text entries = bare_line text entries
 bare_in form text entries = None

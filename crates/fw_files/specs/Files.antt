@@ -148,6 +148,7 @@ fault_line explains path file.UbiVolume = Some (codes "fwenv: " ++ path ++ codes
 fault_line explains path file.Memory = Some (message_of stream.Memory)
 fault_line explains path (file.Board fault) = Some (place_line path fault.line (fault_text fault.kind))
 fault_line explains path (file.Source fault) = Some (place_line path fault.line (flaw_text fault.flaw))
+fault_line explains path (file.NoName line) = Some (place_line path line (codes "not a name of a variable"))
 fault_line explains path (file.Bare line) = Some (place_line path line (codes "no = in this line; for a source in U-Boot's own form use --env-source"))
 fault_line explains path (file.Default line refusal) = Some (entry_line path (name_of refusal) line)
 fault_line explains path fault = None

@@ -4,6 +4,7 @@ pub mod Copies
 pub mod CopyReport
 pub mod Files
 pub mod ForeignTexts
+pub mod KnownNames
 pub mod Locks
 pub mod Misread
 pub mod Opening

@@ -1,5 +1,5 @@
 -- From the bytes of files to a session (docs/tools.md, "Subcommands over files").
-use Rattle.std.specs.Prelude.{◌≡◌, ◌⊎◌, ℕ, ◌==◌, ◌&&◌, Bool, true, false, if◌then◌else◌, List, [], ◌∷◌, ◌++◌, Option, Some, None, is_none, is_some, Ok, Err, codes, option_map}
+use Rattle.std.specs.Prelude.{◌≡◌, ◌⊎◌, ℕ, ◌==◌, ◌&&◌, Bool, true, false, not, if◌then◌else◌, List, [], ◌∷◌, ◌++◌, Option, Some, None, is_none, is_some, Ok, Err, codes, option_map}
 use Rattle.std.specs.List.{flat_map}
 use Rattle.std.specs.FinMap as env
 use Rattle.envcfg_core.specs.Entries.{Entry}
@@ -68,11 +68,24 @@ IsTaken Neither asked taken = IsFound asked taken
 abbrev pub escaped_byte : ℕ → List ℕ
 escaped_byte b = if b == 92 then b ∷ b ∷ [] else b ∷ []
 
+-- lines as U-Boot's build prints its default environment, as a text for import: a `\` at a line's end that isn't literal
+-- itself gets one more before it, so that it stands for itself and the line ends
+abbrev pub is_escape : (escaped : Bool) → (byte : ℕ) → Bool
+is_escape escaped byte = byte == 92 && not escaped
+
+abbrev pub closing_byte : (escaped : Bool) → (byte : ℕ) → List ℕ
+closing_byte escaped byte = if escaped && byte == 10 then 92 ∷ byte ∷ [] else byte ∷ []
+
+unfoldable pub closed_lines : (escaped : Bool) → List ℕ → List ℕ
+closed_lines escaped [] = []
+closed_lines escaped (b ∷ bs) = closing_byte escaped b ++ closed_lines (is_escape escaped b) bs
+
 -- the entries of a text in this form
 abbrev pub AreEntriesIn : TextForm → List ℕ → List Entry → Type 0
 AreEntriesIn form.Import text entries = import_of text ≡ Ok entries
 AreEntriesIn form.Plain text entries = import_of (flat_map escaped_byte text) ≡ Ok entries
 AreEntriesIn form.Source text entries = source_of text ≡ Ok entries
+AreEntriesIn form.Initial text entries = import_of (closed_lines false text) ≡ Ok entries
 
 -- the variables are the default environment of the entries of a text, of which none lacks its `=`, in this room
 abbrev pub AreDefaultsIn : TextForm → List ℕ → ℕ → Contents → Type 0

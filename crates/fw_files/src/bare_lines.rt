@@ -7,17 +7,17 @@ use envcfg_core::TextEntry;
 use fw_arguments::TextForm;
 use text_parts::{contains_byte, numbered_lines};
 
-/// The first line of a text in which an entry begins that has no `=`; only a text for import is looked at.
+/// The first line of a text in which an entry begins that has no `=`; a source or plain lines aren't looked at.
 pub(crate) fn bare_in(form: TextForm, text: &[u8], entries: &[TextEntry]) -> Option<usize>
     ensures { result ≡ bare_in form text.now (map entry_view entries.now) }
 {
     match form {
-        TextForm::Import => bare_line(text, entries),
-        _ => None,
+        TextForm::Import | TextForm::Initial => bare_line(text, entries),
+        TextForm::Plain | TextForm::Source => None,
     }
 }
 
-/// The same of a text for import that has these entries.
+/// The same of a text that has these entries.
 fn bare_line(text: &[u8], entries: &[TextEntry]) -> Option<usize>
     ensures { result ≡ bare_line text.now (map entry_view entries.now) }
 {

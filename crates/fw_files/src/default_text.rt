@@ -1,5 +1,5 @@
 //! The default environment of a session: which text it is, and its variables.
-ghost use Rattle.std.specs.Prelude.{◌≡◌, ◌≤◌, ◌++◌, IfErr, IfOk, MatchOption, Ok, map};
+ghost use Rattle.std.specs.Prelude.{◌≡◌, ◌≤◌, ◌++◌, false, IfErr, IfOk, MatchOption, Ok, map};
 ghost use Rattle.std.specs.FinMap as env;
 ghost use Rattle.std.specs.List.{flat_map};
 ghost use Rattle.envcfg_core.specs.Entries.{entry_view};
@@ -7,7 +7,7 @@ ghost use Rattle.envcfg_core.specs.Import.{import_of};
 ghost use Rattle.fw_arguments.specs.Calls.{defaults_view};
 ghost use Rattle.fw_engines.specs.Defaults.{written};
 ghost use Rattle.fw_files.specs.Said.{SaysSome};
-ghost use Rattle.fw_files.specs.Source.{AreDefaultsFrom, AreDefaultsIn, AreDefaultsOf, AreEntriesIn, IsFound, IsRefused, default_fault, escaped_byte, takes_initial};
+ghost use Rattle.fw_files.specs.Source.{AreDefaultsFrom, AreDefaultsIn, AreDefaultsOf, AreEntriesIn, IsFound, IsRefused, closed_lines, closing_byte, default_fault, escaped_byte, is_escape, takes_initial};
 
 use crate::bare_lines::bare_in;
 use crate::file_fault::{FileFault, value_or_say};
@@ -137,6 +137,7 @@ fn entries_in(alloc: Global, form: TextForm, text: &[u8]) -> Result<Vec<TextEntr
         TextForm::Import => import_from(alloc, text),
         TextForm::Plain => entries_of_plain(alloc, text),
         TextForm::Source => source_from(alloc, text),
+        TextForm::Initial => entries_of_initial(alloc, text),
     }
 }
 
@@ -170,4 +171,46 @@ fn push_escaped(escaped: &mut Vec<u8>, byte: u8) -> Result<(), AllocError>
     }
     escaped.push(byte)?;
     Ok(())
+}
+
+/// The entries of lines as U-Boot's build prints them.
+fn entries_of_initial(alloc: Global, text: &[u8]) -> Result<Vec<TextEntry>, FileFault>
+    ensures { IfOk result (λ entries. import_of (closed_lines false text.now) ≡ Ok (map entry_view entries.items)) }
+{
+    match closed(alloc, text) {
+        Ok(text) => import_from(alloc, &text),
+        Err(_) => Err(FileFault::Memory),
+    }
+}
+
+/// A text whose lines all end: a backslash that would make the newline after it literal has one more before it.
+#[tactic(auto, unfolding(crate::specs::Source::closed_lines))]
+fn closed(alloc: Global, text: &[u8]) -> Result<Vec<u8>, AllocError>
+    ensures { IfOk result (λ c. c.items ≡ closed_lines false text.now) }
+{
+    let mut closed = Vec::new(alloc);
+    let mut escaped = false;
+    for byte in text {
+        push_closing(&mut closed, escaped, *byte)?;
+        escaped = is_escape(escaped, *byte);
+    }
+    Ok(closed)
+}
+
+/// One byte of it, by whether a backslash makes it literal.
+fn push_closing(closed: &mut Vec<u8>, escaped: bool, byte: u8) -> Result<(), AllocError>
+    ensures { IfOk result (λ _. closed.new.items ≡ closed.old.items ++ closing_byte escaped byte) }
+{
+    if escaped && byte == b'\n' {
+        closed.push(b'\\')?;
+    }
+    closed.push(byte)?;
+    Ok(())
+}
+
+/// Whether a byte makes the next one literal.
+fn is_escape(escaped: bool, byte: u8) -> bool
+    ensures { result ≡ is_escape escaped byte }
+{
+    byte == b'\\' && !escaped
 }

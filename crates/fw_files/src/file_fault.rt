@@ -9,7 +9,7 @@ ghost use Rattle.fw_files.specs.declared.file_fault.FileFault.TheVariants.{Canno
 
 use crate::file_texts::{
     CANNOT_READ_FILE, CANNOT_WRITE_FILE, COLON, FWENV, IN_LINE, IS_UBI_VOLUME, IS_YAML, LINE,
-    NEWLINE, NO_EQUALS, TOO_SHORT,
+    NEWLINE, NO_EQUALS, NO_NAME, TOO_SHORT,
 };
 use crate::foreign_texts::Foreign;
 use crate::reasons::{Explains, Reason};
@@ -51,6 +51,8 @@ pub enum FileFault {
     Board(BoardFault),
     /// It is a source of U-Boot that is refused.
     Source(SourceFault),
+    /// It is a list of names, and this line is none.
+    NoName(usize),
     /// It is a default environment, and the entry in this line has no `=`.
     Bare(usize),
     /// It is a default environment, and the entry in this line is refused.
@@ -130,6 +132,7 @@ pub(crate) fn say_fault<E: Write>(
         },
         FileFault::Board(refused) => say_place(errors, path, refused.line, refused.kind.text()),
         FileFault::Source(refused) => say_place(errors, path, refused.line, refused.flaw.text()),
+        FileFault::NoName(line) => say_place(errors, path, line, NO_NAME),
         FileFault::Bare(line) => say_place(errors, path, line, NO_EQUALS),
         FileFault::Default(line, refusal) => say_entry(errors, path, name_of(refusal), line),
     }

@@ -17,6 +17,9 @@ pub(crate) const IS_YAML: &[u8] = b" is YAML: fwenv reads lines of DEVICE OFFSET
 pub(crate) const IS_UBI_VOLUME: &[u8] =
     b" is a UBI volume by its name: fwenv reads files and block devices\n";
 
+/// After the line of a list of names that is none.
+pub(crate) const NO_NAME: &[u8] = b"not a name of a variable";
+
 /// What is wrong with a line of a default environment.
 pub(crate) const NO_EQUALS: &[u8] =
     b"no = in this line; for a source in U-Boot's own form use --env-source";

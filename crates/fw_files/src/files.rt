@@ -156,8 +156,28 @@ pub fn entries_or_say<X: Files + AllocGlobal, E: Write>(
     )
 }
 
+/// The entries of the set script at a path; a fault is reported on `errors`.
+pub fn script_entries_or_say<X: Files + AllocGlobal, E: Write>(
+    rt: &X,
+    path: &str,
+    explains: Explains,
+    errors: &mut E,
+) -> Option<Vec<TextEntry>>
+    ensures { MatchOption result (SaysSome (E.contents errors.old) (E.contents errors.new))
+        (λ entries. ((text : List ℕ) × (set_script_of text ≡ Ok (map entry_view entries.items))) × (E.contents errors.new ≡ E.contents errors.old)) }
+{
+    let text = value_or_say(rt.alloc(), errors, explains, path, read_file(rt, path))?;
+    value_or_say(
+        rt.alloc(),
+        errors,
+        explains,
+        path,
+        script_from(rt.alloc(), &text),
+    )
+}
+
 /// The entries of a set script.
-pub fn script_from(alloc: Global, text: &[u8]) -> Result<Vec<TextEntry>, FileFault>
+pub(crate) fn script_from(alloc: Global, text: &[u8]) -> Result<Vec<TextEntry>, FileFault>
     ensures read { IfOk result (λ entries. set_script_of text.now ≡ Ok (map entry_view entries.items)) }
     ensures refused { IfErr result (IsTextFault (set_script_of text.now)) }
 {

@@ -2,7 +2,7 @@
 //! over copies is opened here, copies are written back and reported on, and it is reported why a file can not be used.
 //! docs/tools.md states the rules.
 //!
-//! To read in this order: system, reasons, foreign_texts, file_fault, files, new_file; waiting, devices, lock_file, copies, source, wanted_source,
+//! To read in this order: system, reasons, foreign_texts, file_fault, files, known_names, new_file; waiting, devices, lock_file, copies, source, wanted_source,
 //! bare_lines, default_text, misread_copies, opening, changed_copies; copy_report; tool_messages, file_texts.
 #![tactic(auto)]
 
@@ -16,6 +16,7 @@ mod file_fault;
 mod file_texts;
 mod files;
 mod foreign_texts;
+mod known_names;
 mod lock_file;
 mod misread_copies;
 mod new_file;
@@ -34,9 +35,10 @@ pub use default_text::variables_or_say;
 pub use file_fault::{FileFault, value_or_say};
 pub use files::{
     entries_or_say, read_board, read_dump, read_file, read_stand_in_file, read_stand_ins,
-    read_text, script_from,
+    read_text, script_entries_or_say,
 };
 pub use foreign_texts::Foreign;
+pub use known_names::read_known;
 pub use lock_file::{LockedFiles, Locks, lock_copies};
 pub use new_file::write_file;
 pub use opening::open;

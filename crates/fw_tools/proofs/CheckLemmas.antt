@@ -1,22 +1,23 @@
 -- The status of a check.
-use Rattle.std.proofs.Common.{◌≡◌, ◌≤◌, ◌++◌, ℕ, Bool, true, false, List, Option, Some, None, inl, inr, arith, subst}
-use Rattle.std.specs.Prelude.{MatchOption, if◌then◌else◌}
+use Rattle.std.proofs.Common.{◌≡◌, ◌≤◌, ◌++◌, ℕ, Bool, true, false, List, [], Option, Some, None, inl, inr, arith, subst}
+use Rattle.std.specs.Prelude.{MatchOption, if◌then◌else◌, is_some}
 use Rattle.std.specs.Io.KnownBytes.{Appends}
 use Rattle.env_session.specs.Session.{Held}
-use Rattle.hush_commands.specs.declared.shell.Shell.{Shell}
-use Rattle.hush_commands.specs.Stubs.{Statuses}
+use Rattle.hush_commands.specs.Hardware.{Hardware}
 use Rattle.envimg_core.specs.Environment.{Environment}
 use Rattle.finding_kinds.specs.Choices.{Choice}
-use Rattle.fw_check.specs.Checking.{Checks, ChecksText, PrintsReport, findings, is_failed, texts_of, with_none, with_types}
-use Rattle.fw_check.specs.Called.{given_with}
-use Rattle.fw_check.specs.Findings.{Report, no_lines, with_findings, with_script}
+use Rattle.fw_check.specs.Checking.{Checks, PrintsReport, is_failed, texts_of, with_none, with_types}
+use Rattle.fw_check.specs.Called.{Given, given_with}
+use Rattle.fw_check.specs.FileChecks.{ChecksFiles, FileScript, paths_of}
+use Rattle.fw_check.specs.Findings.{Report}
 use Rattle.fw_engines.specs.Streams.{AppendsPart, Writers}
 use Rattle.fw_engines.specs.Tool.{Prints, PrintsText, Texts, Writes, WritesPart}
 use Rattle.fw_engines.specs.declared.tool_end.StreamFault.{StreamFault}
 use Rattle.fw_engines.specs.declared.tool_end.StreamFault.TheVariants.{Write}
 use Rattle.fw_engines.specs.declared.tool_end.ToolEnd.{ToolEnd}
 use Rattle.fw_arguments.specs.Checks.{EnvironmentCheck, FileCheck}
-use Rattle.fw_tools.specs.CheckRuns.{AreStandInsGiven, ChecksFile, ChecksOver}
+use Rattle.fw_tools.specs.CheckRuns.{ChecksFile, ChecksOver, IsHardwareGiven, check_status, unchecked}
+use Rattle.fw_files.specs.KnownNames.{AreKnownOf}
 use Rattle.fw_files.specs.Said.{Says}
 
 -- 1 if something counts, else 0
@@ -44,44 +45,50 @@ texts_small end old new texts small p = by_fault end.fault p
 prints_small : (old new : Writers) (report : Report) (end : ToolEnd) → PrintsReport old new report end → end.status ≤ 1
 prints_small old new report end p = texts_small end old new (texts_of report) (report_small report) p
 
-checks_small : (shell : Shell) (env : Environment) (stand_ins : Option Statuses) (choice : Choice) (names : List (List ℕ)) (old new : Writers) (end : ToolEnd) → Checks shell env stand_ins choice names old new end → end.status ≤ 1
-checks_small shell env stand_ins choice names old new end (inl (report, comes, prints)) = prints_small old new (with_types env (with_none report)) end prints
-checks_small shell env stand_ins choice names old new end (inr lacks) = omega (arith, lacks.2)
+checks_small : (given : Given) (env : Environment) (choice : Choice) (names : List (List ℕ)) (old new : Writers) (end : ToolEnd) → Checks given env choice names old new end → end.status ≤ 1
+checks_small given env choice names old new end (inl (report, comes, prints)) = prints_small old new (with_types env (with_none report)) end prints
+checks_small given env choice names old new end (inr lacks) = omega (arith, lacks.2)
 
-file_checks_small : (shell : Shell) (stand_ins : Option Statuses) (choice : Choice) (name text : List ℕ) (old new : Writers) (end : ToolEnd) → ChecksText shell stand_ins choice name text old new end → end.status ≤ 1
-file_checks_small shell stand_ins choice name text old new end (inl (reading, is, prints)) =
-    prints_small old new (with_findings name text (with_script (no_lines choice)) (findings None (given_with shell stand_ins) text reading)) end prints
-file_checks_small shell stand_ins choice name text old new end (inr lacks) = omega (arith, lacks.2)
+file_checks_small : (given : Given) (choice : Choice) (scripts : List FileScript) (old new : Writers) (end : ToolEnd) → ChecksFiles given choice scripts old new end → end.status ≤ 1
+file_checks_small given choice scripts old new end (inl (report, comes, prints)) = prints_small old new report end prints
+file_checks_small given choice scripts old new end (inr lacks) = omega (arith, lacks.2)
 
-pub check_small : (check : EnvironmentCheck) (session : Held) (old new : Writers) (status : ℕ) → ChecksOver check session old new status → status ≤ 1
+status_small : (end : ToolEnd) → end.status ≤ 1 → check_status end ≤ unchecked
+status_small end small = by_fault end.fault
+  where
+    by_fault : (f : Option StreamFault) → (if is_some f then unchecked else end.status) ≤ unchecked
+    by_fault None = omega (arith, small)
+    by_fault (Some f) = omega arith
+
+pub check_small : (check : EnvironmentCheck) (session : Held) (old new : Writers) (status : ℕ) → ChecksOver check session old new status → status ≤ unchecked
 check_small check session old new status (inl stopped) = omega (arith, stopped.1)
-check_small check session old new status (inr (stand_ins, given, (end, said, checks, says, ended))) =
-    omega (arith, ended, checks_small check.shell session.now.env stand_ins check.choice check.names old (record { output = new.output; errors = said }) end checks)
+check_small check session old new status (inr (h, known, read, named, (end, said, checks, says, ended))) =
+    omega (arith, ended, status_small end (checks_small (given_with check.shell h known) session.now.env check.choice check.names old (record { output = new.output; errors = said }) end checks))
 
-pub file_check_small : (check : FileCheck) (old new : Writers) (status : ℕ) → ChecksFile check old new status → status ≤ 1
+pub file_check_small : (check : FileCheck) (old new : Writers) (status : ℕ) → ChecksFile check old new status → status ≤ unchecked
 file_check_small check old new status (inl stopped) = omega (arith, stopped.1)
-file_check_small check old new status (inr (stand_ins, text, given, (end, said, checks, says, ended))) =
-    omega (arith, ended, file_checks_small check.shell stand_ins check.choice check.path text old (record { output = new.output; errors = said }) end checks)
+file_check_small check old new status (inr (h, scripts, given, read, (end, said, checks, says, ended))) =
+    omega (arith, ended, status_small end (file_checks_small (given_with check.shell h []) check.choice scripts old (record { output = new.output; errors = said }) end checks))
 
--- a check whose environment, stand-ins and names are these, with nothing printed before it
-pub checks-over : (check : EnvironmentCheck) (session : Held) (old new first : Writers) (status : ℕ) (stand_ins seen : Option Statuses) (env : Environment) (names : List (List ℕ)) (end : ToolEnd) (said : Option (List ℕ)) →
-    AreStandInsGiven check.stand_ins stand_ins → Checks check.shell env seen check.choice names first (record { output = new.output; errors = said }) end → first ≡ old → env ≡ session.now.env → seen ≡ stand_ins → names ≡ check.names →
-    status ≡ end.status → Says end.fault said new.errors → ChecksOver check session old new status
-checks-over check session old new first status stand_ins seen env names end said given checks silent same_env same_stubs same_names ended says =
+-- a check by these rules whose environment and names are these, with nothing printed before it
+pub checks-over : (check : EnvironmentCheck) (session : Held) (old new first : Writers) (status : ℕ) (h : Option Hardware) (known : List (List ℕ)) (given : Given) (env : Environment) (names : List (List ℕ)) (end : ToolEnd) (said : Option (List ℕ)) →
+    IsHardwareGiven check.stand_ins check.board h → AreKnownOf check.known known → Checks given env check.choice names first (record { output = new.output; errors = said }) end → first ≡ old → env ≡ session.now.env →
+    given ≡ given_with check.shell h known → names ≡ check.names → status ≡ check_status end → Says end.fault said new.errors → ChecksOver check session old new status
+checks-over check session old new first status h known given env names end said read named checks silent same_env same_rules same_names ended says =
     let after : Writers = record { output = new.output; errors = said } in
-    let zero = subst (λ f. Checks check.shell env seen check.choice names f after end) silent checks in
-    let one = subst (λ e. Checks check.shell e seen check.choice names old after end) same_env zero in
-    let two = subst (λ s. Checks check.shell session.now.env s check.choice names old after end) same_stubs one in
-    let three = subst (λ ns. Checks check.shell session.now.env stand_ins check.choice ns old after end) same_names two in
-    inr (stand_ins, given, (end, said, three, says, ended))
+    let zero = subst (λ f. Checks given env check.choice names f after end) silent checks in
+    let one = subst (λ e. Checks given e check.choice names old after end) same_env zero in
+    let two = subst (λ g. Checks g session.now.env check.choice names old after end) same_rules one in
+    let three = subst (λ ns. Checks (given_with check.shell h known) session.now.env check.choice ns old after end) same_names two in
+    inr (h, known, read, named, (end, said, three, says, ended))
 
--- the same of a check of one script
-pub file-checks-over : (check : FileCheck) (old new first : Writers) (status : ℕ) (stand_ins seen : Option Statuses) (name text : List ℕ) (end : ToolEnd) (said : Option (List ℕ)) →
-    AreStandInsGiven check.stand_ins stand_ins → ChecksText check.shell seen check.choice name text first (record { output = new.output; errors = said }) end → first ≡ old → seen ≡ stand_ins → name ≡ check.path →
-    status ≡ end.status → Says end.fault said new.errors → ChecksFile check old new status
-file-checks-over check old new first status stand_ins seen name text end said given checks silent same_stubs same_path ended says =
+-- the same of a check of scripts in files
+pub file-checks-over : (check : FileCheck) (old new first : Writers) (status : ℕ) (h : Option Hardware) (given : Given) (scripts given_scripts : List FileScript) (end : ToolEnd) (said : Option (List ℕ)) →
+    IsHardwareGiven check.stand_ins check.board h → paths_of given_scripts ≡ check.paths → ChecksFiles given check.choice scripts first (record { output = new.output; errors = said }) end → first ≡ old →
+    given ≡ given_with check.shell h [] → scripts ≡ given_scripts → status ≡ check_status end → Says end.fault said new.errors → ChecksFile check old new status
+file-checks-over check old new first status h given scripts given_scripts end said read paths checks silent same_rules same_scripts ended says =
     let after : Writers = record { output = new.output; errors = said } in
-    let zero = subst (λ f. ChecksText check.shell seen check.choice name text f after end) silent checks in
-    let one = subst (λ s. ChecksText check.shell s check.choice name text old after end) same_stubs zero in
-    let two = subst (λ n. ChecksText check.shell stand_ins check.choice n text old after end) same_path one in
-    inr (stand_ins, text, given, (end, said, two, says, ended))
+    let zero = subst (λ f. ChecksFiles given check.choice scripts f after end) silent checks in
+    let one = subst (λ g. ChecksFiles g check.choice scripts old after end) same_rules zero in
+    let two = subst (λ ss. ChecksFiles (given_with check.shell h []) check.choice ss old after end) same_scripts one in
+    inr (h, given_scripts, read, paths, (end, said, two, says, ended))

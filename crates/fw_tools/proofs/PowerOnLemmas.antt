@@ -1,14 +1,20 @@
 -- The status of power-ons.
-use Rattle.std.proofs.Common.{◌≡◌, ℕ, ◌≤◌, Bool, true, false, List, Option, Some, Result, Ok, Err, inl, inr, arith, subst, sym}
-use Rattle.std.specs.Prelude.{if◌then◌else◌, nat_lt, IfOk}
+use Rattle.std.proofs.Common.{◌≡◌, ℕ, ◌≤◌, Bool, true, false, List, Option, Some, None, Result, Ok, Err, inl, inr, arith, subst, sym, ◌∙◌}
+use Rattle.std.specs.Prelude.{if◌then◌else◌, nat_lt, IfOk, MatchOption}
 use Rattle.std.specs.declared.alloc.AllocError.{AllocError}
 use Rattle.envimg_core.specs.Geometry.{Shape, room_of}
 use Rattle.envvars_core.specs.Variables.{Contents}
 use Rattle.hush_syntax.specs.Grammar.{Chains}
 use Rattle.hush_syntax.specs.Reading.{read_in}
+use Rattle.hush_syntax.specs.Scripts.{tree_of}
+use Rattle.hush_syntax.specs.declared.nodes.Bodies.{Bodies}
+use Rattle.hush_syntax.specs.declared.script.Script.{Script}
+use Rattle.fw_files.specs.Said.{SaysSome}
+use Rattle.fw_tools.specs.ScriptRuns.{Refuses}
 use Rattle.hush_commands.specs.Hardware.{Hardware}
 use Rattle.hush_run.specs.Meaning.{Rules, bodies_of}
 use Rattle.boot_search.specs.declared.survey_lines.BootText.{BootText}
+use Rattle.fw_boots.specs.Cuts.{Cutting}
 use Rattle.fw_boots.specs.Boots.{BootsAs, Power}
 use Rattle.fw_boots.specs.PowerOns.{power_on_text}
 use Rattle.boot_search.specs.Bootable.{unmarked}
@@ -29,26 +35,34 @@ known_small false lost = omega arith
 
 pub boots_small : (asked : PowerOns) (session : Held) (old new : Writers) (status : ℕ) → BootsOver asked session old new status → status ≤ 1
 boots_small asked session old new status (inl stopped) = omega (arith, stopped.1)
-boots_small asked session old new status (inr (given, is, (end, inl (told, (tree, read, (survey, of, text, by)), prints), says, same))) =
+boots_small asked session old new status (inr (given, after, is, are, (end, inl (told, (tree, read, (survey, of, text, by)), prints), says, same))) =
     let t = told_of survey in
     let small = subst (λ n. n ≤ 1) (sym by) (known_small t.complete (nat_lt 0 (unmarked t.boots))) in
     omega (arith, same, text_small end old.output new.output told.text.items told.status small prints)
-boots_small asked session old new status (inr (given, is, (end, inr (fault, kept, one), says, same))) = omega (arith, same, one)
+boots_small asked session old new status (inr (given, after, is, are, (end, inr (fault, kept, one), says, same))) = omega (arith, same, one)
 
 -- one copy has the room of the session's
 pub same_room : (shape : Shape) → room_of (one_copy shape) ≡ room_of shape
 same_room shape = omega arith
 
 -- boards alike in what they store
-pub power_is : (rules : Rules) (tree : Option Chains) (shape shape' : Shape) (defaults defaults' : Contents) (first first' : List ℕ) →
-    shape ≡ shape' → defaults ≡ defaults' → first ≡ first' →
-    ◌≡◌ {A = Power} (record { rules = rules; tree = tree; shape = shape; defaults = defaults; first = first })
-    (record { rules = rules; tree = tree; shape = shape'; defaults = defaults'; first = first' })
-power_is rules tree shape shape' defaults defaults' first first' s d f = λ i. record { rules = rules; tree = tree; shape = s i; defaults = d i; first = f i }
+pub power_is : (rules : Rules) (cuts cuts' : Cutting) (counts : Bool) (tree : Option Chains) (after : List (Option Chains)) (shape shape' : Shape) (defaults defaults' : Contents) (first first' : List ℕ) →
+    cuts ≡ cuts' → shape ≡ shape' → defaults ≡ defaults' → first ≡ first' →
+    ◌≡◌ {A = Power} (record { rules = rules; cuts = cuts; counts = counts; tree = tree; after = after; shape = shape; defaults = defaults; first = first })
+    (record { rules = rules; cuts = cuts'; counts = counts; tree = tree; after = after; shape = shape'; defaults = defaults'; first = first' })
+power_is rules cuts cuts' counts tree after shape shape' defaults defaults' first first' u s d f = λ i. record { rules = rules; cuts = u i; counts = counts; tree = tree; after = after; shape = s i; defaults = d i; first = f i }
 
 -- what is told of such a board
-pub tells : (asked : PowerOns) (given : Hardware) (session : Held) (tree : Option Chains) (power : Power) (r : Result BootText AllocError) →
-    read_in (bodies_of asked.dry.shell) power_on_text ≡ Some tree → power ≡ power_for asked given session tree → IfOk r (BootsAs asked.dot power asked.ways) →
-    IfOk r (IsToldOf asked given session)
-tells asked given session tree power (Ok told) reads is told_as = (tree, reads, subst (λ p. BootsAs asked.dot p asked.ways told) is told_as)
-tells asked given session tree power (Err e) reads is told_as = tt
+pub tells : (asked : PowerOns) (given : Hardware) (after : List (Option Chains)) (session : Held) (tree : Option Chains) (power : Power) (r : Result BootText AllocError) →
+    read_in (bodies_of asked.dry.shell) (power_on_text asked.counts) ≡ Some tree → power ≡ power_for asked given after session tree → IfOk r (BootsAs asked.dot power asked.ways) →
+    IfOk r (IsToldOf asked given after session)
+tells asked given after session tree power (Ok told) reads is told_as = (tree, reads, subst (λ p. BootsAs asked.dot p asked.ways told) is told_as)
+tells asked given after session tree power (Err e) reads is told_as = tt
+
+-- a text that is no script is reported
+pub refused : (bodies : Bodies) (name text : List ℕ) (old mid new : Option (List ℕ)) (r : Option Script) → mid ≡ old →
+    MatchOption r (Refuses bodies name text mid new) (λ script. (read_in bodies text ≡ Some (tree_of script)) × (new ≡ mid)) →
+    MatchOption r (SaysSome old new) (λ script. new ≡ old)
+refused bodies name text old mid new (Some script) same (read, kept) = kept ∙ same
+refused bodies name text old mid new None same (inl (front, rest, is, appends)) = subst (λ e. SaysSome e new) same (front, appends)
+refused bodies name text old mid new None same (inr (fault, unread, of, (front, rest, is, appends))) = subst (λ e. SaysSome e new) same (front, appends)

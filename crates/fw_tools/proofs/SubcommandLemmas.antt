@@ -1,16 +1,20 @@
 -- What a subcommand does, put together, and its status.
 use Rattle.std.proofs.Common.{◌≡◌, ◌⊎◌, ◌≤◌, ℕ, zero, suc, Bool, true, false, List, [], ◌∷◌, ◌++◌, Option, Some, None, inl, inr, refl, sym, ap, ◌∙◌, subst, arith}
-use Rattle.std.specs.Prelude.{◌==◌, ◌&&◌, not, MatchOption, if◌then◌else◌, length}
-use Rattle.env_session.specs.Requests.{refusal_in}
+use Rattle.std.specs.Prelude.{◌==◌, ◌&&◌, not, map, MatchOption, if◌then◌else◌, length, unwrap_or}
+use Rattle.env_session.specs.Requests.{entry_in, refusal_in}
 use Rattle.env_session.specs.Session.{Held, written}
 use Rattle.envcfg_core.specs.Entries as text_entries
+use Rattle.envcfg_core.specs.Entries.{entry_view}
+use Rattle.envcfg_core.specs.declared.entry.TextEntry.{TextEntry}
 use Rattle.envimg_core.specs.Environment.{Environment}
 use Rattle.envimg_core.specs.Pieces.{Entry}
 use Rattle.envimg_core.specs.declared.geometry.Order.{Order}
 use Rattle.envvars_core.specs.declared.refusals.Refusal.{Refusal}
 use Rattle.fw_files.specs.Opening.{AreCopies, AreCopiesIn, AreWantedIn, IsAccepted, IsOpening, OpensOver}
-use Rattle.fw_tools.specs.Subcommands.{Acts, Closes, DoesJob, Scene, Uses, UsesTool, printed_so}
-use Rattle.fw_arguments.specs.Calls.{Boots, Call, Checks, Defaults, Job, Runs, Task, Tool, Tries, spares}
+use Rattle.fw_tools.specs.CheckRuns.{unchecked}
+use Rattle.fw_tools.specs.Subcommands.{Acts, Closes, DoesJob, Scene, Uses, UsesTool, printed_so, stopped_status}
+use Rattle.fw_arguments.specs.Calls.{Boots, Call, Checks, Defaults, Job, Runs, Task, Tool, Tries, job_view, spares}
+use Rattle.fw_arguments.specs.declared.job.Job as asked_jobs
 use Rattle.fw_tools.proofs.CheckLemmas.{check_small}
 use Rattle.fw_tools.proofs.PowerOnLemmas.{boots_small}
 use Rattle.fw_arguments.specs.DryRuns.{ScriptRun}
@@ -32,7 +36,7 @@ use Rattle.fw_arguments.specs.declared.task.Printing.{Printing}
 use Rattle.fw_arguments.specs.declared.task.Printing.TheVariants.{Lines, OneValue, Values}
 use Rattle.fw_engines.specs.TextForm.{export_texts, status_for}
 use Rattle.fw_engines.specs.VariableLines.{complaint, named, one_name, printed, status_of}
-use Rattle.fw_engines.specs.Changes.{Changing, Effect, Ends, count_status, script_effect, unless_refused}
+use Rattle.fw_engines.specs.Changes.{Changing, Effect, Ends, count_status, pair_of, script_effect, unless_refused}
 use Rattle.fw_engines.specs.Restoration.{forced_effect, restore_effect, restoring, unless_refused_in}
 use Rattle.fw_tools.specs.SessionRun.{ClosesDryRun, Reports, is_kept, text_for}
 use Rattle.fw_session.specs.declared.session_end.SessionEnding.{SessionEnding}
@@ -41,6 +45,11 @@ use Rattle.fw_engines.specs.Tool.{Printed, Prints, Texts, Writes, WritesPart}
 use Rattle.fw_engines.specs.declared.tool_end.StreamFault.{StreamFault}
 use Rattle.fw_engines.specs.declared.tool_end.StreamFault.TheVariants.{Read, Write, Memory}
 use Rattle.fw_engines.specs.declared.tool_end.ToolEnd.{ToolEnd}
+
+-- the entries of a set script as names and values
+pub pairs_in : (entries : List TextEntry) → map pair_of (map entry_view entries) ≡ map entry_in entries
+pairs_in [] = refl
+pairs_in (e ∷ es) = ap (λ others. entry_in e ∷ others) (pairs_in es)
 
 -- a session over what was read is one over such copies
 pub opens_so : (image : Option ℕ) (order : Order) (wanted : WantedCopy) (spares : Bool) (source : Source) (asked : Defaults) (session : Held) →
@@ -74,6 +83,13 @@ pub opened_session : (call : Call) (asked : Defaults) (old : Streams) (waited : 
     DoesJob call.job session (record { input = old.input; output = old.output; errors = warned }) new status → Uses call old new status
 opened_session call asked old waited session warned new status has found opening accepted does =
     inr (waited, asked, session, warned, has, found, opening, accepted, does)
+
+-- what was done for a job, once it is known which that is
+pub job_done : (job known : asked_jobs.Job) (session : Held) (old new : Streams) (r : Option ℕ) → job ≡ known →
+    DoesJob (job_view known) session old new (unwrap_or r (stopped_status (job_view known))) →
+    DoesJob (job_view job) session old new (unwrap_or r (stopped_status (job_view job)))
+job_done job known session old new r is does =
+    subst (λ (j : asked_jobs.Job). DoesJob (job_view j) session old new (unwrap_or r (stopped_status (job_view j)))) (sym is) does
 
 -- a tool's task was done, and the session closed
 pub used_tool : (task : Task) (session : Held) (old : Writers) (after : Scene) (end : ToolEnd) (errors : Option (List ℕ)) (status : ℕ) →
@@ -143,8 +159,8 @@ count_small (suc n) = omega arith
 acts_small : (task : Task) (old new : Scene) (end : ToolEnd) → Acts task old new end → end.status ≤ 1
 acts_small (Task.Print names printing) old new end acts = printed_small end.fault _ _ _ end.status (so_small printing old.session.now.env names) acts.1
 acts_small (Task.Set name words) old new end acts = ends_small end.fault _ _ _ _ end.status (unless_small (refusal_in old.session name _ false) name old.session _ (omega arith)) acts.1
-acts_small (Task.SetScript path) old new end acts = ends_small end.fault _ _ _ _ end.status (script_small old.session acts.0) acts.1.1
-acts_small (Task.Import path) old new end acts = ends_small end.fault _ _ _ _ end.status (count_small _) acts.1.1
+acts_small (Task.SetScript path) old new end acts = ends_small end.fault _ _ _ _ end.status (script_small old.session (map pair_of acts.1)) acts.2.1.1
+acts_small (Task.Import path) old new end acts = ends_small end.fault _ _ _ _ end.status (count_small _) acts.2.1.1
 acts_small Task.Export old new end acts = printed_small end.fault _ _ _ end.status (for_small (export_texts old.session.now.env).errors) acts.1
 acts_small (Task.Restore path) old new end acts = ends_small end.fault _ _ _ _ end.status (restore_small old.session acts.1) acts.2.1.1
 
@@ -197,7 +213,7 @@ script_run_small run session old new status (inr (stand_ins, text, stand, is, in
     (run_small r.2.end.fault r.2.end.status (record { output = old.output; errors = r.3.0 }) (record { output = new.output; errors = r.1 }) (course_texts run.must_boot r.3.2.0) (texts_small run.must_boot r.3.2.0) r.3.2.5)
     r.4
 
-job_small : (job : Job) (session : Held) (old new : Streams) (status : ℕ) → DoesJob job session old new status → status ≤ 1
+job_small : (job : Job) (session : Held) (old new : Streams) (status : ℕ) → DoesJob job session old new status → status ≤ stopped_status job
 job_small (Tool task) session old new status (unread, uses) = tool_small task session _ _ status uses
 job_small (Tries run) session old new status (inl stopped) = omega (arith, stopped.1.1)
 job_small (Tries run) session old new status (inr (stand_ins, stand, tries)) = leaves_small (is_kept run.write tries.0) tries.0 _ _ status tries.5
@@ -205,8 +221,15 @@ job_small (Runs run) session old new status (unread, runs) = script_run_small ru
 job_small (Boots power_ons) session old new status (unread, boots) = boots_small power_ons session _ _ status boots
 job_small (Checks check) session old new status (unread, checks) = check_small check session _ _ status checks
 
-pub uses_small : (call : Call) (old new : Streams) (status : ℕ) → Uses call old new status → status ≤ 1
-uses_small call old new status (inl stopped) = omega (arith, stopped.1.1)
+pub stopped_small : (job : Job) → stopped_status job ≤ unchecked
+stopped_small (Tool task) = omega arith
+stopped_small (Tries run) = omega arith
+stopped_small (Runs run) = omega arith
+stopped_small (Boots power_ons) = omega arith
+stopped_small (Checks check) = omega arith
+
+pub uses_small : (call : Call) (old new : Streams) (status : ℕ) → Uses call old new status → status ≤ stopped_status call.job
+uses_small call old new status (inl stopped) = omega (arith, stopped.2)
 uses_small call old new status (inr (waited, asked, session, warned, has, found, opening, accepted, does)) = job_small call.job session _ new status does
 
 -- ---- texts that are made first and then written

@@ -1,5 +1,5 @@
 -- What `boot` does over a session (docs/boot.md).
-use Rattle.std.specs.Prelude.{◌≡◌, ◌⊎◌, ◌+◌, ℕ, Bool, true, false, List, Option, Some}
+use Rattle.std.specs.Prelude.{◌≡◌, ◌⊎◌, ◌+◌, ℕ, Bool, true, false, List, length, Option, Some, None}
 use Rattle.std.specs.Io.KnownBytes.{Keeps}
 use Rattle.env_session.specs.Session.{Held}
 use Rattle.envimg_core.specs.Geometry.{Shape, room_of}
@@ -7,9 +7,11 @@ use Rattle.envimg_core.specs.declared.geometry.Layout.TheVariants.{Single}
 use Rattle.envimg_core.specs.declared.geometry.Order.TheVariants.{Little}
 use Rattle.hush_syntax.specs.Grammar.{Chains}
 use Rattle.hush_syntax.specs.Reading.{read_in}
+use Rattle.clap.specs.Words.{Text}
 use Rattle.hush_commands.specs.Hardware.{Hardware}
 use Rattle.hush_run.specs.Meaning.{bodies_of}
 use Rattle.hush_run.specs.Runs.{rules_in}
+use Rattle.fw_boots.specs.Cuts.{Cutting, Never, OfOne, OfTwo}
 use Rattle.fw_boots.specs.Boots.{BootsAs, Power}
 use Rattle.fw_boots.specs.PowerOns.{power_on_text}
 use Rattle.boot_search.specs.declared.survey_lines.BootText.{BootText}
@@ -26,35 +28,49 @@ use Rattle.fw_tools.specs.WantedHardware.{IsHardwareOf}
 abbrev pub one_copy : Shape → Shape
 one_copy shape = record { layout = Single; size = room_of shape + 4; order = Little }
 
--- the board that stores the session's variables, and has its defaults
-abbrev pub power_for : PowerOns → Hardware → Held → Option Chains → Power
-power_for asked given session tree = record {
+-- a script of each of these files: a contract knows nothing of what is in one
+abbrev pub AreScriptsOf : (paths : List Text) → List (Option Chains) → Type 0
+AreScriptsOf paths trees = length trees ≡ length paths
+
+-- where its power may fail, by its second copy, and by what a bad copy is taken for if there is none
+abbrev pub cutting_for : Bool → (second : Option (List ℕ)) → (bad : List ℕ) → Cutting
+cutting_for false second bad = Never
+cutting_for true None bad = OfOne bad
+cutting_for true (Some second) bad = OfTwo
+
+-- the board that stores the session's variables, and has its defaults, with what its system may run
+abbrev pub power_for : PowerOns → Hardware → (after : List (Option Chains)) → Held → Option Chains → Power
+power_for asked given after session tree = record {
   rules = rules_in asked.dry.shell given asked.dry.limits;
+  cuts = cutting_for asked.cuts session.now.second (image_bytes (one_copy session.shape) false session.defaults.env);
+  counts = asked.counts;
   tree = tree;
+  after = after;
   shape = one_copy session.shape;
   defaults = session.defaults;
   first = image_bytes (one_copy session.shape) false session.now.env;
 }
 
 -- what is told of its power-ons
-abbrev pub IsToldOf : PowerOns → Hardware → Held → BootText → Type 0
-IsToldOf asked given session told =
-    (tree : Option Chains) × (read_in (bodies_of asked.dry.shell) power_on_text ≡ Some tree)
-    × BootsAs asked.dot (power_for asked given session tree) asked.ways told
+abbrev pub IsToldOf : PowerOns → Hardware → (after : List (Option Chains)) → Held → BootText → Type 0
+IsToldOf asked given after session told =
+    (tree : Option Chains) × (read_in (bodies_of asked.dry.shell) (power_on_text asked.counts) ≡ Some tree)
+    × BootsAs asked.dot (power_for asked given after session tree) asked.ways told
 
 -- that is printed, or less than that; or memory ran out before
-abbrev pub PrintsBoots : PowerOns → Hardware → Held → Option (List ℕ) → Option (List ℕ) → ToolEnd → Type 0
-PrintsBoots asked given session old new end =
-    ((told : BootText) × IsToldOf asked given session told × PrintsText old new told.text.items told.status end)
+abbrev pub PrintsBoots : PowerOns → Hardware → (after : List (Option Chains)) → Held → Option (List ℕ) → Option (List ℕ) → ToolEnd → Type 0
+PrintsBoots asked given after session old new end =
+    ((told : BootText) × IsToldOf asked given after session told × PrintsText old new told.text.items told.status end)
     ⊎ ((end.fault ≡ Some Memory) × Keeps old new × (end.status ≡ 1))
 
 -- and what stopped that is reported
-abbrev pub ReportsBoots : PowerOns → Hardware → Held → Writers → Writers → ℕ → Type 0
-ReportsBoots asked given session old new status =
-    (end : ToolEnd) × PrintsBoots asked given session old.output new.output end × Says end.fault old.errors new.errors × (status ≡ end.status)
+abbrev pub ReportsBoots : PowerOns → Hardware → (after : List (Option Chains)) → Held → Writers → Writers → ℕ → Type 0
+ReportsBoots asked given after session old new status =
+    (end : ToolEnd) × PrintsBoots asked given after session old.output new.output end × Says end.fault old.errors new.errors × (status ≡ end.status)
 
--- answers may be open; or before that a file can't be used, or memory runs out
+-- answers may be open; or before that a file can't be used or is no script, or memory runs out
 abbrev pub BootsOver : PowerOns → Held → Writers → Writers → ℕ → Type 0
 BootsOver asked session old new status =
     Stops old new status
-    ⊎ ((given : Hardware) × IsHardwareOf true asked.dry given × ReportsBoots asked given session old new status)
+    ⊎ ((given : Hardware) × (after : List (Option Chains)) × IsHardwareOf true asked.dry given
+    × AreScriptsOf asked.after after × ReportsBoots asked given after session old new status)

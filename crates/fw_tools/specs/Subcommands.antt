@@ -1,21 +1,21 @@
 -- What a subcommand does over a session, and what it prints (docs/tools.md, "Subcommands over files").
 use Rattle.std.specs.Prelude.{◌≡◌, ◌⊎◌, ℕ, ◌==◌, ◌&&◌, Bool, true, false, if◌then◌else◌, List, map, Option, Some, None, Result, Ok, Err}
 use Rattle.env_session.specs.Session.{Held}
-use Rattle.envimg_core.specs.Pieces.{Entry}
 use Rattle.envimg_core.specs.declared.choice.Choice.{Choice}
 use Rattle.envimg_core.specs.declared.choice.Choice.TheVariants.{Neither}
 use Rattle.envcfg_core.specs.Entries as text_entries
 use Rattle.envcfg_core.specs.Import.{import_of}
+use Rattle.envcfg_core.specs.SetScript.{set_script_of}
 use Rattle.clap.specs.Words.{Text}
 use Rattle.fw_arguments.specs.Calls.{Boots, Call, Checks, Defaults, Job, Tool, Tries, Runs, Task, keeps_lock, spares, writes}
-use Rattle.fw_tools.specs.CheckRuns.{ChecksFile, ChecksOver}
+use Rattle.fw_tools.specs.CheckRuns.{ChecksFile, ChecksOver, unchecked}
 use Rattle.fw_files.specs.Copies.{MayWarn}
 use Rattle.fw_files.specs.CopyReport.{ReportsOn}
 use Rattle.fw_arguments.specs.Report.{Asked, Check, Find, Look, Make, Work}
 use Rattle.fw_files.specs.Opening.{IsAccepted, IsOpening}
 use Rattle.fw_files.specs.Source.{IsTaken}
 use Rattle.fw_files.specs.Locks.{HasWaited}
-use Rattle.fw_files.specs.Said.{Says, SaysSome, Stops}
+use Rattle.fw_files.specs.Said.{Says, SaysOnly, SaysSome, Stops}
 use Rattle.fw_engines.specs.TextForm.{export_texts}
 use Rattle.fw_engines.specs.VariableLines.{named, printed}
 use Rattle.envimg_core.specs.Environment.{Environment}
@@ -51,7 +51,18 @@ changing s = record { session = s.session; errors = s.writers.errors }
 abbrev pub ChangesAll : Scene → Scene → Effect → (Held → Type 0) → ToolEnd → Type 0
 ChangesAll old new effect lacks end = (new.writers.output ≡ old.writers.output) × Changes (changing old) (changing new) effect lacks end
 
--- the entries of some text for import
+-- the entries of some set script
+abbrev pub SetsFrom : Scene → Scene → (text : List ℕ) → (entries : List text_entries.Entry) → ToolEnd → Type 0
+SetsFrom old new text entries end =
+    (set_script_of text ≡ Ok entries)
+    × ChangesAll old new (script_effect old.session (map pair_of entries)) (LacksMemory old.session (map pair_of entries) 0) end
+
+-- the entries of some text for import, written one after the other, or in the place of all variables
+abbrev pub ImportsFrom : Scene → Scene → (text : List ℕ) → (entries : List text_entries.Entry) → ToolEnd → Type 0
+ImportsFrom old new text entries end =
+    (import_of text ≡ Ok entries)
+    × ChangesAll old new (named_import_effect old.session entries) (LacksMemoryToName old.session (map pair_of entries)) end
+
 abbrev pub RestoresFrom : Scene → Scene → (text : List ℕ) → (entries : List text_entries.Entry) → ToolEnd → Type 0
 RestoresFrom old new text entries end =
     (import_of text ≡ Ok entries) × ChangesAll old new (restore_effect old.session entries) (LacksMemoryToRestore old.session entries) end
@@ -62,12 +73,12 @@ printed_so Lines env names = printed env names false
 printed_so OneValue env names = printed env names true
 printed_so Values env names = named true env names
 
--- a task done; a file that it reads has some entries
+-- a task done; a file that it reads holds some text, of which all entries count
 abbrev pub Acts : Task → Scene → Scene → ToolEnd → Type 0
 Acts (Task.Print names printing) old new end = PrintsAll old new (printed_so printing old.session.now.env names) end
 Acts (Task.Set name words) old new end = ChangesAll old new (set_effect old.session name (spaced words)) (LacksMemoryToSet old.session name words) end
-Acts (Task.SetScript path) old new end = (entries : List Entry) × ChangesAll old new (script_effect old.session entries) (LacksMemory old.session entries 0) end
-Acts (Task.Import path) old new end = (entries : List text_entries.Entry) × ChangesAll old new (named_import_effect old.session entries) (LacksMemoryToName old.session (map pair_of entries)) end
+Acts (Task.SetScript path) old new end = (text : List ℕ) × (entries : List text_entries.Entry) × SetsFrom old new text entries end
+Acts (Task.Import path) old new end = (text : List ℕ) × (entries : List text_entries.Entry) × ImportsFrom old new text entries end
 Acts Task.Export old new end = PrintsAll old new (export_texts old.session.now.env) end
 Acts (Task.Restore path) old new end = (text : List ℕ) × (entries : List text_entries.Entry) × RestoresFrom old new text entries end
 
@@ -80,6 +91,11 @@ hold_for job = if writes job then Alone else Shared
 abbrev pub Closes : ToolEnd → Option (List ℕ) → Option (List ℕ) → ℕ → Type 0
 Closes end old new status =
     (SaysSome old new × (status ≡ 1)) ⊎ ((warned : Option (List ℕ)) × MayWarn old warned × Says end.fault warned new × (status ≡ end.status))
+
+-- the status of a job whose files can't be used
+abbrev pub stopped_status : Job → ℕ
+stopped_status (Checks check) = unchecked
+stopped_status job = 1
 
 -- a job keeps the locks on its copies, if they are in devices, until it has written them
 abbrev pub keeps_locks : (image : Option ℕ) → Job → Bool
@@ -118,15 +134,16 @@ UsesSession call old new status =
     × IsAccepted asked session waited warned
     × DoesJob call.job session (record { input = old.input; output = old.output; errors = warned }) new status
 
--- or before that a file can't be used, or memory runs out
+-- or before that a file can't be used, or memory runs out: some text may report it
 abbrev pub Uses : Call → Streams → Streams → ℕ → Type 0
-Uses call old new status = ((new.input ≡ old.input) × Stops (writers_of old) (writers_of new) status) ⊎ UsesSession call old new status
+Uses call old new status =
+    ((new.input ≡ old.input) × SaysOnly (writers_of old) (writers_of new) × (status ≡ stopped_status call.job)) ⊎ UsesSession call old new status
 
--- wrong arguments that clap's rules don't detect are answered with a text, and nothing is read
-abbrev pub Called : Result Asked Text → Streams → Streams → ℕ → Type 0
-Called (Ok (Work call)) old new status = Uses call old new status
-Called (Ok (Look report)) old new status = (new.input ≡ old.input) × ReportsOn report (writers_of old) (writers_of new) status
-Called (Ok (Check check)) old new status = (new.input ≡ old.input) × ChecksFile check (writers_of old) (writers_of new) status
-Called (Ok (Make image)) old new status = (new.input ≡ old.input) × MakesImage image (writers_of old) (writers_of new) status
-Called (Ok (Find path)) old new status = (new.input ≡ old.input) × Finds path (writers_of old) (writers_of new) status
-Called (Err text) old new status = (new.input ≡ old.input) × (new.output ≡ old.output) × AppendsFront old.errors new.errors text × (status ≡ 1)
+-- wrong arguments that clap's rules don't detect are answered with a text and this status, and nothing is read
+abbrev pub Called : (refused : ℕ) → Result Asked Text → Streams → Streams → ℕ → Type 0
+Called refused (Ok (Work call)) old new status = Uses call old new status
+Called refused (Ok (Look report)) old new status = (new.input ≡ old.input) × ReportsOn report (writers_of old) (writers_of new) status
+Called refused (Ok (Check check)) old new status = (new.input ≡ old.input) × ChecksFile check (writers_of old) (writers_of new) status
+Called refused (Ok (Make image)) old new status = (new.input ≡ old.input) × MakesImage image (writers_of old) (writers_of new) status
+Called refused (Ok (Find path)) old new status = (new.input ≡ old.input) × Finds path (writers_of old) (writers_of new) status
+Called refused (Err text) old new status = (new.input ≡ old.input) × (new.output ≡ old.output) × AppendsFront old.errors new.errors text × (status ≡ refused)

@@ -1,23 +1,27 @@
 //! `boot`: a board is powered on from a session's variables, and from all that it stores then.
-ghost use Rattle.std.specs.Prelude.{◌≡◌, IfOk, IfSome, false, unwrap_or};
+ghost use Rattle.std.specs.Prelude.{◌≡◌, IfOk, IfSome, false, map, option_copied, unwrap_or};
+ghost use Rattle.hush_syntax.specs.Scripts.{tree_of};
 ghost use Rattle.hush_commands.specs.Hardware.{hardware};
 ghost use Rattle.fw_arguments.specs.PowerOns.{power_ons_view};
+ghost use Rattle.fw_boots.specs.Cuts.{cutting_of};
 ghost use Rattle.fw_boots.specs.Boots.{BootsAs, power_of};
-ghost use Rattle.fw_engines.specs.Tool.{PrintsText};
 ghost use Rattle.fw_tools.specs.NewImages.{image_bytes};
-ghost use Rattle.fw_tools.specs.PowerOns.{BootsOver, IsToldOf, PrintsBoots, one_copy};
+ghost use Rattle.fw_tools.specs.PowerOns.{BootsOver, IsToldOf, PrintsBoots, cutting_for, one_copy};
 
+use crate::after_scripts::scripts_or_say;
 use crate::hardware::{GivenHardware, hardware_or_say};
 use crate::new_image::new_image;
+use crate::printing::print_text;
 use env_requests::RunRules;
-use env_session::Session;
+use env_session::{Session, Side};
 use envimg_core::{Geometry, Layout};
-use envvars_core::Memory;
+use envvars_core::{Memory, Vars};
 use fw_arguments::PowerOns;
-use fw_boots::{Boot, BootText, Limits, boot_graph, boot_text, power_on_script};
-use fw_engines::streams::write_text;
+use fw_boots::{Boot, BootText, Cuts, Limits, boot_graph, boot_text, power_on_script};
 use fw_engines::{StreamFault, ToolEnd};
 use fw_files::{Explains, System, report};
+use hush_run::bodies_of;
+use hush_syntax::Script;
 use std::alloc::{AllocError, Global};
 use std::io::Write;
 
@@ -37,7 +41,8 @@ pub(crate) fn boot_given<X: System + AllocGlobal, W: Write, E: Write>(
         (record { output = W.contents output.new; errors = E.contents errors.new }) (unwrap_or result 1) }
 {
     let hardware = hardware_or_say(rt, &asked.dry, true, Explains::Reason, errors)?;
-    let end = print_boots(rt.alloc(), session, asked, &hardware, output);
+    let after = scripts_or_say(rt, bodies_of(asked.dry.shell), asked.after, errors)?;
+    let end = print_boots(rt.alloc(), session, asked, &hardware, &after, output);
     Some(report(end, errors))
 }
 
@@ -47,25 +52,15 @@ fn print_boots<W: Write>(
     session: &Session,
     asked: &PowerOns<'_, '_>,
     given: &GivenHardware,
+    after: &[Script],
     output: &mut W,
 ) -> ToolEnd
-    ensures { PrintsBoots (power_ons_view asked.now) (hardware given.now.board given.now.stand_ins) session.now
+    ensures { PrintsBoots (power_ons_view asked.now) (hardware given.now.board given.now.stand_ins) (map tree_of after.now) session.now
         (W.contents output.old) (W.contents output.new) result }
 {
-    match told_of(alloc, session, asked, given) {
+    match told_of(alloc, session, asked, given, after) {
         Err(_) => ToolEnd::stopped(StreamFault::Memory),
-        Ok(told) => print(&told, output),
-    }
-}
-
-/// Prints a text, and ends with its status.
-fn print<W: Write>(told: &BootText, output: &mut W) -> ToolEnd
-    ensures { PrintsText (W.contents output.old) (W.contents output.new) told.now.text.items told.now.status result }
-{
-    if write_text(output, &told.text) {
-        ToolEnd::done(told.status)
-    } else {
-        ToolEnd::stopped(StreamFault::Write)
+        Ok(told) => print_text(&told.text, told.status, output),
     }
 }
 
@@ -75,17 +70,22 @@ fn told_of(
     session: &Session,
     asked: &PowerOns<'_, '_>,
     given: &GivenHardware,
+    after: &[Script],
 ) -> Result<BootText, AllocError>
-    ensures { IfOk result (IsToldOf (power_ons_view asked.now) (hardware given.now.board given.now.stand_ins) session.now) }
+    ensures { IfOk result (IsToldOf (power_ons_view asked.now) (hardware given.now.board given.now.stand_ins)
+        (map tree_of after.now) session.now) }
 {
     let Some(geometry) = one_copy(session) else {
         // never: each copy that a session may have is as large
         return Err(AllocError);
     };
-    let Ok(first) = first_copy(alloc, session, geometry) else {
+    let Ok(first) = copy_of(alloc, session.vars(), geometry) else {
         return Err(AllocError);
     };
-    let script = power_on_script(alloc, asked.dry.shell)?;
+    let Ok(bad) = copy_of(alloc, session.defaults(), geometry) else {
+        return Err(AllocError);
+    };
+    let script = power_on_script(alloc, asked.dry.shell, asked.counts)?;
     let rules = RunRules {
         shell: asked.dry.shell,
         stand_ins: &given.stand_ins,
@@ -94,7 +94,10 @@ fn told_of(
     };
     let boot = Boot {
         rules,
+        cuts: cuts_for(asked.cuts, session.copy(Side::Second), &bad),
+        counts: asked.counts,
         script: &script,
+        after,
         geometry,
         defaults: session.defaults(),
         first: &first,
@@ -130,14 +133,25 @@ fn one_copy(session: &Session) -> Option<Geometry>
     Geometry::new(Layout::Single, size)
 }
 
-/// That copy, with the session's variables.
-fn first_copy(alloc: Global, session: &Session, geometry: Geometry) -> Result<Vec<u8>, Memory>
-    requires { geometry ≡ one_copy session.now.shape }
-    ensures { IfOk result (λ first. first.items ≡ image_bytes geometry false session.now.now.env) }
+/// A copy of that shape with these variables. `Memory` if memory runs out, or if they don't fit.
+fn copy_of(alloc: Global, vars: &Vars, geometry: Geometry) -> Result<Vec<u8>, Memory>
+    ensures { IfOk result (λ copy. copy.items ≡ image_bytes geometry false vars.now.env) }
 {
-    let vars = session.vars();
-    // for the proof: they fit
-    let _used = vars.used();
+    if vars.used() > geometry.room() {
+        // never: both the variables and the defaults of a session fit its copies
+        return Err(Memory);
+    }
     let vars = vars.copy(alloc, geometry.room())?;
     new_image(alloc, geometry, false, vars)
+}
+
+/// Where the power may fail: a session's second copy tells whether one copy is stored or two.
+fn cuts_for<'a>(is_asked: bool, second: Option<&[u8]>, bad: &'a [u8]) -> Cuts<'a>
+    ensures { cutting_of result ≡ cutting_for is_asked (option_copied second.entry) bad.now }
+{
+    match (is_asked, second) {
+        (false, _) => Cuts::Never,
+        (true, None) => Cuts::OfOne { bad },
+        (true, Some(_)) => Cuts::OfTwo,
+    }
 }

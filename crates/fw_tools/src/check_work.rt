@@ -1,17 +1,22 @@
-//! `check`: the scripts of an environment, or that of a file, are checked before anything runs.
-ghost use Rattle.std.specs.Prelude.{◌≤◌, MatchOption, ◌≡◌, IfOk, option_map, unwrap_or};
+//! `check`: the scripts of an environment, or those of files, are checked before anything runs.
+ghost use Rattle.std.specs.Prelude.{◌≤◌, ◌++◌, ◌∷◌, [], MatchOption, ◌≡◌, OnOk, map, unwrap_or};
+ghost use Rattle.fw_check.specs.FileChecks.{paths_of, scripts_view};
 ghost use Rattle.fw_arguments.specs.Checks.{environment_check_view, file_check_view};
-ghost use Rattle.fw_tools.specs.CheckRuns.{AreStandInsGiven, ChecksFile, ChecksOver};
-ghost use Rattle.fw_files.specs.Said.{SaysSome};
+ghost use Rattle.fw_tools.specs.CheckRuns.{ChecksFile, ChecksOver, check_status, unchecked};
+ghost use Rattle.fw_files.specs.Said.{Says, SaysSome};
 
+use crate::check_rules::{hardware_given_or_say, known_or_say, rules_with};
 use crate::task_work::bytes_or_say;
 use env_session::Session;
 use fw_arguments::{EnvironmentCheck, FileCheck};
-use fw_check::{check, check_text};
-use fw_files::{Explains, FileFault, System, read_stand_in_file, read_text, report, value_or_say};
-use hush_run::Stubs;
+use fw_check::{FileScript, check, check_files};
+use fw_engines::ToolEnd;
+use fw_files::{Explains, FileFault, System, read_text, report, value_or_say};
 use std::io::Write;
 use std::rt::Files;
+
+/// The exit status of a check that can't be made, or whose findings can't be printed.
+pub(crate) const UNCHECKED: u8 = 2;
 
 /// Checks the scripts of a session's environment, and answers the exit status; `None` if a file can't be used before.
 pub(crate) fn check_session<X: System + AllocGlobal, W: Write, E: Write>(
@@ -23,40 +28,40 @@ pub(crate) fn check_session<X: System + AllocGlobal, W: Write, E: Write>(
 ) -> Option<u8>
     ensures { ChecksOver (environment_check_view asked.now) session.now
         (record { output = W.contents output.old; errors = E.contents errors.old })
-        (record { output = W.contents output.new; errors = E.contents errors.new }) (unwrap_or result 1) }
+        (record { output = W.contents output.new; errors = E.contents errors.new }) (unwrap_or result unchecked) }
 {
-    let stand_ins = stand_ins_or_say(rt, asked.stand_ins, errors)?;
+    let given = hardware_given_or_say(rt, asked.stand_ins, asked.board, errors)?;
+    let known = known_or_say(rt, asked.known, errors)?;
     let names = bytes_or_say(rt.alloc(), asked.names, errors)?;
     let end = check(
         rt.alloc(),
-        asked.shell,
+        rules_with(asked.shell, &given, &known),
         session.vars(),
-        stand_ins.as_ref(),
         asked.choice,
         &names,
         output,
         errors,
     );
-    Some(report(end, errors))
+    Some(leave(end, errors))
 }
 
-/// Checks the script in a file, and answers the exit status.
+/// Checks the scripts in files, and answers the exit status.
 pub(crate) fn run_file_check<X: System + AllocGlobal, W: Write, E: Write>(
     rt: &X,
     asked: &FileCheck<'_, '_>,
     output: &mut W,
     errors: &mut E,
 ) -> u8
-    ensures status { result ≤ 1 }
+    ensures status { result ≤ unchecked }
     ensures checks { ChecksFile (file_check_view asked.now)
         (record { output = W.contents output.old; errors = E.contents errors.old })
         (record { output = W.contents output.new; errors = E.contents errors.new }) result }
 {
-    check_file(rt, asked, output, errors).unwrap_or(1)
+    check_scripts(rt, asked, output, errors).unwrap_or(UNCHECKED)
 }
 
 /// The same; `None` if a file can't be used before.
-fn check_file<X: System + AllocGlobal, W: Write, E: Write>(
+fn check_scripts<X: System + AllocGlobal, W: Write, E: Write>(
     rt: &X,
     asked: &FileCheck<'_, '_>,
     output: &mut W,
@@ -64,56 +69,82 @@ fn check_file<X: System + AllocGlobal, W: Write, E: Write>(
 ) -> Option<u8>
     ensures { ChecksFile (file_check_view asked.now)
         (record { output = W.contents output.old; errors = E.contents errors.old })
-        (record { output = W.contents output.new; errors = E.contents errors.new }) (unwrap_or result 1) }
+        (record { output = W.contents output.new; errors = E.contents errors.new }) (unwrap_or result unchecked) }
 {
-    let stand_ins = stand_ins_or_say(rt, asked.stand_ins, errors)?;
-    let text = value_or_say(
+    let given = hardware_given_or_say(rt, asked.stand_ins, asked.board, errors)?;
+    let scripts = scripts_or_say(rt, asked.paths, errors)?;
+    let end = check_files(
         rt.alloc(),
-        errors,
-        Explains::Reason,
-        asked.path,
-        read_text(rt, asked.path),
-    )?;
-    let end = check_text(
-        rt.alloc(),
-        asked.shell,
-        stand_ins.as_ref(),
+        rules_with(asked.shell, &given, &[]),
         asked.choice,
-        asked.path.as_bytes(),
-        &text,
+        &scripts,
         output,
         errors,
     );
-    Some(report(end, errors))
+    Some(leave(end, errors))
 }
 
-/// The stand-ins, if a file of them is given; a fault of it is reported on `errors`.
-fn stand_ins_or_say<X: System + AllocGlobal, E: Write>(
+/// The scripts in the files of these paths; a fault of one is reported on `errors`.
+fn scripts_or_say<'w, X: System + AllocGlobal, E: Write>(
     rt: &X,
-    path: Option<&str>,
+    paths: &[&'w str],
     errors: &mut E,
-) -> Option<Option<Stubs>>
+) -> Option<Vec<FileScript<'w>>>
     ensures { MatchOption result (SaysSome (E.contents errors.old) (E.contents errors.new))
-        (λ stand_ins. AreStandInsGiven (option_map (λ p. p.now) path.entry) stand_ins × (E.contents errors.new ≡ E.contents errors.old)) }
+        (λ scripts. (paths_of (scripts_view scripts.items) ≡ map (λ p. p.now) paths.now)
+        × (E.contents errors.new ≡ E.contents errors.old)) }
 {
-    value_or_say(
-        rt.alloc(),
-        errors,
-        Explains::Reason,
-        path.unwrap_or(""),
-        stand_ins_given(rt, path),
-    )
+    let mut scripts = Vec::new(rt.alloc());
+    for path in paths {
+        add_or_say(rt, path, &mut scripts, errors)?;
+    }
+    Some(scripts)
 }
 
-/// The stand-ins, if a file of them is given.
-fn stand_ins_given<X: Files + AllocGlobal>(
+/// Appends the script in the file of this path; a fault of it is reported on `errors`.
+fn add_or_say<'w, X: System + AllocGlobal, E: Write>(
     rt: &X,
-    path: Option<&str>,
-) -> Result<Option<Stubs>, FileFault>
-    ensures { IfOk result (AreStandInsGiven (option_map (λ p. p.now) path.entry)) }
+    path: &'w str,
+    scripts: &mut Vec<FileScript<'w>>,
+    errors: &mut E,
+) -> Option<()>
+    ensures { MatchOption result (SaysSome (E.contents errors.old) (E.contents errors.new))
+        (λ _. (paths_of (scripts_view scripts.new.items) ≡ paths_of (scripts_view scripts.old.items) ++ path.now ∷ [])
+        × (E.contents errors.new ≡ E.contents errors.old)) }
 {
-    match path {
-        None => Ok(None),
-        Some(file) => Ok(Some(read_stand_in_file(rt, file)?)),
+    let added = add_script(rt, path, scripts);
+    value_or_say(rt.alloc(), errors, Explains::Reason, path, added)
+}
+
+/// Appends the script in the file of this path.
+fn add_script<'w, X: Files + AllocGlobal>(
+    rt: &X,
+    path: &'w str,
+    scripts: &mut Vec<FileScript<'w>>,
+) -> Result<(), FileFault>
+    ensures { OnOk result
+        (paths_of (scripts_view scripts.new.items) ≡ paths_of (scripts_view scripts.old.items) ++ path.now ∷ []) }
+{
+    let text = read_text(rt, path)?;
+    let script = FileScript {
+        path: path.as_bytes(),
+        text,
+    };
+    match scripts.push(script) {
+        Ok(()) => Ok(()),
+        Err(_) => Err(FileFault::Memory),
+    }
+}
+
+/// Reports what stopped a check, if anything did, and answers the exit status.
+fn leave<E: Write>(end: ToolEnd, errors: &mut E) -> u8
+    ensures status { result ≡ check_status end }
+    ensures said { Says end.fault (E.contents errors.old) (E.contents errors.new) }
+{
+    let status = report(end, errors);
+    if end.fault.is_some() {
+        UNCHECKED
+    } else {
+        status
     }
 }

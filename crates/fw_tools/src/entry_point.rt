@@ -1,7 +1,8 @@
 //! The program over its arguments and streams.
-ghost use Rattle.std.specs.Prelude.{◌≡◌, ◌⊎◌, ◌≤◌, Ok, map, option_map};
+ghost use Rattle.std.specs.Prelude.{◌≡◌, ◌⊎◌, ◌≤◌, ℕ, Ok, map, option_map};
 ghost use Rattle.clap.specs.Words.{found_of, kind_of, rows_of};
-ghost use Rattle.fw_tools.specs.EntryPoint.{RepliesTo, Does, is_shown, LacksMemory, Runs, ShowsAndSays, message_without_words};
+ghost use Rattle.fw_tools.specs.CheckRuns.{unchecked};
+ghost use Rattle.fw_tools.specs.EntryPoint.{RepliesTo, Does, asks_check, begins_check, is_flag, is_shown, LacksMemory, Runs, ShowsAndSays, message_without_words, refused_status};
 ghost use Rattle.fw_arguments.specs.Report.{asked_view};
 ghost use Rattle.fw_tools.specs.Subcommands.{Called};
 ghost use Rattle.fw_engines.specs.Streams.{AppendsFront};
@@ -10,7 +11,7 @@ ghost use Rattle.fw_arguments.specs.WordFaults.{fault_text};
 ghost use Rattle.fw_arguments.specs.Words.{order_in};
 ghost use Rattle.std.specs.IoError.{error_kind};
 
-use crate::check_work::run_file_check;
+use crate::check_work::{UNCHECKED, run_file_check};
 use crate::find_work::run_find;
 use crate::image_work::run_image;
 use crate::subcommands::run_call;
@@ -19,8 +20,8 @@ use clap::{ArgMatches, Error};
 use envimg_core::Order;
 use fw_arguments::{Asked, ProgramName, WordFault, called, chosen_order, read_asked, read_words};
 use fw_engines::streams::{say, write_text, write_three};
-use fw_engines::{OUT_OF_MEMORY, StreamFault, ToolEnd, show};
-use fw_files::{System, report, run_report};
+use fw_engines::{OUT_OF_MEMORY, StreamFault, show};
+use fw_files::{System, message_of, report, run_report};
 use std::alloc::Global;
 use std::convert::AsStr;
 use std::io::{self, Read, Write};
@@ -31,13 +32,14 @@ const NOT_UTF8: &[u8] = b"fwenv: a word of the command line is not UTF-8\n";
 /// Standard error if the arguments of the command line can't be read.
 const NO_WORDS: &[u8] = b"fwenv: cannot read the command line\n";
 
-/// Runs the program and answers its exit status, 0 or 1. `words` begin with the program's own name.
+/// Runs the program and answers its exit status: 0 or 1, and 2 if a check of scripts is asked for that can't be made. `words`
+/// begin with the program's own name.
 ///
 /// Without a subcommand the variables of the image on `input` are printed ([`show`]), and with `--big-endian` those of
 /// an image of a big-endian board. A subcommand works on the copies that a configuration names ([`printenv`],
 /// [`setenv`], [`set_script`], [`import`], [`export`], [`restore`], [`session`]), and writes back those that it
 /// changed, or reports their state ([`status`], or [`file_status`] of a whole file). Help goes to `output`, status 0; a
-/// fault of the command line to `errors`, status 1. docs/tools.md has each text. A session also says on the screen of `rt`,
+/// fault of the command line to `errors`, status 1, of a check 2. docs/tools.md has each text. A session also says on the screen of `rt`,
 /// if it has one, where and why a block isn't a script.
 ///
 /// [`printenv`]: fw_engines::printenv
@@ -56,7 +58,7 @@ pub fn program<X: System + AllocGlobal, S: AsStr, R: Read, W: Write, E: Write>(
     output: &mut W,
     errors: &mut E,
 ) -> u8
-    ensures status { result ≤ 1 }
+    ensures status { result ≤ unchecked }
     ensures runs { Runs (map S.text words.entry.now)
         (record { input = R.remaining input.old; output = W.contents output.old; errors = E.contents errors.old })
         (record { input = R.remaining input.new; output = W.contents output.new; errors = E.contents errors.new })
@@ -68,9 +70,54 @@ pub fn program<X: System + AllocGlobal, S: AsStr, R: Read, W: Write, E: Write>(
         // what clap reports of no argument is known, and to ask it takes as long as to show a small image
         return show_input(alloc, Order::Little, input, output, errors);
     }
+    let refused = refused_status(name, words);
     match read_words(alloc, name, words) {
-        Err(error) => print_error(alloc, &error, output, errors),
-        Ok(matches) => act_on(rt, name, &matches, input, output, errors),
+        Err(error) => print_error(alloc, &error, refused, output, errors),
+        Ok(matches) => act_on(rt, name, &matches, refused, input, output, errors),
+    }
+}
+
+/// The status of arguments that are refused under this name.
+fn refused_status<S: AsStr>(name: ProgramName, words: &[S]) -> u8
+    ensures status { result ≡ refused_status name (map S.text words.now) }
+    ensures small { result ≤ unchecked }
+{
+    match name {
+        ProgramName::Printenv | ProgramName::Setenv => 1,
+        _ => { if asks_check(words) { UNCHECKED } else { 1 } }
+    }
+}
+
+/// Whether these arguments, after the program's own name, ask for a check.
+fn asks_check<S: AsStr>(words: &[S]) -> bool
+    ensures { result ≡ asks_check (map S.text words.now) }
+{
+    match words.split_first() {
+        None => false,
+        Some((_, rest)) => begins_check(rest),
+    }
+}
+
+/// Whether the first of these that doesn't begin with `-` is `check`.
+fn begins_check<S: AsStr>(words: &[S]) -> bool
+    ensures { result ≡ begins_check (map S.text words.now) }
+{
+    for word in words {
+        let text = word.as_str();
+        if !is_flag(text) {
+            return text == "check";
+        }
+    }
+    false
+}
+
+/// Whether an argument begins with `-`.
+fn is_flag(word: &str) -> bool
+    ensures { result ≡ is_flag word.now }
+{
+    match word.as_bytes().first() {
+        None => false,
+        Some(byte) => *byte == b'-',
     }
 }
 
@@ -93,12 +140,13 @@ fn act_on<X: System + AllocGlobal, R: Read, W: Write, E: Write>(
     rt: &X,
     under: ProgramName,
     matches: &ArgMatches<'_>,
+    refused: u8,
     input: &mut R,
     output: &mut W,
     errors: &mut E,
 ) -> u8
-    ensures status { result ≤ 1 }
-    ensures does { Does (order_in matches.now) (called_in under matches.now)
+    ensures status { refused ≤ unchecked → result ≤ unchecked }
+    ensures does { Does refused (order_in matches.now) (called_in under matches.now)
         (record { input = R.remaining input.old; output = W.contents output.old; errors = E.contents errors.old })
         (record { input = R.remaining input.new; output = W.contents output.new; errors = E.contents errors.new })
         result }
@@ -110,7 +158,7 @@ fn act_on<X: System + AllocGlobal, R: Read, W: Write, E: Write>(
         Some((name, found)) => match read_asked(order, name, found) {
             Err(fault) => {
                 say_word_fault(&fault, errors);
-                1
+                refused
             }
             Ok(asked) => run_asked(rt, &asked, input, output, errors),
         },
@@ -132,8 +180,8 @@ fn run_asked<X: System + AllocGlobal, R: Read, W: Write, E: Write>(
     output: &mut W,
     errors: &mut E,
 ) -> u8
-    ensures status { result ≤ 1 }
-    ensures called { Called (Ok (asked_view asked.now))
+    ensures status { result ≤ unchecked }
+    ensures called { (refused : ℕ) → Called refused (Ok (asked_view asked.now))
         (record { input = R.remaining input.old; output = W.contents output.old; errors = E.contents errors.old })
         (record { input = R.remaining input.new; output = W.contents output.new; errors = E.contents errors.new })
         result }
@@ -179,27 +227,32 @@ fn show_input<R: Read, W: Write, E: Write>(
 fn print_error<W: Write, E: Write>(
     alloc: Global,
     error: &Error,
+    refused: u8,
     output: &mut W,
     errors: &mut E,
 ) -> u8
-    ensures status { result ≤ 1 }
-    ensures answers { LacksMemory (record { output = W.contents output.old; errors = E.contents errors.old })
-        (record { output = W.contents output.new; errors = E.contents errors.new }) result ⊎ RepliesTo (kind_of error.now)
+    ensures status { result ≤ refused }
+    ensures answers { LacksMemory refused (record { output = W.contents output.old; errors = E.contents errors.old })
+        (record { output = W.contents output.new; errors = E.contents errors.new }) result
+        ⊎ RepliesTo refused (kind_of error.now)
         (record { output = W.contents output.old; errors = E.contents errors.old })
         (record { output = W.contents output.new; errors = E.contents errors.new }) result }
 {
     let Ok(text) = error.to_string(alloc) else {
-        return report(ToolEnd::stopped(StreamFault::Memory), errors);
+        say(errors, OUT_OF_MEMORY);
+        return refused;
     };
     if error.kind() == ErrorKind::OutOfMemory {
-        return report(ToolEnd::stopped(StreamFault::Memory), errors);
+        say(errors, OUT_OF_MEMORY);
+        return refused;
     }
     if error.use_stderr() {
         say(errors, text.as_bytes());
-        return 1;
+        return refused;
     }
     if !write_text(output, text.as_bytes()) {
-        return report(ToolEnd::stopped(StreamFault::Write), errors);
+        say(errors, message_of(StreamFault::Write));
+        return refused;
     }
     0
 }

@@ -1,10 +1,9 @@
 //! `find`: a dump is searched for environments, and the lines of a configuration are printed.
 ghost use Rattle.std.specs.Prelude.{◌≤◌, unwrap_or};
-ghost use Rattle.fw_engines.specs.Tool.{PrintsText};
 ghost use Rattle.fw_tools.specs.Dumps.{Finds, PrintsDump};
 
-use dump_search::{DumpText, dump_text};
-use fw_engines::streams::write_text;
+use crate::printing::print_text;
+use dump_search::dump_text;
 use fw_engines::{StreamFault, ToolEnd};
 use fw_files::{Explains, System, read_dump, report, value_or_say};
 use std::alloc::Global;
@@ -45,17 +44,6 @@ fn print_found<W: Write>(alloc: Global, path: &str, dump: &[u8], output: &mut W)
 {
     match dump_text(alloc, path.as_bytes(), dump) {
         Err(_) => ToolEnd::stopped(StreamFault::Memory),
-        Ok(found) => print(&found, output),
-    }
-}
-
-/// Prints lines, and ends with their status.
-fn print<W: Write>(found: &DumpText, output: &mut W) -> ToolEnd
-    ensures { PrintsText (W.contents output.old) (W.contents output.new) found.now.text.items found.now.status result }
-{
-    if write_text(output, &found.text) {
-        ToolEnd::done(found.status)
-    } else {
-        ToolEnd::stopped(StreamFault::Write)
+        Ok(found) => print_text(&found.text, found.status, output),
     }
 }

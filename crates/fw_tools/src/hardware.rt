@@ -33,7 +33,7 @@ pub(crate) struct GivenHardware {
 }
 
 /// The rules of a board file, of which answers may be open if the board may be asked; a fault is reported on `errors`.
-fn board_or_say<X: System + AllocGlobal, E: Write>(
+pub(crate) fn board_or_say<X: System + AllocGlobal, E: Write>(
     rt: &X,
     path: Option<&str>,
     may_ask: bool,

@@ -2,16 +2,16 @@
 ghost use Rattle.std.specs.Prelude.{◌≡◌, ◌≤◌, MatchOption, option_map, unwrap_or};
 ghost use Rattle.envimg_core.specs.Geometry.{room_of};
 ghost use Rattle.fw_arguments.specs.ImageRequests.{image_request_view};
-ghost use Rattle.fw_engines.specs.Tool.{PrintsText};
 ghost use Rattle.fw_files.specs.Said.{SaysSome};
 ghost use Rattle.fw_tools.specs.NewImages.{MakesImage, PutsOutOrStops, image_bytes};
 
 use crate::new_image::new_image;
+use crate::printing::print_text;
 use envimg_core::Geometry;
 use envvars_core::Vars;
 use fw_arguments::ImageRequest;
-use fw_engines::streams::{say, write_text};
-use fw_engines::{OUT_OF_MEMORY, StreamFault, ToolEnd};
+use fw_engines::OUT_OF_MEMORY;
+use fw_engines::streams::say;
 use fw_files::{Explains, System, report, value_or_say, variables_or_say, write_file};
 use std::alloc::Global;
 use std::io::Write;
@@ -83,22 +83,11 @@ fn put_out<X: System + AllocGlobal, W: Write, E: Write>(
         (record { output = W.contents output.new; errors = E.contents errors.new }) (unwrap_or result 1) }
 {
     match path {
-        None => Some(report(print(image, output), errors)),
+        None => Some(report(print_text(image, 0, output), errors)),
         Some(path) => {
             let written = write_file(rt, path, image);
             value_or_say(rt.alloc(), errors, Explains::Reason, path, written)?;
             Some(0)
         }
-    }
-}
-
-/// Prints a text.
-fn print<W: Write>(text: &[u8], output: &mut W) -> ToolEnd
-    ensures { PrintsText (W.contents output.old) (W.contents output.new) text.now 0 result }
-{
-    if write_text(output, text) {
-        ToolEnd::done(0)
-    } else {
-        ToolEnd::stopped(StreamFault::Write)
     }
 }

@@ -1,11 +1,13 @@
 //! The program: the tools and dry runs over the files that its arguments name. docs/tools.md and docs/dry-runs.md state
 //! the rules; fw_arguments reads the arguments, fw_files reads and writes the files.
 //!
-//! To read in this order: entry_point, greeting; subcommands, task_work, hardware, session_run, script_source,
-//! script_work, check_work, new_image, image_work, find_work, boot_work.
+//! To read in this order: entry_point, greeting; subcommands, task_work, printing, hardware, session_run, script_source,
+//! script_work, check_rules, check_work, new_image, image_work, find_work, after_scripts, boot_work.
 #![tactic(auto)]
 
+mod after_scripts;
 mod boot_work;
+mod check_rules;
 mod check_work;
 mod entry_point;
 mod find_work;
@@ -13,6 +15,7 @@ mod greeting;
 mod hardware;
 mod image_work;
 mod new_image;
+mod printing;
 mod script_source;
 mod script_work;
 mod session_run;
@@ -20,7 +23,7 @@ mod subcommands;
 mod task_work;
 
 pub use entry_point::{program, words_failed};
-pub use fw_check::{check, check_text};
+pub use fw_check::{FileScript, check, check_files};
 pub use fw_engines::{
     FoundCopy, StreamFault, Survey, ToolEnd, defaults, export, file_status, import, import_named,
     print_values, printenv, restore, set_script, setenv, show, status,

@@ -1,13 +1,14 @@
 //! The subcommands over the files that the arguments name.
 ghost use Rattle.std.specs.Prelude.{◌≡◌, ◌≤◌, Some, None, IfSome, MatchOption, if◌then◌else◌, is_some, unwrap_or};
 ghost use Rattle.fw_files.specs.Opening.{AreCopiesIn, AreWantedIn};
-ghost use Rattle.fw_tools.specs.Subcommands.{Closes, DoesJob, Uses, UsesTool, hold_for, is_left, keeps_locks};
+ghost use Rattle.fw_tools.specs.CheckRuns.{unchecked};
+ghost use Rattle.fw_tools.specs.Subcommands.{Closes, DoesJob, Uses, UsesTool, hold_for, is_left, keeps_locks, stopped_status};
 ghost use Rattle.fw_arguments.specs.Calls.{call_view, job_view, keeps_lock, task_view};
 ghost use Rattle.fw_files.specs.Locks.{HasWaited};
 ghost use Rattle.fw_files.specs.Said.{SaysSome};
 
 use crate::boot_work::boot_given;
-use crate::check_work::check_session;
+use crate::check_work::{UNCHECKED, check_session};
 use crate::script_work::run_given;
 use crate::session_run::talk;
 use crate::task_work::act;
@@ -30,13 +31,24 @@ pub(crate) fn run_call<X: System + AllocGlobal, R: Read, W: Write, E: Write>(
     output: &mut W,
     errors: &mut E,
 ) -> u8
-    ensures status { result ≤ 1 }
+    ensures status { result ≤ stopped_status (job_view call.now.job) }
+    ensures most { result ≤ unchecked }
     ensures uses { Uses (call_view call.now)
         (record { input = R.remaining input.old; output = W.contents output.old; errors = E.contents errors.old })
         (record { input = R.remaining input.new; output = W.contents output.new; errors = E.contents errors.new })
         result }
 {
-    use_files(rt, call, input, output, errors).unwrap_or(1)
+    use_files(rt, call, input, output, errors).unwrap_or(stopped_status(&call.job))
+}
+
+/// The status of a job whose files can't be used.
+fn stopped_status(job: &Job<'_, '_>) -> u8
+    ensures { result ≡ stopped_status (job_view job.now) }
+{
+    match job {
+        Job::Check(_) => UNCHECKED,
+        _ => 1,
+    }
 }
 
 /// Opens the session and lets the subcommand work on it; `None` if a file can't be used.
@@ -50,7 +62,7 @@ fn use_files<X: System + AllocGlobal, R: Read, W: Write, E: Write>(
     ensures { Uses (call_view call.now)
         (record { input = R.remaining input.old; output = W.contents output.old; errors = E.contents errors.old })
         (record { input = R.remaining input.new; output = W.contents output.new; errors = E.contents errors.new })
-        (unwrap_or result 1) }
+        (unwrap_or result (stopped_status (job_view call.now.job))) }
 {
     let (source, _locks) = copies_for(rt, call, errors)?;
     let session = open(
@@ -166,7 +178,7 @@ fn work<X: System + AllocGlobal, R: Read, W: Write, E: Write>(
     ensures { DoesJob (call_view call.now).job opened
         (record { input = R.remaining input.old; output = W.contents output.old; errors = E.contents errors.old })
         (record { input = R.remaining input.new; output = W.contents output.new; errors = E.contents errors.new })
-        (unwrap_or result 1) }
+        (unwrap_or result (stopped_status (job_view call.now.job))) }
 {
     match &call.job {
         Job::Tool(task) => {

@@ -1,24 +1,21 @@
 //! The task of a tool, done over a session.
-ghost use Rattle.std.specs.Prelude.{◌≡◌, ℕ, List, Ok, Some, IfOk, MatchOption, map};
+ghost use Rattle.std.specs.Prelude.{◌≡◌, ℕ, List, Ok, IfOk, MatchOption, map};
 ghost use Rattle.envcfg_core.specs.Entries as text_entries;
 ghost use Rattle.envcfg_core.specs.Import.{import_of};
-ghost use Rattle.envimg_core.specs.Pieces.{Entry};
-ghost use Rattle.fw_tools.specs.Subcommands.{Acts, printed_so};
+ghost use Rattle.envcfg_core.specs.SetScript.{set_script_of};
+ghost use Rattle.fw_tools.specs.Subcommands.{Acts};
 ghost use Rattle.fw_arguments.specs.Calls.{task_view, texts};
 ghost use Rattle.fw_files.specs.Said.{SaysOnly, SaysSome};
 ghost use Rattle.fw_engines.specs.Changes.{Changes, LacksMemory, LacksMemoryToName, LacksMemoryToSet, named_import_effect, pair_of, script_effect, set_effect};
 ghost use Rattle.fw_engines.specs.Restoration.{LacksMemoryToRestore, restore_effect};
 ghost use Rattle.text_parts.specs.Words.{spaced};
-ghost use Rattle.fw_engines.specs.Tool.{Printed, Prints};
 
+use crate::printing::print;
 use env_session::Session;
-use fw_arguments::{Printing, Task};
-use fw_engines::streams::{say, write_text};
-use fw_engines::{
-    OUT_OF_MEMORY, StreamFault, ToolEnd, export, import_named, print_values, printenv, restore,
-    set_script, setenv,
-};
-use fw_files::{Explains, System, entries_or_say, read_file, script_from, value_or_say};
+use fw_arguments::Task;
+use fw_engines::streams::say;
+use fw_engines::{OUT_OF_MEMORY, ToolEnd, export, import_named, restore, set_script, setenv};
+use fw_files::{Explains, System, entries_or_say, script_entries_or_say};
 use std::alloc::{AllocError, Global};
 use std::io::Write;
 
@@ -50,71 +47,6 @@ pub(crate) fn act<X: System + AllocGlobal, W: Write, E: Write>(
     }
 }
 
-/// `printenv [-n] [NAMES]`
-fn print<W: Write, E: Write>(
-    alloc: Global,
-    session: &Session,
-    names: Option<&[&str]>,
-    printing: Printing,
-    output: &mut W,
-    errors: &mut E,
-) -> Option<ToolEnd>
-    ensures { MatchOption result (SaysOnly (record { output = W.contents output.old; errors = E.contents errors.old })
-        (record { output = W.contents output.new; errors = E.contents errors.new }))
-        (λ end. Printed end.fault (record { output = W.contents output.old; errors = E.contents errors.old })
-        (record { output = W.contents output.new; errors = E.contents errors.new })
-        (printed_so printing session.now.now.env (texts names.entry)) end.status) }
-{
-    let names = bytes_or_say(alloc, names, errors)?;
-    let mut text = Vec::new(alloc);
-    let mut messages = Vec::new(alloc);
-    let end = print_so(session, &names, printing, &mut text, &mut messages);
-    match end.fault {
-        Some(_) => Some(ToolEnd::stopped(StreamFault::Memory)),
-        None => Some(write_both(&text, &messages, end.status, output, errors)),
-    }
-}
-
-/// Prints names in a way.
-fn print_so(
-    session: &Session,
-    names: &[&[u8]],
-    printing: Printing,
-    text: &mut Vec<u8>,
-    messages: &mut Vec<u8>,
-) -> ToolEnd
-    ensures { Prints (record { output = Some text.old.items; errors = Some messages.old.items })
-        (record { output = Some text.new.items; errors = Some messages.new.items })
-        (printed_so printing session.now.now.env (map (λ n. n.now) names.now)) result }
-{
-    match printing {
-        Printing::Lines => printenv(session, names, false, text, messages),
-        Printing::OneValue => printenv(session, names, true, text, messages),
-        Printing::Values => print_values(session, names, text, messages),
-    }
-}
-
-/// Writes a whole text on each writer, and ends with this status.
-fn write_both<W: Write, E: Write>(
-    text: &[u8],
-    messages: &[u8],
-    status: u8,
-    output: &mut W,
-    errors: &mut E,
-) -> ToolEnd
-    ensures { Prints (record { output = W.contents output.old; errors = E.contents errors.old })
-        (record { output = W.contents output.new; errors = E.contents errors.new })
-        (record { output = text.now; errors = messages.now; status = status }) result }
-{
-    if !write_text(output, text) {
-        return ToolEnd::stopped(StreamFault::Write);
-    }
-    if !write_text(errors, messages) {
-        return ToolEnd::stopped(StreamFault::Write);
-    }
-    ToolEnd::done(status)
-}
-
 /// `setenv NAME [WORDS]`
 fn set<E: Write>(
     alloc: Global,
@@ -142,18 +74,12 @@ fn set_from_file<X: System + AllocGlobal, E: Write>(
     errors: &mut E,
 ) -> Option<ToolEnd>
     ensures { MatchOption result (SaysSome (E.contents errors.old) (E.contents errors.new))
-        (λ end. (entries : List Entry) × Changes (record { session = session.old; errors = E.contents errors.old })
-        (record { session = session.new; errors = E.contents errors.new }) (script_effect session.old entries)
-        (LacksMemory session.old entries 0) end) }
+        (λ end. (text : List ℕ) × (entries : List text_entries.Entry) × (set_script_of text ≡ Ok entries)
+        × Changes (record { session = session.old; errors = E.contents errors.old })
+        (record { session = session.new; errors = E.contents errors.new }) (script_effect session.old (map pair_of entries))
+        (LacksMemory session.old (map pair_of entries) 0) end) }
 {
-    let text = value_or_say(rt.alloc(), errors, explains, path, read_file(rt, path))?;
-    let entries = value_or_say(
-        rt.alloc(),
-        errors,
-        explains,
-        path,
-        script_from(rt.alloc(), &text),
-    )?;
+    let entries = script_entries_or_say(rt, path, explains, errors)?;
     Some(set_script(session, &entries, errors))
 }
 
@@ -166,7 +92,8 @@ fn import_file<X: System + AllocGlobal, E: Write>(
     errors: &mut E,
 ) -> Option<ToolEnd>
     ensures { MatchOption result (SaysSome (E.contents errors.old) (E.contents errors.new))
-        (λ end. (entries : List text_entries.Entry) × Changes (record { session = session.old; errors = E.contents errors.old })
+        (λ end. (text : List ℕ) × (entries : List text_entries.Entry) × (import_of text ≡ Ok entries)
+        × Changes (record { session = session.old; errors = E.contents errors.old })
         (record { session = session.new; errors = E.contents errors.new }) (named_import_effect session.old entries)
         (LacksMemoryToName session.old (map pair_of entries)) end) }
 {

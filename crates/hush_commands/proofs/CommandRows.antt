@@ -1,5 +1,5 @@
 -- Worked examples of docs/runs.md, "Commands", which the checker computes from the definitions.
-use Rattle.std.proofs.Common.{◌≡◌, ℕ, true, false, List, [], ◌∷◌, None, Some, refl}
+use Rattle.std.proofs.Common.{◌≡◌, ℕ, Bool, true, false, List, [], ◌∷◌, None, Some, refl}
 use Rattle.std.specs.Prelude.{codes, map, ◌++◌}
 use Rattle.std.specs.Fmt.{digits}
 use Rattle.std.specs.Cmp.Lexicographic.{nat_list_cmp_total}
@@ -19,7 +19,7 @@ use Rattle.hush_commands.specs.Stubs.{Statuses, leaving_of, with_leaving}
 use Rattle.hush_commands.specs.declared.pattern.PatternWord.{PatternWord}
 use Rattle.hush_commands.specs.declared.board_rules.Rule.{Rule}
 use Rattle.hush_commands.specs.declared.board_rules.Reply.{Reply}
-use Rattle.hush_commands.specs.declared.board_rules.Reply.TheVariants.{Status, Text}
+use Rattle.hush_commands.specs.declared.board_rules.Reply.TheVariants.{Status, Text, Lacks}
 use Rattle.hush_commands.specs.Hardware.{Hardware, hardware, ruled, answer_to, with_words}
 use Rattle.hush_commands.specs.CommandNames.{name_by, with_name}
 use Rattle.hush_commands.specs.Output.{answer}
@@ -27,6 +27,7 @@ use Rattle.hush_commands.specs.declared.shell.Shell.{Shell}
 use Rattle.hush_commands.specs.declared.shell.Shell.TheVariants.{Strict, Board}
 use Rattle.hush_commands.specs.Carrying.{Done, done_of, other_of}
 use Rattle.hush_commands.specs.Following.{follow_of}
+use Rattle.hush_commands.specs.Saves.{is_save}
 use Rattle.hush_commands.proofs.LocalLemmas.{get-unnumbered}
 
 -- the command of the strict shell
@@ -123,6 +124,26 @@ delete_without_names held = refl
 save_with_words : (held : Held) → done (codes "saveenv" ∷ codes "x" ∷ []) held ≡ (answer 1 (codes "## Error: wrong use of 'saveenv'\n"), held)
 unfolding done done_in builtin_of
 save_with_words held = refl
+
+-- what is a save, on a board
+abbrev is_saving : List Rule → List (List ℕ) → Bool
+is_saving rules fields = let none : Statuses = empty in is_save Board (hardware rules none) fields
+
+saving : is_saving [] (codes "saveenv" ∷ []) ≡ true
+unfolding is_save builtin_of
+saving = refl
+
+saving_by_its_beginning : is_saving [] (codes "env" ∷ codes "sa" ∷ []) ≡ true
+unfolding is_save builtin_of
+saving_by_its_beginning = refl
+
+saving_with_words : is_saving [] (codes "env" ∷ codes "save" ∷ codes "x" ∷ []) ≡ false
+unfolding is_save builtin_of
+saving_with_words = refl
+
+lacked_saving : is_saving (record { pattern = record { text = codes "saveenv"; begins = false } ∷ []; whole = false; reply = Lacks } ∷ []) (codes "saveenv" ∷ []) ≡ false
+unfolding is_save builtin_of
+lacked_saving = refl
 
 exit_past_255 : (held : Held) → done (codes "exit" ∷ codes "256" ∷ []) held ≡ (answer 1 (codes "## Error: wrong use of 'exit'\n"), held)
 unfolding done done_in builtin_of

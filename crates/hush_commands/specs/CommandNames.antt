@@ -9,6 +9,7 @@ use Rattle.hush_commands.specs.declared.board_rules.Reply.{Reply}
 use Rattle.hush_commands.specs.declared.board_rules.Reply.TheVariants.{Status, Text, Lacks}
 use Rattle.hush_commands.specs.declared.shell.Shell.{Shell}
 use Rattle.hush_commands.specs.declared.shell.Shell.TheVariants.{Strict, Board}
+use Rattle.hush_commands.specs.declared.builtins.Builtin.{Builtin}
 use Rattle.hush_commands.specs.Builtins.{builtin_of, builtins, name_of}
 use Rattle.hush_commands.specs.Stubs.{Statuses, status_of_name}
 use Rattle.hush_commands.specs.Hardware.{Hardware, hardware}
@@ -71,6 +72,11 @@ abbrev pub lacks : List Rule → (name : List ℕ) → Bool
 lacks [] name = false
 lacks (rule ∷ rules) name = is_lack rule.reply && is_name name (rule_name rule) || lacks rules name
 
+-- whether a rule may answer a call of a name, in another way than that the board lacks it
+abbrev pub is_answered : List Rule → (name : List ℕ) → Bool
+is_answered [] name = false
+is_answered (rule ∷ rules) name = not (is_lack rule.reply) && is_name name (rule_name rule) || is_answered rules name
+
 abbrev pub with_own : (word : List ℕ) → FoundNames → Option (List ℕ) → FoundNames
 with_own word so_far None = so_far
 with_own word so_far (Some name) = with_name word so_far name
@@ -100,13 +106,26 @@ abbrev pub name_by : Shell → Hardware → (word : List ℕ) → List ℕ
 name_by Strict h word = word
 name_by Board h word = whole_name h word
 
--- the same among the builtins and these stand-ins, if there are some
-abbrev pub name_among : Shell → Option Statuses → (word : List ℕ) → List ℕ
-name_among shell stubs word = name_by shell (hardware [] (unwrap_or stubs names.empty)) word
+-- the same beside this hardware, if there is some
+abbrev pub name_among : Shell → Option Hardware → (word : List ℕ) → List ℕ
+name_among shell h word = name_by shell (unwrap_or h (hardware [] names.empty)) word
 
--- whether a word names a command, by a shell
+-- whether a rule or a stand-in may answer a call of a name; of a builtin that the board lacks no stand-in is asked
+abbrev pub has_answer : Hardware → (name : List ℕ) → Bool
+has_answer h name = is_answered h.rules name || not (lacks h.rules name) && is_some (status_of_name h.stubs name)
+
+-- whether a board doesn't lack a builtin
+abbrev pub is_left : List Rule → Option Builtin → Bool
+is_left rules None = false
+is_left rules (Some builtin) = not (lacks rules (name_of builtin))
+
+-- whether a command of a name is there
+abbrev pub is_command : Hardware → (name : List ℕ) → Bool
+is_command h name = has_answer h name || is_left h.rules (builtin_of name)
+
+-- whether a word names a command that is there, by a shell
 abbrev pub names_command : Shell → Hardware → (word : List ℕ) → Bool
-names_command shell h word = is_known h (name_by shell h word)
+names_command shell h word = is_command h (name_by shell h word)
 
 -- a word after `env` is the name of one of its commands; on a board it may be its first bytes, so many that no other of
 -- U-Boot's begins so (default, delete, edit, exists, export, import, print, run, save, set), and have a width

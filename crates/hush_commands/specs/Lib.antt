@@ -15,6 +15,7 @@ pub mod Buffers
 pub mod Output
 pub mod Writing
 pub mod Saving
+pub mod Saves
 pub mod Listing
 pub mod Carrying
 pub mod Following

@@ -1,6 +1,6 @@
 //! What a board answers: rules for calls, of which the first that fits decides (docs/runs.md, "Boards").
 ghost use Rattle.std.specs.Prelude.{◌≡◌, ◌==◌, ◌||◌, ◌++◌, not, IfOk, OnOk, [], ◌∷◌, codes, drop, take, length, Some, option_copied, option_map};
-ghost use Rattle.hush_commands.specs.CommandNames.{is_lack, is_name, is_ruled, lacks, rule_name, with_own, with_rules};
+ghost use Rattle.hush_commands.specs.CommandNames.{is_answered, is_lack, is_name, is_ruled, lacks, rule_name, with_own, with_rules};
 ghost use Rattle.hush_commands.specs.Hardware.{is_open, rule_fits, ruled};
 
 use crate::command_names::Found;
@@ -102,6 +102,13 @@ impl BoardRules {
         BoardRules { rules }
     }
 
+    /// The rules in their order.
+    pub fn rules(&self) -> &[Rule]
+        ensures { result.now ≡ self.now }
+    {
+        self.rules.as_slice()
+    }
+
     /// Other rules, and these behind them, in memory of their own.
     pub fn behind(&self, alloc: Global, first: Vec<Rule>) -> Result<BoardRules, AllocError>
         ensures { IfOk result (λ rules. rules ≡ first.items ++ self.now) }
@@ -163,6 +170,20 @@ impl BoardRules {
         let mut rules = self.rules.as_slice();
         while let Some((rule, others)) = rules.split_first() {
             if rule.reply.is_lack() && rule.is_called(name) {
+                return true;
+            }
+            rules = others;
+        }
+        false
+    }
+
+    /// Whether a rule may answer a call of this name, in another way than that the board lacks it.
+    pub(crate) fn answers(&self, name: &[u8]) -> bool
+        ensures { result ≡ is_answered self.now name.now }
+    {
+        let mut rules = self.rules.as_slice();
+        while let Some((rule, others)) = rules.split_first() {
+            if !rule.reply.is_lack() && rule.is_called(name) {
                 return true;
             }
             rules = others;

@@ -1,7 +1,7 @@
 //! Which command a word names (docs/runs.md, "Boards").
-ghost use Rattle.std.specs.Prelude.{◌≡◌, [], None, Some, IfOk, false, map, option_map};
-ghost use Rattle.hush_commands.specs.Builtins.{builtins, name_of};
-ghost use Rattle.hush_commands.specs.CommandNames.{begins_with, found_in, found_names, is_front, is_known, name_among, name_by, names_command, stands_for, whole_name, with_names, without_width};
+ghost use Rattle.std.specs.Prelude.{◌≡◌, None, Some, IfOk, false, map, option_map};
+ghost use Rattle.hush_commands.specs.Builtins.{builtin_of, builtins, name_of};
+ghost use Rattle.hush_commands.specs.CommandNames.{begins_with, found_in, found_names, has_answer, is_command, is_front, is_known, is_left, name_by, names_command, stands_for, whole_name, with_names, without_width};
 ghost use Rattle.hush_commands.specs.Hardware.{hardware};
 
 use crate::board_rules::BoardRules;
@@ -112,45 +112,49 @@ pub(crate) fn name_by<'a>(
     }
 }
 
-/// Whether a word names a command: a builtin or one of these stand-ins.
-pub fn names_command(alloc: Global, shell: Shell, stand_ins: &Stubs, word: &[u8]) -> bool
-    ensures { result ≡ names_command shell (hardware [] stand_ins.now) word.now }
+/// Whether a word names a command that is there, beside this hardware: a builtin that the board doesn't lack, or what a rule
+/// or a stand-in answers.
+pub fn names_command(shell: Shell, stand_ins: &Stubs, board: &BoardRules, word: &[u8]) -> bool
+    ensures { result ≡ names_command shell (hardware board.now stand_ins.now) word.now }
 {
-    let board = BoardRules::none(alloc);
-    let name = name_by(shell, stand_ins, &board, word);
-    is_known(stand_ins, &board, name)
+    is_command(stand_ins, board, name_by(shell, stand_ins, board, word))
 }
 
-/// The name that the first word of a command stands for, in memory of its own: among the builtins and these stand-ins, if
-/// there are some.
-pub fn command_name(
-    alloc: Global,
-    shell: Shell,
-    stand_ins: Option<&Stubs>,
-    word: &[u8],
-) -> Result<Vec<u8>, AllocError>
-    ensures { IfOk result (λ name. name.items ≡ name_among shell (option_map (λ s. s.now) stand_ins.entry) word.now) }
+/// Whether a command of this name is there.
+fn is_command(stand_ins: &Stubs, board: &BoardRules, name: &[u8]) -> bool
+    ensures { result ≡ is_command (hardware board.now stand_ins.now) name.now }
 {
-    match stand_ins {
-        Some(stand_ins) => name_beside(alloc, shell, stand_ins, word),
-        None => {
-            let none = Stubs::empty(alloc);
-            name_beside(alloc, shell, &none, word)
-        }
+    has_answer(stand_ins, board, name) || has_builtin(board, name)
+}
+
+/// Whether there is a builtin of this name that the board doesn't lack.
+fn has_builtin(board: &BoardRules, name: &[u8]) -> bool
+    ensures { result ≡ is_left board.now (builtin_of name.now) }
+{
+    match Builtin::of(name) {
+        Some(builtin) => !board.lacks(builtin.name()),
+        None => false,
     }
 }
 
-/// The same beside these stand-ins.
-fn name_beside(
+/// Whether a rule or a stand-in may answer a call of this name.
+pub fn has_answer(stand_ins: &Stubs, board: &BoardRules, name: &[u8]) -> bool
+    ensures { result ≡ has_answer (hardware board.now stand_ins.now) name.now }
+{
+    board.answers(name) || (!board.lacks(name) && stand_ins.status(name).is_some())
+}
+
+/// The name that the first word of a command stands for beside this hardware, in memory of its own.
+pub fn command_name(
     alloc: Global,
     shell: Shell,
     stand_ins: &Stubs,
+    board: &BoardRules,
     word: &[u8],
 ) -> Result<Vec<u8>, AllocError>
-    ensures { IfOk result (λ name. name.items ≡ name_among shell (Some stand_ins.now) word.now) }
+    ensures { IfOk result (λ name. name.items ≡ name_by shell (hardware board.now stand_ins.now) word.now) }
 {
-    let board = BoardRules::none(alloc);
-    Vec::from_slice(alloc, name_by(shell, stand_ins, &board, word))
+    Vec::from_slice(alloc, name_by(shell, stand_ins, board, word))
 }
 
 /// The name that a word stands for on a board.

@@ -120,7 +120,7 @@ impl Stubs {
     }
 
     /// No stand-ins. It takes no memory.
-    pub(crate) fn empty(alloc: Global) -> Stubs
+    pub fn empty(alloc: Global) -> Stubs
         ensures { result ≡ names.empty }
     {
         Stubs {

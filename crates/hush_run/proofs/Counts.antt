@@ -10,7 +10,7 @@ use Rattle.hush_commands.specs.declared.follow.Follow.TheVariants as follow
 use Rattle.hush_commands.specs.Following.{follow_of}
 use Rattle.hush_commands.specs.declared.messages.Message.TheVariants.{NotDefined}
 use Rattle.hush_syntax.specs.Reading.{read_in}
-use Rattle.hush_run.specs.Meaning.{Rules, Starting, Variable, Answer, Begin, State, Out, Goes, Leaves, Ends, ◌>>=◌, ◌then◌, Effect, Does, Exits, Stops, done, step, with_status, goes_on, turns, if_ok, in_turn, deletions, follows, have_value, followed, simple, bindings, for, joins, leaves_chain, after_skip, loop_status, refuses, fields_of, list_of, effect, fails, command, otherwise, chain, linked, chains, script, start, looked_up, in_list, in_text, in_answer, entered, answered, bodies_of}
+use Rattle.hush_run.specs.Meaning.{Rules, Starting, Variable, Answer, Begin, State, Out, Goes, Leaves, Ends, ◌>>=◌, ◌then◌, Effect, Does, Exits, Stops, done, step, with_status, goes_on, turns, if_ok, in_turn, deletions, follows, have_value, followed, simple, bindings, for, joins, leaves_chain, after_skip, loop_status, refuses, fields_of, list_of, effect_in, fails, command, otherwise, chain, linked, chains, script, start, looked_up, in_list, in_text, in_answer, entered, answered, bodies_of}
 use Rattle.hush_run.specs.Resume.{looks}
 
 pub within_bind : (low next high : ℕ) (o : Out) (f : State → Out) → next ≤ low → Within low high o → ((t : State) → low ≤ t.steps → t.steps ≤ high → Within next high (f t)) → Within next high (o >>= f)
@@ -143,7 +143,7 @@ module _ (rules : Rules) (begin : Begin) (counts : (x : Starting) → Counts rul
   simple-counts has_value None s le = step-counts rules _ s le
   simple-counts has_value (Some fields) s le =
       let f = followed has_value (follow_of rules.shell rules.stand_ins fields) in
-      within_bind (suc s.steps) _ rules.limits.steps _ (follows rules begin f) (omega arith) (step-counts rules (effect rules.shell rules.stand_ins fields) s le)
+      within_bind (suc s.steps) _ rules.limits.steps _ (follows rules begin f) (omega arith) (step-counts rules (effect_in rules fields) s le)
       (λ t lo hi. within_less t.steps _ _ (follows rules begin f t) lo (follows-keep f t hi))
 
   mutual

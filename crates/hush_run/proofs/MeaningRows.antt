@@ -11,8 +11,11 @@ use Rattle.hush_syntax.specs.Keywords.{keyword_of}
 use Rattle.hush_syntax.specs.Reading.{command, read, read_in}
 use Rattle.hush_commands.specs.Builtins.{builtin_of}
 use Rattle.hush_commands.specs.Expansion.{fields}
-use Rattle.run_limits.specs.Limits.{bounds}
-use Rattle.hush_commands.specs.declared.departure.Leaving.TheVariants.{Boots}
+use Rattle.envimg_core.specs.declared.geometry.Layout.TheVariants.{Single}
+use Rattle.run_limits.specs.Limits.{bounds, asking_saves}
+use Rattle.hush_commands.specs.Saves.{is_save}
+use Rattle.hush_commands.specs.declared.departure.Departure.{Departure}
+use Rattle.hush_commands.specs.declared.departure.Leaving.TheVariants.{Boots, Asks}
 use Rattle.hush_commands.specs.declared.stand_ins.Role.{Role}
 use Rattle.hush_commands.specs.Stubs.{Statuses}
 use Rattle.hush_commands.specs.declared.board_rules.Reply.TheVariants.{Status, Text}
@@ -369,3 +372,47 @@ board_run_status held h = simp (h, looked_up)
 board_run_exit : (held : Held) → get held.now.env (codes "f") ≡ Some (codes "exit 2") → comes_to board held (codes "run f f; echo $?") ≡ Some (Finished, 0, 4, codes "2\n")
 unfolding read read_in tokens_of lexeme_at passed_at piece_at inner_at double_at inner_escape is_inner is_escaped is_bare ends_word is_special is_blank command keyword_of is_plain name_of assignment_of begins_name is_in_name dollar_at is_in_braces follows_dollar digits turns start meaning place step builtin_of effect fields
 board_run_exit held h = simp (h, looked_up)
+
+-- Saves that are asked for.
+abbrev asking : (from : ℕ) → Rules
+asking from = rules_in Board (hardware [] (let none : Statuses = empty in none)) (asking_saves (bounds 1000 4 256 4096) from)
+
+-- what the run of a text comes to, with the call at which it has left the board
+abbrev Left : Type 0
+Left = Told × Option Departure
+
+abbrev leaves_at : Rules → Held → List ℕ → Option Left
+leaves_at rules held text = option_map (λ tree. (told (meaning rules tree held), (meaning rules tree held).1.departure)) (read text)
+
+abbrev asks : (words : List (List ℕ)) → Option Departure
+asks words = Some (record { leaving = Asks; words = words })
+
+-- the first save is asked for, and not done
+first_save_asked : (held : Held) → leaves_at (asking 0) held (codes "false; saveenv; echo a") ≡ Some ((Exited, 1, 2, []), asks (codes "saveenv" ∷ []))
+unfolding read read_in tokens_of lexeme_at passed_at piece_at is_bare ends_word is_special is_blank command keyword_of is_plain name_of assignment_of begins_name is_in_name meaning step builtin_of effect is_save fields
+first_save_asked held = refl
+
+-- once the first is done the second is, by its own words
+second_save_asked : (held : Held) → held.shape.layout ≡ Single → leaves_at (asking 1) held (codes "saveenv; env sav && echo a") ≡ Some ((Exited, 0, 2, codes "Saved copy 1\n"), asks (codes "env" ∷ codes "sav" ∷ []))
+unfolding read read_in tokens_of lexeme_at passed_at piece_at is_bare ends_word is_special is_blank command keyword_of is_plain name_of assignment_of begins_name is_in_name meaning step builtin_of effect is_save fields
+second_save_asked held h = simp h
+
+-- a save by a text that was started
+started_save_asked : (held : Held) → get held.now.env (codes "s") ≡ Some (codes "echo a; saveenv") → leaves_at (asking 0) held (codes "run s; echo b") ≡ Some ((Exited, 0, 4, codes "a\n"), asks (codes "saveenv" ∷ []))
+unfolding read read_in tokens_of lexeme_at passed_at piece_at is_bare ends_word is_special is_blank command keyword_of is_plain name_of assignment_of begins_name is_in_name start meaning step builtin_of effect is_save fields
+started_save_asked held h = simp (h, looked_up)
+
+-- none before the step from which on they are
+save_before : (held : Held) → held.shape.layout ≡ Single → leaves_at (asking 1) held (codes "saveenv; echo a") ≡ Some ((Finished, 0, 2, codes "Saved copy 1\na\n"), None)
+unfolding read read_in tokens_of lexeme_at passed_at piece_at is_bare ends_word is_special is_blank command keyword_of is_plain name_of assignment_of begins_name is_in_name meaning step builtin_of effect is_save fields
+save_before held h = simp h
+
+-- wrong use is no save
+no_save_asked : (held : Held) → leaves_at (asking 0) held (codes "saveenv a") ≡ Some ((Finished, 1, 1, codes "## Error: wrong use of 'saveenv'\n"), None)
+unfolding read read_in tokens_of lexeme_at passed_at piece_at is_bare ends_word is_special is_blank command keyword_of is_plain name_of assignment_of begins_name is_in_name meaning step builtin_of effect is_save fields
+no_save_asked held = refl
+
+-- the limit on steps comes first
+save_past_the_steps : (held : Held) → leaves_at (record (asking 0) { limits = asking_saves (bounds 1 4 256 4096) 0 }) held (codes "true; saveenv") ≡ Some ((Steps, 0, 1, []), None)
+unfolding read read_in tokens_of lexeme_at passed_at piece_at is_bare ends_word is_special is_blank command keyword_of is_plain name_of assignment_of begins_name is_in_name meaning step builtin_of effect is_save fields
+save_past_the_steps held = refl

@@ -4,6 +4,7 @@ use Rattle.std.proofs.lemmas.Bool.{lt-ltb, le-ltb}
 use Rattle.env_session.specs.Session.{Held}
 use Rattle.hush_words.specs.Words.{Atom}
 use Rattle.hush_commands.specs.declared.departure.Departure.{Departure}
+use Rattle.hush_commands.specs.declared.departure.Leaving.TheVariants.{Asks}
 use Rattle.hush_commands.specs.declared.follow.Follow.{Follow}
 use Rattle.hush_commands.specs.declared.follow.Follow.TheVariants as follow
 use Rattle.hush_commands.specs.declared.output.PrintFault.{PrintFault}
@@ -28,8 +29,8 @@ use Rattle.hush_run.specs.declared.ending.Ending.TheVariants as ending
 use Rattle.hush_run.specs.Runs.{reason_of}
 use Rattle.hush_run.specs.Steps.{ending_of_print}
 use Rattle.hush_commands.specs.Hardware.{with_words}
-use Rattle.hush_run.specs.Meaning.{answered, Variable, Answer, Reason, Rules, Begin, State, Out, Goes, Ends, ◌>>=◌, ◌then◌, Effect, Does, Exits, Stops, done, step, with_status, carries, fails, exiting, effect, have_value, followed, simple, follows, fields_of, fields_after, for, bindings, bound_to, assigned, assigned_to, called, is_call, has_variable, refuses, bound_status, started_status, list_words_of, list_of, known_in, deletions, start, script, in_text, in_answer, entered, within, bodies_of}
-use Rattle.hush_run.specs.Steps.{Meant, Did, NotDone, Counted, MayStep, FieldsAre, Started, NotStarted, Answered, NotAnswered, value_of}
+use Rattle.hush_run.specs.Meaning.{answered, Variable, Answer, Reason, Rules, Begin, State, Out, Goes, Ends, ◌>>=◌, ◌then◌, Effect, Does, Exits, Stops, done, step, with_status, carries, fails, exiting, effect, effect_in, asked, asks_save, have_value, followed, simple, follows, fields_of, fields_after, for, bindings, bound_to, assigned, assigned_to, called, is_call, has_variable, refuses, bound_status, started_status, list_words_of, list_of, known_in, deletions, start, script, in_text, in_answer, entered, within, bodies_of}
+use Rattle.hush_run.specs.Steps.{asked_at, Meant, Did, NotDone, Counted, MayStep, FieldsAre, Started, NotStarted, Answered, NotAnswered, value_of}
 
 -- a state with another count
 counting : ℕ → State → State
@@ -97,7 +98,7 @@ no_fields rules meant left wanted s made ending.Output are halts large = absurd 
 -- simple commands
 pub simple_halts : (rules : Rules) (begin : Begin) (has_value : Bool) (fields : Option (List (List ℕ))) (s : State) → rules.limits.steps ≤ s.steps → simple rules begin has_value fields s ≡ Ends Steps None s
 simple_halts rules begin has_value None s le = step_halts rules _ s le
-simple_halts rules begin has_value (Some fields) s le = ap (λ (o : Out). o >>= follows rules begin (followed has_value (follow_of rules.shell rules.stand_ins fields))) (step_halts rules (effect rules.shell rules.stand_ins fields) s le)
+simple_halts rules begin has_value (Some fields) s le = ap (λ (o : Out). o >>= follows rules begin (followed has_value (follow_of rules.shell rules.stand_ins fields))) (step_halts rules (effect_in rules fields) s le)
 
 pub simple_large : (rules : Rules) (begin : Begin) (has_value : Bool) (fields : Option (List (List ℕ))) (s : State) → s.steps < rules.limits.steps → fields ≡ None → simple rules begin has_value fields s ≡ Ends Word None s
 simple_large rules begin has_value None s lt e = step_stopped rules _ s Word lt refl
@@ -132,16 +133,27 @@ followed-other has_value (follow.Starts names) h = refl
 followed-other has_value (follow.Deletes force names) h = refl
 followed-other has_value (follow.Answers words text) h = refl
 
-module _ (rules : Rules) (words : List (List Atom)) (s : State) (fields : List (List ℕ)) (lt : s.steps < rules.limits.steps) (are : fields_of rules words s ≡ Some fields) (after : Held) (new : Printed) where
+-- a save that is asked for
+pub simple_asked : (rules : Rules) (words : List (List Atom)) (s : State) (fields : List (List ℕ)) → s.steps < rules.limits.steps → fields_of rules words s ≡ Some fields → asks_save rules fields s ≡ true → (begin : Begin) → simple rules begin (have_value words) (fields_of rules words s) s ≡ Ends Exited None (asked_at fields s)
+simple_asked rules words s fields lt are asks begin =
+    let left : effect_in rules fields s ≡ asked fields s = ap (λ (b : Bool). if b then asked fields s else effect rules.shell rules.stand_ins fields s) asks in
+    ap (λ (o : Option (List (List ℕ))). simple rules begin (have_value words) o s) are
+    ∙ ap (λ (o : Out). o >>= follows rules begin (followed (have_value words) (follow_of rules.shell rules.stand_ins fields))) (step_left rules (effect_in rules fields) s (record s { departure = Some (record { leaving = Asks; words = fields }) }) (suc s.steps) lt left refl)
+
+-- any other command
+module _ (rules : Rules) (words : List (List Atom)) (s : State) (fields : List (List ℕ)) (lt : s.steps < rules.limits.steps) (are : fields_of rules words s ≡ Some fields) (asks : asks_save rules fields s ≡ false) (after : Held) (new : Printed) where
   abbrev pub d : Done
   d = done_of rules.shell rules.stand_ins fields s.status s.held
+
+  done_at_once : effect_in rules fields s ≡ effect rules.shell rules.stand_ins fields s
+  done_at_once = ap (λ (b : Bool). if b then asked fields s else effect rules.shell rules.stand_ins fields s) asks
 
   pub simple_done : (status k : ℕ) (g f : Follow) → Carries d s.held after s.printed new (Ok status) → k ≡ suc s.steps → g ≡ follow_of rules.shell rules.stand_ins fields → NoEnd g → f ≡ followed (have_value words) g → Did rules (λ r begin t. simple r begin (have_value words) (fields_of r words t) t) (λ g r begin. follows r begin g) s (record { held = after; locals = s.locals; status = status; printed = new; steps = k; departure = s.departure }) (Ok f)
   unfolding effect
   simple_done status k g f c is isg other isf =
       rw (c.1, c.2, c.3) (
-      let does : effect rules.shell rules.stand_ins fields s ≡ Does (carried d s) = ap (exiting (follow_of rules.shell rules.stand_ins fields)) (fits d s c.0) ∙ exiting-does (follow_of rules.shell rules.stand_ins fields) (carried d s) (λ departure e. other departure (isg ∙ e)) in
-      let did = step_done rules (effect rules.shell rules.stand_ins fields) s (carried d s) k lt does is in (
+      let does : effect_in rules fields s ≡ Does (carried d s) = done_at_once ∙ ap (exiting (follow_of rules.shell rules.stand_ins fields)) (fits d s c.0) ∙ exiting-does (follow_of rules.shell rules.stand_ins fields) (carried d s) (λ departure e. other departure (isg ∙ e)) in
+      let did = step_done rules (effect_in rules fields) s (carried d s) k lt does is in (
         did.0,
         λ n begin le.
             ap (λ (o : Option (List (List ℕ))). simple (within n rules) begin (have_value words) o s) are
@@ -154,18 +166,18 @@ module _ (rules : Rules) (words : List (List Atom)) (s : State) (fields : List (
   unfolding effect
   simple_left status k departure c is end begin =
       rw (c.1, c.2, c.3) (
-      let leaves : effect rules.shell rules.stand_ins fields s ≡ Exits (record (carried d s) { departure = departure }) = ap (exiting (follow_of rules.shell rules.stand_ins fields)) (fits d s c.0) ∙ ap (λ (g : Follow). exiting g (Does (carried d s))) end in
+      let leaves : effect_in rules fields s ≡ Exits (record (carried d s) { departure = departure }) = done_at_once ∙ ap (exiting (follow_of rules.shell rules.stand_ins fields)) (fits d s c.0) ∙ ap (λ (g : Follow). exiting g (Does (carried d s))) end in
       ap (λ (o : Option (List (List ℕ))). simple rules begin (have_value words) o s) are
-      ∙ ap (λ (o : Out). o >>= follows rules begin (followed (have_value words) (follow_of rules.shell rules.stand_ins fields))) (step_left rules (effect rules.shell rules.stand_ins fields) s (record (carried d s) { departure = departure }) k lt leaves is)
+      ∙ ap (λ (o : Out). o >>= follows rules begin (followed (have_value words) (follow_of rules.shell rules.stand_ins fields))) (step_left rules (effect_in rules fields) s (record (carried d s) { departure = departure }) k lt leaves is)
       )
 
   pub simple_unprinted : (fault : PrintFault) → Carries d s.held after s.printed new (Err fault) → Did rules (λ r begin t. simple r begin (have_value words) (fields_of r words t) t) (λ g r begin. follows r begin g) s (record { held = after; locals = s.locals; status = s.status; printed = new; steps = s.steps; departure = s.departure }) (Err (ending_of_print fault))
   unfolding effect
   simple_unprinted print.Output c =
       rw (c.1, c.2) (
-      let stops : effect rules.shell rules.stand_ins fields s ≡ Stops Output = ap (exiting (follow_of rules.shell rules.stand_ins fields)) (too_long d s c.0) ∙ exiting-stops (follow_of rules.shell rules.stand_ins fields) Output in λ begin.
+      let stops : effect_in rules fields s ≡ Stops Output = done_at_once ∙ ap (exiting (follow_of rules.shell rules.stand_ins fields)) (too_long d s c.0) ∙ exiting-stops (follow_of rules.shell rules.stand_ins fields) Output in λ begin.
       ap (λ (o : Option (List (List ℕ))). simple rules begin (have_value words) o s) are
-      ∙ ap (λ (o : Out). o >>= follows rules begin (followed (have_value words) (follow_of rules.shell rules.stand_ins fields))) (step_stopped rules (effect rules.shell rules.stand_ins fields) s Output lt stops)
+      ∙ ap (λ (o : Out). o >>= follows rules begin (followed (have_value words) (follow_of rules.shell rules.stand_ins fields))) (step_stopped rules (effect_in rules fields) s Output lt stops)
       )
   simple_unprinted print.Memory c = rw (c.0, c.1) refl
 

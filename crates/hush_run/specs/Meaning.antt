@@ -1,5 +1,5 @@
 -- What a script evaluates to (docs/runs.md, "Meaning").
-use Rattle.std.specs.Prelude.{ℕ, zero, suc, ◌==◌, nat_lt, Bool, true, false, not, if◌then◌else◌, List, [], ◌∷◌, ◌++◌, length, Option, Some, None, is_some, option_map, unwrap_or, get_or, codes}
+use Rattle.std.specs.Prelude.{ℕ, zero, suc, ◌==◌, nat_lt, nat_le, Bool, true, false, not, ◌&&◌, if◌then◌else◌, List, [], ◌∷◌, ◌++◌, length, Option, Some, None, is_some, option_map, unwrap_or, get_or, codes}
 use Rattle.std.specs.List.{list_any}
 use Rattle.std.specs.FinMap as map
 use Rattle.envimg_core.specs.Environment.{Environment}
@@ -15,6 +15,7 @@ use Rattle.hush_syntax.specs.Reading.{read_in}
 use Rattle.hush_commands.specs.declared.messages.Message.{Message}
 use Rattle.hush_commands.specs.declared.messages.Message.TheVariants.{NotDefined, UnknownCommand, IsVariable, NoScript}
 use Rattle.hush_commands.specs.declared.departure.Departure.{Departure}
+use Rattle.hush_commands.specs.declared.departure.Leaving.TheVariants.{Asks}
 use Rattle.hush_commands.specs.declared.follow.Follow.{Follow}
 use Rattle.hush_commands.specs.declared.follow.Follow.TheVariants as follow
 use Rattle.run_limits.specs.Limits.{Bounds}
@@ -27,6 +28,7 @@ use Rattle.hush_commands.specs.Output.{Printed, printed, answer}
 use Rattle.hush_commands.specs.Expansion.{Known, expanded, expanded_after, expanded_value}
 use Rattle.hush_commands.specs.Carrying.{Done, done_of, deletion_of}
 use Rattle.hush_commands.specs.Following.{follow_of}
+use Rattle.hush_commands.specs.Saves.{is_save}
 
 -- what a run is given: whose rules it follows, what stands in for hardware, and its limits
 pub record Rules : Type 0 where
@@ -44,7 +46,7 @@ pub record State : Type 0 where
   pub steps : ℕ
   pub departure : Option Departure
 
--- why a run ends, if memory isn't refused: at the end of its script, by an `exit` or a boot, or at a limit
+-- why a run ends, if memory isn't refused: at the end of its script, by an `exit` or a call that leaves the board, or at a limit
 pub data Reason : Type 0 where
   Finished : Reason
   Exited : Reason
@@ -132,6 +134,22 @@ exiting (follow.Answers words text) e = e
 -- the step of a simple command with these fields
 unfoldable pub effect : Shell → Hardware → List (List ℕ) → State → Effect
 effect shell stand_ins fields s = exiting (follow_of shell stand_ins fields) (carries (done_of shell stand_ins fields s.status s.held) s)
+
+-- whether a save is asked for, in place of being done, when this many steps are counted
+abbrev pub asks_from : Option ℕ → (steps : ℕ) → Bool
+asks_from None steps = false
+asks_from (Some from) steps = nat_le from steps
+
+abbrev pub asks_save : Rules → List (List ℕ) → State → Bool
+asks_save rules fields s = asks_from rules.limits.saves s.steps && is_save rules.shell rules.stand_ins fields
+
+-- the board is left by these fields, which ask what becomes of them: nothing else has changed
+abbrev pub asked : List (List ℕ) → State → Effect
+asked fields s = Exits (record s { departure = Some (record { leaving = Asks; words = fields }) })
+
+-- the step of a simple command with these fields, unless it is a save that is asked for
+abbrev pub effect_in : Rules → List (List ℕ) → State → Effect
+effect_in rules fields s = if asks_save rules fields s then asked fields s else effect rules.shell rules.stand_ins fields s
 
 -- whether an assignment to a name is refused, since the environment has it; on a board it makes a local variable, which is
 -- hidden as long as the environment has the name
@@ -256,7 +274,7 @@ followed has_value (follow.Answers words text) = follow.Answers words text
 abbrev pub simple : Rules → Begin → (has_value : Bool) → Option (List (List ℕ)) → State → Out
 simple rules start has_value None s = step rules (λ t. Stops Word) s
 simple rules start has_value (Some fields) s =
-    step rules (effect rules.shell rules.stand_ins fields) s
+    step rules (effect_in rules fields) s
     >>= follows rules start (followed has_value (follow_of rules.shell rules.stand_ins fields))
 
 -- the status after a binding

@@ -8,6 +8,7 @@ use Rattle.hush_commands.specs.declared.expansion.ExpansionFault.{ExpansionFault
 use Rattle.hush_commands.specs.declared.expansion.ExpansionFault.TheVariants as expansion
 use Rattle.hush_commands.specs.declared.output.PrintFault.{PrintFault}
 use Rattle.hush_commands.specs.declared.output.PrintFault.TheVariants as print
+use Rattle.hush_commands.specs.declared.departure.Leaving.TheVariants.{Asks}
 use Rattle.hush_commands.specs.Buffers.{Made, whole}
 use Rattle.hush_commands.specs.Hardware.{hardware}
 use Rattle.hush_commands.specs.Expansion.{expanded_value}
@@ -24,6 +25,10 @@ state_of held p = record { held = held; locals = p.locals; status = p.status; pr
 
 abbrev pub rules_of : Given → Rules
 rules_of given = record { shell = given.shell; stand_ins = hardware given.board.now given.stand_ins.now; limits = given.limits }
+
+-- a step has left the board by these fields, which ask what becomes of them
+abbrev pub asked_at : List (List ℕ) → State → State
+asked_at fields s = record s { departure = Some (record { leaving = Asks; words = fields }); steps = suc s.steps }
 
 -- one step was counted
 abbrev pub Counted : Rules → State → State → Type 0

@@ -1,4 +1,4 @@
--- The commands of a run as a text (docs/runs.md, "Trace").
+-- The commands of a run as a text (docs/dry-runs.md, "A trace").
 use Rattle.std.specs.Prelude.{◌≡◌, ℕ, List, [], ◌∷◌, ◌++◌, codes, MatchBool}
 use Rattle.std.specs.Fmt.{decimal}
 use Rattle.fw_engines.specs.declared.text_places.Place.{Place}

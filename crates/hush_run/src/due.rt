@@ -11,7 +11,8 @@ use crate::ending::Ending;
 use crate::frames::{Calls, Frame, Frames};
 use crate::node_step::{After, node_step};
 use crate::progress::{Given, Progress};
-use crate::steps::{answer_step, bind_step, delete_step, start_step};
+use crate::starts::{answer_step, start_step};
+use crate::steps::{bind_step, delete_step};
 use env_session::Session;
 use hush_commands::{Bytes, FieldQueue};
 use hush_syntax::{Node, NodeId};
@@ -125,7 +126,7 @@ fn node_due(
 {
     let script = calls.top();
     let step = descend(script, frames, node);
-    progress.trace.stand_in(frames);
+    progress.trace.find_text(frames);
     match node_step(given, session, progress, script, step) {
         Ok(After::Goes(due)) => Ok(due),
         Ok(After::Leaves(own)) => leave_text(calls, frames, &mut progress.status, own),
@@ -157,7 +158,7 @@ fn binding_due(
     let Some(field) = left.fields().next() else {
         unreachable!()
     };
-    progress.trace.stand_in(frames);
+    progress.trace.find_text(frames);
     match bind_step(given, session, progress, script.text(), name, field) {
         Ok(bound) => {
             if !bound {

@@ -1,20 +1,18 @@
 //! The steps of a run (docs/runs.md, "Steps"). Each counts one, or stops with nothing changed.
-ghost use Rattle.std.specs.Prelude.{◌≡◌, ◌++◌, ℕ, List, [], ◌∷◌, get_or, map, if◌then◌else◌, OnOk};
-ghost use Rattle.env_session.specs.Session.{Held};
-ghost use Rattle.hush_words.specs.Parts.{part_atoms, word_atoms};
-ghost use Rattle.hush_words.specs.Ranges.{Fits};
+ghost use Rattle.std.specs.Prelude.{◌≡◌, ℕ, List, [], ◌∷◌, get_or, map, if◌then◌else◌};
+ghost use Rattle.hush_words.specs.Parts.{word_atoms};
 ghost use Rattle.hush_syntax.specs.Trees.{name_in};
-ghost use Rattle.hush_syntax.specs.Scripts.{tree_of};
-ghost use Rattle.hush_run.specs.Meaning.{State, Goes, ◌then◌, simple, follows, leave_of, have_value, fields_of, list_of, step, assigned, called, is_call, refuses, for, bindings, bound_status, started_status, deletions, bodies_of};
-ghost use Rattle.hush_run.specs.Steps.{state_of, rules_of, Meant, Did, Started, Answered, plain_bytes};
+ghost use Rattle.hush_run.specs.Meaning.{State, Goes, ◌then◌, simple, follows, leave_of, have_value, fields_of, list_of, step, assigned, called, is_call, refuses, for, bindings, bound_status, deletions};
+ghost use Rattle.hush_run.specs.Steps.{state_of, rules_of, Meant, Did};
 
+use crate::asked_saves::{asks_save, leave_asking};
 use crate::ending::Ending;
+use crate::name_words::read_name;
 use crate::progress::{Given, Progress};
 use crate::values::have_value;
 use env_session::Session;
-use hush_commands::{Bytes, FieldQueue, Follow, Message, Shell, carry_out, delete, kept_status};
-use hush_syntax::{Bodies, FaultKind, Part, Parts, Script, Text, Word};
-use std::alloc::AllocError;
+use hush_commands::{FieldQueue, Follow, Message, Shell, carry_out, delete};
+use hush_syntax::{Text, Word};
 
 /// A simple command of these words: what comes after it.
 #[inline(always)]
@@ -31,6 +29,9 @@ pub(crate) fn simple_step(
         (state_of session.new progress.new) result }
 {
     progress.expand(given, session, text, words)?;
+    if asks_save(given, progress) {
+        return Err(leave_asking(given, progress));
+    }
     let carried = carry_out(
         given.alloc,
         session,
@@ -193,90 +194,8 @@ pub(crate) fn delete_step(
     Ok(progress.status != 0)
 }
 
-/// The start of a variable when this many levels may still be opened: the script that is to be run, or `None` if a
-/// message says why there is none.
-pub(crate) fn start_step(
-    given: &Given<'_>,
-    session: &Session,
-    progress: &mut Progress,
-    name: &[u8],
-    levels: u32,
-) -> Result<Option<Script>, Ending>
-    ensures { Started (rules_of given.now) levels name.now (state_of session.now progress.old) (state_of session.now progress.new) result }
-{
-    progress.may_step(given)?;
-    let Some(value) = session.vars().get(name) else {
-        progress.fail(Message::NotDefined, name)?;
-        return Ok(None);
-    };
-    if levels == 0 {
-        return Err(Ending::Depth);
-    }
-    match Script::parse_in(
-        given.alloc,
-        Vec::from_slice(given.alloc, value)?,
-        bodies_of(given.shell),
-    ) {
-        Ok(script) => {
-            progress.status = started_status(given.shell, &script, progress.status);
-            progress.steps += 1;
-            Ok(Some(script))
-        }
-        Err(fault) => match fault.kind {
-            FaultKind::Memory => Err(Ending::Memory),
-            _ => {
-                progress.fail(Message::NoScript, name)?;
-                Ok(None)
-            }
-        },
-    }
-}
-
-/// Which bodies a script may have that a shell runs (docs/scripts.md, "Grammar").
-pub fn bodies_of(shell: Shell) -> Bodies
-    ensures { result ≡ bodies_of shell }
-{
-    match shell {
-        Shell::Strict => Bodies::Full,
-        Shell::Board => Bodies::MayBeEmpty,
-    }
-}
-
-/// The start of the text that answers a call of these words, when this many levels may still be opened: the script that
-/// is to be run, or `None` if it is no script.
-pub(crate) fn answer_step(
-    given: &Given<'_>,
-    progress: &mut Progress,
-    words: &FieldQueue,
-    text: Bytes,
-    levels: u32,
-) -> Result<Option<Script>, Ending>
-    ensures { (held : Held) → Answered (rules_of given.now) levels words.now text (state_of held progress.old) (state_of held progress.new) result }
-{
-    progress.may_step(given)?;
-    if levels == 0 {
-        return Err(Ending::Depth);
-    }
-    match Script::parse_in(given.alloc, text.into_vec(), bodies_of(given.shell)) {
-        Ok(script) => {
-            let locals = progress.locals.with_words(given.alloc, words.fields())?;
-            progress.locals = locals;
-            progress.status = started_status(given.shell, &script, progress.status);
-            progress.steps += 1;
-            Ok(Some(script))
-        }
-        Err(fault) => match fault.kind {
-            FaultKind::Memory => Err(Ending::Memory),
-            _ => {
-                progress.fail(Message::NoScript, called_in(words))?;
-                Ok(None)
-            }
-        },
-    }
-}
-
 /// The first of the words of a call.
-fn called_in(words: &FieldQueue) -> &[u8]
+pub(crate) fn called_in(words: &FieldQueue) -> &[u8]
     ensures { result.now ≡ get_or words.now 0 [] }
 {
     match words.fields().next() {
@@ -315,49 +234,5 @@ fn bound_status(shell: Shell, status: u8) -> u8
     match shell {
         Shell::Strict => status,
         Shell::Board => 0,
-    }
-}
-
-/// The status at the start of a text.
-fn started_status(shell: Shell, script: &Script, status: u8) -> u8
-    ensures { result ≡ started_status shell (tree_of script.now) status }
-{
-    match script.root() {
-        Some(_root) => kept_status(shell, status),
-        None => 0,
-    }
-}
-
-/// Reads the name that a word is, in place of what `name` holds; an empty one if it isn't one.
-pub(crate) fn read_name(text: &Text, word: Word, name: &mut Vec<u8>) -> Result<(), AllocError>
-    ensures { OnOk result (name.new.items ≡ name_in text.now word) }
-{
-    name.clear();
-    if word.is_name(text) {
-        append_plain(text, text.parts(word), name)?;
-    }
-    Ok(())
-}
-
-/// Appends the unquoted plain bytes of parts.
-fn append_plain(text: &Text, parts: Parts<'_>, name: &mut Vec<u8>) -> Result<(), AllocError>
-    requires { parts.source ≡ text.now.source }
-    ensures { OnOk result (name.new.items ≡ name.old.items ++ plain_bytes parts.entry.atoms) }
-{
-    let mut left = parts;
-    while let Some(part) = left.next_part() {
-        name.extend_from_slice(plain_in(text, part))?;
-    }
-    Ok(())
-}
-
-/// The unquoted plain bytes of a part.
-fn plain_in(text: &Text, part: Part) -> &[u8]
-    requires { Fits text.now.source part }
-    ensures { result.now ≡ plain_bytes (part_atoms text.now.source part) }
-{
-    match part {
-        Part::Plain(span) => text.bytes(span),
-        _ => &[],
     }
 }

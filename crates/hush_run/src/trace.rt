@@ -1,10 +1,10 @@
-//! The commands that a run does, as a text (docs/runs.md, "Trace").
+//! The commands that a run does, as a text (docs/dry-runs.md, "A trace").
 ghost use Rattle.std.specs.Prelude.{◌≡◌, IfOk};
 ghost use Rattle.hush_syntax.specs.Trees.{name_in};
 ghost use Rattle.hush_run.specs.Traces.{Notes, assignment_of, traced_line};
 
 use crate::frames::Frames;
-use crate::steps::read_name;
+use crate::name_words::read_name;
 use fw_engines::{Place, place_of};
 use hush_commands::FieldBuffer;
 use hush_syntax::{Text, Word};
@@ -65,7 +65,7 @@ impl Trace {
 
     /// Takes the name of the text that runs under these frames.
     #[inline(always)]
-    pub(crate) fn stand_in(&mut self, frames: &Frames) {
+    pub(crate) fn find_text(&mut self, frames: &Frames) {
         if self.goes_on {
             self.goes_on = self.take_name(frames).is_ok();
         }

@@ -1,15 +1,22 @@
 -- The limits of a run (docs/runs.md, "Limits").
-use Rattle.std.specs.Prelude.{ℕ, ◌≤◌}
+use Rattle.std.specs.Prelude.{ℕ, ◌≤◌, Option, Some, None}
 
--- how many steps, starts inside one another, bytes of a word and bytes of the text
+-- how many steps, starts inside one another, bytes of a word and bytes of the text; and how many steps are counted before
+-- saves are asked for in place of being done, if they are
 pub record Bounds : Type 0 where
   pub steps : ℕ
   pub depth : ℕ
   pub word : ℕ
   pub output : ℕ
+  pub saves : Option ℕ
 
+-- limits under which each save is done
 abbrev pub bounds : (steps depth word output : ℕ) → Bounds
-bounds steps depth word output = record { steps = steps; depth = depth; word = word; output = output }
+bounds steps depth word output = record { steps = steps; depth = depth; word = word; output = output; saves = None }
+
+-- the same limits, and a save is asked for once this many steps are counted
+abbrev pub asking_saves : Bounds → (from : ℕ) → Bounds
+asking_saves b from = record b { saves = Some from }
 
 -- the most steps that a run may be given
 abbrev pub most_steps : ℕ

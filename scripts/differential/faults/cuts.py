@@ -11,7 +11,7 @@ from differential.harness.boards import CONFIG, DEVICE, STRICT, arguments, board
 from differential.harness.damage import prefixes
 from differential.harness.running import Case, Cut
 from model.image import ERASED, LARGEST, Geometry
-from model.program import CANNOT_READ, CANNOT_READ_INPUT, CANNOT_WRITE, CANNOT_WRITE_OUTPUT, TOO_SHORT, WARNING, Answer
+from model.program import CANNOT_READ, CANNOT_READ_INPUT, CANNOT_WRITE, CANNOT_WRITE_OUTPUT, TOO_SHORT, WARNING, Answer, stopped_status
 
 FORM = Geometry(2, 40)
 STORED = [FORM.image(7, b"#q=1\0a=one 2\0m=x\ny\0"), FORM.image(6, b"old=1\0")]
@@ -139,7 +139,7 @@ def taken_whole(case, stream, length, wanted, calls=1):
 def output_cut(case, answer, counted=True):
     """A prefix goes out, in as few calls as there can be, and standard error reports it; nothing is written."""
     for place in places(len(answer.output), "fail", "none"):
-        wanted = Answer(1, answer.output[: place[0]], CANNOT_WRITE_OUTPUT, case.files)
+        wanted = Answer(stopped_status(case.arguments), answer.output[: place[0]], CANNOT_WRITE_OUTPUT, case.files)
         yield cut_case(case, 1, "write", place, wanted, counted=counted)
     yield from taken_whole(case, 1, len(answer.output), answer, counted)
 
@@ -159,19 +159,19 @@ def both_cut(case):
     for stream, text in ((1, answer.output), (2, answer.errors)):
         for place in places(len(text), "fail", "none"):
             made = cut_case(case, stream, "write", place, None, counted=False)
-            made.accepts = functools.partial(is_cut_of, case.files, answer, stream, place[0])
+            made.accepts = functools.partial(is_cut_of, stopped_status(case.arguments), case.files, answer, stream, place[0])
             yield made
     yield replace(case, cut=Cut(2, "write", step=1), wanted=answer)
 
 
-def is_cut_of(files, answer, stream, after, found):
+def is_cut_of(status, files, answer, stream, after, found):
     """(nothing is written then, whatever a script saved)"""
     if stream == 2:
         is_said = found.errors == answer.errors[:after] and answer.output.startswith(found.output)
     else:
         is_said = found.output == answer.output[:after] and found.errors.endswith(CANNOT_WRITE_OUTPUT)
         is_said = is_said and answer.errors.startswith(found.errors.removesuffix(CANNOT_WRITE_OUTPUT))
-    return is_said and found.status == 1 and found.files == files
+    return is_said and found.status == status and found.files == files
 
 
 def helps():
@@ -217,7 +217,7 @@ def read_failing(name, case):
     """The fault is reported, the file isn't read again, and nothing is written."""
     warning = WARNING * (name != CONFIG and case.files[DEVICE] == NEVER_WRITTEN[DEVICE])
     for place in places(len(case.files[name]) + 1, "fail"):
-        wanted = Answer(1, b"", warning + CANNOT_READ % name, case.files)
+        wanted = Answer(stopped_status(case.arguments), b"", warning + CANNOT_READ % name, case.files)
         yield cut_case(case, name, "read", place, wanted, opening_of(name))
 
 
@@ -274,7 +274,7 @@ def script_read():
     for case in (run, check):
         for place in places(len(case.given) + 1, "fail", "none"):
             answer = replace(case, given=case.given[: place[0]]).answer()
-            wanted = Answer(1, b"", CANNOT_READ % b"-", case.files) if place[2] == "fail" else answer
+            wanted = Answer(stopped_status(case.arguments), b"", CANNOT_READ % b"-", case.files) if place[2] == "fail" else answer
             yield cut_case(case, b"/dev/stdin", "read", place, wanted)
 
 

@@ -8,7 +8,7 @@ from differential.faults.files import IMPORT, PRINTENV, SETENV, as_it_is, cut_to
 from differential.faults.streams import SESSION, device, over_copies, row
 from differential.harness.boards import BLANK, EMPTIED, SAVED, calls
 from differential.harness.running import named
-from model.program import CANNOT_READ, CANNOT_WRITE, CHANGED, DIRECTORY, LONGER, NO_SUCH_FILE, WARNING, explained
+from model.program import CANNOT_READ, CANNOT_WRITE, CHANGED, DIRECTORY, LONGER, NO_SUCH_FILE, WARNING, explained, stopped_status
 
 # Each option and argument that names a text
 TEXTS = calls(
@@ -42,7 +42,7 @@ def with_odd_files(_runner):
 
 def refused(name, words, errors, files=()):
     """Nothing is printed, and no byte changes."""
-    return row(name, words, b".save\n", 1, b"", errors, with_odd_files, over_copies() | dict(files))
+    return row(name, words, b".save\n", stopped_status(words), b"", errors, with_odd_files, over_copies() | dict(files))
 
 
 def none():

@@ -1,4 +1,4 @@
-"""Each allocation of the program refused in turn (scripts/refuse_nth.c): nothing is printed but the message, status 1, and no byte of
+"""Each allocation of the program refused in turn (scripts/refuse_nth.c): nothing is printed but the message, status 1 (2 of a check), and no byte of
 a file changes; a session goes on if one of its items could be refused or stopped."""
 
 import copy
@@ -13,9 +13,10 @@ from model.arguments import read_arguments
 from model.dry_run import DryRun, items_of
 from model.grammar import parse
 from model.image import ERASED, Geometry
-from model.program import WARNING, Answer, Program
+from model.program import WARNING, Answer, Program, stopped_status
 from model.script import run
 from model.texts import stand_ins
+from model.trace import ENDS
 from model.words import Fault
 
 NO_MEMORY = b"## Error: out of memory\n"
@@ -130,13 +131,17 @@ CHECKED_TEXT = b"""bootcmd=run a 'a_variable_of_a_long_name' none || laod; for a
 a=if run a_variable_of_a_long_name; then a_command_of_a_long_name; elif run b; then run c; fi
 a_variable_of_a_long_name=run bootcmd; mmc; a_stand_in_of_a_long_name
 b=echo "a
+bootmenu_0=A title=run b; echo $x
 c=test $x; x=$y; echo ${a_name_that_nothing_defines}; [ $z ]; for z in 1; do break; done
 """
 CHECKS = [
     ("a check", [b"check", b"--env", b"text", b"--stubs", b"stand-ins"], CHECKED_TEXT),
+    ("a check with a board", [b"check", b"--env", b"text", b"--board", b"board", b"--known", b"names"], CHECKED_TEXT),
     ("a check of names", [b"check", b"--env", b"text", b"none", b"c", b"b", b"a_variable_of_no_value"], CHECKED_TEXT),
     ("a check of a script", [b"check", b"--stubs", b"stand-ins", b"-f", b"text"], b"mmc\r\n" * 40 + b"a_stand_in_of_a_long_name\n"),
     ("a check of no script", [b"check", b"-f", b"text"], b"echo a; if true; then echo 'b\r\n"),
+    ("a check of scripts as JSON", [b"check", b"--stubs=stand-ins", b"--format=json", b"-f", b"text", b"-f", b"stand-ins"], b'mmc\r\n"a\xff"\n'),
+    ("a check as compilers print it", [b"check", b"--env=text", b"--format=gcc", b"c", b"n"], CHECKED_TEXT),
 ]
 OVER_PAIR = b"setenv a bc; mmc\n.save\n.mark p\nsetenv a\n.undo p\n.print\n.undo\n"
 
@@ -153,7 +158,9 @@ def swept(case, accepts, met, runner):
     answers = []
     for number in range(1, count + 1):
         found = runner.run(replace(case, preload="refuse", variables={"REFUSE_NTH": str(number)}))
-        if not accepts(found) and not (case.accepts and case.accepts(found, ample)):
+        # (of a command line that can't be read, a few allocations more than it has words, it isn't known whose it is)
+        is_unread = number <= len(case.arguments) + 6 and found.is_as(Answer(1, b"", NO_MEMORY, case.files))
+        if not (is_unread or accepts(found)) and not (case.accepts and case.accepts(found, ample)):
             return f"{case.name}, allocation {number} of {count} refused: {found}"
         answers.append(found)
     case.weight = count + 1
@@ -167,7 +174,7 @@ def is_not_written(files, found, ample):
 
 def refusing(case, warning=b"", accepts=None):
     """Each allocation of a call refused: the message, with or without the warning before it, and no byte changes."""
-    ended = [Answer(1, b"", said + NO_MEMORY, case.files) for said in {b"", warning}]
+    ended = [Answer(stopped_status(case.arguments), b"", said + NO_MEMORY, case.files) for said in {b"", warning}]
     is_ended = lambda found: any(map(found.is_as, ended))
     if case.accepts is None:
         case.accepts = functools.partial(is_not_written, case.files)
@@ -323,12 +330,29 @@ def is_stopped(case, texts, found):
     return (found.status, found.errors, found.files) == (1, NO_MEMORY, case.files) and found.output in texts
 
 
+def is_traced(case, texts, found, ample):
+    """The trace of what was run before went out; or it ends early itself, which changes nothing else."""
+    lines = ample.errors.splitlines(keepends=True)
+    fronts = [b"".join(lines[:number]) for number in range(len(lines) + 1)]
+    if found.errors in [front + NO_MEMORY for front in fronts]:
+        return (found.status, found.files) == (1, case.files) and found.output in texts
+    is_cut = found.errors in [front + ENDS for front in fronts[:-1]]
+    return is_cut and (found.status, found.output, found.files) == (ample.status, ample.output, ample.files)
+
+
 def runs():
     """What a run printed before memory ran out went out, and no copy is written."""
     for name, words, *given in RUNS:
         files = over_copies() | {b"stand-ins": b"mmc 3\na_stand_in_of_a_long_name\n", b"board": ANSWERS, b"text": WHOLE_TEXT}
         case = Case(f"{name} without memory", words, files, *given)
         yield refusing(case, accepts=functools.partial(is_stopped, case, texts_of(case)))
+    case = Case(
+        "a trace without memory",
+        [*WHOLE, b"--stubs", b"stand-ins", b"--trace", b"a", b"b"],
+        {b"text": b"a=x=1; echo $x 'a b'; mmc 1\nb=run a; saveenv\n", b"stand-ins": b"mmc\n"},
+    )
+    case.accepts = functools.partial(is_traced, case, texts_of(case))
+    yield refusing(case)
     case = Case("no good copy without memory", arguments(b"printenv", b"--need-copy"), over_copies(BLANK, BLANK))
     yield refusing(case, WARNING)
 
@@ -336,7 +360,8 @@ def runs():
 def checks():
     """Nothing that is found goes out before all of it was found."""
     for name, words, text in CHECKS:
-        files = {b"text": text, b"stand-ins": b"mmc 3\na_stand_in_of_a_long_name\n"}
+        files = {b"text": text, b"stand-ins": b"mmc 3\na_stand_in_of_a_long_name\n", b"names": b"x\n# y\na_name_that_nothing_defines\n"}
+        files[b"board"] = b"mmc -> setenv z a_value; run a_variable_of_no_value c\na_stand_in_of_a_long_name -> ?\n-setexpr\n"
         yield refusing(Case(f"{name} without memory", words, files))
 
 
@@ -345,6 +370,15 @@ def power_ons():
     files = {b"text": b"a=1\nb=2\npreboot=a=2\nbootcmd=mmc $a && booti; setenv a; setenv b 3; saveenv; test -e mmc 0 b || run none\n"}
     for board, given in ((b"mmc -> ?\ntest -e -> ?\nbooti -> boots\n", []), (b"mmc -> usb\nusb -> ?\n", [b"--stored=1"]), (b"mmc -> ?\nmmc 1\n", [])):
         yield refusing(Case("power-ons without memory", [b"boot", b"--env=text", b"--board=board", *given], files | {b"board": board}))
+    counted = {
+        b"text": b"upgrade_available=1\nbootlimit=1\npreboot=a=2\nbootcmd=mmc $a && booti\naltbootcmd=booti\n",
+        b"board": b"mmc -> ?\nbooti -> boots\n",
+        b"confirm": b"setenv upgrade_available; saveenv\n",
+    }
+    words = [b"boot", b"--env=text", b"--board=board", b"--bootcount", b"--after=confirm"]
+    yield refusing(Case("counted power-ons without memory", [*words, b"--stored=2"], counted))
+    cut = {b"text": b"bootcmd=setenv a 1; saveenv; mmc && booti\n", b"board": b"mmc -> ?\nbooti -> boots\n", b"confirm": b"saveenv\n"}
+    yield refusing(Case("cut power-ons without memory", [*words[:3], b"--cuts", words[-1]], cut))
 
 
 def chunks():

@@ -23,6 +23,8 @@ hidden = finding("warning: `{}` is an environment variable, which hides what is 
 not_typed = finding("error: the value does not have the type that .flags gives it", "value-type")
 returned = finding("warning: a carriage return stands in the script", "carriage-return")
 not_defined = finding("warning: `${{{}}}` names a variable that nothing defines", "undefined-name")
+exits = finding("warning: U-Boot before 2025 ignores `exit` and goes on", "exit")
+cuts = finding("warning: a board cuts this word of a `for` at its blanks, in quotes too", "quoted-for")
 lacked = finding("error: this shell has no `{}`", "other-shell")
 lacked_test = finding("error: this shell has no `{}`: write `test`", "other-shell")
 no_functions = finding("error: this shell has no functions", "other-shell")
@@ -87,7 +89,7 @@ def last(scripts, errors, warnings):
 
 
 def row(name, words, files, output, errors=b"", given=b"", status=None, seconds=0.25, scripts=None, found=None):
-    """A check; the status is 1 if an error is found or a fault is reported. Unless one is, the last line has the numbers of errors and
+    """A check; the status is 1 if an error is found, and 2 if a fault is reported. Unless one is, the last line has the numbers of errors and
     warnings that are `found`, those of the lines if they aren't given; how many scripts there are, if that isn't given, is the model's."""
     case = Case(name, [b"check", *words], files, given, seconds=seconds)
     if errors in (b"", WARNING):
@@ -95,7 +97,7 @@ def row(name, words, files, output, errors=b"", given=b"", status=None, seconds=
         scripts = scripts or int(re.search(rb"(\d+) scripts? looked at", case.answer().errors)[1])
         errors, usual = errors + last(scripts, *found), int(found[0] > 0)
     else:
-        usual = 1
+        usual = 2
     case.wanted = Answer(usual if status is None else status, output, errors, files)
     return case
 

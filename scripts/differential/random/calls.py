@@ -31,7 +31,7 @@ WRONG = [
     [b"frob"], [b""], [b"--frob"], [b"-x"], [b"printenv", b"-z"], [b"\xff"], [b"export", b"a"], [b"import"], [b"session", b"a"],
     [b"run"], [b"run", b"-e", b"true", b"a"], [b"run", b"-f", b"text", b"-e", b"a"], [b"run", b"-n", b"a"], [b"printenv", b"--env", b"a"],
     [b"session", b"--size", b"9"], [b"session", b"-f", b"text"], [b"status", b"--need-copy"], [b"check", b"--write"], [b"check", b"-e", b"a"],
-    [b"check", b"-f", b"text", b"a"], [b"check", b"--size", b"9"], [b"boot", b"--write"], [b"boot", b"a"], [b"boot", b"--size", b"9"],
+    [b"check", b"-f", b"text", b"a"], [b"run", b"-f", b"a", b"-f", b"b"], [b"run", b"--format", b"gcc", b"a"], [b"check", b"--size", b"9"], [b"boot", b"--write"], [b"boot", b"a"], [b"boot", b"--size", b"9"],
 ]  # fmt: skip
 NUMBERS = {
     b"--steps": [b"0", b"1", b"3", b"007", b"1000000", b"1000001", b"-1", b"", b"1x", b"99999999999999999999"],
@@ -61,8 +61,11 @@ ASKING = [
     b"test -e -> ?\nmmc -> resets\nusb -> boots\n",
     b"mmc -> ?\nmmc x -> 0\n",
 ]
+# Names that a board's own code sets
+KNOWN = [b"", b"a\nb\n# c\n\nfilesize\n", b"x\r\n y\n", b"a\nb 1\n", b"a=1\n"]
 # Those of kinds, and two that no kind has
 CODES = [*[*KINDS] * 6, b"syntax ", b""]
+FORMATS = [*[b"text", b"gcc", b"json"] * 6, b"xml"]
 COUNTS = [b"1", b"2", b"2", b"007", b"100000", b"0100000", b"10000001"]
 BOOTS = [b"mmc", b"mmc", b"usb", b"mmcinfo", b"echo", b"", b"\xc3\xa9"]
 SIZES = [b"0x4000", b"1000", b"0X100", b"200", b"80", b"0d", b"8", b"100001", b"4k"]
@@ -185,7 +188,7 @@ class Calls:
             options.append(self.option(b"--board", self.text(b"board", self.numbers.choice(boards))))
         if is_whole:
             text = text_of(self.numbers.choice(BOOTED)) if tool == b"boot" else self.entries_text(95)
-            form = self.numbers.choice([*[b"--env"] * 9, b"--env-source"])
+            form = self.numbers.choice([*[b"--env"] * 9, b"--env-source", b"--env-plain"])
             options.append(self.option(form, self.text(b"env", text)))
         if self.chance((4 if tool == b"boot" else 30) if is_whole else 2):
             options.append(self.option(b"--size", self.numbers.choice(SIZES)))
@@ -208,7 +211,10 @@ class Calls:
     def power_ons(self, is_whole):
         """The options of power-ons alone."""
         limits = [self.option(name, self.numbers.choice(COUNTS)) for name in (b"--stored", b"--ways") if self.chance(8)]
-        return limits + [[b"--dot"]] * self.chance(10) + (self.wanted_copy() if not is_whole or self.chance(5) else [])
+        count = [[b"--bootcount"]] * self.chance(30)
+        after = [self.option(b"--after", self.text(b"after", self.board_script())) for _ in range(self.chance(15))]
+        cuts = [[b"--cuts"]] * self.chance(20)
+        return limits + count + cuts + after + [[b"--dot"]] * self.chance(10) + (self.wanted_copy() if not is_whole or self.chance(5) else [])
 
     def board_script(self):
         """A script at random, perhaps with a fault or a carriage return."""
@@ -217,12 +223,18 @@ class Calls:
             script = spoiled(self.numbers, script)
         return script.replace(b"\n", b"\r\n") + b"\r" * self.chance(50) if self.chance(10) else script
 
+    def script_file(self, number):
+        return b"-" if self.chance(15) else self.text(b"script%d" % number, self.board_script())
+
     def scripts_text(self):
         """An environment of scripts, as a text for import."""
         found = variables(self.numbers, self.chance(50))
         for name in STARTED:
             if self.chance(85):
                 found[name] = self.board_script().replace(b"\0", b"")
+        for number in range(self.numbers.randint(1, 3) * self.chance(25)):
+            title = self.numbers.choice([b"Boot it=", b"x'=", b"a\nb=", b"=", b""])
+            found[b"bootmenu_%d" % number] = title + self.board_script().replace(b"\0", b"")
         return text_of(found)
 
     def checked(self, is_whole):
@@ -230,11 +242,17 @@ class Calls:
         options = [self.option(b"--shell", self.numbers.choice(SHELLS))]
         if self.chance(60):
             options.append(self.option(b"--stubs", self.text(b"stand-ins", self.numbers.choice(GIVEN_STAND_INS))))
+        if self.chance(30):
+            options.append(self.option(b"--board", self.text(b"board", self.numbers.choice([*GIVEN_BOARDS, *ASKING]))))
+        if self.chance(2 if is_whole else 15):
+            options.append(self.option(b"--known", self.text(b"names", self.numbers.choice(KNOWN))))
         if is_whole and self.chance(40):
-            options.append(self.option(b"-f", b"-" if self.chance(15) else self.text(b"script", self.board_script())))
+            options += [self.option(b"-f", self.script_file(number)) for number in range(self.numbers.choice([1, 1, 1, 2, 3]))]
             return options, self.some(CHECKED, 1) * self.chance(5)
         if is_whole:
             options.append(self.option(b"--env", self.text(b"env", self.scripts_text())))
+            if self.chance(15):
+                options.append(self.option(b"--known", self.text(b"names", self.numbers.choice(KNOWN))))
         if self.chance(30 if is_whole else 2):
             options.append(self.option(b"--size", self.numbers.choice(SIZES)))
         return options, self.some(CHECKED, 2) if self.chance(60) else []
@@ -243,10 +261,11 @@ class Calls:
         return [self.option(b"--copy", self.numbers.choice([b"1", b"2", b"2", b"3"]))] if self.chance(20) else []
 
     def counting(self):
-        """What a check leaves out, and whether its warnings count."""
+        """What a check leaves out, whether its warnings count, and how it tells."""
         codes = KINDS if self.chance(25) else [self.numbers.choice(CODES) for _ in range(2) if self.chance(40)]
         left_out = [self.option(b"--ignore", code) for code in codes]
-        return left_out + [[b"--strict"]] * self.chance(10)
+        formats = [self.option(b"--format", self.numbers.choice(FORMATS))] * self.chance(50)
+        return left_out + [[b"--strict"]] * self.chance(10) + formats
 
     def own(self, tool, is_whole):
         """The options and the other arguments of a subcommand."""

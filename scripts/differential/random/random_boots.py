@@ -12,6 +12,9 @@ OFTEN = {"status 0": 0.1, "never boot": 0.2, "only if a limit": 0.01, "a limit w
 TEXTS = [b"0", b"1", b"2"]
 SAVED = [b"x", b"y", b"slot"]
 STARTED = [b"a", b"b", b"preboot", b"altbootcmd"]
+# What a count depends on, and its values
+COUNTED = [b"upgrade_available", b"upgrade_available", b"bootcount", b"bootlimit"]
+NUMBERS = [b"0", b"1", b"1", b"2", b"3x", b"01", b"-1", b"yes", b"4294967295"]
 # Calls of the board, and rules for them, of which each file has some that ask
 CALLS = [b"load mmc 0:1 a", b"load mmc 0:2 a", b"load mmc ${x} a", b"load usb ${slot}", b"dhcp", b"dhcp ${slot}", b"mmc dev 0", b"env default -a"]
 FILES = [b"test -e mmc 0:1 a", b"test -e mmc ${x} a", b"test ! -e usb 0 b"]
@@ -58,6 +61,8 @@ class Boards:
             return b"while %s; do %s; done" % (self.condition(), self.script(room - 1))
         if kind < 50:
             change = b"setenv %s %s" % (self.any(SAVED), self.any([*TEXTS, b"${y}", b""]))
+            if self.chance(20):
+                change = b"setenv %s %s" % (self.any(COUNTED), self.any([*TEXTS, b"${bootcount}", b""]))
             return self.any([change, change + b"; saveenv", b"setexpr x ${x} + 1; setexpr x ${x} % 3; saveenv", b"saveenv"])
         if kind < 62:
             return b"run " + self.any(STARTED)
@@ -74,6 +79,8 @@ class Boards:
         if self.chance(95):
             front = self.any([b"", b"", b"setexpr x ${x} + 1; setexpr x ${x} % 3; saveenv; ", b"load mmc 0:${slot} a || setenv slot 2; saveenv; "])
             found[b"bootcmd"] = front + self.script(2) + self.any([b"", b"; bootz", b"; reset", b"; setenv y 2; saveenv; reset"])
+        if self.chance(60):
+            found |= {name: self.any(NUMBERS) for name in COUNTED}
         if self.chance(15):
             found[b"bootdelay"] = self.any([b"-1", b"0", b"-2"])
         return found
@@ -104,8 +111,12 @@ def random_boot(seed, number):
     limits = [b"--stored=%d" % made.any([1, 2, 4]), b"--ways=%d" % made.any([0, 1, 5, 20])] if made.chance(10) else []
     shell = [b"--shell=strict"] if made.chance(15) else []
     graph = [b"--dot"] if made.chance(30) else []
-    words = [b"boot", *words, b"--board", b"board", b"--steps=300", *limits, *shell, *graph]
-    return Case(f"random board {number}", words, files | {b"board": made.rules()}, seconds=2)
+    count = [b"--bootcount", *(limits or [b"--stored=12", b"--ways=200"])] if made.chance(40) else []
+    scripts = {b"after %d" % at: made.script(1) for at in range(made.any([1, 1, 2]))} if made.chance(30) else {}
+    after = [b"--after=" + name for name in scripts]
+    cuts = [b"--cuts"] if made.chance(30) else []
+    words = [b"boot", *words, b"--board", b"board", b"--steps=300", *(count or limits), *shell, *graph, *cuts, *after]
+    return Case(f"random board {number}", words, files | scripts | {b"board": made.rules()}, seconds=2)
 
 
 def chunks(count, seed):

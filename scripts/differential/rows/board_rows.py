@@ -174,4 +174,4 @@ def sessions():
 
 
 def chunks():
-    return [answered, files, sessions]
+    return [answered, lacked, files, sessions]

@@ -2,7 +2,7 @@
 
 from differential.harness.boards import BLANK, CONFIG, PAIR, STRICT, arguments, board, calls
 from differential.harness.running import Case
-from model.arguments import AND_ENV, NO_COPY, NO_NUMBER, NO_SHELL, READ_TWICE, SIZE_ALONE
+from model.arguments import AND_ENV, MANY_SCRIPTS, NO_COPY, NO_NUMBER, NO_SHELL, READ_TWICE, SIZE_ALONE
 from model.image import Geometry, entries
 from model.program import NO_SECOND, NOT_A_STAND_IN, WARNING, Answer
 
@@ -233,6 +233,296 @@ stored 2
 1 stored environment, 1 way: 1 boot, 0 reset, 0 give up, 0 unknown
 """ + LIMIT, b"--ways=2"),
 ]  # fmt: skip
+# Power-ons that are counted, and scripts that the system runs once it has booted
+COUNTS = [
+    ("a count without an upgrade", b"bootcount=7\nbootlimit=1\nbootcmd=bootm ${bootcount}", TOP, boots(b"bootm 1"), b"--bootcount"),
+    ("a count", b"upgrade_available=1\nbootlimit=2\nbootcmd=load && bootm; reset\naltbootcmd=setenv upgrade_available 0; saveenv; bootm 2", SLOTS, b"""stored 1
+  load = 0: boots: bootm; stored 2
+  load = 1: resets: reset; stored 2
+stored 2
+  bootcount=1
+  load = 0: boots: bootm; stored 3
+  load = 1: resets: reset; stored 3
+stored 3
+  bootcount=2
+  boots: bootm 2; stored 4
+stored 4
+  bootcount=3
+  upgrade_available=0
+  load = 0: boots: bootm; stored 4
+  load = 1: resets: reset; stored 4
+4 stored environments, 7 ways: 4 boot, 3 reset, 0 give up, 0 unknown
+""", b"--bootcount"),
+    ("the same without the option", b"upgrade_available=1\nbootlimit=2\nbootcmd=bootm ${bootcount}\naltbootcmd=bootm 2", SLOTS, boots(b"bootm")),
+    ("a count behind preboot", b"preboot=x=1; setenv upgrade_available 1; setenv y 2; false\nbootcmd=bootm $? ${x}\nbootlimit=2\naltbootcmd=bootm $? ${x} ${y} ${bootcount}\nbootcount=1", TOP, b"""stored 1
+  boots: bootm 1 1; stored 2
+stored 2
+  bootcount=2
+  upgrade_available=1
+  y=2
+  boots: bootm 1 1 2 3; stored 3
+stored 3
+  bootcount=3
+  upgrade_available=1
+  y=2
+3 stored environments, 2 ways: 2 boot, 0 reset, 0 give up, 0 unknown
+""" + LIMIT, b"--bootcount", b"--stored=2"),
+    ("no altbootcmd", b"upgrade_available=1\nbootlimit=1\nbootcount=1\nbootcmd=setenv x; bootm", TOP, b"""stored 1
+  gives up; stored 2
+stored 2
+  bootcount=2
+2 stored environments, 1 way: 0 boot, 0 reset, 1 give up, 0 unknown
+""" + LIMIT, b"--bootcount", b"--stored=1"),
+    ("no limit", b"upgrade_available=1\nbootcount=9\nbootcmd=bootm\naltbootcmd=reset", TOP, b"""stored 1
+  boots: bootm; stored 2
+stored 2
+  bootcount=10
+2 stored environments, 1 way: 1 boot, 0 reset, 0 give up, 0 unknown
+""" + LIMIT, b"--bootcount", b"--stored=1"),
+    ("a limit of 0", b"upgrade_available=1\nbootlimit=0\nbootcount=9\nbootcmd=bootm\naltbootcmd=reset", TOP, b"""stored 1
+  boots: bootm; stored 2
+stored 2
+  bootcount=10
+2 stored environments, 1 way: 1 boot, 0 reset, 0 give up, 0 unknown
+""" + LIMIT, b"--bootcount", b"--stored=1"),
+    ("numbers that begin a text", b"upgrade_available=2x\nbootlimit=12 3\nbootcount=011abc\nbootcmd=bootm\naltbootcmd=reset", TOP, b"""stored 1
+  boots: bootm; stored 2
+stored 2
+  bootcount=12
+  resets: reset; stored 3
+stored 3
+  bootcount=13
+3 stored environments, 2 ways: 1 boot, 1 reset, 0 give up, 0 unknown
+""" + LIMIT, b"--bootcount", b"--stored=2"),
+    ("texts that no number begins", b"upgrade_available=yes\nbootlimit=-1\nbootcount=x\nbootcmd=bootm ${bootcount}\naltbootcmd=reset", TOP, boots(b"bootm 1"), b"--bootcount"),
+    ("no decimal number", b"upgrade_available=1\nbootlimit=0x1\nbootcount=0x5\nbootcmd=setenv upgrade_available 0; saveenv; bootm ${bootcount}\naltbootcmd=reset", TOP, b"""stored 1
+  boots: bootm 1; stored 2
+stored 2
+  bootcount=1
+  upgrade_available=0
+  boots: bootm 1; stored 2
+2 stored environments, 2 ways: 2 boot, 0 reset, 0 give up, 0 unknown
+""", b"--bootcount"),
+    ("the largest count", b"upgrade_available=1\nbootlimit=4294967295\nbootcount=99999999999\nbootcmd=bootm\naltbootcmd=reset", TOP, b"""stored 1
+  resets: reset; stored 2
+stored 2
+  bootcount=4294967296
+  resets: reset; stored 2
+2 stored environments, 2 ways: 0 boot, 2 reset, 0 give up, 0 unknown
+2 stored environments never boot again, the first of them after:
+""", b"--bootcount"),
+    ("counted without a delay", b"bootdelay=-1\nupgrade_available=1\nbootcmd=bootm", TOP, b"""stored 1
+  gives up; stored 2
+stored 2
+  bootcount=1
+2 stored environments, 1 way: 0 boot, 0 reset, 1 give up, 0 unknown
+""" + LIMIT, b"--bootcount", b"--stored=1"),
+    ("preboot boots before the count", b"preboot=bootm 1\nupgrade_available=1\nbootcmd=reset", TOP, boots(b"bootm 1"), b"--bootcount"),
+    ("a limit before the count", b"preboot=run preboot\nupgrade_available=1\nbootcmd=bootm", TOP, b"""stored 1
+  unknown: Depth; stored 1
+1 stored environment, 1 way: 0 boot, 0 reset, 0 give up, 1 unknown
+""" + MAYBE, b"--bootcount"),
+    ("a question before the count", b"preboot=load 1 && setenv upgrade_available 0; saveenv\nupgrade_available=1\nbootlimit=1\nbootcmd=load 2 && bootm; reset\naltbootcmd=bootm 2", SLOTS, b"""stored 1
+  load 1 = 0, load 2 = 0: boots: bootm; stored 2
+  load 1 = 0, load 2 = 1: resets: reset; stored 2
+  load 1 = 1, load 2 = 0: boots: bootm; stored 3
+  load 1 = 1, load 2 = 1: resets: reset; stored 3
+stored 2
+  upgrade_available=0
+  load 1 = 0, load 2 = 0: boots: bootm; stored 2
+  load 1 = 0, load 2 = 1: resets: reset; stored 2
+  load 1 = 1, load 2 = 0: boots: bootm; stored 2
+  load 1 = 1, load 2 = 1: resets: reset; stored 2
+stored 3
+  bootcount=1
+3 stored environments, 8 ways: 4 boot, 4 reset, 0 give up, 0 unknown
+""" + LIMIT, b"--bootcount", b"--stored=2"),
+    ("a full environment", b"upgrade_available=1\nbootcmd=bootm ${bootcount}", TOP, boots(b"bootm"), b"--bootcount", b"--size=0x3c"),
+    ("counted by the strict shell", b"preboot=false\nupgrade_available=1\nbootlimit=1\nbootcmd=false || bootm\naltbootcmd=setenv upgrade_available 0; saveenv; bootm 2", TOP, b"""stored 1
+  boots: bootm; stored 2
+stored 2
+  bootcount=1
+  boots: bootm 2; stored 3
+stored 3
+  bootcount=2
+  upgrade_available=0
+  boots: bootm; stored 3
+3 stored environments, 3 ways: 3 boot, 0 reset, 0 give up, 0 unknown
+""", b"--bootcount", b"--shell", b"strict"),
+    ("a board without saves", b"upgrade_available=1\nbootlimit=1\nbootcmd=bootm ${bootcount}", b"-saveenv\n" + TOP, boots(b"bootm 1"), b"--bootcount"),
+    ("a script of the system", b"upgrade_available=1\nbootlimit=1\nbootcmd=load && bootm 1; reset\naltbootcmd=setenv upgrade_available 0; setenv bootcount; saveenv; bootm 2", SLOTS, b"""stored 1
+  load = 0, after = 0: boots: bootm 1; stored 2
+  load = 0, after = 1: boots: bootm 1; stored 3
+  load = 1: resets: reset; stored 2
+stored 2
+  bootcount=1
+  after = 0: boots: bootm 2; stored 3
+  after = 1: boots: bootm 2; stored 3
+stored 3
+  upgrade_available=0
+  load = 0, after = 0: boots: bootm 1; stored 3
+  load = 0, after = 1: boots: bootm 1; stored 3
+  load = 1: resets: reset; stored 3
+3 stored environments, 8 ways: 6 boot, 2 reset, 0 give up, 0 unknown
+""", b"--bootcount", b"--after", b"confirm"),
+    ("a script without the count", b"slot=a\nbootcmd=load ${slot} && bootm; test ${slot} = a && reset", SLOTS, b"""stored 1
+  load a = 0, after = 0: boots: bootm; stored 1
+  load a = 0, after = 1: boots: bootm; stored 2
+  load a = 1: resets: reset; stored 1
+stored 2
+  slot=b
+  load b = 0, after = 0: boots: bootm; stored 2
+  load b = 0, after = 1: boots: bootm; stored 2
+  load b = 1: gives up; stored 2
+2 stored environments, 6 ways: 4 boot, 1 reset, 1 give up, 0 unknown
+""", b"--after=swap"),
+    ("scripts of the system", b"slot=a\nbootcmd=bootm ${slot}", SLOTS, b"""stored 1
+  after = 0: boots: bootm a; stored 1
+  after = 1: boots: bootm a; stored 2
+  after = 2: boots: bootm a; stored 1
+  after = 3: boots: bootm a; stored 3
+stored 2
+  slot=b
+  after = 0: boots: bootm b; stored 2
+  after = 1: boots: bootm b; stored 2
+  after = 2: boots: bootm b; stored 2
+  after = 3: boots: bootm b; stored 4
+stored 3
+  upgrade_available=0
+  after = 0: boots: bootm a; stored 3
+  after = 1: boots: bootm a; stored 4
+  after = 2: boots: bootm a; stored 3
+  after = 3: boots: bootm a; stored 3
+stored 4
+  slot=b
+  upgrade_available=0
+  after = 0: boots: bootm b; stored 4
+  after = 1: boots: bootm b; stored 4
+  after = 2: boots: bootm b; stored 4
+  after = 3: boots: bootm b; stored 4
+4 stored environments, 16 ways: 16 boot, 0 reset, 0 give up, 0 unknown
+""", b"--after=swap", b"--after=lost", b"--after", b"confirm"),
+    ("a script that asks", b"bootcmd=load old && bootm; reset", SLOTS, b"""stored 1
+  load old = 0, after = 0: boots: bootm; stored 1
+  load old = 0, after = 1, load new = 0: boots: bootm; stored 2
+  load old = 0, after = 1, load new = 1: boots: bootm; stored 1
+  load old = 1: resets: reset; stored 1
+stored 2
+  new=1
+  load old = 0, after = 0: boots: bootm; stored 2
+  load old = 0, after = 1, load new = 0: boots: bootm; stored 2
+  load old = 0, after = 1, load new = 1: boots: bootm; stored 2
+  load old = 1: resets: reset; stored 2
+2 stored environments, 8 ways: 6 boot, 2 reset, 0 give up, 0 unknown
+""", b"--after", b"asks"),
+    ("a script up to a limit", b"bootcmd=if test -n \"${x}\"; then bootm 2; else bootm 1; fi", SLOTS, b"""stored 1
+  after = 0: boots: bootm 1; stored 1
+  after = 1: unknown: Steps; stored 2
+stored 2
+  x=1
+  after = 0: boots: bootm 2; stored 2
+  after = 1: unknown: Steps; stored 2
+2 stored environments, 4 ways: 2 boot, 0 reset, 0 give up, 2 unknown
+""", b"--after", b"endless", b"--steps=99"),
+    ("no system, no script", b"bootcmd=load && reset", SLOTS, b"""stored 1
+  load = 0: resets: reset; stored 1
+  load = 1: gives up; stored 1
+1 stored environment, 2 ways: 0 boot, 1 reset, 1 give up, 0 unknown
+""" + NEVER, b"--after", b"swap"),
+    ("a call of the same name", b"bootcmd=after && bootm", b"after -> ?\n" + TOP, b"""stored 1
+  after = 0, after = 0: boots: bootm; stored 1
+  after = 0, after = 1: boots: bootm; stored 2
+  after = 1: gives up; stored 1
+stored 2
+  slot=b
+  after = 0, after = 0: boots: bootm; stored 2
+  after = 0, after = 1: boots: bootm; stored 2
+  after = 1: gives up; stored 2
+2 stored environments, 6 ways: 4 boot, 0 reset, 2 give up, 0 unknown
+""", b"--after", b"swap"),
+]  # fmt: skip
+# Power cuts, in the one copy of a text, whose default environment is that text
+CUTS = [
+    ("a cut", b"bootcmd=setenv a 1; saveenv; bootm", TOP, b"""stored 1
+  saveenv at step 8 = 0: boots: bootm; stored 2
+  saveenv at step 8 = 1: resets: power cut; stored 1
+  saveenv at step 8 = 2: resets: power cut; stored 1
+stored 2
+  a=1
+  saveenv at step 8 = 0: boots: bootm; stored 2
+  saveenv at step 8 = 1: resets: power cut; stored 2
+  saveenv at step 8 = 2: resets: power cut; stored 1
+2 stored environments, 6 ways: 2 boot, 4 reset, 0 give up, 0 unknown
+""", b"--cuts"),
+    ("a cut of nothing", b"bootcmd=bootm", TOP, boots(b"bootm"), b"--cuts"),
+    ("no save", b"bootcmd=saveenv 1; env save -x; bootm", TOP, boots(b"bootm"), b"--cuts"),
+    ("no save of the board", b"bootcmd=saveenv; bootm", b"-saveenv\n" + TOP, boots(b"bootm"), b"--cuts"),
+    ("the words of a save", b"preboot=sav\nbootcmd=env save; bootm", TOP, b"""stored 1
+  sav at step 4 = 0, env save at step 9 = 0: boots: bootm; stored 1
+  sav at step 4 = 0, env save at step 9 = 1: resets: power cut; stored 1
+  sav at step 4 = 0, env save at step 9 = 2: resets: power cut; stored 1
+  sav at step 4 = 1: resets: power cut; stored 1
+  sav at step 4 = 2: resets: power cut; stored 1
+1 stored environment, 5 ways: 1 boot, 4 reset, 0 give up, 0 unknown
+""", b"--cuts"),
+    ("a limit before a save", b"bootcmd=saveenv; bootm", TOP, unknown(b"Steps"), b"--cuts", b"--steps=6"),
+    ("a save that has no room to say so", b"bootcmd=saveenv; bootm", TOP, b"""stored 1
+  saveenv at step 7 = 0: unknown: Output; stored 1
+  saveenv at step 7 = 1: resets: power cut; stored 1
+  saveenv at step 7 = 2: resets: power cut; stored 1
+1 stored environment, 3 ways: 0 boot, 2 reset, 0 give up, 1 unknown
+""" + MAYBE, b"--cuts", b"--output=12"),
+    ("a cut of the strict shell", b"bootcmd=saveenv; sav; bootm", TOP, b"""stored 1
+  saveenv at step 7 = 0: boots: bootm; stored 1
+  saveenv at step 7 = 1: resets: power cut; stored 1
+  saveenv at step 7 = 2: resets: power cut; stored 1
+1 stored environment, 3 ways: 1 boot, 2 reset, 0 give up, 0 unknown
+""", b"--cuts", b"--shell=strict"),
+    ("a cut of the count", b"upgrade_available=1\nbootlimit=1\nbootcmd=reset\naltbootcmd=bootm", TOP, b"""stored 1
+  saveenv at step 4 = 0: resets: reset; stored 2
+  saveenv at step 4 = 1: resets: power cut; stored 1
+  saveenv at step 4 = 2: resets: power cut; stored 1
+stored 2
+  bootcount=1
+2 stored environments, 3 ways: 0 boot, 3 reset, 0 give up, 0 unknown
+""" + LIMIT, b"--cuts", b"--bootcount", b"--stored=1"),
+    ("a cut once it has booted", b"slot=a\nbootcmd=saveenv; bootm ${slot}", TOP, b"""stored 1
+  saveenv at step 7 = 0, after = 0: boots: bootm a; stored 1
+  saveenv at step 7 = 0, after = 1, saveenv at step 2 = 0: boots: bootm a; stored 2
+  saveenv at step 7 = 0, after = 1, saveenv at step 2 = 1: boots: bootm a; stored 1
+  saveenv at step 7 = 0, after = 1, saveenv at step 2 = 2: boots: bootm a; stored 1
+  saveenv at step 7 = 1: resets: power cut; stored 1
+  saveenv at step 7 = 2: resets: power cut; stored 1
+stored 2
+  slot=b
+2 stored environments, 6 ways: 4 boot, 2 reset, 0 give up, 0 unknown
+""" + LIMIT, b"--cuts", b"--after=swap", b"--stored=1"),
+    ("a save in an answer", b"bootcmd=load && bootm; reset", b"load -> setenv a 1; saveenv; test -n ${b}\n" + TOP, b"""stored 1
+  saveenv at step 10 = 0: resets: reset; stored 2
+  saveenv at step 10 = 1: resets: power cut; stored 1
+  saveenv at step 10 = 2: resets: power cut; stored 1
+stored 2
+  a=1
+2 stored environments, 3 ways: 0 boot, 3 reset, 0 give up, 0 unknown
+""" + LIMIT, b"--cuts", b"--stored=1"),
+    ("saves without an end", b"bootcmd=while true; do saveenv; done", TOP, b"""stored 1
+  saveenv at step 8 = 0, saveenv at step 10 = 0: unknown: Steps; stored 1
+  saveenv at step 8 = 0, saveenv at step 10 = 1: resets: power cut; stored 1
+  saveenv at step 8 = 0, saveenv at step 10 = 2: resets: power cut; stored 1
+  saveenv at step 8 = 1: resets: power cut; stored 1
+  saveenv at step 8 = 2: resets: power cut; stored 1
+1 stored environment, 5 ways: 0 boot, 4 reset, 0 give up, 1 unknown
+""" + MAYBE, b"--cuts", b"--steps=10"),
+    ("a call like a save", b"bootcmd=load 'at step 8'; saveenv && bootm", SLOTS, b"""stored 1
+  load at step 8 = 0, saveenv at step 8 = 0: boots: bootm; stored 1
+  load at step 8 = 0, saveenv at step 8 = 1: resets: power cut; stored 1
+  load at step 8 = 0, saveenv at step 8 = 2: resets: power cut; stored 1
+  load at step 8 = 1, saveenv at step 8 = 0: boots: bootm; stored 1
+  load at step 8 = 1, saveenv at step 8 = 1: resets: power cut; stored 1
+  load at step 8 = 1, saveenv at step 8 = 2: resets: power cut; stored 1
+1 stored environment, 6 ways: 2 boot, 4 reset, 0 give up, 0 unknown
+""", b"--cuts"),
+]  # fmt: skip
 # Graphs: a slot that fails for good; each end; up to a limit; what DOT has in quotes, and bytes that are no text
 GRAPHS = [
     ("a graph", b"a=1\nbootcmd=test -n \"${a}\" && load mmc && bootm; setenv a; saveenv; reset", SLOTS, b"""digraph boot {
@@ -271,12 +561,24 @@ GRAPHS = [
   s2 -> "gives up" [label="load \\" \\\\N &amp;amp; = 1\\lgives up\\l" color=red];
 }
 """, 0),
+    ("a script's graph", b"slot=a\nbootcmd=bootm ${slot}", SLOTS, b"""digraph boot {
+  label="2 stored environments, 4 ways: 4 boot, 0 reset, 0 give up, 0 unknown\\l";
+  s1 [label="stored 1\\l" shape=box];
+  s2 [label="stored 2\\l  slot=b\\l" shape=box];
+  s1 -> boots [label="after = 0\\lboots: bootm a\\l" color=darkgreen];
+  s1 -> s2 [label="after = 1\\lboots: bootm a\\l" color=darkgreen];
+  s2 -> boots [label="after = 0\\lboots: bootm b\\l" color=darkgreen];
+  s2 -> boots [label="after = 1\\lboots: bootm b\\l" color=darkgreen];
+}
+""", 0, b"--after=swap"),
 ]  # fmt: skip
 # What is printed of arguments that are wrong, and such arguments; nothing is read
 WRONG_WORDS = {
     None: (
         "boot bootcmd / boot --write / boot --overwrite / boot --must-boot / boot -e true / boot -f script / boot --stored / "
-        "boot --stored 1 --stored 1 / boot --boots / boot --dot --dot / boot --dot=x / run --dot ok / check --dot / run --stored 1 ok / session --ways 1"
+        "boot --stored 1 --stored 1 / boot --boots / boot --dot --dot / boot --dot=x / run --dot ok / check --dot / run --stored 1 ok / session --ways 1 / "
+        "boot --bootcount --bootcount / boot --bootcount=1 / boot --after / run --after a ok / session --bootcount / check --bootcount / "
+        "boot --cuts --cuts / boot --cuts=1 / run --cuts ok / session --cuts / check --cuts"
     ),
     NO_NUMBER % (b"100001", b"--stored", 100_000): "boot --stored 100001 / boot --ways=x --stored=100001",
     NO_NUMBER % (b"10000001", b"--ways", 10_000_000): "boot --ways 10000001 / boot --stored 100000 --ways 10000001",
@@ -290,9 +592,29 @@ WRONG_WORDS = {
     AND_ENV % b"--need-copy": "boot --copy 1 --need-copy --env absent",
     AND_ENV % b"--copy <N>": "boot --copy 1 --env absent / boot --env absent --copy x",
     SIZE_ALONE: "boot --size 0x4000",
-    READ_TWICE: "boot --env - --board - / boot -c - --stubs -",
+    READ_TWICE: "boot --env - --board - / boot -c - --stubs - / boot --after - --after - / boot --after a --after - --env -",
 }
-FILES = {b"stand-ins": b"mmc\nreboot\nbooti\n"}
+FILES = {
+    b"stand-ins": b"mmc\nreboot\nbooti\n",
+    b"confirm": b"setenv upgrade_available 0; setenv bootcount; saveenv\n",
+    b"swap": b"setenv slot b; saveenv; reset\n",
+    b"lost": b"setenv slot c\n",
+    b"asks": b"load new && setenv new 1; saveenv; load new || bootm 9\n",
+    b"endless": b"setenv x 1; saveenv; while true; do true; done\n",
+    b"no-script": b"true; if\n",
+}
+
+
+# A script that stores a variable, or none
+AFTER = b"""stored 1
+  after = 0: boots: bootm; stored 1
+  after = 1: boots: bootm; stored 2
+stored 2
+  x=1
+  after = 0: boots: bootm; stored 2
+  after = 1: boots: bootm; stored 2
+2 stored environments, 4 ways: 4 boot, 0 reset, 0 give up, 0 unknown
+"""
 
 
 def row(name, words, files, output, status, errors=b"", given=b"", **rest):
@@ -307,7 +629,7 @@ def over_text(name, environment, file, output, *options):
 
 
 def rows():
-    for each in ROWS:
+    for each in ROWS + COUNTS + CUTS:
         yield over_text(*each)
 
 
@@ -340,6 +662,16 @@ def files():
     output = b"stored 1\n  boots: bootm; stored 2\nstored 2\n  n=1\n  boots: bootm; stored 2\n"
     output += b"2 stored environments, 2 ways: 2 boot, 0 reset, 0 give up, 0 unknown\n"
     yield row("a save that isn't written", arguments(b"boot", b"--board", b"file"), there, output, 0)
+    cut = b"stored 1\n  saveenv at step 8 = 0: boots: bootm; stored 2\n  saveenv at step 8 = 1: resets: power cut; stored 1\n"
+    cut += b"stored 2\n  n=1\n  saveenv at step 8 = 0: boots: bootm; stored 2\n  saveenv at step 8 = 1: resets: power cut; stored 2\n"
+    cut += b"2 stored environments, 4 ways: 2 boot, 2 reset, 0 give up, 0 unknown\n"
+    yield row("a cut beside a copy that stays", arguments(b"boot", b"--board", b"file", b"--cuts"), there, cut, 0)
+    there = board(Geometry(1, 128), [Geometry(1, 128).image(0, entries(save))]) | {b"file": SLOTS, b"text": b"bootcmd=bootm 3\n"}
+    torn = b"stored 1\n  saveenv at step 8 = 0: boots: bootm; stored 2\n  saveenv at step 8 = 1: resets: power cut; stored 1\n"
+    torn += b"  saveenv at step 8 = 2: resets: power cut; stored 3\nstored 2\n  n=1\n  saveenv at step 8 = 0: boots: bootm; stored 2\n"
+    torn += b"  saveenv at step 8 = 1: resets: power cut; stored 2\n  saveenv at step 8 = 2: resets: power cut; stored 3\n"
+    torn += b"stored 3\n  bootcmd=bootm 3\n  boots: bootm 3; stored 3\n3 stored environments, 7 ways: 3 boot, 4 reset, 0 give up, 0 unknown\n"
+    yield row("a bad copy", arguments(b"boot", b"--board", b"file", b"--cuts", b"--default", b"text"), there, torn, 0)
     there = board(PAIR, [BLANK, BLANK]) | {b"file": SLOTS, b"text": b"a=b\n"}
     yield row("no good copy", arguments(b"boot", b"--board=file"), there, GIVES_UP, 1, WARNING)
     yield row("a default text", arguments(b"boot", b"--board=file", b"--default", b"text"), there, GIVES_UP, 1, WARNING)
@@ -358,9 +690,22 @@ def faults():
         ([b"--stubs", b"absent", b"--board", b"board"], b"fwenv: cannot read absent: no such file\n"),
         ([b"--boots", b"booti"], NOT_A_STAND_IN % (b"booti", b"--boots")),
         ([b"--stubs", b"stand-ins", b"--resets", b"x"], NOT_A_STAND_IN % (b"x", b"--resets")),
+        ([b"--after", b"lost", b"--after", b"absent"], b"fwenv: cannot read absent: no such file\n"),
+        ([b"--after=no-script"], b"fwenv: no-script:2:1: Missing: the text ends where more has to follow\n"),
     ):
         yield row("a fault of a file", [*start, *words], files, b"", 1, errors)
     yield row("no configuration", [b"boot", b"-c", b"absent"], files, b"", 1, b"fwenv: cannot read absent: no such file\n")
+    yield row(
+        "a script at standard input",
+        [*start, b"--board", b"right", b"--after", b"-"],
+        files | {b"right": TOP},
+        AFTER,
+        0,
+        given=b"setenv x 1; saveenv",
+    )
+    many = [b"--after=lost"] * 254
+    yield row("as many scripts as there may be", [*start, *many], files, GIVES_UP, 1)
+    yield row("a script too many", [*start, *many, b"--after", b"lost"], files, b"", 1, MANY_SCRIPTS)
     yield row("a board file at standard input", [*start, b"--board", b"-"], files, boots(b"bootm"), 0, given=TOP)
     for tool in ([b"run", b"bootcmd"], [b"session"]):
         words = [*tool, b"--env", b"env", b"--board", b"board"]
@@ -370,7 +715,7 @@ def faults():
 def words():
     for errors, texts in WRONG_WORDS.items():
         for given in calls(texts):
-            yield row("wrong words", given, {CONFIG: b""}, b"", 1, errors)
+            yield row("wrong words", given, {CONFIG: b""}, b"", 2 if given[0] == b"check" else 1, errors)
 
 
 def chunks():

@@ -4,7 +4,7 @@ over an environment and alone, with stand-ins and without."""
 from differential.harness.boards import STRICT
 
 from differential.harness.check_lines import (
-    any_target, lacked, lacked_test, lines, no_functions, no_operator, no_operator_of_board, no_script, not_assigned, not_called, not_defined, not_run,
+    any_target, cuts, exits, lacked, lacked_test, lines, no_functions, no_operator, no_operator_of_board, no_script, not_assigned, not_called, not_defined, not_run,
     of_file, on_board, over, place, returned, row, several, with_stand_ins, without,
 )  # fmt: skip
 from differential.rows.script_faults import EMPTY_BODIES, NEAR_SCRIPTS, NO_SCRIPTS, NO_STAND_INS, NULS
@@ -128,7 +128,7 @@ CALLED = [
     (b"'' x; \"\"mmc", [not_called("1:1", "")]),
     (b"'mmc' dev; l\\oad", []),
     (b"\xff\xc3\xa9", [not_called("1:1", "\udcff\xe9")]),
-    (b"true; false; echo; setenv b c; printenv; saveenv; env print; test; exit", []),
+    (b"true; false; echo; setenv b c; printenv; saveenv; env print; test", []),
     (b"setexpr b 1; setexpr.b b 1; setexpr.w b 1; setexpr.l b 1; setexpr.q b 1", []),
     (b"setexpr.x b 1; setexpr. b 1; True; echo1", several(not_called, "1:1 setexpr.x 1:16 setexpr. 1:30 True 1:36 echo1")),
     (b"env grep laod; env", []),
@@ -353,6 +353,35 @@ NAMED = [
     (b"test.b a == b", [no_operator_of_board("1:10", "==")], []),
     (b"sete none 1; env s none; run none", [not_run("1:30", "none")], [not_run("1:30", "none")]),
 ]
+# A board's rules, scripts by them, and what is found
+RULES = b"""load mmc -> setenv filesize 1c4a00; setenv n 1
+load -> 1
+source -> run boot_scr_${n}; run found
+mmc 7
+[ -> 0
+test -e -> 1
+env import -> setenv imported 1
+setexpr v sub -> 0
+-setexpr
+-saveenv
+dhcp -> ?
+booti -> boots
+open* 1
+"""
+BY_RULES = [
+    (b"load mmc 1:2 x; mmc dev 0; source 1; dhcp; booti; [ a; test -e mmc 1:2 x; env import -t x", []),
+    (b"laod; loa x; load.b x; mm; sourc; open; opened", [not_called("1:1", "laod"), not_called("1:35", "open"), not_called("1:41", "opened")]),
+    (b"saveenv; savee; setexpr v sub a b; setexpr.l v 1", several(not_called, "1:1 saveenv 1:10 savee 1:36 setexpr.l")),
+    (b"echo $n $imported $filesize $m; run n imported", [not_defined("1:29", "m")]),
+    (b"run boot_scr; $none; sou x; echo ${v}", [not_run("1:5", "boot_scr"), not_defined("1:15", "none"), not_defined("1:34", "v")]),
+]  # fmt: skip
+# What boards do in different ways, with and without stand-ins and variables
+DIFFERENCES = [
+    (b"exit", [exits("1:1")]),
+    (b"true && 'ex'it 3; if true; then exit $a; fi; echo exit", several(exits, "1:9 a 1:33 a")),
+    (b"for i in a 'b c' d\\ e 'f\ng' h\\\ti 'j k'$a; do exit; done", [cuts("1:12"), cuts("1:18"), cuts("1:23"), exits("2:21")]),
+    (b"for i in '' \"a b\"; do true; done; echo 'a b'; x='a b'", [cuts("1:13")]),
+]
 # More than one kind in a script: the carriage return first, then the commands in the order of the text
 MIXED = b"laod; run n; a=2\r\nrun s; for ok in a; do usb $none; laod n; done"
 MIXED_FOUND = [
@@ -390,12 +419,12 @@ def no_scripts():
         yield of_file(script, [], b"")
         yield over({b"a": b"1", b"s": script}, [b"s"], b"")
     for script, _ in NEAR_SCRIPTS:
-        yield from each_way(script, [])
+        yield from each_way(script, [exits(place(script, at)) for at in [script.find(b"exit")] if at >= 0])
     for script, line, column in NULS:
         yield of_file(script, [], lines([no_script(f"{line}:{column}", "Nul")], "a:1 b"))
-    for script, found in RETURNS + [each for each in BOARD_OPERATORS if each[1] is not None]:
+    for script, found in RETURNS + DIFFERENCES + [each for each in BOARD_OPERATORS if each[1] is not None]:
         yield from each_way(script, found)
-    for script, found in RETURNS + [each for each in OPERATORS if each[1] is not None]:
+    for script, found in RETURNS + DIFFERENCES + [each for each in OPERATORS if each[1] is not None]:
         yield from each_way(script, found, STRICT)
     for script in (script for script, found in BOARD_OPERATORS if found is None):
         yield of_file(script, [], b"")
@@ -438,6 +467,30 @@ def calls():
         yield of_file(b"'", with_stand_ins(), b"", files, errors=errors)
 
 
+def boards():
+    """What a board answers, with and without stand-ins."""
+    scripts = {b"found": b"run none", b"boot_scr_2": b"run none2", b"boot": b"run none3"}
+    told = lines([not_run("boot_scr_2:1:5", "none2"), not_run("found:1:5", "none")])
+    for words, files in (
+        ([b"--board=board"], {b"board": RULES}),
+        (with_stand_ins([b"--board", b"board"]), {b"board": RULES, b"stand-ins": b"usb\n"}),
+    ):
+        for script, found in BY_RULES:
+            yield over({b"s": script}, [b"s", *words], lines(found, "s"), files)
+            yield of_file(script, words, lines(without(found, "nothing defines", "`run "), "a:1 b"), files)
+        yield over(scripts | {b"s": b"true"}, [b"s", *words], told, files)
+        yield over({b"s": b"setexpr.q; usb"}, [b"s", *words], lines(several(not_called, "1:1 setexpr.q 1:12 usb")[: 3 - len(files)], "s"), files)
+        for text, line, sentence in ((b"mmc\n-mmc\n", 2, b"a - is for the name of a builtin alone"), (b"mmc ->\n", 1, b"no answer after ->")):
+            yield over({b"s": b"'"}, [b"s", *words], b"", files | {b"board": text}, errors=b"fwenv: board:%d: %s\n" % (line, sentence))
+    yield of_file(b"setexpr a 1; mmc", [b"--board", b"board"], lines([not_called("1:14", "mmc")], "a:1 b"), {b"board": b""})
+    yield of_file(
+        b"lo; load; setexp a 1",
+        [*STRICT, b"--board", b"board"],
+        lines([not_called("1:1", "lo"), not_called("1:11", "setexp")], "a:1 b"),
+        {b"board": RULES},
+    )
+
+
 def lacked_commands():
     for script, found in LACKED:
         yield from every_way(script, found, OTHERS)
@@ -451,4 +504,4 @@ def substitutions():
 
 
 def chunks():
-    return [no_scripts, starts, names, calls, lacked_commands, substitutions]
+    return [no_scripts, starts, names, calls, boards, lacked_commands, substitutions]

@@ -1,5 +1,5 @@
 """Faults of scripts that are found before they run, by hand: `fwenv check` over an environment and over one script. Each row is a
-call and the lines that it prints; with an error among them the status is 1. Nothing is written."""
+call and the lines that it prints; with an error among them the status is 1, and 2 if nothing could be checked. Nothing is written."""
 
 import re
 
@@ -14,7 +14,7 @@ from differential.rows import check_kinds
 from differential.rows.check_kinds import STAND_INS
 from differential.rows.script_rows import NO_ENVIRONMENTS, NO_SIZES, absent, longer
 from differential.rows.tool_rows import FIRST, PAIR, SECOND
-from model.arguments import AND_ENV, FILE_AND, NO_CODE, NO_SHELL, NO_SIZE, SIZE_ALONE
+from model.arguments import AND_ENV, FILE_AND, NO_CODE, NO_FORMAT, NO_SHELL, NO_SIZE, READ_TWICE, SIZE_ALONE
 from model.dry_run import LONGEST
 from model.image import Geometry
 from model.program import WARNING, Answer
@@ -129,22 +129,42 @@ TYPED = [
     (b"bootcmd=setenv n x; n=x\n.flags=n:d\n", [], []),
     (b"n=n=2\nbootcmd=run n\n.flags=bootcmd:d\n", [], [not_assigned("n:1:1", "n"), not_typed("bootcmd")]),
 ]
+# Entries of a boot menu: an environment, names, and all that is printed
+MENUS = [
+    (b"bootmenu_0=Boot=run n\nbootmenu_1=a b=run a; run m\n", [], [not_run("bootmenu_0:1:10", "n"), not_run("bootmenu_1:1:9", "a"), not_run("bootmenu_1:1:16", "m")]),
+    (b"bootcmd=bootmenu 3\nbootmenu_2=x=run n2\nbootmenu_10=x=run n1\n", [], [not_run("bootmenu_10:1:7", "n1"), not_run("bootmenu_2:1:7", "n2")]),
+    (b"bootmenu_0=x=run b\nb=run n\npreboot=run m\n", [], [not_run("preboot:1:5", "m"), not_run("b:1:5", "n")]),
+    (b"bootmenu_0=run n\n", [], [NOTHING]),
+    (b"bootmenu_=x=run n\nbootmenu_1a=x=run n\nbootmenu=x=run n\nabootmenu_1=x=run n\nbootmenu_-1=x=run n\n", [], [NOTHING]),
+    (b"bootmenu_0=x=run n\nbootcmd=true\n", [b"bootcmd"], []),
+    (b"bootmenu_0=x'y=run n\n", [b"bootmenu_0"], [not_run("bootmenu_0:1:9", "n")]),
+    (b"bootmenu_0=x=run n; run $a\na=true\n", [], [not_run("bootmenu_0:1:7", "n"), any_target("bootmenu_0:1:14")]),
+    (b"bootmenu_007=A \xc3\xa9 'title'=echo '\n", [], [no_script("bootmenu_007:1:19", "Quote")]),
+    (b"bootmenu_0==run n\n", [], [not_run("bootmenu_0:1:6", "n")]),
+    (b"bootmenu_0=x=\nbootmenu_1=x\n", [], []),
+    (b"bootmenu_0=a=setenv n 1\nbootcmd=echo $n; run n; run bootmenu_0\n", [], []),
+    (b"bootmenu_0=a\\\n b=run n\n", [], [not_run("bootmenu_0:2:8", "n")]),
+]  # fmt: skip
 # What is printed of arguments of `check` that are wrong, and such arguments; nothing is read
 WRONG = {
     FILE_AND: (
-        "-f script --shell x a / -f script a / a -f - / -f script '' / -c absent -f script / -f script --default absent / -f=script --env=absent / "
-        "-f script --size x / -f script --size 4000 --env absent -c absent a"
+        "-f script --shell x a / -f script a / -f a -f script a / a -f - / -f script '' / -c absent -f script / -f script --default absent / -f=script --env=absent / "
+        "-f script --size x / -f script --size 4000 --env absent -c absent a / -f script --known absent"
     ),
     AND_ENV % b"-c <FILE>": "--env absent -c absent / --default=absent --size=x --env absent -c=absent",
     AND_ENV % b"--default <FILE>": "a --default=absent --env absent",
     SIZE_ALONE: "--size 4000 / --size x -c absent a",
     NO_SIZE % b"x": "--env absent --size=x a / --env absent --size=x --shell=x",
-    NO_SHELL % b"x": "--shell x / --shell x --ignore y / --shell=x -f absent / -c absent --shell=x a",
-    NO_CODE % b"x": "--ignore x / --ignore=syntax --ignore x / -f absent --ignore=x --strict / -c absent --ignore=x a",
+    NO_SHELL % b"x": "--shell x / --shell x --ignore y --format z / --shell=x -f absent / -c absent --shell=x a",
+    NO_CODE % b"x": "--ignore x / --format y --ignore x / --ignore=syntax --ignore x / -f absent --ignore=x --strict / -c absent --ignore=x a",
     NO_CODE % b"": "--ignore=",
     NO_CODE % b"[syntax]": "--ignore [syntax] --ignore=x",
     NO_CODE % b"Syntax": "--ignore=Syntax",
-    None: "--ignore / --strict --strict / --strict=1 / --shell / --shell=board --shell=board / -f / -f a -f a / -e true / --write / --boots booti / --steps 1 / --stubs / --stubs=a --stubs=a / --env=a --env=a / -n a / -x",
+    NO_FORMAT % b"x": "--format x / --format=x -f absent / --format x --ignore syntax -c absent a / -f absent -f script --format=x",
+    NO_FORMAT % b"": "--format=",
+    NO_FORMAT % b"GCC": "--format GCC --strict",
+    READ_TWICE: "-f - -f - / -f - -f script -f - / -f - --stubs - / -f script -f - --stubs=- / --stubs - -f - -f absent",
+    None: "--ignore / --strict --strict / --strict=1 / --shell / --shell=board --shell=board / -f / -f a -f / --format / --format=gcc --format=gcc / -e true / --write / --boots booti / --steps 1 / --stubs / --stubs=a --stubs=a / --board / --board=a --board=a / --known / --known=a --known=a / --env=a --env=a / -n a / -x",
 }
 # Files that aren't there, in the order in which they are used
 ORDER = [
@@ -154,10 +174,16 @@ ORDER = [
     ([b"--env", b"none", b"--stubs", b"nothing"], b"none"),
     ([b"--env", b"stand-ins", b"--stubs", b"nothing"], b"nothing"),
     ([b"--env", b"./-"], b"./-"),
+    ([b"--env", b"stand-ins", b"--stubs", b"nothing", b"--board", b"none", b"--known", b"no"], b"nothing"),
+    ([b"--env", b"stand-ins", b"--stubs", b"stand-ins", b"--known", b"no", b"--board", b"none"], b"none"),
+    ([b"--env", b"stand-ins", b"--known", b"no"], b"no"),
+    ([b"-f", b"no", b"--board", b"none"], b"none"),
     ([b"-f", b"no", b"--stubs", b"nothing"], b"nothing"),
     ([b"-f", b"no", b"--stubs", b"stand-ins"], b"no"),
     ([b"-f", b"no"], b"no"),
     ([b"-f="], b""),
+    ([b"-f", b"stand-ins", b"-f", b"no", b"-f", b"none"], b"no"),
+    ([b"-f", b"none", b"-f", b"stand-ins"], b"none"),
 ]
 
 
@@ -175,8 +201,30 @@ def followed():
         found = with_nothing(text, names, lines_of)
         yield row("scripts that are followed", [b"--env", b"env", *names], {b"env": text}, lines(on_board(found)))
         yield row("scripts that are followed", [*STRICT, b"--env", b"env", *names], {b"env": text}, lines(found))
+    for text, names, found in MENUS:
+        yield row("entries of a boot menu", [b"--env", b"env", *names], {b"env": text}, lines(found))
     many = b"".join(b"v%d=run v%d v%d\n" % (at, at + 1, at * 7 % 500) for at in range(500))
     yield row("a long way", [b"--env", b"env", b"v0"], {b"env": many}, lines([not_run("v499:1:5", "v500")]), seconds=1)
+
+
+# Files of names that the board's own code sets, and the first line that is none
+KNOWN = [
+    (b"", None), (b"n\nm", None), (b"\n# a b=c\r\n \tn\r\n\n#\nm\n", None), (b"n\n\n$x\nm\nn\n", None),
+    (b"n\nm 1\n", 2), (b"n=1\n", 1), (b"n\nm\n\n# a\n\ta\0", 5), (b"n \nm=", 1), (b"n\tm\n", 1),
+]  # fmt: skip
+
+
+def known():
+    """Names that count as defined in substitutions, and nowhere else."""
+    given, files = [b"--env", b"env", b"--known", b"names"], {b"env": b"bootcmd=echo ${m} $o; run n\n"}
+    for text, line in KNOWN:
+        names = [] if line else [each.strip() for each in text.split(b"\n")]
+        found = [each for each in (not_defined("1:6", "m"), not_defined("1:11", "o"), not_run("1:19", "n")) if b"m" not in names or "{m}" not in each]
+        output, errors = (b"", b"fwenv: names:%d: not a name of a variable\n" % line) if line else (lines(found, "bootcmd"), b"")
+        yield row("known names", given, files | {b"names": text}, output, errors)
+    yield row(
+        "known names of standard input", [*given[:3], b"-"], files, lines([not_defined("1:11", "o"), not_run("1:19", "n")], "bootcmd"), given=b"n\nm"
+    )
 
 
 def many(kind, count, column=1, word="a"):
@@ -270,6 +318,81 @@ def counting():
     )
 
 
+# The same two findings in each format: those of a variable, and of a file
+FORMATS = {
+    b"text": (
+        b"n: error: no variable of this name is defined [no-variable]\n"
+        b"s:1:6: warning: `${y}` names a variable that nothing defines [undefined-name]\n",
+        b"a.sh:2:3: error: this shell has no `break` [other-shell]\n",
+    ),
+    b"json": (
+        b'{"code":"no-variable","column":null,"file":null,"line":null,"message":"no variable of this name is defined","severity":"error","variable":"n"}\n'
+        b'{"code":"undefined-name","column":6,"file":null,"line":1,"message":"`${y}` names a variable that nothing defines","severity":"warning","variable":"s"}\n',
+        b'{"code":"other-shell","column":3,"file":"a.sh","line":2,"message":"this shell has no `break`","severity":"error","variable":null}\n',
+    ),
+}
+FORMATS[b"gcc"] = FORMATS[b"text"]
+NOTHING_AS_JSON = (
+    b'{"code":"no-script","column":null,"file":null,"line":null,"message":"there is no script to look at","severity":"error","variable":null}\n'
+)
+ANY_AS_JSON = b'{"code":"run-unknown","column":5,"file":null,"line":1,"message":"what this runs is not known, so it is not followed","severity":"note","variable":"s"}\n'
+# Bytes of a name of a command, and what is printed of them as text, as compilers do, and as JSON
+ODD = [
+    (b"a\tb", b"a\tb", b"a?b", b"a\\tb"),
+    (b"a\nb", b"a\nb", b"a?b", b"a\\nb"),
+    (b'"\\', b'"\\', b'"\\', b'\\"\\\\'),
+    (b"\x01\x1f\x7f\x08\x0c", b"\x01\x1f\x7f\x08\x0c", b"?????", b"\\u0001\\u001f\x7f\\b\\f"),
+    (b"\xc3\xa9/", b"\xc3\xa9/", b"\xc3\xa9/", b"\xc3\xa9/"),
+    (b"\xff\xe2\x82b", b"\xff\xe2\x82b", b"\xff\xe2\x82b", b"\xef\xbf\xbd\xef\xbf\xbdb"),
+]
+
+
+def in_format(name, given, words, files, output, errors=(0, 0), **rest):
+    return row(name, [*words, b"--format", given], files, output, found=errors, **rest)
+
+
+def formats():
+    """How findings are printed."""
+    for given, (of_variables, of_a_file) in FORMATS.items():
+        yield in_format("a format", given, [b"--env", b"env", b"n", b"s"], {b"env": b"s=echo $y\n"}, of_variables, (1, 1))
+        yield in_format("a format of a file", given, [b"-f", b"a.sh"], {b"a.sh": b"\n  break\n"}, of_a_file, (1, 0))
+        yield in_format("nothing in a format", given, [b"-f", b"s"], {b"s": b"true\n"}, b"")
+        nothing = NOTHING_AS_JSON if given == b"json" else lines([NOTHING])
+        yield in_format("no script in a format", given, [b"--env", b"env"], {b"env": b"a=1\n"}, nothing, (1, 0))
+        any_name = ANY_AS_JSON if given == b"json" else lines([any_target("s:1:5")])
+        yield in_format("a note in a format", given, [b"--env", b"env", b"s"], {b"env": b"s=run $y; y=1\n"}, any_name)
+    for name, *told in ODD:
+        files = {b"s": b"'%s'\n" % name, b"none": b""}
+        for given, said in zip((b"text", b"gcc", b"json"), told):
+            line = b"s:1:1: error: no builtin and no stand-in is called `%s` [unknown-command]\n"
+            if given == b"json":
+                line = b'{"code":"unknown-command","column":1,"file":"s","line":1,"message":"no builtin and no stand-in is called `%s`","severity":"error","variable":null}\n'
+            yield in_format("odd bytes", given, [b"-f", b"s", b"--stubs", b"none"], files, line % said, (1, 0))
+    for given in (b"text", b"gcc", b"json"):
+        yield Case("more than is printed", [b"check", b"-f", b"s", b"--format", given], {b"s": b"break\n" * 3_000}, seconds=1)
+        yield Case("odd names", [b"check", b"--env", b"env", b"--format", given, b"x\ty", b"\xc3\xa9"], {b"env": b"\xff=1\n.flags=x:d\n"})
+
+
+def several():
+    """Scripts of several files, each under its own name and alone."""
+    files = {b"one": b"n=1; break\n", b"two": b"run n; echo $n\r\n", b"three": b"echo 'a\n", b"stand-ins": b"mmc\n"}
+    found = [*(f"one:{each}" for each in [lacked("1:6", "break")]), returned("two:1:15"), no_script("three:1:6", "Quote")]
+    yield row("several files", [b"-f", b"one", b"-f", b"two", b"-f", b"three"], files, lines(found), scripts=3)
+    yield row("in another order", [b"-f", b"three", b"-f", b"one", b"-f=two"], files, lines([found[2], found[0], found[1]]), scripts=3)
+    yield row("the same file twice", [b"-f", b"one", b"-f", b"one"], files, lines([found[0]] * 2), scripts=2)
+    yield row("a file and standard input", [b"-f", b"one", b"-f", b"-"], files, lines([found[0], no_script("-:1:1", "Quote")]), given=b"'", scripts=2)
+    yield row("standard input first", [b"-f", b"-", b"-fone"], files, lines([no_script("-:1:1", "Quote"), found[0]]), given=b"'", scripts=2)
+    wrong = [not_called("two:1:1", "usb"), not_called("three:1:6", "nand")]
+    words = with_stand_ins([b"-f", b"one", b"-f", b"two", b"-f", b"three"])
+    yield row("stand-ins of several files", words, files | {b"one": b"mmc", b"two": b"usb", b"three": b"mmc; nand"}, lines(wrong), scripts=3)
+    yield row("warnings that count", [b"--strict", b"-f", b"two", b"-f", b"two"], files, lines([found[1]] * 2), status=1, scripts=2)
+    left = [b"--ignore=syntax", b"--ignore", b"other-shell"]
+    yield row(
+        "a kind left out of several files", [*left, b"-f", b"three", b"-f", b"one", b"-f", b"two"], files, lines([found[1]]), status=0, scripts=3
+    )
+    yield row("no finding", [b"-f", b"a", b"-f", b"b"], {b"a": b"", b"b": b"true"}, b"", scripts=2)
+
+
 def opened():
     """Over copies, and without a good one."""
     single = Geometry(1, 64)
@@ -307,7 +430,7 @@ def words():
     files = {b"script": b"'", b"env": b"bootcmd=run n\n"}
     for errors, texts in WRONG.items():
         for given in calls(texts):
-            yield row("wrong words of a check", given, files, b"", errors, status=1)
+            yield row("wrong words of a check", given, files, b"", errors, status=2)
     for text in NO_SIZES:
         yield row("a wrong size", [b"--env", b"absent", b"--size=" + text], files, b"", NO_SIZE % text)
     found = lines([not_run("bootcmd:1:5", "n")])
@@ -333,4 +456,4 @@ def words():
 
 
 def chunks():
-    return [*check_kinds.chunks(), followed, limits, counting, opened, words]
+    return [*check_kinds.chunks(), followed, known, limits, counting, formats, several, opened, words]

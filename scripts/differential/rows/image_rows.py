@@ -35,7 +35,7 @@ REFUSED = [
 # What is printed of arguments that are wrong, and such arguments; nothing is read or written
 WRONG_WORDS = {
     NO_TEXT: "image --size 20 / image --size x --copies 3",
-    TWO_TEXTS: "image --env text --env-source text --size 20 / image --env-source absent --env absent --size x --copies 3",
+    TWO_TEXTS: "image --env text --env-source text --size 20 / image --env-plain text --env-source text --size 20 / image --env-plain text --env text --size 20 / image --env-source absent --env absent --size x --copies 3",
     None: "image / image --env text / image --env text --size 20 x / image --env text --size 20 -c x / image --env text --size 20 --write",
     NO_COPIES % b"3": "image --env text --size x --copies 3 --both --output out",
     NO_COPIES % b"": "image --env text --size 20 --copies=",

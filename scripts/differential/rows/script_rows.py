@@ -331,6 +331,14 @@ NO_ENVIRONMENTS = [
     (None, None, absent(b"env")),
     (b"\n" * (LONGEST + 1), None, longer(b"env")),
 ]
+# Lines as U-Boot's build prints them, and what U-Boot 2023.01 has of them after an `env import -b` of the same with a 0 byte
+# after each, tried in qemu
+INITIALS = [
+    (
+        b"a=x\\\nb=y\\\\\nc=\\q\\\\\\\nd=\\\ne=1\\;2\nf=\\",
+        b"a=x\\\nb=y\\\nc=q\\\\\nd=\\\ne=1;2\nf=\\\n",
+    ),
+]
 # A source of U-Boot, and its variables: what scripts/env2string.awk of U-Boot makes of it, tried with mawk and gawk
 SOURCES = [
     (b"", b""),
@@ -411,8 +419,9 @@ ORDER = [
 
 
 def row(name, words, files, output, errors, left=(), given=b"", seconds=0.25, status=None):
-    """The status is 1 if something is reported, unless it is given."""
-    wanted = Answer(int(errors != b"") if status is None else status, output, errors, files | dict(left))
+    """The status is 1 if something is reported, 2 of a check, unless it is given."""
+    refused = 2 if words[0] == b"check" else 1
+    wanted = Answer(refused * (errors != b"") if status is None else status, output, errors, files | dict(left))
     return Case(name, words, files, given, wanted=wanted, seconds=seconds)
 
 
@@ -564,6 +573,12 @@ def environments():
         yield row("a source", [b"run", b"--env-source", b"env", b"-e", b"printenv"], files, output, b"")
         yield row("a source from standard input", [b"run", b"--env-source=-", b"-e", b"printenv"], {}, output, b"", given=text)
         yield row("a session over it", [b"session", b"--env-source", b"env"], files, output, b"", given=b".print\n")
+    for text, output in INITIALS:
+        files = {b"env": text}
+        yield row("plain lines", [b"run", b"--env-plain", b"env", b"-e", b"printenv"], files, output, b"")
+        yield row("a session over them", [b"session", b"--env-plain=env"], files, output, b"", given=b".print\n")
+    errors = b"fwenv: env:2: no = in this line; for a source in U-Boot's own form use --env-source\n"
+    yield row("a plain line without =", [b"run", b"--env-plain", b"env", b"x"], {b"env": b"a=1\\\nb\n"}, b"", errors)
     for text, line, why in NO_SOURCES:
         for tool in (b"run a", b"session", b"check", b"boot", b"image --size 20"):
             yield row("no source", [*tool.split(), b"--env-source", b"env"], {b"env": text}, b"", b"fwenv: env:%d: %s\n" % (line, why))

@@ -194,7 +194,7 @@ def wanted_copies():
         for tool in (b"printenv", b"export"):
             yield Case("no copy", arguments(tool, b"--copy=" + word), files, wanted=Answer(1, b"", NO_COPY % word, files))
     for tool in (b"status", b"session", b"check"):
-        yield Case("no option", arguments(tool, b"--copy=1"), files, wanted=Answer(1, b"", None, files))
+        yield Case("no option", arguments(tool, b"--copy=1"), files, wanted=Answer(2 if tool == b"check" else 1, b"", None, files))
 
 
 # The same of which a text is standard input: that text, the status, output and errors, and the second copy afterwards (SECOND)
@@ -284,7 +284,7 @@ def foreign():
             warning = WARNING if b"blank" in words else b""
             files = {CONFIG: b"device 0 20\n", b"device": SMALL.image(0, b"a=1\0"), b"blank": b"erased 0 20\n", b"erased": ERASED * 32, b"file": file}
             errors = warning + b"fwenv: file: " + what + b"\n"
-            yield Case("no text", words, files, wanted=Answer(1, b"", errors, files))
+            yield Case("no text", words, files, wanted=Answer(2 if words[0] == b"check" else 1, b"", errors, files))
 
 
 def words():

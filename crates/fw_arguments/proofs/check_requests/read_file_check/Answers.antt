@@ -1,8 +1,8 @@
-use Rattle.std.proofs.Common.{sym, ◌∙◌}
+use Rattle.std.proofs.Common.{map, sym, ◌∙◌}
 use Rattle.clap.specs.Words.{found_of, rows_of}
 use Rattle.fw_arguments.proofs.CallLemmas.{refused_file}
 use Rattle.fw_arguments.proofs.check_requests.read_file_check.Goals as goal
 
 pub returns-then-names_environment : goal.returns-then-names_environment
 returns-then-names_environment c =
-    refused_file (rows_of (found_of c.args.found.now)) c.args.path.now _ c.of.ensures (sym c.names_environment.ensures ∙ c.if-names_environment.true)
+    refused_file (rows_of (found_of c.args.found.now)) (map (λ p. p.now) c.args.paths.now) _ c.of.ensures (sym c.names_environment.ensures ∙ c.if-names_environment.true)

@@ -1,4 +1,4 @@
-use Rattle.std.proofs.Common.{◌≡◌, ap, map, of_calls, rules, true, ◌∙◌}
+use Rattle.std.proofs.Common.{ap, map, of_calls, rules, ◌∙◌}
 use Rattle.std.proofs.lemmas.List.Sorted.{IsPartitionPoint-from_clause}
 use Rattle.fw_check.specs.NameSets.{is_ascending, is_before}
 use Rattle.fw_check.proofs.SortedLemmas.{Name, before-parted, drop-ascends, point-drop, range-rest}

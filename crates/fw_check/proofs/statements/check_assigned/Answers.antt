@@ -21,9 +21,9 @@ returns c =
     let named = sym (ap (option_map (λ v. v.items)) c.in-Some.is) ∙ c.in_ok-name.ensures in
     let told = c.is_defined.ensures ∙ ap (is_defined known) c.deref.ensures.value in
     elim c.if-is_defined.branch [
-      | then-is_defined+in_ok-add w ↦ assigned-yes c.args.lookups.now.shell known count literal name named old new c.is_defined.result told w.if-is_defined.true
+      | then-is_defined+in_ok-add w ↦ assigned-yes c.args.lookups.now.rules.shell known count literal name named old new c.is_defined.result told w.if-is_defined.true
           (w.findings-is ∙ w.in_ok-add.ensures
           ∙ ap (λ (n : List ℕ). found_more old (found_at count kind.HiddenAssignment (codes "`" ++ n ++ w.refused_end.result.now) ∷ [])) w.deref-then-is_defined.ensures.value
           ∙ ap (λ (e : List ℕ). found_more old (found_at count kind.HiddenAssignment (codes "`" ++ name ++ e) ∷ [])) w.refused_end.ensures)
-      | else-is_defined w ↦ assigned-no c.args.lookups.now.shell known count literal name named old new c.is_defined.result told w.if-is_defined.false w.findings-is
+      | else-is_defined w ↦ assigned-no c.args.lookups.now.rules.shell known count literal name named old new c.is_defined.result told w.if-is_defined.false w.findings-is
     ]

@@ -14,7 +14,7 @@ returns-in-Some c =
     let old = c.args.findings.now in
     let text = c.args.text.now in
     let words = c.args.words.now in
-    let shell = c.args.lookups.now.shell in
+    let shell = c.args.lookups.now.rules.shell in
     let wrong = c.in-Some.wrong in
     let found : Some (suspect_view wrong) ≡ wrong_in (fold (after_field shell text) ATerm words) =
     ap (option_map suspect_view) (sym c.in-Some.is) ∙ c.in_ok-wrong.ensures in

@@ -1,6 +1,7 @@
 use Rattle.std.proofs.Common.{◌+◌, ◌∷◌, ap, drop, map, subst, sym, ◌∙◌}
 use Rattle.std.proofs.lemmas.List.{drop_more}
-use Rattle.fw_check.specs.Checking.{Reports, value_in}
+use Rattle.fw_check.specs.Checking.{Reports, script_in}
+use Rattle.fw_check.specs.Lines.{Variable}
 use Rattle.fw_check.specs.Looking.{known_in, rules_in}
 use Rattle.fw_check.specs.Reports.{GoesOn}
 use Rattle.fw_check.proofs.VisitLemmas.{report-first}
@@ -17,8 +18,7 @@ loop-name-preserved c =
     let before = c.loop-name.so_far in
     let after = c.in_ok-so_far.so_far in
     let cut = drop_more names i x c.loop-name-test.true ∙ ap (λ v. v ∷ drop (i + 1) names) (sym c.name-item.is) in
-    let called = subst (λ n. GoesOn known given n c.value.result.now before after) c.deref.ensures.value c.in_ok-so_far.ensures in
-    let checked = subst (λ v. GoesOn known given x.items v before after) (c.value.ensures ∙ ap (value_in env) c.deref-in-loop-name.ensures.value) called in
+    let checked = subst (λ n. GoesOn known given (Variable n) (script_in env n) before after) c.deref.ensures.value c.in_ok-so_far.ensures in
     λ final rest. c.loop-name.invariant final
     (subst (λ vs. Reports env known given (map (λ n. n.items) vs) before final) (sym cut)
     (report-first known given env x.items (map (λ n. n.items) (drop (i + 1) names)) before after final checked rest))

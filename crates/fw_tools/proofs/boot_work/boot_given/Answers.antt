@@ -1,18 +1,29 @@
-use Rattle.std.proofs.Common.{inr, subst}
+use Rattle.std.proofs.Common.{List, inr, subst, map, ◌∙◌}
+use Rattle.std.proofs.lemmas.List.{length-map}
+use Rattle.hush_syntax.specs.Scripts.{tree_of}
+use Rattle.hush_syntax.specs.declared.script.Script.{Script}
 use Rattle.fw_files.specs.Said.{Says}
 use Rattle.hush_commands.specs.Hardware.{hardware}
+use Rattle.fw_arguments.specs.PowerOns.{power_ons_view}
+use Rattle.fw_tools.specs.PowerOns.{PrintsBoots}
 use Rattle.fw_tools.proofs.boot_work.boot_given.Goals as goal
 
 pub returns : goal.returns
 returns g c =
     let given = hardware c.in_ok-hardware.hardware.board c.in_ok-hardware.hardware.stand_ins in
+    let prints : List Script → Type 0 = λ scripts.
+    PrintsBoots (power_ons_view c.args.asked.now) given (map tree_of scripts) c.args.session.now
+    (g.W.Write.contents c.args.output.now) (g.W.Write.contents c.print_boots-end.new.output) c.print_boots-end.result in
+    let printed = subst prints c.deref.ensures.value c.print_boots-end.ensures in
     inr (
       given,
+      map tree_of c.in_ok-after.after.items,
       c.in_ok-hardware.ensures.0,
+      length-map c.in_ok-after.after.items tree_of ∙ c.in_ok-after.ensures.0,
       (
         c.print_boots-end.result,
-        c.print_boots-end.ensures,
-        subst (λ e. Says c.print_boots-end.result.fault e (g.E.Write.contents c.report.new.errors)) c.in_ok-hardware.ensures.1 c.report.ensures.said,
+        printed,
+        subst (λ e. Says c.print_boots-end.result.fault e (g.E.Write.contents c.report.new.errors)) (c.in_ok-after.ensures.1 ∙ c.in_ok-hardware.ensures.1) c.report.ensures.said,
         c.report.ensures.status,
       ),
     )

@@ -11,9 +11,9 @@ returns-then-is_shown-clause-runs g c =
 
 pub returns-in-Err-clause-runs : goal.returns-in-Err-clause-runs
 returns-in-Err-clause-runs g c =
-    replies_by c.of-name.result (map g.S.AsStr.text c.args.words.now) c.in-Err.error _ _ c.print_error.result c.of-name.ensures c.in-Err.ensures.fails refl c.print_error.ensures.answers
+    replies_by c.refused_status-refused.result c.of-name.result (map g.S.AsStr.text c.args.words.now) c.in-Err.error _ _ c.print_error.result c.refused_status-refused.ensures.status c.of-name.ensures c.in-Err.ensures.fails refl c.print_error.ensures.answers
 
 pub returns-in-Ok-clause-runs : goal.returns-in-Ok-clause-runs
 returns-in-Ok-clause-runs g c =
-    runs_by c.of-name.result (map g.S.AsStr.text c.args.words.now) c.in-Ok.matches _ _ c.act_on.result c.of-name.ensures c.in-Ok.ensures.fails c.in-Ok.ensures.order
+    runs_by c.refused_status-refused.result c.of-name.result (map g.S.AsStr.text c.args.words.now) c.in-Ok.matches _ _ c.act_on.result c.refused_status-refused.ensures.status c.of-name.ensures c.in-Ok.ensures.fails c.in-Ok.ensures.order
     c.in-Ok.ensures.called c.act_on.ensures.does

@@ -4,12 +4,13 @@ use Rattle.fw_arguments.specs.Calls.{call_view, spares}
 use Rattle.fw_files.specs.Misread.{Spares}
 use Rattle.fw_files.specs.Source.{second_bytes}
 use Rattle.fw_files.proofs.SaidLemmas.{said_then, waited_said}
+use Rattle.fw_tools.specs.Subcommands.{stopped_status}
 use Rattle.fw_tools.proofs.SubcommandLemmas.{opened_session, opens_so}
 use Rattle.fw_tools.proofs.subcommands.use_files.Goals as goal
 
 pub returns-in_err-session : goal.returns-in_err-session
 returns-in_err-session g c =
-    inl (refl, ((refl, said_then _ _ _ (waited_said _ _ c.in_ok-source.ensures.found.1) c.in_err-session.ensures), ap (λ o. unwrap_or o 1) c.from_residual-in_err-session.ensures))
+    inl (refl, (refl, said_then _ _ _ (waited_said _ _ c.in_ok-source.ensures.found.1) c.in_err-session.ensures), ap (λ o. unwrap_or o (stopped_status (call_view c.args.call.now).job)) c.from_residual-in_err-session.ensures)
 
 pub returns : goal.returns
 returns g c =

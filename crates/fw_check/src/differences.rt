@@ -1,0 +1,88 @@
+//! What boards do in different ways (docs/differences.md).
+ghost use Rattle.std.specs.Prelude.{◌≡◌, OnOk, option_map};
+ghost use Rattle.std.specs.List.{flat_map, list_any};
+ghost use Rattle.fw_check.specs.Findings.{cut_findings, exit_if, is_cut, is_cut_in};
+ghost use Rattle.fw_check.specs.Found.{found_more};
+
+use crate::findings::Findings;
+use crate::literals::literal;
+use crate::lookups::Lookups;
+use finding_kinds::FindingKind;
+use hush_syntax::{Text, Word};
+use std::alloc::AllocError;
+
+/// What is said of an `exit`.
+const EXIT: &[u8] = b"U-Boot before 2025 ignores `exit` and goes on";
+
+/// Adds an `exit`, if this is one.
+pub(crate) fn check_exit(
+    exits: bool,
+    count: usize,
+    findings: &mut Findings<'_, '_>,
+) -> Result<(), AllocError>
+    ensures { OnOk result (findings.new ≡ found_more findings.old (exit_if exits count)) }
+{
+    if exits {
+        findings.add(count, FindingKind::Exit, EXIT, b"", b"")
+    } else {
+        Ok(())
+    }
+}
+
+/// What is said of a word of a `for` that a board cuts.
+const CUT: &[u8] = b"a board cuts this word of a `for` at its blanks, in quotes too";
+
+/// Adds those of these words that a board cuts.
+pub(crate) fn check_cuts(
+    lookups: &Lookups<'_>,
+    text: &Text,
+    words: &[Word],
+    findings: &mut Findings<'_, '_>,
+) -> Result<(), AllocError>
+    ensures { OnOk result (findings.new ≡ found_more findings.old (flat_map (cut_findings text.now) words.now)) }
+{
+    for word in words {
+        check_cut(lookups, text, *word, findings)?;
+    }
+    Ok(())
+}
+
+/// Adds a word, if a board cuts it.
+fn check_cut(
+    lookups: &Lookups<'_>,
+    text: &Text,
+    word: Word,
+    findings: &mut Findings<'_, '_>,
+) -> Result<(), AllocError>
+    ensures { OnOk result (findings.new ≡ found_more findings.old (cut_findings text.now word)) }
+{
+    let bytes = literal(lookups.alloc, text, word)?;
+    if is_cut_in(&bytes) {
+        findings.add(word.start as usize, FindingKind::QuotedFor, CUT, b"", b"")?;
+    }
+    Ok(())
+}
+
+/// Whether a board cuts a word without a substitution.
+fn is_cut_in(bytes: &Option<Vec<u8>>) -> bool
+    ensures { result ≡ is_cut_in (option_map (λ v. v.items) bytes.now) }
+{
+    match bytes {
+        Some(bytes) => has_cut(bytes),
+        None => false,
+    }
+}
+
+/// Whether it cuts a text.
+fn has_cut(text: &[u8]) -> bool
+    ensures { result ≡ list_any is_cut text.now }
+{
+    text.iter().any(|b| is_cut(*b))
+}
+
+/// Whether it cuts at a byte.
+fn is_cut(b: u8) -> bool
+    ensures { result ≡ is_cut b }
+{
+    b == b' ' || b == b'\n'
+}
