@@ -18,6 +18,9 @@ from pathlib import Path
 EMULATOR = "qemu-system-aarch64"
 # U-Boot of Debian's package u-boot-qemu, and that of a newer Debian (scripts/uboot/newer)
 FIRMWARES = [Path("/usr/lib/u-boot/qemu_arm64/u-boot.bin"), Path("/usr/local/lib/u-boot-newer/qemu_arm64/u-boot.bin")]
+# One that counts its boots (scripts/uboot/counting), in an environment of its own size
+COUNTING = Path("/usr/local/lib/u-boot-counting/u-boot.bin")
+COUNTED_SIZE = 0x1000
 FLASH_ADDRESS = 0x4000000
 FLASH_SIZE = 0x4000000
 ENVIRONMENT_SIZE = 0x40000
@@ -39,6 +42,11 @@ def firmwares():
         year = int(re.search(rb"U-Boot (20\d\d)\.", path.read_bytes())[1])
         found.setdefault("older" if year < 2024 else "newer", path)
     return found
+
+
+def counts_boots():
+    """Whether the one that counts is here and can be emulated."""
+    return COUNTING.exists() and shutil.which(EMULATOR) is not None
 
 
 class Silent(Exception):
@@ -194,10 +202,10 @@ class Board(Console):
             if place >= 0:
                 memory[place : place + 2048] = sectors(0x1000)
 
-    def stored(self):
+    def stored(self, size=ENVIRONMENT_SIZE):
         """The image that is stored in the flash."""
         with open(self.flash, "rb") as flash:
-            return flash.read(ENVIRONMENT_SIZE)
+            return flash.read(size)
 
 
 class Sandbox(Console):

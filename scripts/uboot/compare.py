@@ -7,8 +7,8 @@ ways.
     compare.py --classes              only the classes of docs/differences.md and those that the rows name
     compare.py --releases             which releases of U-Boot can be compared with
 
-U-Boot is that of Debian's package u-boot-qemu and, if `scripts/uboot/newer` was run, a newer one; qemu-system-aarch64 has to be
-installed. A name ends with the release.
+U-Boot is that of Debian's package u-boot-qemu and, if `scripts/uboot/newer` was run, a newer one, and for power-ons that are counted
+the one of `scripts/uboot/counting`; qemu-system-aarch64 has to be installed. A name ends with the release.
 """
 
 import functools
@@ -21,12 +21,12 @@ from concurrent.futures import ThreadPoolExecutor
 from pathlib import Path
 
 from at_prompt import faults_of_random
-from board import Silent, firmwares
+from board import COUNTED_SIZE, COUNTING, Silent, counts_boots, firmwares
 from cases import answers_of, cases, typed
 from counted import check, end
 from dry_run import ANSWER, TOP, Pair, answer_of
 from images import COUNT, MANY, answers_to_many, answers_to_row, faults_of_environment
-from power_ons import POWER_ONS, answers_to_power_ons
+from power_ons import POWER_ONS, answers_to_power_ons, counted_rows
 from rows import Row, fault_of, read_rows
 
 HERE = Path(__file__).resolve().parent
@@ -132,6 +132,14 @@ def work_on_power_ons(pair):
         yield Row(f"power-on: {name}"), functools.partial(answers_to_power_ons, variables, copy)
 
 
+def compare_counted(only, pair, pool):
+    """The power-ons of a board that counts them."""
+    work = [(row, pair.copy(row.place), variables) for row, variables in counted_rows() if only in row.name]
+    work = [(row, pool.submit(answers_to_power_ons, variables, copy, "--bootcount", "--stored=30")) for row, copy, variables in work]
+    for row, answers in work:
+        take_row(row, pair.release, answers.result)
+
+
 def work_at_random(pair, seed, scripts, tests):
     """The comparisons of scripts and of tests at random, in chunks: each has names with faults."""
     for kind, count in (("script", scripts), ("test", tests)):
@@ -165,11 +173,11 @@ def take_random(found):
 
 def main(arguments):
     if "--releases" in arguments:
-        return print(*firmwares())
+        return print(*firmwares(), *["counting"] * counts_boots())
     rows = [row for path in sorted(HERE.glob("*.rows")) for row in read_rows(path)]
     value_of = dict(zip(arguments, arguments[1:]))
     if "--random" not in arguments:
-        compare_classes([*rows, MANY])
+        compare_classes([*rows, MANY, *(row for row, _ in counted_rows())])
     if "--classes" not in arguments:
         with tempfile.TemporaryDirectory() as folder, ThreadPoolExecutor(os.cpu_count()) as pool:
             for release, firmware in firmwares().items():
@@ -179,6 +187,8 @@ def main(arguments):
                     take_random([pool.submit(faults) for faults in work_at_random(pair, os.getpid(), count, count // 2)])
                 else:
                     compare(rows, value_of.get("--only", ""), pair, pool)
+            if counts_boots() and "--random" not in arguments:
+                compare_counted(value_of.get("--only", ""), Pair(arguments[0], "counting", COUNTING, Path(folder), COUNTED_SIZE), pool)
     end()
 
 

@@ -23,6 +23,7 @@ class Pair:
     release: str
     firmware: Path
     folder: Path
+    size: int = ENVIRONMENT_SIZE
 
     def copy(self, name):
         return Copy(self, self.folder / f"{name}-{self.release}.flash".replace(" ", "-").replace("/", "-"))
@@ -32,10 +33,10 @@ class Copy:
     """A single stored copy in a file, with the program and the board over it."""
 
     def __init__(self, pair, image):
-        self.program, self.firmware = pair.program, pair.firmware
+        self.program, self.firmware, self.size = pair.program, pair.firmware, pair.size
         self.image = image
         self.config = self.image.with_suffix(".config")
-        self.config.write_text(f"{self.image} 0 {ENVIRONMENT_SIZE:#x}\n")
+        self.config.write_text(f"{self.image} 0 {self.size:#x}\n")
         self.text = self.image.with_suffix(".text")
         self.stubs = self.image.with_suffix(".stubs")
 
@@ -48,7 +49,7 @@ class Copy:
 
     def store(self, variables):
         """Stores an environment by `fwenv import`."""
-        self.image.write_bytes(bytes(ENVIRONMENT_SIZE))
+        self.image.write_bytes(bytes(self.size))
         self.text.write_bytes(text_of(variables))
         done = self.run("import", self.text)
         if done.returncode != 0:
@@ -59,7 +60,7 @@ class Copy:
         self.stubs.write_bytes(stubs)
         words = ["--shell", "board", "--stubs", self.stubs]
         if default is not None:
-            self.image.write_bytes(bytes(ENVIRONMENT_SIZE))
+            self.image.write_bytes(bytes(self.size))
             self.text.write_bytes(text_of(default))
             words += ["--default", self.text]
         done = self.run("session", *words, input=text)
