@@ -17,7 +17,7 @@ OBJECT, GLUE = TOP / "crates/fwenv/out/fwenv-aarch64.o", TOP / "packaging/cross/
 # What the parts of scripts/differential preload, by its source
 PRELOADS = {"cut": "cut_streams.c", "raw": "raw_device.c"}
 # The parts with nothing at random
-PARTS = ("tool_rows", "report_rows", "image_rows", "find_rows", "client_rows", "script_rows", "board_rows", "boot_rows", "check_rows", "check_boards", "session_rows", "documents", "runs 0 0 0",
+PARTS = ("tool_rows", "report_rows", "image_rows", "find_rows", "client_rows", "script_rows", "board_rows", "boot_rows", "check_rows", "check_boards", "check_slips", "session_rows", "documents", "runs 0 0 0",
          "files", "hostile_files")  # fmt: skip
 
 

@@ -79,7 +79,7 @@ NO_SHELL = b"""error: invalid value '%s' for '--shell <SHELL>'
 For more information, try '--help'.
 """
 NO_CODE = b"""error: invalid value '%s' for '--ignore <CODE>'
-  [possible values: carriage-return, syntax, other-shell, unknown-command, exit, test-operator, run-undefined, run-unknown, hidden-assignment, quoted-for, undefined-name, \
+  [possible values: carriage-return, syntax, other-shell, unknown-command, exit, wrong-use, test-operator, run-undefined, run-unknown, hidden-assignment, quoted-for, undefined-name, \
 no-variable, no-script, value-type]
 
 For more information, try '--help'.

@@ -23,8 +23,8 @@ STARTED = (b"bootcmd", b"altbootcmd", b"preboot")
 ERROR, WARNING, NOTE = b"error", b"warning", b"note"
 # The kinds of findings by their codes, in the order of the table
 KINDS = {
-    b"carriage-return": WARNING, b"syntax": ERROR, b"other-shell": ERROR, b"unknown-command": ERROR, b"exit": WARNING, b"test-operator": ERROR,
-    b"run-undefined": ERROR, b"run-unknown": NOTE, b"hidden-assignment": WARNING, b"quoted-for": WARNING, b"undefined-name": WARNING, b"no-variable": ERROR,
+    b"carriage-return": WARNING, b"syntax": ERROR, b"other-shell": ERROR, b"unknown-command": ERROR, b"exit": WARNING, b"wrong-use": ERROR,
+    b"test-operator": ERROR, b"run-undefined": ERROR, b"run-unknown": NOTE, b"hidden-assignment": WARNING, b"quoted-for": WARNING, b"undefined-name": WARNING, b"no-variable": ERROR,
     b"no-script": ERROR, b"value-type": ERROR,
 }  # fmt: skip
 NOT_DEFINED = b"no variable of this name is defined"
@@ -48,6 +48,18 @@ LACKED = {
     **{name: b"this shell has no `%s`" % name for name in (b"break", b"continue", b"return", b"case", b"function")},
 }
 NO_FUNCTIONS = b"this shell has no functions"
+NO_TEST = b"a comparison needs `test` before it"
+BACKQUOTES = b"this shell runs nothing in backquotes"
+BRACES = b"these braces are a part of the word: write `${NAME}` for a value"
+REDIRECTION = b"this shell redirects nothing"
+# What is said of wrong words of a command
+RUNS_NOTHING = b"`run` needs the name of a variable"
+NO_SETTING = b"`setenv` is written `setenv NAME VALUE`"
+NO_CALCULATION = b"`setexpr` is written `setexpr NAME VALUE` or `setexpr NAME VALUE OPERATOR VALUE`"
+NO_NUMBER = b"`test` compares a word as a number, which is 0"
+NO_SUBCOMMAND = b"`env` needs the name of one of its commands"
+NO_SEPARATOR = b"a `;` is missing before `run`"
+NO_EXPRESSION = b"the words of `test` are no expression"
 # What U-Boot and its commands set by themselves, and what its scripts use whether a board defines it or not
 SET_BY_UBOOT = {
     b"boardver", b"bootargs", b"bootcount", b"bootfile", b"devnum", b"devtype", b"distro_bootpart", b"dnsip", b"dnsip2", b"domain",
@@ -57,12 +69,24 @@ SET_BY_UBOOT = {
 }  # fmt: skip
 # Commands whose first argument names the variable that they set
 SETTING = {b"setenv", b"setexpr", b"setexpr.b", b"setexpr.w", b"setexpr.l", b"setexpr.q"}
+# The commands of U-Boot's `env`, whether a dry run has them or not
+OF_ENV = {
+    b"ask", b"callbacks", b"default", b"delete", b"edit", b"erase", b"exists", b"export", b"flags", b"grep", b"import", b"indirect", b"info",
+    b"load", b"print", b"run", b"save", b"select", b"set",
+}  # fmt: skip
+# The forms of `setexpr` that work on texts, and the comparisons of numbers
+TEXT_FORMS = (b"sub", b"gsub", b"fmt")
+OF_NUMBERS = (b"-eq", b"-ne", b"-lt", b"-le", b"-gt", b"-ge")
 # The variables of a boot menu, and what comes before the script of an entry
 ENTRY_NAME, TITLE = re.compile(rb"bootmenu_[0-9]+"), re.compile(rb"[^=]*=?")
 # No further line is added once there are this many bytes; then it is reported that there is more
 MOST = 65_536
 MORE = b"more is found, and not printed\n"
 LAST = b"%s looked at, %s, %s\n"
+# Words of `test` that are no expression
+BROKEN = object()
+# How many words a board takes from one of these on
+SIZES = {b"!": 1, b"-a": 1, b"-o": 1, b"-n": 2, b"-z": 2, b"-e": 4}
 # How an operator is written
 WRITTEN = re.compile(rb"-[A-Za-z].*|[=!<>~]+", re.DOTALL)
 
@@ -77,12 +101,13 @@ class Finding:
 @dataclass
 class Known:
     """The shell; the values of the environment, or None if only one script is checked; the stand-ins, and the rules of a board, both None
-    if there is no file of either; the names that a substitution may have; and those that `run` may."""
+    if there is no file of either; the names that something may set; those that a substitution may have; and those that `run` may."""
 
     shell: object = STRICT
     values: dict = None
     stand_ins: dict = None
     board: list = None
+    set: set = frozenset()
     defined: set = frozenset()
     started: set = frozenset()
 
@@ -283,9 +308,16 @@ def no_script(fault):
 # The kinds of findings in a command
 
 
-def lacked(command):
+def known_name(command, known):
+    """The command's name, if all is known of it."""
+    if command[0] != "simple" or not command[1] or lost_test(command, known):
+        return None
+    return constant_field(command[1][0], known) if named(command) is None else named(command)
+
+
+def lacked(command, known):
     """What is reported of a command that this shell lacks; None for another."""
-    name, arguments = named(command), words_of(command)[1:]
+    name, arguments = known_name(command, known), words_of(command)[1:]
     if name is None or name in LACKED:
         return LACKED.get(name)
     is_head = name.endswith(b"()") or (arguments and literal(arguments[0]) == b"()" and name not in BUILTINS)
@@ -294,17 +326,52 @@ def lacked(command):
 
 def lacked_command(command, known):
     """A command that other shells have, unless a stand-in answers it."""
-    name = named(command)
-    if lacked(command) is None or answered(name, known):
+    said = lacked(command, known)
+    if said is None or answered(known_name(command, known), known):
         return []
-    return [Finding(command[1][0].place, b"other-shell", lacked(command))]
+    return [Finding(command[1][0].place, b"other-shell", said)]
+
+
+def plain(word):
+    """The bytes of a word that are in no quotes and of no substitution."""
+    return bytes(part[1] for part in word if part[0] == "plain")
+
+
+def foreign(word):
+    """What is said of a word that is written for another shell."""
+    text = plain(word)
+    if b"`" in text:
+        return BACKQUOTES
+    if re.fullmatch(rb"\{.+\}", text, re.DOTALL):
+        return BRACES
+    return REDIRECTION if text.startswith(b">") else None
+
+
+def words_of_another_shell(command, known):
+    """Arguments that are written so, and a comparison that has no `test`."""
+    words = words_of(command)
+    if command[0] == "simple":
+        words = [] if called(command, known) in (b"echo", b"test") else words[1:]
+    elif command[0] != "for":
+        words = []
+    found = [(word.place, foreign(word)) for word in words]
+    return [Finding(place, b"other-shell", said) for place, said in found if said]
+
+
+def lost_test(command, _known):
+    """A value in the place of a command, and a comparison behind it."""
+    words = words_of(command) if command[0] == "simple" else []
+    if not words or named(command) is not None or not words[1:] or literal(words[1]) not in {*COMPARISONS, b"=="}:
+        return []
+    return [Finding(words[0].place, b"other-shell", NO_TEST)]
 
 
 def unknown_command(command, known):
     """A command that only hardware has and that nothing answers, or a builtin that the board lacks."""
-    name, found = named(command), called(command, known)
-    if name is None or lacked(command) is not None or known.stand_ins is None:
+    name = known_name(command, known)
+    if name is None or lacked(command, known) is not None or known.stand_ins is None:
         return []
+    found = known.shell.called(name, answering(known))
     if answered(name, known) or answered(found, known) or (found in BUILTINS and not lacks(known.board, found)):
         return []
     return [Finding(command[1][0].place, b"unknown-command", NO_COMMAND % name)]
@@ -331,8 +398,21 @@ def undefined_target(command, known):
 def of_target(word, known):
     name = literal(word)
     if name is None:
-        return [] if front(word) else [Finding(word.place, b"run-unknown", ANY_TARGET)]
+        name = constant_field(word, known)
+        if name is None or name in known.started:
+            return [] if front(word) else [Finding(word.place, b"run-unknown", ANY_TARGET)]
     return [] if name in known.started else [Finding(word.place, b"run-undefined", NO_TARGET % name)]
+
+
+def constant_field(word, known):
+    """The first field of a word whose substitutions are of variables that nothing sets but the environment; None for another, and if it has
+    none."""
+    text = b""
+    for part in word:
+        if part[0] == "status" or (part[0] == "name" and (known.values is None or part[1] not in known.values or part[1] in known.set)):
+            return None
+        text += known.values[part[1]] if part[0] == "name" else b"" if part[0] == "mark" else bytes([part[1]])
+    return re.match(rb"[^ \t\n]*", text)[0] or None
 
 
 def refused_assignment(command, known):
@@ -342,6 +422,37 @@ def refused_assignment(command, known):
     return [Finding(command[-1], b"hidden-assignment", IS_VARIABLE % command[1] + (HIDES if known.shell.hides else NOT_ASSIGNED))]
 
 
+def misuse(name, words, known):
+    """What is said of these arguments of a command."""
+    literals = [literal(word) for word in words]
+    if name == b"run":
+        return None if words else RUNS_NOTHING
+    if name == b"setenv":
+        is_right = words and not re.search(rb"[ =]", front(words[0])) and literals[1:2] != [b"="]
+        return None if is_right else NO_SETTING
+    if name == b"test":
+        pairs = [*zip(literals, literals[1:]), *zip(literals[1:], literals)]
+        return NO_NUMBER if any(is_number_of(*pair) for pair in pairs) else None
+    if name in SETTING and (len(words) < 2 or literals[1] not in TEXT_FORMS):
+        return None if len(words) in (2, 4) and not re.search(rb"[+-]", plain(words[1])) else NO_CALCULATION
+    if name == b"env":
+        word = (literals or [b""])[0]
+        return NO_SUBCOMMAND if not words or (word is not None and not known.shell.names(word, OF_ENV)) else None
+    if name is None or name in BUILTINS:
+        return None
+    return NO_SEPARATOR if any(first == b"run" and second in (known.values or ()) for first, second in zip(literals, literals[1:])) else None
+
+
+def is_number_of(sign, word):
+    """Whether a comparison of numbers is beside a word that begins with a letter."""
+    return sign in OF_NUMBERS and re.match(rb"[A-Za-z]", word or b"")
+
+
+def wrong_use(command, known):
+    said = misuse(called(command, known), command[1][1:], known) if command[0] == "simple" else None
+    return [Finding(command[1][0].place, b"wrong-use", said)] if said else []
+
+
 def written(word):
     """The word, if it is written as an operator is; else None."""
     return word if word is not None and WRITTEN.fullmatch(literal(word) or b"") else None
@@ -349,41 +460,52 @@ def written(word):
 
 def no_operator(words):
     """The first of the words of `test`, each taken for one field, that is in the place of an operator and is written as one, but isn't
-    one; None if there is none."""
+    one; BROKEN if they can't be an expression for another reason; None if there is neither."""
     rest = list(words)
     while rest:
         first, second = rest[0], rest[1] if rest[1:] else None
         if literal(first) == b"!":
             rest = rest[1:]
             continue
-        if literal(first) in (b"-n", b"-z"):
-            rest = rest[2:]
-        elif second is None or literal(second) not in COMPARISONS:
-            return written(second) or written(first)
-        else:
-            rest = rest[3:]
+        size = 2 if literal(first) in (b"-n", b"-z") else 3
+        if size == 3 and (second is None or literal(second) not in COMPARISONS):
+            return of_two(*rest[:3])
+        if len(rest) < size:
+            return BROKEN
+        rest = rest[size:]
         if rest and literal(rest[0]) not in (b"-a", b"-o"):
-            return written(rest[0])
+            return written(rest[0]) or broken_at(rest[0])
         rest = rest[1:]
     return None
 
 
+def broken_at(word):
+    """What a word that ends the expression makes of the words: that depends on its value, if it has one."""
+    return None if literal(word) is None else BROKEN
+
+
+def of_two(first, second=None, third=None):
+    """The same of the first words of a term that is none."""
+    wrong = written(second) or written(first)
+    if wrong is not None or second is None:
+        return BROKEN if wrong is None else wrong
+    if literal(first) is not None or literal(second) is None:
+        return None if literal(second) is None else BROKEN
+    # the first may be `!`, `-n` or `-z`
+    return None if third is None or literal(third) in {None, b"-a", b"-o", *COMPARISONS} else BROKEN
+
+
 def no_operator_of_board(words):
-    """The same as a board reads the words: a term may follow any other, and `-e` has three words."""
+    """The same as a board reads the words: a comparison comes before all, a term may follow any other, and `-e` has three words."""
     rest = list(words)
     while rest:
-        first, second = literal(rest[0]), rest[1] if rest[1:] else None
-        if first in (b"!", b"-a", b"-o"):
-            if second is not None and literal(second) in COMPARISONS:
-                rest = rest[3:]
-            else:
-                rest = rest[1:]
-        elif first in (b"-n", b"-z", b"-e"):
-            rest = rest[4 if first == b"-e" else 2 :]
-        elif second is None or literal(second) not in COMPARISONS:
-            return written(second) or written(rest[0])
-        else:
-            rest = rest[3:]
+        first, is_compared = literal(rest[0]), literal(rest[1] if rest[1:] else []) in COMPARISONS
+        size = 3 if is_compared else SIZES.get(first)
+        if size is None:
+            return of_two(*rest[:3])
+        if len(rest) < size:
+            return BROKEN
+        rest = rest[size:]
     return None
 
 
@@ -392,6 +514,8 @@ def unknown_operator(command, known):
     if called(command, known) != b"test":
         return []
     word = (no_operator if known.shell is STRICT else no_operator_of_board)(command[1][1:])
+    if word is BROKEN:
+        return [Finding(command[1][0].place, b"wrong-use", NO_EXPRESSION)]
     return [] if word is None else [Finding(word.place, b"test-operator", NO_OPERATOR % literal(word) + IS_FALSE * (known.shell is STRICT))]
 
 
@@ -404,7 +528,7 @@ def undefined_substitution(command, known):
 
 
 SEARCHES = (
-    lacked_command, unknown_command, ignored_exit, unknown_operator, undefined_target, refused_assignment, cut_word, undefined_substitution,
+    lacked_command, lost_test, unknown_command, words_of_another_shell, ignored_exit, wrong_use, unknown_operator, undefined_target, refused_assignment, cut_word, undefined_substitution,
 )  # fmt: skip
 
 
@@ -499,7 +623,8 @@ def of_environment(shell, values, stand_ins, board, own, names, *asked):
             report.add_line(VARIABLE, name, (), b"no-variable", NOT_DEFINED)
     known = Known(shell, values, stand_ins, board)
     scripts = visited(known, names or [*STARTED, *sorted(name for name in values if is_entry(name, values))])
-    known.defined = values.keys() | names_by(given, known, scripts) | SET_BY_UBOOT | set(own)
+    known.set = names_by(given, known, scripts) | SET_BY_UBOOT | set(own)
+    known.defined = values.keys() | known.set
     known.started = values.keys() | names_by(foreseen, known, scripts)
     for name in scripts:
         script = text_of_script(name, values)

@@ -70,6 +70,10 @@ class Strict:
         """The subcommand of `env` that a word names."""
         return word
 
+    def names(self, word, names):
+        """Whether a word may name one of these."""
+        return word in names
+
 
 class Board(Strict):
     """What a board does in another way."""
@@ -115,6 +119,10 @@ class Board(Strict):
 
     def subcommand(self, word):
         return only(word, SUBCOMMANDS)
+
+    def names(self, word, names):
+        beginning = word.partition(b".")[0]
+        return bool(beginning) and any(name.startswith(beginning) for name in names)
 
 
 STRICT, BOARD = Strict(), Board()

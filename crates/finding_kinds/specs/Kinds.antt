@@ -13,6 +13,7 @@ code_of kind.Syntax = codes "syntax"
 code_of kind.OtherShell = codes "other-shell"
 code_of kind.UnknownCommand = codes "unknown-command"
 code_of kind.Exit = codes "exit"
+code_of kind.WrongUse = codes "wrong-use"
 code_of kind.TestOperator = codes "test-operator"
 code_of kind.RunUndefined = codes "run-undefined"
 code_of kind.RunUnknown = codes "run-unknown"
@@ -29,6 +30,7 @@ severity_of kind.Syntax = severity.Error
 severity_of kind.OtherShell = severity.Error
 severity_of kind.UnknownCommand = severity.Error
 severity_of kind.Exit = severity.Warning
+severity_of kind.WrongUse = severity.Error
 severity_of kind.TestOperator = severity.Error
 severity_of kind.RunUndefined = severity.Error
 severity_of kind.RunUnknown = severity.Note
@@ -42,8 +44,8 @@ severity_of kind.ValueType = severity.Error
 -- all of them
 abbrev pub all_kinds : List FindingKind
 all_kinds =
-    kind.CarriageReturn ∷ kind.Syntax ∷ kind.OtherShell ∷ kind.UnknownCommand ∷ kind.Exit ∷ kind.TestOperator ∷ kind.RunUndefined
-    ∷ kind.RunUnknown ∷ kind.HiddenAssignment ∷ kind.QuotedFor ∷ kind.UndefinedName ∷ kind.NoVariable ∷ kind.NoScript ∷ kind.ValueType ∷ []
+    kind.CarriageReturn ∷ kind.Syntax ∷ kind.OtherShell ∷ kind.UnknownCommand ∷ kind.Exit ∷ kind.WrongUse ∷ kind.TestOperator
+    ∷ kind.RunUndefined ∷ kind.RunUnknown ∷ kind.HiddenAssignment ∷ kind.QuotedFor ∷ kind.UndefinedName ∷ kind.NoVariable ∷ kind.NoScript ∷ kind.ValueType ∷ []
 
 abbrev pub is_called : List ℕ → FindingKind → Bool
 is_called text k = bytes_eq (code_of k) text

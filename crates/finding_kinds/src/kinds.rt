@@ -27,6 +27,8 @@ pub enum FindingKind {
     UnknownCommand,
     /// An `exit`, which older boards ignore.
     Exit,
+    /// A command with words that it can't have, or that say something else than is meant.
+    WrongUse,
     /// A word of `test` that is written as an operator, but isn't one.
     TestOperator,
     /// A `run` of a variable that isn't defined.
@@ -48,12 +50,13 @@ pub enum FindingKind {
 }
 
 /// All of them, in the order of the table.
-const ALL: [FindingKind; 14] = [
+const ALL: [FindingKind; 15] = [
     FindingKind::CarriageReturn,
     FindingKind::Syntax,
     FindingKind::OtherShell,
     FindingKind::UnknownCommand,
     FindingKind::Exit,
+    FindingKind::WrongUse,
     FindingKind::TestOperator,
     FindingKind::RunUndefined,
     FindingKind::RunUnknown,
@@ -76,6 +79,7 @@ impl FindingKind {
             FindingKind::OtherShell => "other-shell",
             FindingKind::UnknownCommand => "unknown-command",
             FindingKind::Exit => "exit",
+            FindingKind::WrongUse => "wrong-use",
             FindingKind::TestOperator => "test-operator",
             FindingKind::RunUndefined => "run-undefined",
             FindingKind::RunUnknown => "run-unknown",

@@ -143,5 +143,5 @@ pub(crate) const BAD_FORMAT: &[u8] =
 /// What is wrong with a code of a kind of finding, after it.
 pub(crate) const BAD_CODE: &[u8] =
     b"' for '--ignore <CODE>'\n  [possible values: carriage-return, syntax, other-shell, \
-    unknown-command, exit, test-operator, run-undefined, run-unknown, hidden-assignment, quoted-for, undefined-name, no-variable, \
+    unknown-command, exit, wrong-use, test-operator, run-undefined, run-unknown, hidden-assignment, quoted-for, undefined-name, no-variable, \
     no-script, value-type]\n\nFor more information, try '--help'.\n";

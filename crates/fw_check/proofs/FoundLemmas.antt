@@ -7,7 +7,8 @@ use Rattle.memchr.specs.Find.{IsFirstByte}
 use Rattle.text_parts.proofs.CutLemmas.{list_any-answer, position_or_len-found}
 use Rattle.hush_commands.specs.declared.shell.Shell.{Shell}
 use Rattle.finding_kinds.specs.declared.kinds.FindingKind.TheVariants as kind
-use Rattle.fw_check.specs.Findings.{Finding, Known, Report, assigned_findings, found_at, is_defined, is_return, refused_sentence, return_findings, return_sentence, with_finding, with_findings}
+use Rattle.fw_check.specs.Findings.{Finding, Report, assigned_findings, found_at, is_return, refused_sentence, return_findings, return_sentence, with_finding, with_findings}
+use Rattle.fw_check.specs.Knowing.{Known, is_defined}
 use Rattle.fw_check.specs.Found.{Found, found_more}
 use Rattle.fw_check.specs.Lines.{Subject}
 

@@ -2,6 +2,8 @@ mod GatherLemmas
 mod FoundLemmas
 mod SummaryLemmas
 mod LiteralLemmas
+mod ForeignLemmas
+mod ConstantLemmas
 mod NameLemmas
 mod SortedLemmas
 mod FollowLemmas

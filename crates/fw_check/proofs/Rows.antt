@@ -15,8 +15,13 @@ use Rattle.hush_commands.specs.Stubs.{Statuses}
 use Rattle.finding_kinds.specs.declared.kinds.FindingKind.TheVariants as kind
 use Rattle.fw_check.specs.Called.{Given, called_by, given_with}
 use Rattle.fw_check.specs.Following.{is_among, names_with}
-use Rattle.fw_check.specs.Findings.{Finding, Known, called_findings, found_at, lacking_sentence, name_findings, names_findings, set_by_commands, target_findings, undefined_sentence}
+use Rattle.fw_check.specs.Foreign.{foreign_of, plain_of}
+use Rattle.fw_check.specs.declared.foreign.Foreign.TheVariants as foreign
+use Rattle.fw_check.specs.Findings.{Finding, called_findings, found_at, lacking_sentence, name_findings, names_findings, target_findings, undefined_sentence}
+use Rattle.fw_check.specs.Knowing.{Known, set_by_commands}
 use Rattle.fw_check.specs.Literals.{Front, front_of, is_word_of, literal_of, substituted}
+use Rattle.fw_check.specs.Misuse.{has_odd, is_calculated_wrong, is_set_wrong}
+use Rattle.fw_check.specs.Operators.{ATerm, after_word, is_broken}
 use Rattle.fw_check.specs.Naming.{foreseen_as, foreseen_names, given_names, run_fronts}
 use Rattle.fw_check.specs.Statements.{of_script}
 
@@ -167,22 +172,59 @@ any_target_row = refl
 alone_target_row : target_findings None 5 (begun []) ≡ []
 alone_target_row = refl
 
-bracket_row : called_findings Strict None false 3 (Some (codes "[[")) ≡ found_at 3 kind.OtherShell (codes "this shell has no `[[`: write `test`") ∷ []
+bracket_row : called_findings Strict None false false 3 (Some (codes "[[")) ≡ found_at 3 kind.OtherShell (codes "this shell has no `[[`: write `test`") ∷ []
 bracket_row = refl
 
-break_row : called_findings Strict None false 3 (Some (codes "break")) ≡ found_at 3 kind.OtherShell (codes "this shell has no `break`") ∷ []
+break_row : called_findings Strict None false false 3 (Some (codes "break")) ≡ found_at 3 kind.OtherShell (codes "this shell has no `break`") ∷ []
 break_row = refl
 
-function_row : called_findings Strict None false 3 (Some (codes "f()")) ≡ found_at 3 kind.OtherShell (codes "this shell has no functions") ∷ []
+function_row : called_findings Strict None false false 3 (Some (codes "f()")) ≡ found_at 3 kind.OtherShell (codes "this shell has no functions") ∷ []
 function_row = refl
 
-other_row : called_findings Strict None false 3 (Some (codes "breaks")) ≡ []
+other_row : called_findings Strict None false false 3 (Some (codes "breaks")) ≡ []
 other_row = refl
 
-head_row : called_findings Strict None true 3 (Some (codes "f")) ≡ found_at 3 kind.OtherShell (codes "this shell has no functions") ∷ []
+head_row : called_findings Strict None true false 3 (Some (codes "f")) ≡ found_at 3 kind.OtherShell (codes "this shell has no functions") ∷ []
 unfolding builtin_of
 head_row = refl
 
-echo_row : called_findings Strict None true 3 (Some (codes "echo")) ≡ []
+echo_row : called_findings Strict None true false 3 (Some (codes "echo")) ≡ []
 unfolding builtin_of
 echo_row = refl
+
+-- ---- words that are written for another shell, and wrong use
+
+foreign_row : map foreign_of (codes "{a}" ∷ codes "{}" ∷ codes "a`b" ∷ codes ">x" ∷ codes "a>x" ∷ [])
+    ≡ Some foreign.Braces ∷ None ∷ Some foreign.Backquotes ∷ Some foreign.Redirection ∷ None ∷ []
+foreign_row = refl
+
+-- `{"a"${b}}`
+plain_row : plain_of (Plain 123 ∷ Mark ∷ Quoted 97 ∷ Mark ∷ Value (codes "b") false ∷ Plain 125 ∷ []) ≡ codes "{}"
+plain_row = refl
+
+-- `setenv`, `setenv a`, `setenv a=1`, `setenv a = 1`
+setting_row : map is_set_wrong ([] ∷ (word (codes "a") ∷ []) ∷ (word (codes "a=1") ∷ []) ∷ (word (codes "a") ∷ word (codes "=") ∷ word (codes "1") ∷ []) ∷ [])
+    ≡ true ∷ false ∷ true ∷ true ∷ []
+setting_row = refl
+
+-- `setexpr n 1`, `setexpr n 1+`, `setexpr n gsub a b c`, `setexpr n 1 +`
+calculation_row : map is_calculated_wrong
+    ((word (codes "n") ∷ word (codes "1") ∷ []) ∷ (word (codes "n") ∷ word (codes "1+") ∷ [])
+    ∷ (word (codes "n") ∷ word (codes "gsub") ∷ word (codes "a") ∷ word (codes "b") ∷ word (codes "c") ∷ [])
+    ∷ (word (codes "n") ∷ word (codes "1") ∷ word (codes "+") ∷ []) ∷ [])
+    ≡ false ∷ true ∷ false ∷ true ∷ []
+calculation_row = refl
+
+-- `test a -eq 1`, `test 1 -eq a`, `test "$a" -eq 1`
+number_row : map (has_odd None)
+    ((word (codes "a") ∷ word (codes "-eq") ∷ word (codes "1") ∷ []) ∷ (word (codes "1") ∷ word (codes "-eq") ∷ word (codes "a") ∷ [])
+    ∷ (value (codes "a") ∷ word (codes "-eq") ∷ word (codes "1") ∷ []) ∷ [])
+    ≡ true ∷ true ∷ false ∷ []
+number_row = refl
+
+-- by a board `test -n = a` is a comparison, and `test -e a b` has too few words
+broken_row : map is_broken
+    (after_word Board (after_word Board (after_word Board ATerm 0 (Some (codes "-n"))) 0 (Some (codes "="))) 0 (Some (codes "a"))
+    ∷ after_word Board (after_word Board (after_word Board ATerm 0 (Some (codes "-e"))) 0 (Some (codes "a"))) 0 (Some (codes "b")) ∷ [])
+    ≡ false ∷ true ∷ []
+broken_row = refl

@@ -11,7 +11,7 @@ use Rattle.std.specs.FinMap.{entries, entries_sorted, nat_cmp-IsAntisymmetric}
 use Rattle.std.specs.FinMap.Entries.{below_all, is_sorted}
 use Rattle.std.proofs.lemmas.Bool.{eq-eqb, eqb-true, false≢true}
 use Rattle.std.proofs.lemmas.Cmp.{nat_list_cmp_total}
-use Rattle.envimg_core.proofs.Facts.{is_less, left_true, right_true, and_left, and_right}
+use Rattle.envimg_core.proofs.Facts.{left_true, right_true, and_left, and_right}
 use Rattle.envimg_core.specs.Environment.{Environment, Pair, bytes_cmp}
 use Rattle.fw_check.specs.Following.{names_of, names_with}
 use Rattle.fw_check.specs.NameSets.{is_ascending, is_before, is_before_all}

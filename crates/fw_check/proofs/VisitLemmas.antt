@@ -1,5 +1,5 @@
 -- A script's reading, and the visits of all.
-use Rattle.std.proofs.Common.{◌≡◌, ℕ, zero, suc, ◌+◌, ◌&&◌, Bool, true, false, not, List, [], ◌∷◌, ◌++◌, take, Vec, Option, Some, None, refl, sym, ap, ◌∙◌, arith, subst, append_assoc, append-nil, if◌then◌else◌}
+use Rattle.std.proofs.Common.{◌≡◌, ℕ, zero, suc, ◌+◌, Bool, List, [], ◌∷◌, ◌++◌, take, Vec, Option, Some, None, refl, sym, ap, ◌∙◌, arith, subst, append_assoc, append-nil}
 use Rattle.std.specs.Prelude.{◌≢◌, slice_get, option_map, OnOk, Result, Ok, Err}
 use Rattle.std.specs.declared.alloc.Global.{Global}
 use Rattle.std.specs.List.{fold}
@@ -13,7 +13,8 @@ use Rattle.hush_run.specs.Meaning.{bodies_of}
 use Rattle.finding_kinds.specs.declared.kinds.FindingKind.TheVariants as kind
 use Rattle.fw_check.specs.Checking.{AreVisited, Faulty, Reports, Script, Visit, after_visit, in_all, known_after, reading_findings, script_in}
 use Rattle.fw_check.specs.Called.{Given, in_answers}
-use Rattle.fw_check.specs.Findings.{Known, Report, fault_sentence, found_at, return_findings, with_findings, with_script}
+use Rattle.fw_check.specs.Findings.{Report, fault_sentence, found_at, return_findings, with_findings, with_script}
+use Rattle.fw_check.specs.Knowing.{Known}
 use Rattle.fw_check.specs.Following.{Followed, begin_from, follow_fronts}
 use Rattle.fw_check.specs.Found.{Found, found_more}
 use Rattle.fw_check.specs.Lines.{Subject, Variable}

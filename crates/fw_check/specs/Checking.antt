@@ -1,7 +1,6 @@
 -- What a check of an environment prints (docs/check.md).
-use Rattle.std.specs.Prelude.{◌≡◌, ◌≢◌, ◌⊎◌, ℕ, ◌==◌, suc, ◌&&◌, ◌||◌, Bool, not, List, [], ◌∷◌, ◌++◌, map, fold, slice_get, codes, Option, Some, None, is_some, unwrap_or, if◌then◌else◌}
-use Rattle.std.specs.List.{AllByRecursion, flat_map, list_any}
-use Rattle.std.specs.Ordering.{eq_by_cmp}
+use Rattle.std.specs.Prelude.{◌≡◌, ◌≢◌, ◌⊎◌, ℕ, ◌==◌, suc, ◌&&◌, ◌||◌, Bool, not, List, [], ◌∷◌, ◌++◌, map, fold, slice_get, codes, Option, Some, None, unwrap_or, if◌then◌else◌}
+use Rattle.std.specs.List.{AllByRecursion, flat_map}
 use Rattle.std.specs.FinMap.{entries, get}
 use Rattle.finding_kinds.specs.Choices.{Choice}
 use Rattle.finding_kinds.specs.declared.choice.Format.{Format}
@@ -14,7 +13,7 @@ use Rattle.hush_syntax.specs.declared.nodes.Bodies.{Bodies}
 use Rattle.hush_syntax.specs.declared.syntax_fault.FaultKind.TheVariants.{Memory}
 use Rattle.hush_syntax.specs.declared.syntax_fault.SyntaxFault.{SyntaxFault}
 use Rattle.hush_run.specs.Meaning.{bodies_of}
-use Rattle.envimg_core.specs.Environment.{Environment, Pair, bytes_cmp}
+use Rattle.envimg_core.specs.Environment.{Environment, Pair}
 use Rattle.envvars_core.specs.Attributes.{attributes}
 use Rattle.envvars_core.specs.Types.{has_type}
 use Rattle.fw_engines.specs.Streams.{Writers}
@@ -27,7 +26,8 @@ use Rattle.fw_check.specs.Menus.{script_of}
 use Rattle.fw_check.specs.Statements.{AreItemsOf}
 use Rattle.fw_check.specs.Following.{Followed, begin_with, follow_fronts, is_among, is_set}
 use Rattle.fw_check.specs.Naming.{foreseen_in, given_in, run_in}
-use Rattle.fw_check.specs.Findings.{Finding, Known, fault_sentence, found_at, return_findings, item_findings, Report, no_lines, report_end, with_alone, with_findings, with_script}
+use Rattle.fw_check.specs.Findings.{Finding, fault_sentence, found_at, return_findings, item_findings, Report, no_lines, report_end, with_alone, with_findings, with_script}
+use Rattle.fw_check.specs.Knowing.{Known}
 use Rattle.fw_check.specs.Lines.{Variable, Whole}
 use Rattle.fw_check.specs.Summaries.{summary}
 

@@ -1,7 +1,8 @@
 -- Names of commands that nothing carries out (docs/check.md).
-use Rattle.std.specs.Prelude.{ℕ, ◌==◌, ◌&&◌, ◌||◌, Bool, false, List, [], ◌∷◌, ◌++◌, codes, Option, Some, None, is_none, is_some, not, if◌then◌else◌}
+use Rattle.std.specs.Prelude.{ℕ, ◌==◌, ◌&&◌, ◌||◌, Bool, false, List, [], ◌∷◌, ◌++◌, codes, map, Option, Some, None, is_none, not, if◌then◌else◌}
 use Rattle.std.specs.List.{ends_with}
 use Rattle.hush_words.specs.Words.{Atom}
+use Rattle.hush_calc.specs.Test.{comparisons, spelling}
 use Rattle.hush_commands.specs.Builtins.{builtin_of}
 use Rattle.hush_commands.specs.CommandNames.{has_answer, names_command}
 use Rattle.hush_commands.specs.Hardware.{Hardware}
@@ -27,6 +28,15 @@ ends_in_parentheses name = ends_with (λ a b. a == b) name (codes "()")
 abbrev pub begin_in_parentheses : List (List Atom) → Bool
 begin_in_parentheses [] = false
 begin_in_parentheses (word ∷ words) = is_called (codes "()") (literal_of word)
+
+-- the first of these words is an operator of `test` that compares, or `==`
+abbrev pub is_comparing : Option (List ℕ) → Bool
+is_comparing None = false
+is_comparing (Some word) = is_word_of (codes "==" ∷ map spelling comparisons) word
+
+abbrev pub begin_with_comparison : List (List Atom) → Bool
+begin_with_comparison [] = false
+begin_with_comparison (word ∷ words) = is_comparing (literal_of word)
 
 -- `opens`: the arguments begin so
 abbrev pub is_head : (opens : Bool) → List ℕ → Bool

@@ -12,10 +12,14 @@ suspect_view s = target s.count s.bytes.items
 abbrev pub expected_view : Expected → operators.Expected
 expected_view expected.ATerm = operators.ATerm
 expected_view (expected.Operator first) = operators.Operator (option_map suspect_view first)
+expected_view expected.AfterValue = operators.AfterValue
 expected_view expected.Operand = operators.Operand
 expected_view expected.Joint = operators.Joint
 expected_view expected.Joined = operators.Joined
+expected_view expected.Tested = operators.Tested
 expected_view expected.Interface = operators.Interface
 expected_view expected.Device = operators.Device
+expected_view expected.Unclear = operators.Unclear
 expected_view expected.Nothing = operators.Nothing
+expected_view expected.Broken = operators.Broken
 expected_view (expected.Wrong s) = operators.Wrong (suspect_view s)

@@ -5,7 +5,8 @@ use Rattle.fw_engines.specs.Streams.{Writers}
 use Rattle.fw_engines.specs.declared.tool_end.ToolEnd.{ToolEnd}
 use Rattle.fw_check.specs.Called.{Given}
 use Rattle.fw_check.specs.Checking.{LacksMemory, PrintsReport}
-use Rattle.fw_check.specs.Findings.{Known, Report, no_lines}
+use Rattle.fw_check.specs.Findings.{Report, no_lines}
+use Rattle.fw_check.specs.Knowing.{Known}
 use Rattle.fw_check.specs.Lines.{File}
 use Rattle.fw_check.specs.Reports.{GoesOn}
 use Rattle.fw_check.specs.declared.file_checks.FileScript as files

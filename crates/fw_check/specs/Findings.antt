@@ -1,8 +1,8 @@
 -- What is found in a script, and the lines that report it (docs/check.md).
 use Rattle.std.specs.Prelude.{ℕ, ◌==◌, ◌+◌, ◌-◌, ◌^◌, ◌&&◌, ◌||◌, min, nat_le, not, Bool, true, false, List, [], ◌∷◌, ◌++◌, length, fold, codes, Option, Some, None, is_some, if◌then◌else◌}
 use Rattle.std.specs.List.{flat_map, fold, list_any, position_or_len}
-use Rattle.std.specs.FinMap.{get}
 use Rattle.hush_words.specs.Parts.{Written, word_atoms}
+use Rattle.hush_words.specs.Words.{Atom}
 use Rattle.hush_words.specs.declared.parts.Word.{Word}
 use Rattle.hush_syntax.specs.Trees.{words_in}
 use Rattle.hush_syntax.specs.declared.syntax_fault.FaultKind.{FaultKind}
@@ -10,7 +10,6 @@ use Rattle.hush_syntax.specs.declared.syntax_fault.FaultKind.TheVariants as faul
 use Rattle.hush_commands.specs.declared.shell.Shell.{Shell}
 use Rattle.hush_commands.specs.declared.shell.Shell.TheVariants.{Strict, Board}
 use Rattle.hush_commands.specs.Hardware.{Hardware}
-use Rattle.envimg_core.specs.Environment.{Environment}
 use Rattle.finding_kinds.specs.Choices.{Choice, is_ignored}
 use Rattle.finding_kinds.specs.Kinds.{severity_of}
 use Rattle.finding_kinds.specs.declared.kinds.FindingKind.{FindingKind}
@@ -19,16 +18,22 @@ use Rattle.finding_kinds.specs.declared.kinds.Severity.{Severity}
 use Rattle.finding_kinds.specs.declared.kinds.Severity.TheVariants as severity
 use Rattle.fw_engines.specs.TextPlaces.{place_of}
 use Rattle.fw_check.specs.Called.{Given, called_by}
-use Rattle.fw_check.specs.Commands.{begin_in_parentheses, command_fault, command_sentence, kind_of}
+use Rattle.fw_check.specs.Commands.{begin_in_parentheses, begin_with_comparison, command_fault, command_sentence, kind_of}
+use Rattle.fw_check.specs.Foreign.{foreign_of, foreign_sentence, plain_of}
 use Rattle.fw_check.specs.JsonLines.{line_in}
 use Rattle.fw_check.specs.Lines.{Line, Subject}
-use Rattle.fw_check.specs.Literals.{Front, front_of, is_called, is_word_of, literal_of, substituted}
+use Rattle.fw_check.specs.Literals.{Front, front_of, is_called, literal_of, substituted}
+use Rattle.fw_check.specs.Knowing.{Known, field_of, is_defined, is_lacking, is_undefined}
+use Rattle.fw_check.specs.Misuse.{misuse_of, misuse_sentence}
 use Rattle.fw_check.specs.Naming.{is_exit, is_run, is_test}
-use Rattle.fw_check.specs.Operators.{ATerm, Expected, after_word, wrong_in}
+use Rattle.fw_check.specs.Operators.{ATerm, Expected, after_word, is_broken, wrong_in}
 use Rattle.fw_check.specs.Targets.{Target}
 use Rattle.fw_check.specs.declared.commands.CommandFault.{CommandFault}
+use Rattle.fw_check.specs.declared.foreign.Foreign.{Foreign}
 use Rattle.fw_check.specs.declared.items.Item.{Item}
 use Rattle.fw_check.specs.declared.items.Item.TheVariants as item
+use Rattle.fw_check.specs.declared.misuse.Misuse.{Misuse}
+use Rattle.fw_check.specs.declared.misuse.Misuse.TheVariants as misuse
 
 -- `count` bytes of the script are before it
 pub record Finding : Type 0 where
@@ -141,53 +146,63 @@ return_sentence = codes "a carriage return stands in the script"
 abbrev pub return_findings : List ℕ → List Finding
 return_findings text = if list_any is_return text then found_at (position_or_len is_return text) kind.CarriageReturn return_sentence ∷ [] else []
 
--- ---- variables
-
--- what is known if there is an environment: it, and whether one of the scripts checked gives a name to
--- something, or foresees it
-pub record Known : Type 0 where
-  pub env : Environment
-  pub given : List ℕ → Bool
-  pub foreseen : List ℕ → Bool
-
-abbrev pub is_defined : Option Known → List ℕ → Bool
-is_defined None name = false
-is_defined (Some known) name = is_some (get known.env name)
-
--- no variable of this name is there, and none is foreseen
-abbrev pub is_undefined : Option Known → List ℕ → Bool
-is_undefined None name = false
-is_undefined (Some known) name = not (is_some (get known.env name) || known.foreseen name)
-
--- the variables that U-Boot and its commands set by themselves, and `boardver`, which its scripts use on every board
-abbrev pub set_by_commands : List (List ℕ)
-set_by_commands =
-    codes "boardver" ∷ codes "bootargs" ∷ codes "bootcount" ∷ codes "bootfile" ∷ codes "devnum" ∷ codes "devtype"
-    ∷ codes "distro_bootpart" ∷ codes "dnsip" ∷ codes "dnsip2" ∷ codes "domain" ∷ codes "ethact" ∷ codes "ethaddr"
-    ∷ codes "fdtaddr" ∷ codes "fdtcontroladdr" ∷ codes "fileaddr" ∷ codes "filesize" ∷ codes "gatewayip" ∷ codes "hostname"
-    ∷ codes "ipaddr" ∷ codes "llipaddr" ∷ codes "mtddevname" ∷ codes "mtddevnum" ∷ codes "mtdids" ∷ codes "mtdparts"
-    ∷ codes "netmask" ∷ codes "ntpserverip" ∷ codes "partition" ∷ codes "prefix" ∷ codes "rootpath" ∷ codes "serverip"
-    ∷ codes "stderr" ∷ codes "stdin" ∷ codes "stdout" ∷ codes "timeoffset" ∷ codes "ver" ∷ []
-
--- neither the environment, U-Boot and its commands, nor one of the scripts defines a variable of this name
-abbrev pub is_lacking : Option Known → List ℕ → Bool
-is_lacking None name = false
-is_lacking (Some known) name = not (is_some (get known.env name) || is_word_of set_by_commands name || known.given name)
-
 -- ---- simple commands
 
 abbrev pub fault_findings : ℕ → (name : List ℕ) → Option CommandFault → List Finding
 fault_findings count name None = []
 fault_findings count name (Some fault) = found_at count (kind_of fault) (command_sentence fault name) ∷ []
 
-abbrev pub called_findings : Shell → Option Hardware → (opens : Bool) → ℕ → Option (List ℕ) → List Finding
-called_findings shell h opens count None = []
-called_findings shell h opens count (Some name) = fault_findings count name (command_fault shell h opens name)
+-- a value in the place of a command, and a comparison behind it
+abbrev pub lost_sentence : List ℕ
+lost_sentence = codes "a comparison needs `test` before it"
 
-abbrev pub command_findings : Shell → Option Hardware → Written → List Word → List Finding
-command_findings shell h text [] = []
-command_findings shell h text (word ∷ words) =
-    called_findings shell h (begin_in_parentheses (words_in text words)) word.start (literal_of (word_atoms text word))
+abbrev pub lost_findings : (compares : Bool) → ℕ → List Finding
+lost_findings compares count = if compares then found_at count kind.OtherShell lost_sentence ∷ [] else []
+
+abbrev pub called_findings : Shell → Option Hardware → (opens compares : Bool) → ℕ → Option (List ℕ) → List Finding
+called_findings shell h opens compares count None = lost_findings compares count
+called_findings shell h opens compares count (Some name) = fault_findings count name (command_fault shell h opens name)
+
+-- the command that a word calls, of which all is known
+abbrev pub name_unless : Option Known → (compares : Bool) → List Atom → Option (List ℕ) → Option (List ℕ)
+name_unless known compares atoms (Some bytes) = Some bytes
+name_unless known compares atoms None = if compares then None else field_of known atoms
+
+abbrev pub known_name : Option Known → (compares : Bool) → List Atom → Option (List ℕ)
+known_name known compares atoms = name_unless known compares atoms (literal_of atoms)
+
+abbrev pub command_findings : Option Known → Given → Written → List Word → List Finding
+command_findings known given text [] = []
+command_findings known given text (word ∷ words) =
+    called_findings given.shell given.hardware (begin_in_parentheses (words_in text words)) (begin_with_comparison (words_in text words)) word.start
+    (known_name known (begin_with_comparison (words_in text words)) (word_atoms text word))
+
+-- ---- words that are written for another shell, and wrong use
+
+abbrev pub foreign_if : ℕ → Option Foreign → List Finding
+foreign_if count None = []
+foreign_if count (Some foreign) = found_at count kind.OtherShell (foreign_sentence foreign) ∷ []
+
+abbrev pub foreign_findings : Written → Word → List Finding
+foreign_findings text word = foreign_if word.start (foreign_of (plain_of (word_atoms text word)))
+
+-- those in the arguments of a command; what `echo` prints may be any, and `test` compares with `>`
+abbrev pub is_free : Option (List ℕ) → Bool
+is_free called = is_called (codes "echo") called || is_test called
+
+abbrev pub arguments_foreign : Given → Written → List Word → List Finding
+arguments_foreign given text [] = []
+arguments_foreign given text (word ∷ words) =
+    if is_free (called_by given (word_atoms text word)) then [] else flat_map (foreign_findings text) words
+
+abbrev pub misuse_findings : ℕ → Option Misuse → List Finding
+misuse_findings count None = []
+misuse_findings count (Some misuse) = found_at count kind.WrongUse (misuse_sentence misuse) ∷ []
+
+abbrev pub use_findings : Option Known → Given → Written → List Word → List Finding
+use_findings known given text [] = []
+use_findings known given text (word ∷ words) =
+    misuse_findings word.start (misuse_of known given.shell (called_by given (word_atoms text word)) (words_in text words))
 
 -- an `exit` ends nothing on a board with a U-Boot before 2025
 abbrev pub exit_sentence : List ℕ
@@ -208,21 +223,25 @@ operator_end Board = codes "` here"
 abbrev pub operator_sentence : Shell → List ℕ → List ℕ
 operator_sentence shell name = codes "`test` has no operator `" ++ name ++ operator_end shell
 
-abbrev pub wrong_findings : Shell → Option Target → List Finding
-wrong_findings shell None = []
-wrong_findings shell (Some t) = found_at t.count kind.TestOperator (operator_sentence shell t.name) ∷ []
+-- no operator, or no expression for another reason, of a `test` at this place
+abbrev pub wrong_findings : Shell → ℕ → (broken : Bool) → Option Target → List Finding
+wrong_findings shell count broken None = if broken then found_at count kind.WrongUse (misuse_sentence misuse.NoExpression) ∷ [] else []
+wrong_findings shell count broken (Some t) = found_at t.count kind.TestOperator (operator_sentence shell t.name) ∷ []
+
+abbrev pub tested_findings : Shell → ℕ → Expected → List Finding
+tested_findings shell count expected = wrong_findings shell count (is_broken expected) (wrong_in expected)
 
 -- each word of a test counts as one field, whatever its value
 abbrev pub after_field : Shell → Written → Expected → Word → Expected
 after_field shell text expected word = after_word shell expected word.start (literal_of (word_atoms text word))
 
-abbrev pub test_findings : Shell → Written → List Word → List Finding
-test_findings shell text words = wrong_findings shell (wrong_in (fold (after_field shell text) ATerm words))
+abbrev pub test_findings : Shell → ℕ → Written → List Word → List Finding
+test_findings shell count text words = tested_findings shell count (fold (after_field shell text) ATerm words)
 
 abbrev pub operator_findings : Given → Written → List Word → List Finding
 operator_findings given text [] = []
 operator_findings given text (word ∷ words) =
-    if is_test (called_by given (word_atoms text word)) then test_findings given.shell text words else []
+    if is_test (called_by given (word_atoms text word)) then test_findings given.shell word.start text words else []
 
 abbrev pub undefined_sentence : List ℕ → List ℕ
 undefined_sentence name = codes "`run " ++ name ++ codes "` names a variable that is not defined"
@@ -243,8 +262,22 @@ abbrev pub target_findings : Option Known → ℕ → Front → List Finding
 target_findings known count front =
     if front.whole then named_findings known count front.bytes else begun_findings known count front.bytes
 
+-- an argument of which all is known names its first field; if that isn't there, it is told, else what it begins with
+abbrev pub constant_findings : Option Known → ℕ → Front → Option (List ℕ) → List Finding
+constant_findings known count front None = target_findings known count front
+constant_findings known count front (Some name) =
+    if is_undefined known name then named_findings known count name else target_findings known count front
+
+abbrev pub unless_literal : Option Known → List Atom → Option (List ℕ) → Option (List ℕ)
+unless_literal known atoms (Some bytes) = None
+unless_literal known atoms None = field_of known atoms
+
+abbrev pub field_in_substitutions : Option Known → List Atom → Option (List ℕ)
+field_in_substitutions known atoms = unless_literal known atoms (literal_of atoms)
+
 abbrev pub argument_findings : Option Known → Written → Word → List Finding
-argument_findings known text word = target_findings known word.start (front_of (word_atoms text word))
+argument_findings known text word =
+    constant_findings known word.start (front_of (word_atoms text word)) (field_in_substitutions known (word_atoms text word))
 
 -- what is found in the arguments of `run`
 abbrev pub run_findings : Option Known → Given → Written → List Word → List Finding
@@ -308,10 +341,11 @@ cut_findings text word = if is_cut_in (literal_of (word_atoms text word)) then f
 
 abbrev pub item_findings : Option Known → Given → Written → Item → List Finding
 item_findings known given text (item.Call words) =
-    command_findings given.shell given.hardware text words.now ++ exit_findings given text words.now ++ operator_findings given text words.now
+    command_findings known given text words.now ++ arguments_foreign given text words.now ++ exit_findings given text words.now
+    ++ use_findings known given text words.now ++ operator_findings given text words.now
     ++ run_findings known given text words.now ++ flat_map (word_findings known text) words.now
 item_findings known given text (item.Assignment name value) =
     assigned_findings given.shell known name.start (literal_of (word_atoms text name)) ++ word_findings known text value
 item_findings known given text (item.Binding name words) =
     assigned_findings given.shell known name.start (literal_of (word_atoms text name))
-    ++ flat_map (cut_findings text) words.now ++ flat_map (word_findings known text) words.now
+    ++ flat_map (cut_findings text) words.now ++ flat_map (foreign_findings text) words.now ++ flat_map (word_findings known text) words.now

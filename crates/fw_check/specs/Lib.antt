@@ -1,6 +1,7 @@
 -- What the public calls promise.
 pub mod Statements
 pub mod Literals
+pub mod Knowing
 pub mod Called
 pub mod Naming
 pub mod Targets
@@ -8,6 +9,8 @@ pub mod Menus
 pub mod Following
 pub mod Operators
 pub mod Commands
+pub mod Foreign
+pub mod Misuse
 pub mod Lines
 pub mod JsonLines
 pub mod Findings

@@ -4,7 +4,7 @@ use Rattle.hush_commands.specs.Hardware as hardware
 use Rattle.envvars_core.specs.declared.refusals.Refusal.{Refusal}
 use Rattle.envvars_core.specs.declared.refusals.Refusal.TheVariants as refusal
 use Rattle.fw_check.specs.Called.{Given, given_with}
-use Rattle.fw_check.specs.Findings.{Known}
+use Rattle.fw_check.specs.Knowing.{Known}
 use Rattle.fw_check.specs.Literals as literals
 use Rattle.fw_check.specs.NameSets.{set_of}
 use Rattle.fw_check.specs.declared.literals.Front.{Front}

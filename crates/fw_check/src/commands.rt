@@ -1,7 +1,7 @@
 //! Names of commands that nothing carries out.
-ghost use Rattle.std.specs.Prelude.{◌≡◌, IfOk};
+ghost use Rattle.std.specs.Prelude.{◌≡◌, IfOk, option_map};
 ghost use Rattle.hush_syntax.specs.Trees.{words_in};
-ghost use Rattle.fw_check.specs.Commands.{begin_in_parentheses, is_head, lack_of};
+ghost use Rattle.fw_check.specs.Commands.{begin_in_parentheses, begin_with_comparison, is_comparing, is_head, lack_of};
 
 use crate::literals::{is_called, is_word_of, literal};
 use hush_commands::is_builtin;
@@ -45,6 +45,35 @@ fn is_head(opens: bool, name: &[u8]) -> bool
     ensures { result ≡ is_head opens name.now }
 {
     name.ends_with(b"()") || (opens && !is_builtin(name))
+}
+
+/// What is between a value and another one that is compared with it.
+const COMPARISONS: [&[u8]; 11] = [
+    b"==", b"=", b"!=", b"<", b">", b"-eq", b"-ne", b"-lt", b"-le", b"-gt", b"-ge",
+];
+
+/// Whether arguments begin with a comparison.
+pub(crate) fn begin_with_comparison(
+    alloc: Global,
+    text: &Text,
+    words: &[Word],
+) -> Result<bool, AllocError>
+    ensures { IfOk result (λ compares. compares ≡ begin_with_comparison (words_in text.now words.now)) }
+{
+    if words.is_empty() {
+        return Ok(false);
+    }
+    let first = literal(alloc, text, words[0])?;
+    Ok(is_comparing(&first))
+}
+
+fn is_comparing(word: &Option<Vec<u8>>) -> bool
+    ensures { result ≡ is_comparing (option_map (λ v. v.items) word.now) }
+{
+    match word {
+        Some(word) => is_word_of(&COMPARISONS, word),
+        None => false,
+    }
 }
 
 /// Whether arguments begin with `()`.

@@ -47,7 +47,7 @@ pub(crate) fn foresee(
 }
 
 /// Whether a command is `setexpr`.
-fn is_calculation(called: &Option<Vec<u8>>) -> bool
+pub(crate) fn is_calculation(called: &Option<Vec<u8>>) -> bool
     ensures { result ≡ is_calculation (option_map (λ v. v.items) called.now) }
 {
     match called {

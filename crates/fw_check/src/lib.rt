@@ -1,17 +1,19 @@
 //! A check of boot scripts that runs nothing: what is wrong with scripts, or with those of an environment from some
 //! names on, as lines. docs/check.md states the rules.
 //!
-//! To read in this order: items, literals, name_set, substitutions, commands, rules, lookups; lines, json_lines, findings,
-//! summary; operators, undefined_names, differences, statements, script_check; followed, sorted_names, menu, following,
-//! run_names, foreseen, gives, text_names; starts, reading, typed_values, visits; file_checks.
+//! To read in this order: items, literals, name_set, substitutions, commands, rules, lookups, constants; lines, json_lines, findings,
+//! summary; operators, foreign, misuse, undefined_names, differences, statements, script_check; followed, sorted_names, menu,
+//! following, run_names, foreseen, gives, text_names; starts, reading, typed_values, visits; file_checks.
 #![tactic(auto)]
 
 mod commands;
+mod constants;
 mod differences;
 mod file_checks;
 mod findings;
 mod followed;
 mod following;
+mod foreign;
 mod foreseen;
 mod gives;
 mod items;
@@ -20,6 +22,7 @@ mod lines;
 mod literals;
 mod lookups;
 mod menu;
+mod misuse;
 mod name_set;
 mod operators;
 mod reading;

@@ -1,7 +1,7 @@
 //! What the names in a script are looked up in.
-ghost use Rattle.std.specs.Prelude.{◌≡◌, Some, IfOk, option_map};
+ghost use Rattle.std.specs.Prelude.{◌≡◌, Some, IfOk, option_copied, option_map};
 ghost use Rattle.fw_check.specs.Commands.{command_fault, has_stand_in, is_unknown};
-ghost use Rattle.fw_check.specs.Findings.{is_defined, is_lacking, is_undefined};
+ghost use Rattle.fw_check.specs.Knowing.{constant, is_defined, is_lacking, is_undefined};
 ghost use Rattle.hush_commands.specs.CommandNames.{name_among};
 ghost use Rattle.hush_words.specs.Parts.{word_atoms};
 ghost use Rattle.fw_check.specs.Called.{called_by, is_after_env};
@@ -79,6 +79,17 @@ impl<'k> Variables<'k> {
         !(self.has(name) || is_word_of(&SET_BY_COMMANDS, name) || self.names.given.has(name))
     }
 
+    /// The value of a variable that nothing sets but the environment.
+    fn constant(&self, name: &[u8]) -> Option<&'k [u8]>
+        ensures { option_copied result ≡ constant (Some (known_view self.now)) name.now }
+    {
+        if is_word_of(&SET_BY_COMMANDS, name) || self.names.given.has(name) {
+            None
+        } else {
+            self.vars.get(name)
+        }
+    }
+
     /// Whether no variable of this name is there, and none is foreseen.
     fn misses(&self, name: &[u8]) -> bool
         ensures { result ≡ is_undefined (Some (known_view self.now)) name.now }
@@ -141,6 +152,16 @@ impl<'k> Lookups<'k> {
         match self.variables {
             Some(variables) => variables.has(name),
             None => false,
+        }
+    }
+
+    /// The value of a variable that nothing sets but the environment.
+    pub(crate) fn constant(&self, name: &[u8]) -> Option<&'k [u8]>
+        ensures { option_copied result ≡ constant (known_in self.now) name.now }
+    {
+        match self.variables {
+            Some(variables) => variables.constant(name),
+            None => None,
         }
     }
 

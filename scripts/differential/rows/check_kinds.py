@@ -4,7 +4,8 @@ over an environment and alone, with stand-ins and without."""
 from differential.harness.boards import STRICT
 
 from differential.harness.check_lines import (
-    any_target, cuts, exits, lacked, lacked_test, lines, no_functions, no_operator, no_operator_of_board, no_script, not_assigned, not_called, not_defined, not_run,
+    any_target, cuts, exits, lacked, lacked_test, lines, no_calculation, no_expression, no_functions, no_operator, no_operator_of_board, no_script, no_subcommand,
+    not_assigned, not_called, not_defined, not_run, runs_nothing,
     of_file, on_board, over, place, returned, row, several, with_stand_ins, without,
 )  # fmt: skip
 from differential.rows.script_faults import EMPTY_BODIES, NEAR_SCRIPTS, NO_SCRIPTS, NO_STAND_INS, NULS
@@ -46,17 +47,19 @@ STARTS = [
     (
         b'run $none ${none} "$none" n$x $? $',
         [
-            *map(any_target, ("1:5", "1:11", "1:19", "1:31")),
+            *map(any_target, ("1:5", "1:11", "1:19")),
+            not_run("1:27", "nnone"),
+            any_target("1:31"),
             not_run("1:34", "$"),
             not_defined("1:5", "none"),
             not_defined("1:11", "none"),
             not_defined("1:19", "none"),
         ],
     ),
-    (b"run $x none", [any_target("1:5"), not_run("1:8", "none")]),
-    (b"run n$x 'n'${x} ''$x \"$x\"n $?n", several(any_target, "1:17 x 1:22 x 1:28 x")),
+    (b"run $x none", [not_run("1:5", "none"), not_run("1:8", "none")]),
+    (b"run n$x 'n'${x} ''$x \"$x\"n $?n", [*several(not_run, "1:5 nnone 1:9 nnone 1:17 none 1:22 nonen"), any_target("1:28")]),
     (b'$run none; ${x} none; "$run" none; r$x none', []),
-    (b"env $x none; env x run none; run", []),
+    (b"env $x none; env x run none; run", [no_subcommand("1:14"), runs_nothing("1:30")]),
     (b"Run none; echo run none; setenv b run none; b='run none'", []),
     (b"# run none\nrun ok # none", []),
     (b"env exists none; env delete none; printenv none", []),
@@ -65,18 +68,18 @@ STARTS = [
     (b"setenv none 1; run none n none_", [not_run("1:25", "n"), not_run("1:27", "none_")]),
     (b"echo none; run none", [not_run("1:16", "none")]),
     (b"test -n none; run none", [not_run("1:19", "none")]),
-    (b"test -n '$none' \\$none; run none", [not_run("1:29", "none")]),
+    (b"test -n '$none' \\$none; run none", [no_expression("1:1"), not_run("1:29", "none")]),
     (b"setenv b none; setexpr b none; run none", [not_run("1:36", "none")]),
     (b"setenv $x none 1; setenv $x; run none", [not_run("1:34", "none")]),
     (b"setenv n$x 1; run n none", [not_run("1:19", "n"), not_run("1:21", "none")]),
     (b"setenv -F none 1; setenv -f -f none; run none -F -f", [not_run("1:42", "none")]),
-    (b"setenv $x -f none; setexpr -f none 1; run none", [not_run("1:43", "none")]),
-    (b"env none 1; env set; env -f set none; env $x set none; run none", [not_run("1:60", "none")]),
+    (b"setenv $x -f none; setexpr -f none 1; run none", [no_calculation("1:20"), not_run("1:43", "none")]),
+    (b"env none 1; env set; env -f set none; env $x set none; run none", [no_subcommand("1:1"), no_subcommand("1:22"), not_run("1:60", "none")]),
     (b"env print none; env delete none; env run none; run none", [not_run("1:52", "none")]),
     (b"env exists; env exists $x none; env exists -f none; run none", [not_run("1:57", "none")]),
     (b"Setenv none; setenv2 none; run none", [not_run("1:32", "none")]),
     (b'$x none; "$run" none; echo setenv none; run none', [not_run("1:45", "none")]),
-    (b"env test $x; Test $x none; test2 $none; none=$x; run none", [not_run("1:54", "none")]),
+    (b"env test $x; Test $x none; test2 $none; none=$x; run none", [no_subcommand("1:1"), not_run("1:54", "none")]),
     (b"for none in 1; do echo $none; done; none=1; run none", [not_run("1:49", "none")]),
     (b"setenv b 'setenv none 1'; # setenv none\nrun none", [not_run("2:5", "none")]),
     (b"echo $filesize; run filesize", [not_run("1:21", "filesize")]),
@@ -131,7 +134,7 @@ CALLED = [
     (b"true; false; echo; setenv b c; printenv; saveenv; env print; test", []),
     (b"setexpr b 1; setexpr.b b 1; setexpr.w b 1; setexpr.l b 1; setexpr.q b 1", []),
     (b"setexpr.x b 1; setexpr. b 1; True; echo1", several(not_called, "1:1 setexpr.x 1:16 setexpr. 1:30 True 1:36 echo1")),
-    (b"env grep laod; env", []),
+    (b"env grep laod; env", [no_subcommand("1:16")]),
     (b"mmc2; mm; MMC", several(not_called, "1:1 mmc2 1:7 mm 1:11 MMC")),
     (b"setenv.x b 1; printe b; ec; tru.b", several(not_called, "1:1 setenv.x 1:15 printe 1:25 ec 1:29 tru.b")),
     (b"us.b; load.q a; lo; mmc", several(not_called, "1:1 us.b 1:7 load.q 1:17 lo")),
@@ -171,10 +174,10 @@ OPERATORS = [
     (b"test a = b -a c != d -o ! -n e -a ! ! f < g", []),
     (b"test a = -e; test -n -e; test -z ==; test a = ==; test ! -n -e", []),
     (b"test -e = x; test == != x; test = = =; test -f -eq 1", []),
-    (b"test; test a; test a b; test a b -e; test a = b c; test a b = c; test -n", []),
-    (b"test -5 -lt 3; test -5; test - x; test -- x; test -1e x; test a -5 b", []),
-    (b'test $e x; test "-$e" x; test a $o b; test a -e$x b; test $a; test $? -eq 0', []),
-    (b"echo test -e x; test2 -e x; Test -e x; $test -e x; env test -e x; t=-e", None),
+    (b"test; test a; test a b; test a b -e; test a = b c; test a b = c; test -n", several(no_expression, "1:7 a 1:15 a 1:25 a 1:38 a 1:52 a 1:66 a")),
+    (b"test -5 -lt 3; test -5; test - x; test -- x; test -1e x; test a -5 b", several(no_expression, "1:16 a 1:25 a 1:35 a 1:46 a 1:58 a")),
+    (b'test $e x; test "-$e" x; test a $o b; test a -e$x b; test $a; test $? -eq 0', [no_expression("1:54")]),
+    (b"echo test -e x; test2 -e x; Test -e x; $test -e x; env print -e x; t=-e", None),
     (b"test a = b # -e", []),
 ]
 # The same by the board's shell
@@ -202,8 +205,16 @@ BOARD_OPERATORS = [
     (b"test -n a -n b; test a = b c = d; test -a -n x; test -n a -o; test ! = x; test -a = x; test ! -a a = b", []),
     (b"test a = -e; test -n -e; test -z ==; test a = ==; test ! -n -e", []),
     (b"test == != x; test = = =; test -f -eq 1; test -n = x", []),
-    (b"test; test a; test a b; test a = b c; test -n; test -e; test -e x; test a b -e", []),
-    (b'test $e x; test "-$e" x; test a $o b; test a -e$x b; test $a; test $? -eq 0; test ! $x', None),
+    (
+        b"test; test a; test a b; test a = b c; test -n; test -e; test -e x; test a b -e",
+        several(no_expression, "1:7 a 1:15 a 1:25 a 1:39 a 1:48 a 1:57 a 1:68 a"),
+    ),
+    (b"test -n = x; test -e != x; test -z = ; test -n a -e x y; test -e x y z -a", several(no_expression, "1:28 a 1:40 a")),
+    (b'test $e x; test "-$e" x; test a $o b; test a -e$x b; test $a; test $? -eq 0; test ! $x', several(no_expression, "1:54 a 1:78 a")),
+    (
+        b"test $e x y; test $e x $y; test $e x -a y = z; test $e x = y; test $a = b c; test $a -n",
+        [no_expression("1:1"), no_expression("1:63"), no_operator_of_board("1:86", "-n")],
+    ),
     (b"test $x -a $o b", [no_operator_of_board("1:9", "-a")]),
 ]
 # Carriage returns, with and without stand-ins and variables
@@ -254,10 +265,10 @@ LACKED = [
     (b"true; 'f' \"(\"\\) x; f \\\n ()", [no_functions("1:7"), no_functions("1:20")]),
     (b"echo () x; run s ()", [not_run("1:18", "()")]),
     (b"g ()x; g x (); g ( ); g '' ()", several(not_called, "1:1 g 1:8 g 1:16 g 1:23 g")),
-    (b"g $x(); g $? (); $x ()", [not_called("1:1", "g"), not_called("1:9", "g")]),
+    (b"g $x(); g $? (); $x () x", [not_called("1:1", "g"), not_called("1:9", "g")]),
     (b"f()x; f(){ mmc; }; f(b; a)", several(not_called, "1:1 f()x 1:7 f(){ 1:17 } 1:20 f(b 1:25 a)")),
     (b"esac; in; eval; {; !", several(not_called, "1:1 esac 1:7 in 1:11 eval 1:17 { 1:20 !")),
-    (b"$b; br${x}; \"[$x\"; f$x(); $x()", [not_defined("1:1", "b")]),
+    (b"$b; br${x}; \"[$x\"; f$x(); $x() x", [not_defined("1:1", "b")]),
 ]  # fmt: skip
 # Stand-ins of other names, and of those that are lacked
 OTHERS, THESE = b"mmc\n", b"mmc\n[\n[[ 1\nbreak\ncontinue\nreturn\ncase\nfunction\nf\nf()\n()\nbreak()\n[()\n"
@@ -308,9 +319,9 @@ SUBSTITUTED = [
     (b"b=none; echo $none", [not_defined("1:14", "none")]),
     (b"test2 $none; echo $none", [not_called("1:1", "test2"), not_defined("1:7", "none"), not_defined("1:19", "none")]),
     (b"$test -n $none", [not_defined("1:1", "test"), not_defined("1:10", "none")]),
-    (b"env test $none; Test $none", [not_defined("1:10", "none"), not_called("1:17", "Test"), not_defined("1:22", "none")]),
-    (b"test -n '$none' \\$none; echo $none", [not_defined("1:30", "none")]),
-    (b"b=$none; test $b; for c in $none; do test $c; done", [not_defined("1:3", "none"), not_defined("1:28", "none")]),
+    (b"env test $none; Test $none", [no_subcommand("1:1"), not_defined("1:10", "none"), not_called("1:17", "Test"), not_defined("1:22", "none")]),
+    (b"test -n '$none' \\$none; echo $none", [no_expression("1:1"), not_defined("1:30", "none")]),
+    (b"b=$none; test -n $b; for c in $none; do test -n $c; done", [not_defined("1:3", "none"), not_defined("1:31", "none")]),
     (b"setenv b 'setenv none 1; none=2'; echo $none", [not_defined("1:40", "none")]),
     (b"# none=1\necho $none", [not_defined("2:6", "none")]),
     (b"setenv none\r\necho $none", [returned("1:12"), not_defined("2:6", "none")]),
@@ -322,7 +333,7 @@ SUBSTITUTED = [
     ),
     (b"part uuid mmc 0:1 none; echo $none", [not_called("1:1", "part")]),
     (b"run none; echo $none", [not_run("1:5", "none")]),
-    (b"test -e \"$none\"; echo $none", [no_operator("1:6", "-e")]),
+    (b"test -e \"$none\" 0 x; echo $none", [no_operator("1:6", "-e")]),
 ]  # fmt: skip
 # Of these each is defined
 DEFINED = [
@@ -330,8 +341,8 @@ DEFINED = [
     b"none=a$none", b"for none in 1; do echo $none; done; echo $none", b"for none in $none; do true; done", b"setenv none 1; echo $none",
     b"echo $none; setenv none", b"setenv -f none 1; b=$none", b"setexpr none 1 + 2; echo $none", b"env exists none && echo $none",
     b"echo $none none", b"echo ${none}; printenv none", b"setenv 'none' 1; echo $none", b"setenv no\"n\"\\e 1; echo $none",
-    b"setenv $a none; echo $none", b"$x none; $none", b"test -n \"$none\"; echo $none", b"echo $none; if test a = b${none}; then true; fi",
-    b"'test' $none; te\\st $other; echo $none$other",
+    b"setenv $a none; echo $none", b"$x none x; $none", b"test -n \"$none\"; echo $none", b"echo $none; if test a = b${none}; then true; fi",
+    b"'test' -n $none; te\\st -n $other; echo $none$other",
     b"if false; then while false; do for b in 1; do setenv none; done; done; fi; echo $none",
     b"echo $bootfile $dnsip $domain $fdtcontroladdr $fileaddr $filesize",
     b"echo $boardver $bootargs $devnum $devtype $distro_bootpart $dnsip2 $llipaddr $mtddevname $mtddevnum $ntpserverip",
@@ -344,14 +355,14 @@ NAMED = [
     (b"seten none 1; run none", [], [not_run("1:19", "none")]),
     (b"setenv.x -f none 1; run none", [], [not_run("1:25", "none")]),
     (b"setex none 1; run none", [], [not_run("1:19", "none")]),
-    (b"env se none 1; run none", [], [not_run("1:20", "none")]),
+    (b"env se none 1; run none", [], [no_subcommand("1:1"), not_run("1:20", "none")]),
     (b"env.b exi.x none && run none", [], [not_run("1:25", "none")]),
-    (b"setexpr.x none; setexpr. none; run none", [], [not_run("1:36", "none")]),
+    (b"setexpr.x none 1; setexpr. none 1; run none", [], [not_run("1:40", "none")]),
     (b"tes -n $none; run none", [], [not_run("1:19", "none")]),
     (b"tes -n $none; echo $none", [], several(not_defined, "1:8 none 1:20 none")),
     (b"ru none; run.x lost", several(not_run, "1:4 none 1:16 lost"), []),
     (b"test.b a == b", [no_operator_of_board("1:10", "==")], []),
-    (b"sete none 1; env s none; run none", [not_run("1:30", "none")], [not_run("1:30", "none")]),
+    (b"sete none 1; env s none; run none", [not_run("1:30", "none")], [no_subcommand("1:14"), not_run("1:30", "none")]),
 ]
 # A board's rules, scripts by them, and what is found
 RULES = b"""load mmc -> setenv filesize 1c4a00; setenv n 1
@@ -437,7 +448,7 @@ def starts():
     for script, found in [*STARTS, *((script, []) for script in FORESEEN), *ASSIGNED]:
         yield over(VARIABLES | {b"s": script}, [b"s"], lines(on_board(found), "s"))
         yield over(VARIABLES | {b"s": script}, [b"s", *STRICT], lines(found, "s"))
-        yield of_file(script, [], b"")
+        yield of_file(script, [], lines([each for each in found if each.endswith("[wrong-use]")], "a:1 b"))
         if not found:
             yield over(VARIABLES | {b"s": script}, [b"s", b"ok", b"a"], b"")
     over_these = {name: value for name, value in VARIABLES.items() if name != b"a"}
@@ -479,7 +490,7 @@ def boards():
             yield over({b"s": script}, [b"s", *words], lines(found, "s"), files)
             yield of_file(script, words, lines(without(found, "nothing defines", "`run "), "a:1 b"), files)
         yield over(scripts | {b"s": b"true"}, [b"s", *words], told, files)
-        yield over({b"s": b"setexpr.q; usb"}, [b"s", *words], lines(several(not_called, "1:1 setexpr.q 1:12 usb")[: 3 - len(files)], "s"), files)
+        yield over({b"s": b"setexpr.q v 1; usb"}, [b"s", *words], lines(several(not_called, "1:1 setexpr.q 1:16 usb")[: 3 - len(files)], "s"), files)
         for text, line, sentence in ((b"mmc\n-mmc\n", 2, b"a - is for the name of a builtin alone"), (b"mmc ->\n", 1, b"no answer after ->")):
             yield over({b"s": b"'"}, [b"s", *words], b"", files | {b"board": text}, errors=b"fwenv: board:%d: %s\n" % (line, sentence))
     yield of_file(b"setexpr a 1; mmc", [b"--board", b"board"], lines([not_called("1:14", "mmc")], "a:1 b"), {b"board": b""})

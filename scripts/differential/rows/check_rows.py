@@ -73,7 +73,7 @@ GIVEN = [
     (b"bootcmd=run b; echo $n\nb=for n in 1; do true; done\n", [], []),
     (b"bootcmd=echo $n\npreboot=n=1\n", [], []),
     (b"bootcmd=run b_$?; echo $n\nb_1=setenv n 1\n", [], []),
-    (b"bootcmd=run b\nb=run c; echo $n\nc=test $n\n", [], []),
+    (b"bootcmd=run b\nb=run c; echo $n\nc=test -n $n\n", [], []),
     (b"bootcmd=echo $n\nb=n=1\n", [], [not_defined("bootcmd:1:6", "n")]),
     (b"bootcmd=echo $n; env run b\nb=n=1\n", [], [not_defined("bootcmd:1:6", "n")]),
     (b"bootcmd=echo $n\nb=n=1\n", [b"bootcmd", b"b"], []),
@@ -93,7 +93,7 @@ FORESEEN = [
     (b"bootcmd=if test -n '${uenvcmd}'; then run uenvcmd; fi\n", [], [not_run("bootcmd:1:35", "uenvcmd")]),
     (b"bootcmd=if test -n ${uenvcmd}; then run uenvcmb; fi\n", [], [not_run("bootcmd:1:33", "uenvcmb")]),
     (b"bootcmd=run b; run n\nb=setenv n 1\n", [], []),
-    (b"bootcmd=run n b\nb=run c\nc=test $n\n", [], []),
+    (b"bootcmd=run n b\nb=run c\nc=test -n $n\n", [], []),
     (b"bootcmd=run n b_$?\nb_1=setenv n 1\n", [], []),
     (b"bootcmd=run n\npreboot=setexpr n 1 + 1\n", [], []),
     (b"bootcmd=run n\nb=setenv n 1\n", [], [not_run("bootcmd:1:5", "n")]),
@@ -138,7 +138,7 @@ MENUS = [
     (b"bootmenu_=x=run n\nbootmenu_1a=x=run n\nbootmenu=x=run n\nabootmenu_1=x=run n\nbootmenu_-1=x=run n\n", [], [NOTHING]),
     (b"bootmenu_0=x=run n\nbootcmd=true\n", [b"bootcmd"], []),
     (b"bootmenu_0=x'y=run n\n", [b"bootmenu_0"], [not_run("bootmenu_0:1:9", "n")]),
-    (b"bootmenu_0=x=run n; run $a\na=true\n", [], [not_run("bootmenu_0:1:7", "n"), any_target("bootmenu_0:1:14")]),
+    (b"bootmenu_0=x=run n; run $a; echo a\na=true\n", [], [not_run("bootmenu_0:1:7", "n"), any_target("bootmenu_0:1:14")]),
     (b"bootmenu_007=A \xc3\xa9 'title'=echo '\n", [], [no_script("bootmenu_007:1:19", "Quote")]),
     (b"bootmenu_0==run n\n", [], [not_run("bootmenu_0:1:6", "n")]),
     (b"bootmenu_0=x=\nbootmenu_1=x\n", [], []),
@@ -297,7 +297,9 @@ def counting():
             "a warning", [b"--env", b"env", *strict, b"s"], {b"env": b"x=1\ns=x=2\n"}, lines([hidden("s:1:1", "x")]), scripts=1, status=len(strict)
         )
         yield hides
-        yield row("a note", [b"--env", b"env", *strict, b"s"], {b"env": b"x=1\ns=run $x\n"}, lines([any_target("s:1:5")]), scripts=1, status=0)
+        yield row(
+            "a note", [b"--env", b"env", *strict, b"s"], {b"env": b"x=1\ns=run $x; echo x\n"}, lines([any_target("s:1:5")]), scripts=1, status=0
+        )
         yield row("no warning", [b"--env", b"env", *strict, b"s"], {b"env": b"x=1\ns=y=2\n"}, b"", scripts=1, status=0)
         left_out = [*strict, b"--ignore", b"hidden-assignment"]
         yield row("a warning left out", [b"--env", b"env", *left_out, b"s"], {b"env": b"x=1\ns=x=2\n"}, b"", scripts=1, status=0)

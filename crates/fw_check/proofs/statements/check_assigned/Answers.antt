@@ -2,7 +2,8 @@ use Rattle.std.proofs.Common.{ℕ, List, [], ◌∷◌, ◌++◌, codes, ap, ◌
 use Rattle.std.specs.Prelude.{option_map}
 use Rattle.hush_words.specs.Parts.{word_atoms}
 use Rattle.finding_kinds.specs.declared.kinds.FindingKind.TheVariants as kind
-use Rattle.fw_check.specs.Findings.{found_at, is_defined}
+use Rattle.fw_check.specs.Findings.{found_at}
+use Rattle.fw_check.specs.Knowing.{is_defined}
 use Rattle.fw_check.specs.Found.{found_more}
 use Rattle.fw_check.specs.Literals.{literal_of}
 use Rattle.fw_check.specs.Looking.{known_in}

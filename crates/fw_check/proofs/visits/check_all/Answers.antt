@@ -4,7 +4,8 @@ use Rattle.envimg_core.specs.Environment.{Environment}
 use Rattle.finding_kinds.specs.Choices.{Choice, choice_view}
 use Rattle.fw_check.specs.Called.{Given, in_answers}
 use Rattle.fw_check.specs.Checking.{AreVisited, ComesTo, Reports, first_report, follow_first, known_after}
-use Rattle.fw_check.specs.Findings.{Known, Report}
+use Rattle.fw_check.specs.Findings.{Report}
+use Rattle.fw_check.specs.Knowing.{Known}
 use Rattle.fw_check.specs.Following.{Followed, begin_from, begin_with, follow_fronts}
 use Rattle.fw_check.specs.Looking.{rules_view}
 use Rattle.fw_check.specs.NameSets.{set_of}
