@@ -1,7 +1,8 @@
 /* Preloaded before a program: cuts one of its streams. CUT_FD is its descriptor, or CUT_PATH the path by which the program
    opens it and CUT_OPEN which of the times it does (the first); CUT_CALL is read, write or sync. The stream moves at most
    CUT_STEP bytes a call and CUT_AFTER bytes in all. Then, as CUT_THEN says, each call fails, or each moves none (a reader
-   has ended, a writer takes nothing), or one moves none and the next ones go on (pause). A sync that is cut fails at once.
+   has ended, a writer takes nothing), or one moves none and the next ones go on (pause). Of a file that is read and written both
+   count. A sync that is cut fails, once CUT_AFTER of them were done.
    CUT_COUNT names a file to which the number of the stream's calls and that of the bytes that they moved are written when the
    program ends. */
 #define _GNU_SOURCE
@@ -90,6 +91,10 @@ ssize_t write(int fd, const void *from, size_t size) {
 int fsync(int fd) {
     if (!is_cut(fd, SYNC)) return (int)syscall(SYS_fsync, fd);
     calls += 1;
+    if (left > 0) {
+        left -= 1;
+        return (int)syscall(SYS_fsync, fd);
+    }
     errno = EIO;
     return -1;
 }
@@ -102,8 +107,8 @@ int open(const char *name, int flags, ...) {
     int mode = flags & O_CREAT ? va_arg(rest, int) : 0;
     va_end(rest);
     int fd = (int)syscall(SYS_openat, AT_FDCWD, name, flags, mode);
-    int is_read = (flags & O_ACCMODE) == O_RDONLY;
-    if (fd >= 0 && path && !strcmp(name, path) && is_read == (direction == READ)) {
+    int access = flags & O_ACCMODE, is_fit = access == O_RDWR || (access == O_RDONLY) == (direction == READ);
+    if (fd >= 0 && path && !strcmp(name, path) && is_fit) {
         opens += 1;
         if (opens == wanted_open) stream = fd;
     }

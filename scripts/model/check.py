@@ -347,15 +347,20 @@ def foreign(word):
     return REDIRECTION if text.startswith(b">") else None
 
 
-def words_of_another_shell(command, known):
-    """Arguments that are written so, and a comparison that has no `test`."""
-    words = words_of(command)
-    if command[0] == "simple":
-        words = [] if called(command, known) in (b"echo", b"test") else words[1:]
-    elif command[0] != "for":
-        words = []
+def foreign_words(words):
     found = [(word.place, foreign(word)) for word in words]
     return [Finding(place, b"other-shell", said) for place, said in found if said]
+
+
+def foreign_arguments(command, known):
+    """Arguments that are written so."""
+    is_free = command[0] != "simple" or called(command, known) in (b"echo", b"test")
+    return [] if is_free else foreign_words(command[1][1:])
+
+
+def foreign_list(command, _known):
+    """The same of the list of a `for`."""
+    return foreign_words(command[2]) if command[0] == "for" else []
 
 
 def lost_test(command, _known):
@@ -528,7 +533,8 @@ def undefined_substitution(command, known):
 
 
 SEARCHES = (
-    lacked_command, lost_test, unknown_command, words_of_another_shell, ignored_exit, wrong_use, unknown_operator, undefined_target, refused_assignment, cut_word, undefined_substitution,
+    lacked_command, lost_test, unknown_command, foreign_arguments, ignored_exit, wrong_use, unknown_operator, undefined_target, refused_assignment, cut_word, foreign_list,
+    undefined_substitution,
 )  # fmt: skip
 
 

@@ -12,3 +12,4 @@ pub mod Reasons
 pub mod Said
 pub mod Source
 pub mod WantedCopy
+pub mod WrittenBack

@@ -25,14 +25,6 @@ AreWanted image order wanted shape first second =
     (read : List ℕ) × (read_second : Option (List ℕ)) × AreCopies image order shape read read_second × (refusal_of wanted shape read read_second ≡ None)
     × (first ≡ first_for wanted read read_second) × (second ≡ second_for wanted read read_second)
 
--- a session just opened over such copies, with the defaults of some text if its path is given, else with none; if the copies are to be
--- spared none of them is good in another way
-abbrev pub IsOpening : (image : Option ℕ) → Order → WantedCopy → (spares : Bool) → Defaults → Held → Type 0
-IsOpening image order wanted spares asked session =
-    (shape : Shape) × (first : List ℕ) × (second : Option (List ℕ)) × (defaults : Contents)
-    × AreWanted image order wanted shape first second × AreDefaultsOf (room_of shape) asked defaults × (session ≡ opened shape first second defaults)
-    × Spares session.now.current spares shape first second
-
 -- the same copies as they were read
 abbrev pub AreCopiesIn : (image : Option ℕ) → Order → Source → Type 0
 AreCopiesIn image order source = AreCopies image order source.geometry source.first.bytes.items (second_bytes source.second)
@@ -45,6 +37,12 @@ abbrev pub OpensOver : Source → Defaults → Held → Type 0
 OpensOver source asked session =
     (defaults : Contents) × AreDefaultsOf (room_of source.geometry) asked defaults
     × (session ≡ opened source.geometry source.first.bytes.items (second_bytes source.second) defaults)
+
+-- the same over the copies that are wanted; if these are to be spared none of them is good in another way
+abbrev pub IsOpening : (image : Option ℕ) → Order → WantedCopy → (spares : Bool) → Defaults → Source → Held → Type 0
+IsOpening image order wanted spares asked source session =
+    AreWantedIn image order wanted source × OpensOver source asked session
+    × Spares session.now.current spares source.geometry source.first.bytes.items (second_bytes source.second)
 
 -- a copy is good, or no copy has to be: then there is a warning, unless the text is the whole environment
 abbrev pub IsAccepted : Defaults → Held → Option (List ℕ) → Option (List ℕ) → Type 0

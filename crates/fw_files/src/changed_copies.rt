@@ -1,79 +1,207 @@
 //! The copies of a session, written back to their devices.
-ghost use Rattle.std.specs.Prelude.{◌≡◌, MatchOption, is_some, map, option_map};
+ghost use Rattle.std.specs.Prelude.{◌≡◌, ◌≤◌, ◌+◌, ℕ, List, None, IfOk, IfSome, MatchOption, OnOk, length, option_map, true};
+ghost use Rattle.device_files.specs.Record.{calls_in};
+ghost use Rattle.devices.specs.Changes.{IsApart};
+ghost use Rattle.devices.specs.Device.{Only};
+ghost use Rattle.env_session.specs.Session.{bytes_of};
 ghost use Rattle.fw_engines.specs.Streams.{AppendsFront};
+ghost use Rattle.fw_files.specs.Copies.{goes_over, warned_of, warning_of};
 ghost use Rattle.fw_files.specs.Said.{SaysSome};
-ghost use Rattle.fw_files.specs.Copies.{change_in, change_view, changes, goes_over, other_first, warned_of, warning_of};
+ghost use Rattle.fw_files.specs.WrittenBack.{AreWritten, IsLeft, LeavesAtAnyMoment, ShowsCopies, differs, first_differs, second_differs, step_of};
 
-use crate::copies::{ReadCopy, change_in_reads, read_copy, to_write, write_copy};
-use crate::file_fault::{say_fault, value_or_say};
+use crate::copies::ReadCopy;
+use crate::file_fault::say_fault;
 use crate::file_texts::{FIRST_OVER_DATA, SECOND_OVER_DATA};
+use crate::opened_devices::{CopyFault, open_devices};
 use crate::reasons::Explains;
 use crate::source::Source;
+use device_files::{OpenDevice, Start};
+use devices::{Change, Device, Fault};
 use env_session::Stored;
-use envcfg_core::Place;
 use envimg_core::Choice;
 use fw_engines::streams::say;
 use fw_engines::{is_good, is_other_data};
+use std::alloc::Global;
 use std::io::Write;
 use std::rt::Files;
 
-/// A copy that is to be written: where, and its bytes.
+/// Which copies are to have other bytes than those that were read.
 #[derive(Clone, Copy)]
-struct Change<'a> {
-    place: &'a Place,
-    start: u64,
-    bytes: &'a [u8],
+pub(crate) struct Changed {
+    /// The first copy.
+    pub(crate) first: bool,
+    /// The second copy.
+    pub(crate) second: bool,
 }
 
-/// Writes back those copies whose bytes changed, the first before the second. Before that each copy is read again, and
-/// nothing is written if another program has changed one. A warning on `errors` precedes a write over other data beside a
-/// good copy. A fault is reported on `errors`, and nothing is written after it.
-pub fn write_back<X: Files + AllocGlobal, E: Write>(
+/// Writes back those copies whose bytes changed: the first before the second, but the first one last if `last` is that.
+/// Their devices are opened for it, and stay open in `devices`; none are if no copy changed. Before that each copy is read
+/// again, and nothing is written if another program has changed one. A warning on `errors` precedes a write over other data
+/// beside a good copy. A fault is reported on `errors`, and nothing is written after it.
+pub fn write_back<X: Files + AllocGlobal, S: Start, E: Write>(
     rt: &X,
     source: &Source,
+    last: Choice,
     stored: &Stored,
     explains: Explains,
+    devices: &mut Option<OpenDevice<X::File, S>>,
     errors: &mut E,
 ) -> Option<()>
-    ensures { MatchOption result (SaysSome (E.contents errors.old) (E.contents errors.new)) (λ _. AppendsFront (E.contents errors.old) (E.contents errors.new) (warned_of source.now stored.now)) }
+    ensures said { MatchOption result (SaysSome (E.contents errors.old) (E.contents errors.new))
+        (λ _. AppendsFront (E.contents errors.old) (E.contents errors.new) (warned_of source.now stored.now)) }
+    ensures written { IfSome result (λ _. AreWritten S.contents source.now stored.now.first.items (bytes_of stored.now.second)
+        (option_map (λ d. calls_in d.calls) devices.new)) }
+    ensures any_moment { LeavesAtAnyMoment S.contents last source.now stored.now.first.items (bytes_of stored.now.second)
+        (option_map (λ d. calls_in d.calls) devices.new) }
 {
-    let [first, second] = changes(source, stored);
-    let warning = warning_of(source, &first, &second);
-    write_changes(rt, source, [first, second], warning, explains, errors)
+    *devices = None;
+    let changed = changed_in(source, stored);
+    if !changed.first && !changed.second {
+        return Some(());
+    }
+    say(errors, warning_of(source, changed));
+    match write_changed(rt, source, last, stored, changed, devices) {
+        Ok(()) => Some(()),
+        Err(CopyFault { is_second, fault }) => {
+            let path = device_of(source, is_second);
+            say_fault(rt.alloc(), errors, explains, path, fault);
+            None
+        }
+    }
 }
 
-/// The same, but the copy that was current at the start is written last, so that one of them is whole at any time.
-pub fn write_other_first<X: Files + AllocGlobal, E: Write>(
+/// Opens the devices of the copies, and writes those back that changed.
+fn write_changed<X: Files + AllocGlobal, S: Start>(
     rt: &X,
     source: &Source,
-    current: Choice,
+    last: Choice,
     stored: &Stored,
-    explains: Explains,
-    errors: &mut E,
-) -> Option<()>
-    ensures { MatchOption result (SaysSome (E.contents errors.old) (E.contents errors.new)) (λ _. AppendsFront (E.contents errors.old) (E.contents errors.new) (warned_of source.now stored.now)) }
+    changed: Changed,
+    devices: &mut Option<OpenDevice<X::File, S>>,
+) -> Result<(), CopyFault>
+    requires { devices.old ≡ None }
+    ensures written { IfOk result (λ _. AreWritten S.contents source.now stored.now.first.items (bytes_of stored.now.second)
+        (option_map (λ d. calls_in d.calls) devices.new)) }
+    ensures any_moment { LeavesAtAnyMoment S.contents last source.now stored.now.first.items (bytes_of stored.now.second)
+        (option_map (λ d. calls_in d.calls) devices.new) }
 {
-    let [first, second] = changes(source, stored);
-    let warning = warning_of(source, &first, &second);
-    let changes = other_first(current, first, second);
-    write_changes(rt, source, changes, warning, explains, errors)
+    let (mut device, before) = open_devices(rt, source, changed)?;
+    let written = write_into(rt.alloc(), &mut device, before, source, last, stored);
+    let last_call = device.last_call();
+    *devices = Some(device);
+    match written {
+        Ok(()) => Ok(()),
+        Err(_) => Err(CopyFault::at(last_call)),
+    }
 }
 
-/// The warning before these changes, if one of them goes over other data beside a good copy.
-fn warning_of(
+/// Writes the copies back that changed. The second one begins so many bytes later than in its own device.
+fn write_into<D: Device>(
+    alloc: Global,
+    device: &mut D,
+    before: usize,
     source: &Source,
-    first: &Option<Change<'_>>,
-    second: &Option<Change<'_>>,
-) -> &'static [u8]
-    ensures { result.now ≡ warning_of source.now (is_some first.now) (is_some second.now) }
+    last: Choice,
+    stored: &Stored,
+) -> Result<(), Fault>
+    requires durable { D.is_honest device.old → Only (D.seen device.old) (D.may_leave device.old) }
+    ensures shown { D.is_honest device.new →
+        OnOk result (ShowsCopies (D.seen device.new) source.now before stored.now.first.items (bytes_of stored.now.second)) }
+    ensures durable { D.is_honest device.new → OnOk result (Only (D.seen device.new) (D.may_leave device.new)) }
+    ensures any_moment { D.is_honest device.new → (left : List ℕ) → D.left_since device.new (D.moment device.old) left →
+        IsLeft last source.now before stored.now.first.items (bytes_of stored.now.second) (D.seen device.old) left }
+{
+    let Some(first) = change_of(0, &source.first, &stored.first) else {
+        return Err(Fault::Changed);
+    };
+    match (&source.second, &stored.second) {
+        (_, None) => devices::write_back(alloc, device, &[first]),
+        (None, Some(_)) => Err(Fault::Changed),
+        (Some(read), Some(bytes)) => match change_of(before, read, bytes) {
+            Some(second) if are_apart(&first, &second) => match last {
+                Choice::First => devices::write_back(alloc, device, &[second, first]),
+                _ => devices::write_back(alloc, device, &[first, second]),
+            },
+            _ => Err(Fault::Changed),
+        },
+    }
+}
+
+/// A copy that is to have these bytes and begins so many bytes later than in its own device; `None` if its length isn't kept.
+fn change_of<'a>(before: usize, read: &'a ReadCopy, bytes: &'a [u8]) -> Option<Change<'a>>
+    ensures step { IfSome result (λ change. step_of change ≡ (before + read.now.start, read.now.bytes.items, bytes.now)) }
+    ensures length { IfSome result (λ change. length change.to_write.now ≡ length change.as_read.now) }
+{
+    let at = before.checked_add(read.start as usize)?;
+    if bytes.len() != read.bytes.len() {
+        return None;
+    }
+    Some(Change {
+        at,
+        as_read: &read.bytes,
+        to_write: bytes,
+    })
+}
+
+/// Whether two copies share no byte.
+fn are_apart(one: &Change<'_>, other: &Change<'_>) -> bool
+    ensures { result ≡ true → IsApart one.now other.now }
+{
+    ends_before(one, other) || ends_before(other, one)
+}
+
+/// Whether a copy ends before another begins.
+fn ends_before(one: &Change<'_>, other: &Change<'_>) -> bool
+    ensures { result ≡ true → one.now.at + length one.now.to_write.now ≤ other.now.at }
+{
+    match one.at.checked_add(one.to_write.len()) {
+        None => false,
+        Some(end) => end <= other.at,
+    }
+}
+
+/// Which copies are to have other bytes than those that were read.
+fn changed_in(source: &Source, stored: &Stored) -> Changed
+    ensures first { result.first ≡ first_differs source.now stored.now }
+    ensures second { result.second ≡ second_differs source.now.second stored.now.second }
+{
+    let second = match (&source.second, &stored.second) {
+        (_, None) => false,
+        (None, Some(_)) => true,
+        (Some(read), Some(bytes)) => differs(&read.bytes, bytes),
+    };
+    Changed {
+        first: differs(&source.first.bytes, &stored.first),
+        second,
+    }
+}
+
+/// Whether a copy is to have other bytes than those that were read.
+fn differs(read: &[u8], bytes: &[u8]) -> bool
+    ensures { result ≡ differs read.now bytes.now }
+{
+    read != bytes
+}
+
+/// The path of a copy's device.
+fn device_of(source: &Source, is_second: bool) -> &str {
+    match &source.config.second {
+        Some(place) if is_second => place.device.as_str(),
+        _ => source.config.first.device.as_str(),
+    }
+}
+
+/// The warning before these copies are written, if one of them goes over other data beside a good copy.
+fn warning_of(source: &Source, changed: Changed) -> &'static [u8]
+    ensures { result.now ≡ warning_of source.now changed.first changed.second }
 {
     let Some(copy) = &source.second else {
         return b"";
     };
-    if first.is_some() && goes_over(source, &source.first, copy) {
+    if changed.first && goes_over(source, &source.first, copy) {
         return FIRST_OVER_DATA;
     }
-    if second.is_some() && goes_over(source, copy, &source.first) {
+    if changed.second && goes_over(source, copy, &source.first) {
         return SECOND_OVER_DATA;
     }
     b""
@@ -84,135 +212,4 @@ fn goes_over(source: &Source, copy: &ReadCopy, beside: &ReadCopy) -> bool
     ensures { result ≡ goes_over source.now.geometry copy.now.bytes.items beside.now.bytes.items }
 {
     is_other_data(&source.geometry, &copy.bytes) && is_good(&source.geometry, &beside.bytes)
-}
-
-/// Two changes, the last one that of the copy which was current at the start.
-fn other_first<'a>(
-    current: Choice,
-    first: Option<Change<'a>>,
-    second: Option<Change<'a>>,
-) -> [Option<Change<'a>>; 2]
-    ensures { result ≡ other_first current first.entry second.entry }
-{
-    match current {
-        Choice::First => [second, first],
-        _ => [first, second],
-    }
-}
-
-/// Makes these changes one after the other, after a warning.
-fn write_changes<X: Files + AllocGlobal, E: Write>(
-    rt: &X,
-    source: &Source,
-    changes: [Option<Change<'_>>; 2],
-    warning: &[u8],
-    explains: Explains,
-    errors: &mut E,
-) -> Option<()>
-    ensures { MatchOption result (SaysSome (E.contents errors.old) (E.contents errors.new))
-        (λ _. AppendsFront (E.contents errors.old) (E.contents errors.new) warning.now) }
-{
-    let [one, other] = changes;
-    if one.is_none() && other.is_none() {
-        return Some(());
-    }
-    find_both_as_read(rt, source, explains, errors)?;
-    say(errors, warning);
-    write_both(rt, one, other, explains, errors)
-}
-
-/// Checks that both copies still are what was read. A fault is reported on `errors`.
-fn find_both_as_read<X: Files + AllocGlobal, E: Write>(
-    rt: &X,
-    source: &Source,
-    explains: Explains,
-    errors: &mut E,
-) -> Option<()>
-    ensures { MatchOption result (SaysSome (E.contents errors.old) (E.contents errors.new)) (λ _. E.contents errors.new ≡ E.contents errors.old) }
-{
-    let size = source.config.size;
-    let place = &source.config.first;
-    find_as_read(rt, place, size, &source.first, explains, errors)?;
-    match (&source.config.second, &source.second) {
-        (Some(place), Some(old)) => find_as_read(rt, place, size, old, explains, errors),
-        _ => Some(()),
-    }
-}
-
-/// Writes two copies over their places, the one before the other, if there are two to write. A fault is reported on
-/// `errors`, and nothing is written after it.
-fn write_both<X: Files + AllocGlobal, E: Write>(
-    rt: &X,
-    one: Option<Change<'_>>,
-    other: Option<Change<'_>>,
-    explains: Explains,
-    errors: &mut E,
-) -> Option<()>
-    ensures { MatchOption result (SaysSome (E.contents errors.old) (E.contents errors.new)) (λ _. E.contents errors.new ≡ E.contents errors.old) }
-{
-    write_change(rt, one, explains, errors)?;
-    write_change(rt, other, explains, errors)
-}
-
-/// Checks that a copy still is what was read. A fault is reported on `errors`.
-fn find_as_read<X: Files + AllocGlobal, E: Write>(
-    rt: &X,
-    place: &Place,
-    size: u32,
-    old: &ReadCopy,
-    explains: Explains,
-    errors: &mut E,
-) -> Option<()>
-    ensures { MatchOption result (SaysSome (E.contents errors.old) (E.contents errors.new)) (λ _. E.contents errors.new ≡ E.contents errors.old) }
-{
-    match change_in_reads(old, read_copy(rt, place, size)) {
-        None => Some(()),
-        Some(fault) => {
-            say_fault(rt.alloc(), errors, explains, place.device.as_str(), fault);
-            None
-        }
-    }
-}
-
-/// Writes a copy over its place, if there is one to write. A fault is reported on `errors`.
-fn write_change<X: Files + AllocGlobal, E: Write>(
-    rt: &X,
-    change: Option<Change<'_>>,
-    explains: Explains,
-    errors: &mut E,
-) -> Option<()>
-    ensures { MatchOption result (SaysSome (E.contents errors.old) (E.contents errors.new)) (λ _. E.contents errors.new ≡ E.contents errors.old) }
-{
-    let Some(change) = change else {
-        return Some(());
-    };
-    let written = write_copy(rt, change.place, change.start, change.bytes);
-    let path = change.place.device.as_str();
-    value_or_say(rt.alloc(), errors, explains, path, written)
-}
-
-/// What is to be written, in this order.
-fn changes<'a>(source: &'a Source, stored: &'a Stored) -> [Option<Change<'a>>; 2]
-    ensures { map (option_map change_view) result ≡ changes source.now stored.now }
-{
-    let first = change_in(&source.config.first, &source.first, &stored.first);
-    let second = match (&source.config.second, &source.second, &stored.second) {
-        (Some(place), Some(old), Some(new)) => change_in(place, old, new),
-        _ => None,
-    };
-    [first, second]
-}
-
-/// The change of a copy to these bytes, if they differ from the old ones.
-fn change_in<'a>(place: &'a Place, old: &ReadCopy, new: &'a [u8]) -> Option<Change<'a>>
-    ensures { option_map change_view result ≡ change_in place.now old.now new.now }
-{
-    match to_write(&old.bytes, new) {
-        None => None,
-        Some(bytes) => Some(Change {
-            place,
-            start: old.start,
-            bytes,
-        }),
-    }
 }

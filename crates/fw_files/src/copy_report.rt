@@ -9,7 +9,7 @@ ghost use Rattle.fw_files.specs.Said.{SaysSome, Stops};
 ghost use Rattle.fw_files.specs.Source.{IsSourceOf};
 
 use crate::copies::{ReadCopy, with_following};
-use crate::devices::lock_path;
+use crate::device_access::lock_path;
 use crate::file_fault::{FileFault, value_or_say};
 use crate::files::read_file;
 use crate::lock_file::lock_copies;

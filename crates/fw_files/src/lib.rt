@@ -2,8 +2,8 @@
 //! over copies is opened here, copies are written back and reported on, and it is reported why a file can not be used.
 //! docs/tools.md states the rules.
 //!
-//! To read in this order: system, reasons, foreign_texts, file_fault, files, known_names, new_file; waiting, devices, lock_file, copies, source, wanted_source,
-//! bare_lines, default_text, misread_copies, opening, changed_copies; copy_report; tool_messages, file_texts.
+//! To read in this order: system, reasons, foreign_texts, file_fault, files, known_names, new_file; waiting, device_access, lock_file, copies, source, wanted_source,
+//! bare_lines, default_text, misread_copies, opening, opened_devices, changed_copies; copy_report; tool_messages, file_texts.
 #![tactic(auto)]
 
 mod bare_lines;
@@ -11,7 +11,7 @@ mod changed_copies;
 mod copies;
 mod copy_report;
 mod default_text;
-mod devices;
+mod device_access;
 mod file_fault;
 mod file_texts;
 mod files;
@@ -20,6 +20,7 @@ mod known_names;
 mod lock_file;
 mod misread_copies;
 mod new_file;
+mod opened_devices;
 mod opening;
 mod reasons;
 mod source;
@@ -28,7 +29,7 @@ mod tool_messages;
 mod waiting;
 mod wanted_source;
 
-pub use changed_copies::{write_back, write_other_first};
+pub use changed_copies::write_back;
 pub use copies::ReadCopy;
 pub use copy_report::run_report;
 pub use default_text::variables_or_say;

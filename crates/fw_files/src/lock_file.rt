@@ -3,7 +3,7 @@ ghost use Rattle.std.specs.Prelude.{MatchOption};
 ghost use Rattle.fw_files.specs.Locks.{HasWaited};
 ghost use Rattle.fw_files.specs.Said.{SaysSome};
 
-use crate::devices::{is_pipe, lock_device};
+use crate::device_access::{is_pipe, lock_device};
 use crate::file_texts::CANNOT_LOCK;
 use crate::reasons::{Explains, Reason};
 use crate::system::{Hold, System};

@@ -2,7 +2,7 @@
 ghost use Rattle.std.specs.Prelude.{IfErr};
 ghost use Rattle.fw_files.specs.Files.{IsUnwritable};
 
-use crate::devices::is_flash;
+use crate::device_access::is_flash;
 use crate::file_fault::FileFault;
 use crate::reasons::Reason;
 use std::fs::OpenOptions;

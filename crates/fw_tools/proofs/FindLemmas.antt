@@ -1,5 +1,5 @@
 -- The status of a search.
-use Rattle.std.proofs.Common.{◌≡◌, ℕ, ◌≤◌, List, [], ◌∷◌, inl, inr, arith}
+use Rattle.std.proofs.Common.{ℕ, ◌≤◌, List, [], ◌∷◌, inl, inr, arith}
 use Rattle.dump_search.specs.DumpLines.{dump_report, report_on}
 use Rattle.dump_search.specs.Search.{environments}
 use Rattle.dump_search.specs.declared.dump.Found.{Found}

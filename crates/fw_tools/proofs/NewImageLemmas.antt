@@ -1,5 +1,5 @@
 -- What a save over erased copies leaves, and the status of a new image.
-use Rattle.std.proofs.Common.{Bor, option_map, ◌≡◌, ◌⊎◌, ◌≤◌, ℕ, Bool, true, false, List, Option, Some, None, inl, inr, arith, refl, sym, ap, ◌∙◌, subst}
+use Rattle.std.proofs.Common.{Bor, option_map, ◌≡◌, ◌≤◌, ℕ, Bool, List, Option, Some, None, inl, inr, arith, refl, sym, ap, ◌∙◌, subst}
 use Rattle.env_session.specs.Session.{Held, State, bytes_of, opened, opening_choice, opening_env, saved, saved_flag, saved_side, with_copy}
 use Rattle.env_session.specs.declared.session.Stored.{Stored}
 use Rattle.envimg_core.specs.Geometry.{Shape, room_of}

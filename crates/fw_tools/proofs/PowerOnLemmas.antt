@@ -18,7 +18,7 @@ use Rattle.fw_boots.specs.Cuts.{Cutting}
 use Rattle.fw_boots.specs.Boots.{BootsAs, Power}
 use Rattle.fw_boots.specs.PowerOns.{power_on_text}
 use Rattle.boot_search.specs.Bootable.{unmarked}
-use Rattle.boot_search.specs.SurveyText.{Told, survey_status, told_of}
+use Rattle.boot_search.specs.SurveyText.{told_of}
 use Rattle.env_session.specs.Session.{Held}
 use Rattle.fw_arguments.specs.PowerOns.{PowerOns}
 use Rattle.fw_engines.specs.Streams.{Writers}

@@ -2,32 +2,35 @@
 use Rattle.std.proofs.Common.{◌≡◌, ◌⊎◌, ◌≤◌, ℕ, zero, suc, Bool, true, false, List, [], ◌∷◌, ◌++◌, Option, Some, None, inl, inr, refl, sym, ap, ◌∙◌, subst, arith}
 use Rattle.std.specs.Prelude.{◌==◌, ◌&&◌, not, map, MatchOption, if◌then◌else◌, length, unwrap_or}
 use Rattle.env_session.specs.Requests.{entry_in, refusal_in}
-use Rattle.env_session.specs.Session.{Held, written}
+use Rattle.std.specs.FinMap as env
+use Rattle.env_session.specs.Session.{Held, last_changed_names, written}
 use Rattle.envcfg_core.specs.Entries as text_entries
 use Rattle.envcfg_core.specs.Entries.{entry_view}
 use Rattle.envcfg_core.specs.declared.entry.TextEntry.{TextEntry}
 use Rattle.envimg_core.specs.Environment.{Environment}
 use Rattle.envimg_core.specs.Pieces.{Entry}
+use Rattle.envimg_core.specs.declared.choice.Choice.{Choice}
+use Rattle.envimg_core.specs.declared.choice.Choice.TheVariants as choices
 use Rattle.envimg_core.specs.declared.geometry.Order.{Order}
 use Rattle.envvars_core.specs.declared.refusals.Refusal.{Refusal}
-use Rattle.fw_files.specs.Opening.{AreCopies, AreCopiesIn, AreWantedIn, IsAccepted, IsOpening, OpensOver}
+use Rattle.fw_files.specs.Opening.{AreCopies, AreCopiesIn, AreWantedIn, IsAccepted, IsOpening}
 use Rattle.fw_tools.specs.CheckRuns.{unchecked}
-use Rattle.fw_tools.specs.Subcommands.{Acts, Closes, DoesJob, Scene, Uses, UsesTool, printed_so, stopped_status}
-use Rattle.fw_arguments.specs.Calls.{Boots, Call, Checks, Defaults, Job, Runs, Task, Tool, Tries, job_view, spares}
+use Rattle.fw_tools.specs.Closing.{Closes}
+use Rattle.fw_tools.specs.Subcommands.{Acts, DoesJob, Scene, Uses, UsesTool, is_kept, is_left, printed_so, stopped_status}
+use Rattle.fw_files.specs.WrittenBack.{Devices}
+use Rattle.fw_arguments.specs.Calls.{Boots, Call, Checks, Defaults, Job, Runs, Task, Tool, Tries, changes, job_view, spares}
 use Rattle.fw_arguments.specs.declared.job.Job as asked_jobs
 use Rattle.fw_tools.proofs.CheckLemmas.{check_small}
 use Rattle.fw_tools.proofs.PowerOnLemmas.{boots_small}
 use Rattle.fw_arguments.specs.DryRuns.{ScriptRun}
 use Rattle.fw_tools.specs.ScriptRuns as ScriptRuns
-use Rattle.fw_tools.specs.ScriptRuns.{ClosesRun, RunsOver}
+use Rattle.fw_tools.specs.ScriptRuns.{RunsOver}
 use Rattle.fw_session.specs.ScriptRun.{course_texts, ended_badly, ended_so, has_booted, is_well, no_boot}
 use Rattle.hush_run.specs.declared.outcome.Course.{Course}
-use Rattle.hush_run.specs.declared.ending.Ending.{Ending}
 use Rattle.fw_files.specs.Locks.{HasWaited}
 use Rattle.fw_arguments.specs.declared.wanted_copy.WantedCopy.{WantedCopy}
 use Rattle.fw_engines.specs.Streams.{AppendsFront}
 use Rattle.fw_files.proofs.SaidLemmas.{front_said}
-use Rattle.fw_files.specs.Misread.{Spares}
 use Rattle.fw_files.specs.Said.{SaysSome}
 use Rattle.fw_files.specs.WantedCopy.{IsWantedIn, SaysRefusal, refusal_of}
 use Rattle.fw_files.specs.Source.{IsTaken, second_bytes}
@@ -38,7 +41,8 @@ use Rattle.fw_engines.specs.TextForm.{export_texts, status_for}
 use Rattle.fw_engines.specs.VariableLines.{complaint, named, one_name, printed, status_of}
 use Rattle.fw_engines.specs.Changes.{Changing, Effect, Ends, count_status, pair_of, script_effect, unless_refused}
 use Rattle.fw_engines.specs.Restoration.{forced_effect, restore_effect, restoring, unless_refused_in}
-use Rattle.fw_tools.specs.SessionRun.{ClosesDryRun, Reports, is_kept, text_for}
+use Rattle.fw_tools.specs.SessionRun as SessionRun
+use Rattle.fw_tools.specs.SessionRun.{ClosesDryRun, Reports, text_for}
 use Rattle.fw_session.specs.declared.session_end.SessionEnding.{SessionEnding}
 use Rattle.fw_engines.specs.Streams.{Streams, Writers}
 use Rattle.fw_engines.specs.Tool.{Printed, Prints, Texts, Writes, WritesPart}
@@ -50,13 +54,6 @@ use Rattle.fw_engines.specs.declared.tool_end.ToolEnd.{ToolEnd}
 pub pairs_in : (entries : List TextEntry) → map pair_of (map entry_view entries) ≡ map entry_in entries
 pairs_in [] = refl
 pairs_in (e ∷ es) = ap (λ others. entry_in e ∷ others) (pairs_in es)
-
--- a session over what was read is one over such copies
-pub opens_so : (image : Option ℕ) (order : Order) (wanted : WantedCopy) (spares : Bool) (source : Source) (asked : Defaults) (session : Held) →
-    AreWantedIn image order wanted source → OpensOver source asked session →
-    Spares session.now.current spares source.geometry source.first.bytes.items (second_bytes source.second) → IsOpening image order wanted spares asked session
-opens_so image order wanted spares source asked session copies (defaults, are, is) spared =
-    (source.geometry, source.first.bytes.items, second_bytes source.second, defaults, copies, are, is, spared)
 
 -- the copy that is asked for, in the place of each that was read
 pub wanted_so : (image : Option ℕ) (order : Order) (wanted : WantedCopy) (read source : Source) → AreCopiesIn image order read → IsWantedIn wanted read source →
@@ -77,25 +74,36 @@ refusal_said (Some line) a b text (inl said) = front_said a b line said
 refusal_said line a b text (inr said) = front_said a b text said
 
 -- a session was opened, with or without a warning, and worked on
-pub opened_session : (call : Call) (asked : Defaults) (old : Streams) (waited : Option (List ℕ)) (session : Held) (warned : Option (List ℕ)) (new : Streams) (status : ℕ) →
-    HasWaited old.errors waited → IsTaken session.now.current call.defaults asked → IsOpening call.image call.order call.copy (spares call) asked session →
+pub opened_session : (call : Call) (asked : Defaults) (devices : Devices) (old : Streams) (waited : Option (List ℕ)) (source : Source) (session : Held) (warned : Option (List ℕ)) (new : Streams) (status : ℕ) →
+    HasWaited old.errors waited → IsTaken session.now.current call.defaults asked → IsOpening call.image call.order call.copy (spares call) asked source session →
     IsAccepted asked session waited warned →
-    DoesJob call.job session (record { input = old.input; output = old.output; errors = warned }) new status → Uses call old new status
-opened_session call asked old waited session warned new status has found opening accepted does =
-    inr (waited, asked, session, warned, has, found, opening, accepted, does)
+    DoesJob call.only_changes call.job source session devices (record { input = old.input; output = old.output; errors = warned }) new status → Uses call devices old new status
+opened_session call asked devices old waited source session warned new status has found opening accepted does =
+    inr (waited, asked, source, session, warned, has, found, opening, accepted, does)
 
 -- what was done for a job, once it is known which that is
-pub job_done : (job known : asked_jobs.Job) (session : Held) (old new : Streams) (r : Option ℕ) → job ≡ known →
-    DoesJob (job_view known) session old new (unwrap_or r (stopped_status (job_view known))) →
-    DoesJob (job_view job) session old new (unwrap_or r (stopped_status (job_view job)))
-job_done job known session old new r is does =
-    subst (λ (j : asked_jobs.Job). DoesJob (job_view j) session old new (unwrap_or r (stopped_status (job_view j)))) (sym is) does
+pub job_done : (only_changes : Bool) (job known : asked_jobs.Job) (source : Source) (session : Held) (devices : Devices) (old new : Streams) (r : Option ℕ) → job ≡ known →
+    DoesJob only_changes (job_view known) source session devices old new (unwrap_or r (stopped_status (job_view known))) →
+    DoesJob only_changes (job_view job) source session devices old new (unwrap_or r (stopped_status (job_view job)))
+job_done only_changes job known source session devices old new r is does =
+    subst (λ (j : asked_jobs.Job). DoesJob only_changes (job_view j) source session devices old new (unwrap_or r (stopped_status (job_view j)))) (sym is) does
+
+-- by what a task is known to change
+pub kept_if : (r only_changes changing : Bool) (current : Choice) (touched : ℕ) (b : Bool) (task : Task) (opened after : Held) → r ≡ is_left changing only_changes current touched →
+    changing ≡ changes task → current ≡ opened.now.current → touched ≡ env.len (last_changed_names after.marks) → r ≡ b → is_kept only_changes task opened after ≡ not b
+kept_if r only_changes changing current touched b task opened after is does was many so =
+    ap not (
+    sym (ap (is_left (changes task) only_changes opened.now.current) many) ∙ sym (ap (λ x. is_left (changes task) only_changes x touched) was)
+    ∙ sym (ap (λ x. is_left x only_changes current touched) does) ∙ sym is ∙ so
+    )
 
 -- a tool's task was done, and the session closed
-pub used_tool : (task : Task) (session : Held) (old : Writers) (after : Scene) (end : ToolEnd) (errors : Option (List ℕ)) (status : ℕ) →
-    Acts task (record { session = session; writers = old }) after end → Closes end after.writers.errors errors status →
-    UsesTool task session old (record { output = after.writers.output; errors = errors }) status
-used_tool task session old after end errors status acts closes = inr (after, end, acts, refl, closes)
+pub used_tool : (only_changes kept : Bool) (task : Task) (source : Source) (session : Held) (devices : Devices) (old : Writers) (after : Scene) (end : ToolEnd) (errors : Option (List ℕ)) (status : ℕ) →
+    Acts task (record { session = session; writers = old }) after end → kept ≡ is_kept only_changes task session after.session →
+    Closes kept choices.Second source after.session end devices after.writers.errors errors status →
+    UsesTool only_changes task source session devices old (record { output = after.writers.output; errors = errors }) status
+used_tool only_changes kept task source session devices old after end errors status acts is closes =
+    inr (after, end, acts, refl, subst (λ k. Closes k choices.Second source after.session end devices after.writers.errors errors status) is closes)
 
 -- each status is 0 or 1
 printed_small : (fault : Option StreamFault) (old new : Writers) (texts : Texts) (status : ℕ) → texts.status ≤ 1 → Printed fault old new texts status → status ≤ 1
@@ -164,22 +172,27 @@ acts_small (Task.Import path) old new end acts = ends_small end.fault _ _ _ _ en
 acts_small Task.Export old new end acts = printed_small end.fault _ _ _ end.status (for_small (export_texts old.session.now.env).errors) acts.1
 acts_small (Task.Restore path) old new end acts = ends_small end.fault _ _ _ _ end.status (restore_small old.session acts.1) acts.2.1.1
 
-closes_small : (end : ToolEnd) (old new : Option (List ℕ)) (status : ℕ) → end.status ≤ 1 → Closes end old new status → status ≤ 1
-closes_small end old new status small (inl failed) = omega (arith, failed.1)
-closes_small end old new status small (inr (warned, warns, closed, is)) = omega (arith, is, small)
+closes_small : (kept : Bool) (last : Choice) (source : Source) (session : Held) (end : ToolEnd) (devices : Devices) (old new : Option (List ℕ)) (status : ℕ) → end.status ≤ 1 →
+    Closes kept last source session end devices old new status → status ≤ 1
+closes_small true last source session end devices old new status small (safe, inl failed) = omega (arith, failed.1)
+closes_small true last source session end devices old new status small (safe, inr (warned, warns, closed, is, kept)) = omega (arith, is, small)
+closes_small false last source session end devices old new status small (said, is, left) = omega (arith, is, small)
 
-tool_small : (task : Task) (session : Held) (old new : Writers) (status : ℕ) → UsesTool task session old new status → status ≤ 1
-tool_small task session old new status (inl stopped) = omega (arith, stopped.1)
-tool_small task session old new status (inr (after, end, acts, same, closes)) = closes_small end _ _ status (acts_small task _ after end acts) closes
+tool_small : (only_changes : Bool) (task : Task) (source : Source) (session : Held) (devices : Devices) (old new : Writers) (status : ℕ) →
+    UsesTool only_changes task source session devices old new status → status ≤ 1
+tool_small only_changes task source session devices old new status (inl (stopped, left)) = omega (arith, stopped.1)
+tool_small only_changes task source session devices old new status (inr (after, end, acts, same, closes)) =
+    closes_small _ _ source after.session end devices _ _ status (acts_small task _ after end acts) closes
 
 reports_small : (text : Option (List ℕ)) (old new : Option (List ℕ)) (status : ℕ) → Reports text old new status → status ≤ 1
 reports_small None old new status (same, is) = omega (arith, is)
 reports_small (Some text) old new status (said, is) = omega (arith, is)
 
-leaves_small : (kept : Bool) (end : SessionEnding) (old new : Option (List ℕ)) (status : ℕ) → ClosesDryRun kept end old new status → status ≤ 1
-leaves_small true end old new status (inl (said, is)) = omega (arith, is)
-leaves_small true end old new status (inr (said, says, reports)) = reports_small (text_for end) said new status reports
-leaves_small false end old new status reports = reports_small (text_for end) old new status reports
+leaves_small : (kept : Bool) (end : SessionEnding) (source : Source) (after : Held) (devices : Devices) (old new : Option (List ℕ)) (status : ℕ) →
+    ClosesDryRun kept end source after devices old new status → status ≤ 1
+leaves_small true end source after devices old new status (safe, inl (said, is)) = omega (arith, is)
+leaves_small true end source after devices old new status (safe, inr (said, says, reports, kept)) = reports_small (text_for end) said new status reports
+leaves_small false end source after devices old new status (reports, left) = reports_small (text_for end) old new status reports
 
 run_small : (fault : Option StreamFault) (status : ℕ) (old new : Writers) (texts : Texts) → texts.status ≤ 1 →
     MatchOption fault (Writes old new texts × (status ≡ texts.status)) (λ f. (f ≡ Write) × WritesPart old new texts × (status ≡ 1)) → status ≤ 1
@@ -200,26 +213,23 @@ texts_small must_boot course =
     let unbooted = must_boot && not (has_booted course.departure) in
     either_small (not (is_well outcome.ending outcome.status)) badly (if unbooted then without else well) (omega arith) (either_small unbooted without well (omega arith) (omega arith))
 
-run_closes_small : (kept : Bool) (end : ToolEnd) (old new : Option (List ℕ)) (status : ℕ) → end.status ≤ 1 → ClosesRun kept end old new status → status ≤ 1
-run_closes_small true end old new status small (inl failed) = omega (arith, failed.1)
-run_closes_small true end old new status small (inr (warned, warns, closed, is)) = omega (arith, is, small)
-run_closes_small false end old new status small closed = omega (arith, closed.1, small)
-
-script_run_small : (run : ScriptRun) (session : Held) (old new : Writers) (status : ℕ) → RunsOver run session old new status → status ≤ 1
-script_run_small run session old new status (inl stopped) = omega (arith, stopped.1)
-script_run_small run session old new status (inr (stand_ins, text, stand, is, inl refused)) = omega (arith, refused.2)
-script_run_small run session old new status (inr (stand_ins, text, stand, is, inr (tree, reads, r))) =
-    run_closes_small (ScriptRuns.is_kept run.dry.write r.2) r.2.end r.1 new.errors status
+script_run_small : (run : ScriptRun) (source : Source) (session : Held) (devices : Devices) (old new : Writers) (status : ℕ) → RunsOver run source session devices old new status → status ≤ 1
+script_run_small run source session devices old new status (inl (stopped, left)) = omega (arith, stopped.1)
+script_run_small run source session devices old new status (inr (stand_ins, text, stand, is, inl (same, refuses, one, left))) = omega (arith, one)
+script_run_small run source session devices old new status (inr (stand_ins, text, stand, is, inr (tree, reads, r))) =
+    closes_small (ScriptRuns.is_kept run.dry.write r.2) _ source r.0 r.2.end devices r.1 new.errors status
     (run_small r.2.end.fault r.2.end.status (record { output = old.output; errors = r.3.0 }) (record { output = new.output; errors = r.1 }) (course_texts run.must_boot r.3.2.0) (texts_small run.must_boot r.3.2.0) r.3.2.5)
     r.4
 
-job_small : (job : Job) (session : Held) (old new : Streams) (status : ℕ) → DoesJob job session old new status → status ≤ stopped_status job
-job_small (Tool task) session old new status (unread, uses) = tool_small task session _ _ status uses
-job_small (Tries run) session old new status (inl stopped) = omega (arith, stopped.1.1)
-job_small (Tries run) session old new status (inr (stand_ins, stand, tries)) = leaves_small (is_kept run.write tries.0) tries.0 _ _ status tries.5
-job_small (Runs run) session old new status (unread, runs) = script_run_small run session _ _ status runs
-job_small (Boots power_ons) session old new status (unread, boots) = boots_small power_ons session _ _ status boots
-job_small (Checks check) session old new status (unread, checks) = check_small check session _ _ status checks
+job_small : (only_changes : Bool) (job : Job) (source : Source) (session : Held) (devices : Devices) (old new : Streams) (status : ℕ) →
+    DoesJob only_changes job source session devices old new status → status ≤ stopped_status job
+job_small only_changes (Tool task) source session devices old new status (unread, uses) = tool_small only_changes task source session devices _ _ status uses
+job_small only_changes (Tries run) source session devices old new status (inl (unread, stopped, left)) = omega (arith, stopped.1)
+job_small only_changes (Tries run) source session devices old new status (inr (stand_ins, stand, tries)) =
+    leaves_small (SessionRun.is_kept run.write tries.0) tries.0 source tries.3.held devices _ _ status tries.5
+job_small only_changes (Runs run) source session devices old new status (unread, runs) = script_run_small run source session devices _ _ status runs
+job_small only_changes (Boots power_ons) source session devices old new status (unread, boots, left) = boots_small power_ons session _ _ status boots
+job_small only_changes (Checks check) source session devices old new status (unread, checks, left) = check_small check session _ _ status checks
 
 pub stopped_small : (job : Job) → stopped_status job ≤ unchecked
 stopped_small (Tool task) = omega arith
@@ -228,9 +238,10 @@ stopped_small (Runs run) = omega arith
 stopped_small (Boots power_ons) = omega arith
 stopped_small (Checks check) = omega arith
 
-pub uses_small : (call : Call) (old new : Streams) (status : ℕ) → Uses call old new status → status ≤ stopped_status call.job
-uses_small call old new status (inl stopped) = omega (arith, stopped.2)
-uses_small call old new status (inr (waited, asked, session, warned, has, found, opening, accepted, does)) = job_small call.job session _ new status does
+pub uses_small : (call : Call) (devices : Devices) (old new : Streams) (status : ℕ) → Uses call devices old new status → status ≤ stopped_status call.job
+uses_small call devices old new status (inl (unread, said, is, left)) = omega (arith, is)
+uses_small call devices old new status (inr (waited, asked, source, session, warned, has, found, opening, accepted, does)) =
+    job_small call.only_changes call.job source session devices _ new status does
 
 -- ---- texts that are made first and then written
 

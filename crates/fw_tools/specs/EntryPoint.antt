@@ -15,6 +15,7 @@ use Rattle.fw_tools.specs.CheckRuns.{unchecked}
 use Rattle.fw_tools.specs.Subcommands.{Called}
 use Rattle.fw_arguments.specs.Report.{asked_of}
 use Rattle.fw_files.specs.Said.{Says, message_of}
+use Rattle.fw_files.specs.WrittenBack.{AreLeft, Devices}
 use Rattle.fw_arguments.specs.ProgramNames.{called_by, faults, name_in, order_of}
 use Rattle.fw_arguments.specs.declared.program_name.ProgramName.{ProgramName}
 use Rattle.fw_arguments.specs.declared.program_name.ProgramName.TheVariants.{Fwenv, Printenv, Setenv}
@@ -99,10 +100,12 @@ RepliesToWords words old new status =
 
 -- what is done for arguments that clap's rules accept: a subcommand is called, or the image on standard input
 -- is shown in the byte order that they choose
-abbrev pub Does : (refused : ℕ) → Order → Option (Text × List Row) → Streams → Streams → ℕ → Type 0
-Does refused order (Some called) old new status = Called refused (asked_of order called.0 called.1) old new status
-Does refused order None old new status = ShowsAndSays order old new status
+abbrev pub Does : (refused : ℕ) → Order → Option (Text × List Row) → Devices → Streams → Streams → ℕ → Type 0
+Does refused order (Some called) devices old new status = Called refused (asked_of order called.0 called.1) devices old new status
+Does refused order None devices old new status = ShowsAndSays order old new status × AreLeft devices
 
 -- a whole run
-abbrev pub Runs : List Text → Streams → Streams → ℕ → Type 0
-Runs words old new status = ((faults words ≡ []) × Does (refused_in words) (order_of words) (called_by words) old new status) ⊎ RepliesToWords words old new status
+abbrev pub Runs : List Text → Devices → Streams → Streams → ℕ → Type 0
+Runs words devices old new status =
+    ((faults words ≡ []) × Does (refused_in words) (order_of words) (called_by words) devices old new status)
+    ⊎ (RepliesToWords words old new status × AreLeft devices)

@@ -1,5 +1,6 @@
 -- What the public calls promise.
 pub mod CheckRuns
+pub mod Closing
 pub mod Dumps
 pub mod EntryPoint
 pub mod Greeting

@@ -17,11 +17,12 @@ use Rattle.hush_run.specs.declared.ending.Ending.TheVariants as ending
 use Rattle.fw_session.specs.ScriptRun.{TracesScript}
 use Rattle.fw_session.specs.declared.script_run.RunEnd.{RunEnd}
 use Rattle.fw_engines.specs.Streams.{AppendsFront, Writers}
-use Rattle.fw_engines.specs.declared.tool_end.ToolEnd.{ToolEnd}
 use Rattle.fw_engines.specs.declared.tool_end.StreamFault.TheVariants.{Memory}
 use Rattle.fw_arguments.specs.DryRuns.{GivenScript, Names, Words, File, ScriptRun}
-use Rattle.fw_files.specs.Copies.{MayWarn}
-use Rattle.fw_files.specs.Said.{Says, SaysSome, Stops, message_of}
+use Rattle.fw_files.specs.Said.{Stops, message_of}
+use Rattle.fw_files.specs.WrittenBack.{AreLeft, Devices}
+use Rattle.fw_files.specs.declared.source.Source.{Source}
+use Rattle.fw_tools.specs.Closing.{Closes}
 use Rattle.fw_tools.specs.WantedHardware.{IsHardwareOf}
 
 -- a byte of a name in quotes; a quote is outside of them
@@ -63,27 +64,22 @@ is_whole other = true
 abbrev pub is_kept : Bool → RunEnd → Bool
 is_kept write ended = write && is_whole ended.ending && is_none ended.end.fault
 
-abbrev pub ClosesRun : Bool → ToolEnd → Option (List ℕ) → Option (List ℕ) → ℕ → Type 0
-ClosesRun true end old new status =
-    (SaysSome old new × (status ≡ 1)) ⊎ ((warned : Option (List ℕ)) × MayWarn old warned × Says end.fault warned new × (status ≡ end.status))
-ClosesRun false end old new status = Says end.fault old new × (status ≡ end.status)
-
--- a script with this tree is run over a session, and the session is left
-abbrev pub RunsTree : ScriptRun → Hardware → Option Chains → Held → Writers → Writers → ℕ → Type 0
-RunsTree run given tree session old new status =
+-- a script with this tree is run over a session, and the session is left; the copy that was current is written last
+abbrev pub RunsTree : ScriptRun → Hardware → Option Chains → Source → Held → Devices → Writers → Writers → ℕ → Type 0
+RunsTree run given tree source session devices old new status =
     (after : Held) × (between : Option (List ℕ)) × (ended : RunEnd)
     × TracesScript (rules_in run.dry.shell given run.dry.limits) run.must_boot run.trace tree session after old (record { output = new.output; errors = between }) ended
-    × ClosesRun (is_kept run.dry.write ended) ended.end between new.errors status
+    × Closes (is_kept run.dry.write ended) session.now.current source after ended.end devices between new.errors status
 
 -- a text is run, if it is a script by the rules of the shell
-abbrev pub RunsText : ScriptRun → Hardware → List ℕ → Held → Writers → Writers → ℕ → Type 0
-RunsText run given text session old new status =
-    ((new.output ≡ old.output) × Refuses (bodies_of run.dry.shell) (name_of_script run.script) text old.errors new.errors × (status ≡ 1))
-    ⊎ ((tree : Option Chains) × (read_in (bodies_of run.dry.shell) text ≡ Some tree) × RunsTree run given tree session old new status)
+abbrev pub RunsText : ScriptRun → Hardware → List ℕ → Source → Held → Devices → Writers → Writers → ℕ → Type 0
+RunsText run given text source session devices old new status =
+    ((new.output ≡ old.output) × Refuses (bodies_of run.dry.shell) (name_of_script run.script) text old.errors new.errors × (status ≡ 1) × AreLeft devices)
+    ⊎ ((tree : Option Chains) × (read_in (bodies_of run.dry.shell) text ≡ Some tree) × RunsTree run given tree source session devices old new status)
 
 -- no board is asked; or before that a file can't be used, or memory runs out
-abbrev pub RunsOver : ScriptRun → Held → Writers → Writers → ℕ → Type 0
-RunsOver run session old new status =
-    Stops old new status
+abbrev pub RunsOver : ScriptRun → Source → Held → Devices → Writers → Writers → ℕ → Type 0
+RunsOver run source session devices old new status =
+    (Stops old new status × AreLeft devices)
     ⊎ ((given : Hardware) × (text : List ℕ) × IsHardwareOf false run.dry given × IsTextOf run.script text
-    × RunsText run given text session old new status)
+    × RunsText run given text source session devices old new status)

@@ -2,6 +2,7 @@
 use Rattle.std.specs.Prelude.{◌≡◌, ◌⊎◌, ℕ, Bool, true, false, List, [], ◌∷◌, ◌++◌, Option, Some, None, codes}
 use Rattle.clap.specs.Words.{Text}
 use Rattle.env_session.specs.Session.{Held}
+use Rattle.envimg_core.specs.declared.choice.Choice.TheVariants.{Second}
 use Rattle.hush_commands.specs.Hardware.{Hardware}
 use Rattle.hush_run.specs.Runs.{rules_in}
 use Rattle.fw_session.specs.Ends.{Ends}
@@ -13,6 +14,8 @@ use Rattle.fw_arguments.specs.DryRuns.{DryRun}
 use Rattle.fw_files.specs.Copies.{MayWarn}
 use Rattle.fw_files.specs.Locks.{HasWaited}
 use Rattle.fw_files.specs.Said.{SaysSome, Stops, message_of}
+use Rattle.fw_files.specs.WrittenBack.{AreKept, AreLeft, AreSafe, Devices}
+use Rattle.fw_files.specs.declared.source.Source.{Source}
 use Rattle.fw_tools.specs.WantedHardware.{IsHardwareOf}
 use Rattle.fw_engines.specs.Streams.{AppendsFront, Streams, writers_of}
 use Rattle.fw_engines.specs.declared.tool_end.StreamFault.TheVariants.{Read, Write, Memory}
@@ -41,20 +44,22 @@ abbrev pub WaitsAndWarns : Option (List ℕ) → Option (List ℕ) → Type 0
 WaitsAndWarns old new = (waited : Option (List ℕ)) × HasWaited old waited × MayWarn waited new
 
 -- if copies are written back, that may fail
-abbrev pub ClosesDryRun : Bool → SessionEnding → Option (List ℕ) → Option (List ℕ) → ℕ → Type 0
-ClosesDryRun true end old new status =
-    (SaysSome old new × (status ≡ 1)) ⊎ ((said : Option (List ℕ)) × WaitsAndWarns old said × Reports (text_for end) said new status)
-ClosesDryRun false end old new status = Reports (text_for end) old new status
+abbrev pub ClosesDryRun : Bool → SessionEnding → Source → (after : Held) → Devices → Option (List ℕ) → Option (List ℕ) → ℕ → Type 0
+ClosesDryRun true end source after devices old new status =
+    AreSafe Second source after devices
+    × ((SaysSome old new × (status ≡ 1))
+    ⊎ ((said : Option (List ℕ)) × WaitsAndWarns old said × Reports (text_for end) said new status × AreKept source after devices))
+ClosesDryRun false end source after devices old new status = Reports (text_for end) old new status × AreLeft devices
 
 -- standard input is answered over a session, with this hardware
-abbrev pub TriesWith : DryRun → Hardware → Held → Streams → Streams → ℕ → Type 0
-TriesWith run given session old new status =
+abbrev pub TriesWith : DryRun → Hardware → Source → Held → Devices → Streams → Streams → ℕ → Type 0
+TriesWith run given source session devices old new status =
     (end : SessionEnding) × (read : ℕ) × (written : ℕ) × (after : NamedSession)
     × Ends end (rules_in run.shell given run.limits) (unnamed session) old.input new.input old.output new.output read written after
-    × ClosesDryRun (is_kept run.write end) end old.errors new.errors status
+    × ClosesDryRun (is_kept run.write end) end source after.held devices old.errors new.errors status
 
 -- no board is asked; or before that a file of these can't be used, or memory runs out
-abbrev pub TriesOver : DryRun → Held → Streams → Streams → ℕ → Type 0
-TriesOver run session old new status =
-    ((new.input ≡ old.input) × Stops (writers_of old) (writers_of new) status)
-    ⊎ ((given : Hardware) × IsHardwareOf false run given × TriesWith run given session old new status)
+abbrev pub TriesOver : DryRun → Source → Held → Devices → Streams → Streams → ℕ → Type 0
+TriesOver run source session devices old new status =
+    ((new.input ≡ old.input) × Stops (writers_of old) (writers_of new) status × AreLeft devices)
+    ⊎ ((given : Hardware) × IsHardwareOf false run given × TriesWith run given source session devices old new status)

@@ -1,21 +1,24 @@
 -- What a subcommand does over a session, and what it prints (docs/tools.md, "Subcommands over files").
-use Rattle.std.specs.Prelude.{◌≡◌, ◌⊎◌, ℕ, ◌==◌, ◌&&◌, Bool, true, false, if◌then◌else◌, List, map, Option, Some, None, Result, Ok, Err}
-use Rattle.env_session.specs.Session.{Held}
+use Rattle.std.specs.Prelude.{◌≡◌, ◌⊎◌, ℕ, ◌==◌, ◌&&◌, not, Bool, true, false, if◌then◌else◌, List, map, Option, Some, None, Result, Ok, Err}
+use Rattle.std.specs.FinMap as env
+use Rattle.env_session.specs.Session.{Held, last_changed_names}
 use Rattle.envimg_core.specs.declared.choice.Choice.{Choice}
-use Rattle.envimg_core.specs.declared.choice.Choice.TheVariants.{Neither}
+use Rattle.envimg_core.specs.declared.choice.Choice.TheVariants.{Neither, Second}
 use Rattle.envcfg_core.specs.Entries as text_entries
 use Rattle.envcfg_core.specs.Import.{import_of}
 use Rattle.envcfg_core.specs.SetScript.{set_script_of}
 use Rattle.clap.specs.Words.{Text}
-use Rattle.fw_arguments.specs.Calls.{Boots, Call, Checks, Defaults, Job, Tool, Tries, Runs, Task, keeps_lock, spares, writes}
+use Rattle.fw_arguments.specs.Calls.{Boots, Call, Checks, Defaults, Job, Tool, Tries, Runs, Task, changes, keeps_lock, spares, writes}
 use Rattle.fw_tools.specs.CheckRuns.{ChecksFile, ChecksOver, unchecked}
-use Rattle.fw_files.specs.Copies.{MayWarn}
+use Rattle.fw_tools.specs.Closing.{Closes}
 use Rattle.fw_files.specs.CopyReport.{ReportsOn}
 use Rattle.fw_arguments.specs.Report.{Asked, Check, Find, Look, Make, Work}
 use Rattle.fw_files.specs.Opening.{IsAccepted, IsOpening}
 use Rattle.fw_files.specs.Source.{IsTaken}
 use Rattle.fw_files.specs.Locks.{HasWaited}
-use Rattle.fw_files.specs.Said.{Says, SaysOnly, SaysSome, Stops}
+use Rattle.fw_files.specs.Said.{SaysOnly, Stops}
+use Rattle.fw_files.specs.WrittenBack.{AreLeft, Devices}
+use Rattle.fw_files.specs.declared.source.Source.{Source}
 use Rattle.fw_engines.specs.TextForm.{export_texts}
 use Rattle.fw_engines.specs.VariableLines.{named, printed}
 use Rattle.envimg_core.specs.Environment.{Environment}
@@ -86,12 +89,6 @@ Acts (Task.Restore path) old new end = (text : List ℕ) × (entries : List text
 abbrev pub hold_for : Job → Hold
 hold_for job = if writes job then Alone else Shared
 
--- what stopped a tool is reported, if anything did, perhaps after a warning that a copy is written over other data; or a possibly empty
--- text on a file that can't be written
-abbrev pub Closes : ToolEnd → Option (List ℕ) → Option (List ℕ) → ℕ → Type 0
-Closes end old new status =
-    (SaysSome old new × (status ≡ 1)) ⊎ ((warned : Option (List ℕ)) × MayWarn old warned × Says end.fault warned new × (status ≡ end.status))
-
 -- the status of a job whose files can't be used
 abbrev pub stopped_status : Job → ℕ
 stopped_status (Checks check) = unchecked
@@ -109,41 +106,52 @@ is_left false only_changes choice touched = true
 is_left true only_changes Neither touched = false
 is_left true only_changes choice touched = only_changes && touched == 0
 
--- a task is done over a session, and the copies are written back; or its file can't be used
-abbrev pub UsesTool : Task → Held → Writers → Writers → ℕ → Type 0
-UsesTool task session old new status =
-    Stops old new status
+-- a task is done over a session, and the copies are written back if it may have changed them; or its file can't be used
+abbrev pub is_kept : (only_changes : Bool) → Task → (opened after : Held) → Bool
+is_kept only_changes task opened after =
+    not (is_left (changes task) only_changes opened.now.current (env.len (last_changed_names after.marks)))
+
+abbrev pub UsesTool : (only_changes : Bool) → Task → Source → Held → Devices → Writers → Writers → ℕ → Type 0
+UsesTool only_changes task source session devices old new status =
+    (Stops old new status × AreLeft devices)
     ⊎ ((after : Scene) × (end : ToolEnd) × Acts task (record { session = session; writers = old }) after end
-    × (new.output ≡ after.writers.output) × Closes end after.writers.errors new.errors status)
+    × (new.output ≡ after.writers.output)
+    × Closes (is_kept only_changes task session after.session) Second source after.session end devices after.writers.errors new.errors status)
 
 -- what is done over a session; a tool doesn't read standard input, nor does a check, nor a script's run
 -- except for its file
-abbrev pub DoesJob : Job → Held → Streams → Streams → ℕ → Type 0
-DoesJob (Tool task) session old new status = (new.input ≡ old.input) × UsesTool task session (writers_of old) (writers_of new) status
-DoesJob (Tries run) session old new status = TriesOver run session old new status
-DoesJob (Runs run) session old new status = (new.input ≡ old.input) × RunsOver run session (writers_of old) (writers_of new) status
-DoesJob (Boots power_ons) session old new status = (new.input ≡ old.input) × BootsOver power_ons session (writers_of old) (writers_of new) status
-DoesJob (Checks check) session old new status = (new.input ≡ old.input) × ChecksOver check session (writers_of old) (writers_of new) status
+abbrev pub DoesJob : (only_changes : Bool) → Job → Source → Held → Devices → Streams → Streams → ℕ → Type 0
+DoesJob only_changes (Tool task) source session devices old new status =
+    (new.input ≡ old.input) × UsesTool only_changes task source session devices (writers_of old) (writers_of new) status
+DoesJob only_changes (Tries run) source session devices old new status = TriesOver run source session devices old new status
+DoesJob only_changes (Runs run) source session devices old new status =
+    (new.input ≡ old.input) × RunsOver run source session devices (writers_of old) (writers_of new) status
+DoesJob only_changes (Boots power_ons) source session devices old new status =
+    (new.input ≡ old.input) × BootsOver power_ons session (writers_of old) (writers_of new) status × AreLeft devices
+DoesJob only_changes (Checks check) source session devices old new status =
+    (new.input ≡ old.input) × ChecksOver check session (writers_of old) (writers_of new) status × AreLeft devices
 
 -- locks may be waited for, then a session is opened, with a warning if no copy is good, and worked on; what writes
 -- copies, and isn't told to write over those that are good in another way, works over none of these
-abbrev pub UsesSession : Call → Streams → Streams → ℕ → Type 0
-UsesSession call old new status =
-    (waited : Option (List ℕ)) × (asked : Defaults) × (session : Held) × (warned : Option (List ℕ)) × HasWaited old.errors waited
-    × IsTaken session.now.current call.defaults asked × IsOpening call.image call.order call.copy (spares call) asked session
+abbrev pub UsesSession : Call → Devices → Streams → Streams → ℕ → Type 0
+UsesSession call devices old new status =
+    (waited : Option (List ℕ)) × (asked : Defaults) × (source : Source) × (session : Held) × (warned : Option (List ℕ)) × HasWaited old.errors waited
+    × IsTaken session.now.current call.defaults asked × IsOpening call.image call.order call.copy (spares call) asked source session
     × IsAccepted asked session waited warned
-    × DoesJob call.job session (record { input = old.input; output = old.output; errors = warned }) new status
+    × DoesJob call.only_changes call.job source session devices (record { input = old.input; output = old.output; errors = warned }) new status
 
 -- or before that a file can't be used, or memory runs out: some text may report it
-abbrev pub Uses : Call → Streams → Streams → ℕ → Type 0
-Uses call old new status =
-    ((new.input ≡ old.input) × SaysOnly (writers_of old) (writers_of new) × (status ≡ stopped_status call.job)) ⊎ UsesSession call old new status
+abbrev pub Uses : Call → Devices → Streams → Streams → ℕ → Type 0
+Uses call devices old new status =
+    ((new.input ≡ old.input) × SaysOnly (writers_of old) (writers_of new) × (status ≡ stopped_status call.job) × AreLeft devices)
+    ⊎ UsesSession call devices old new status
 
 -- wrong arguments that clap's rules don't detect are answered with a text and this status, and nothing is read
-abbrev pub Called : (refused : ℕ) → Result Asked Text → Streams → Streams → ℕ → Type 0
-Called refused (Ok (Work call)) old new status = Uses call old new status
-Called refused (Ok (Look report)) old new status = (new.input ≡ old.input) × ReportsOn report (writers_of old) (writers_of new) status
-Called refused (Ok (Check check)) old new status = (new.input ≡ old.input) × ChecksFile check (writers_of old) (writers_of new) status
-Called refused (Ok (Make image)) old new status = (new.input ≡ old.input) × MakesImage image (writers_of old) (writers_of new) status
-Called refused (Ok (Find path)) old new status = (new.input ≡ old.input) × Finds path (writers_of old) (writers_of new) status
-Called refused (Err text) old new status = (new.input ≡ old.input) × (new.output ≡ old.output) × AppendsFront old.errors new.errors text × (status ≡ refused)
+abbrev pub Called : (refused : ℕ) → Result Asked Text → Devices → Streams → Streams → ℕ → Type 0
+Called refused (Ok (Work call)) devices old new status = Uses call devices old new status
+Called refused (Ok (Look report)) devices old new status = (new.input ≡ old.input) × ReportsOn report (writers_of old) (writers_of new) status × AreLeft devices
+Called refused (Ok (Check check)) devices old new status = (new.input ≡ old.input) × ChecksFile check (writers_of old) (writers_of new) status × AreLeft devices
+Called refused (Ok (Make image)) devices old new status = (new.input ≡ old.input) × MakesImage image (writers_of old) (writers_of new) status × AreLeft devices
+Called refused (Ok (Find path)) devices old new status = (new.input ≡ old.input) × Finds path (writers_of old) (writers_of new) status × AreLeft devices
+Called refused (Err text) devices old new status =
+    (new.input ≡ old.input) × (new.output ≡ old.output) × AppendsFront old.errors new.errors text × (status ≡ refused) × AreLeft devices

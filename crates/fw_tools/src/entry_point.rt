@@ -1,6 +1,7 @@
 //! The program over its arguments and streams.
 ghost use Rattle.std.specs.Prelude.{◌≡◌, ◌⊎◌, ◌≤◌, ℕ, Ok, map, option_map};
 ghost use Rattle.clap.specs.Words.{found_of, kind_of, rows_of};
+ghost use Rattle.device_files.specs.Record.{calls_in};
 ghost use Rattle.fw_tools.specs.CheckRuns.{unchecked};
 ghost use Rattle.fw_tools.specs.EntryPoint.{RepliesTo, Does, asks_check, begins_check, is_flag, is_shown, LacksMemory, Runs, ShowsAndSays, message_without_words, refused_status};
 ghost use Rattle.fw_arguments.specs.Report.{asked_view};
@@ -17,6 +18,7 @@ use crate::image_work::run_image;
 use crate::subcommands::run_call;
 use clap::error::ErrorKind;
 use clap::{ArgMatches, Error};
+use device_files::{OpenDevice, Start};
 use envimg_core::Order;
 use fw_arguments::{Asked, ProgramName, WordFault, called, chosen_order, read_asked, read_words};
 use fw_engines::streams::{say, write_text, write_three};
@@ -33,7 +35,7 @@ const NOT_UTF8: &[u8] = b"fwenv: a word of the command line is not UTF-8\n";
 const NO_WORDS: &[u8] = b"fwenv: cannot read the command line\n";
 
 /// Runs the program and answers its exit status: 0 or 1, and 2 if a check of scripts is asked for that can't be made. `words`
-/// begin with the program's own name.
+/// begin with the program's own name. What devices are opened to be written stay open in `devices`.
 ///
 /// Without a subcommand the variables of the image on `input` are printed ([`show`]), and with `--big-endian` those of
 /// an image of a big-endian board. A subcommand works on the copies that a configuration names ([`printenv`],
@@ -51,15 +53,17 @@ const NO_WORDS: &[u8] = b"fwenv: cannot read the command line\n";
 /// [`status`]: fw_engines::status
 /// [`file_status`]: fw_engines::file_status
 /// [`session`]: fw_session::session
-pub fn program<X: System + AllocGlobal, S: AsStr, R: Read, W: Write, E: Write>(
+pub fn program<X: System + AllocGlobal, S: AsStr, D: Start, R: Read, W: Write, E: Write>(
     rt: &X,
     words: &[S],
+    devices: &mut Option<OpenDevice<X::File, D>>,
     input: &mut R,
     output: &mut W,
     errors: &mut E,
 ) -> u8
     ensures status { result ≤ unchecked }
     ensures runs { Runs (map S.text words.entry.now)
+        (record { start = D.contents; before = option_map (λ d. calls_in d.calls) devices.old; after = option_map (λ d. calls_in d.calls) devices.new })
         (record { input = R.remaining input.old; output = W.contents output.old; errors = E.contents errors.old })
         (record { input = R.remaining input.new; output = W.contents output.new; errors = E.contents errors.new })
         result }
@@ -73,7 +77,7 @@ pub fn program<X: System + AllocGlobal, S: AsStr, R: Read, W: Write, E: Write>(
     let refused = refused_status(name, words);
     match read_words(alloc, name, words) {
         Err(error) => print_error(alloc, &error, refused, output, errors),
-        Ok(matches) => act_on(rt, name, &matches, refused, input, output, errors),
+        Ok(matches) => act_on(rt, name, &matches, refused, devices, input, output, errors),
     }
 }
 
@@ -136,17 +140,19 @@ pub fn words_failed<E: Write>(error: &io::Error, errors: &mut E) -> u8
 }
 
 /// Does what arguments that clap's rules accept ask for.
-fn act_on<X: System + AllocGlobal, R: Read, W: Write, E: Write>(
+fn act_on<X: System + AllocGlobal, D: Start, R: Read, W: Write, E: Write>(
     rt: &X,
     under: ProgramName,
     matches: &ArgMatches<'_>,
     refused: u8,
+    devices: &mut Option<OpenDevice<X::File, D>>,
     input: &mut R,
     output: &mut W,
     errors: &mut E,
 ) -> u8
     ensures status { refused ≤ unchecked → result ≤ unchecked }
     ensures does { Does refused (order_in matches.now) (called_in under matches.now)
+        (record { start = D.contents; before = option_map (λ d. calls_in d.calls) devices.old; after = option_map (λ d. calls_in d.calls) devices.new })
         (record { input = R.remaining input.old; output = W.contents output.old; errors = E.contents errors.old })
         (record { input = R.remaining input.new; output = W.contents output.new; errors = E.contents errors.new })
         result }
@@ -160,7 +166,7 @@ fn act_on<X: System + AllocGlobal, R: Read, W: Write, E: Write>(
                 say_word_fault(&fault, errors);
                 refused
             }
-            Ok(asked) => run_asked(rt, &asked, input, output, errors),
+            Ok(asked) => run_asked(rt, &asked, devices, input, output, errors),
         },
     }
 }
@@ -173,21 +179,23 @@ fn say_word_fault<E: Write>(fault: &WordFault<'_>, errors: &mut E)
 }
 
 /// Does what a subcommand asks for.
-fn run_asked<X: System + AllocGlobal, R: Read, W: Write, E: Write>(
+fn run_asked<X: System + AllocGlobal, D: Start, R: Read, W: Write, E: Write>(
     rt: &X,
     asked: &Asked<'_, '_>,
+    devices: &mut Option<OpenDevice<X::File, D>>,
     input: &mut R,
     output: &mut W,
     errors: &mut E,
 ) -> u8
     ensures status { result ≤ unchecked }
     ensures called { (refused : ℕ) → Called refused (Ok (asked_view asked.now))
+        (record { start = D.contents; before = option_map (λ d. calls_in d.calls) devices.old; after = option_map (λ d. calls_in d.calls) devices.new })
         (record { input = R.remaining input.old; output = W.contents output.old; errors = E.contents errors.old })
         (record { input = R.remaining input.new; output = W.contents output.new; errors = E.contents errors.new })
         result }
 {
     match asked {
-        Asked::Work(call) => run_call(rt, call, input, output, errors),
+        Asked::Work(call) => run_call(rt, call, devices, input, output, errors),
         Asked::Look(report) => run_report(rt, report, output, errors),
         Asked::Check(check) => run_file_check(rt, check, output, errors),
         Asked::Make(image) => run_image(rt, image, output, errors),

@@ -22,6 +22,7 @@ mod session_run;
 mod subcommands;
 mod task_work;
 
+pub use device_files::{OpenDevice, Start, Unknown};
 pub use entry_point::{program, words_failed};
 pub use fw_check::{FileScript, check, check_files};
 pub use fw_engines::{

@@ -1,16 +1,22 @@
 //! `session`: a dry run over standard input and output.
-ghost use Rattle.std.specs.Prelude.{◌≡◌, ℕ, List, MatchOption, Option, option_map, unwrap_or};
+ghost use Rattle.std.specs.Prelude.{◌≡◌, ℕ, List, IfSome, MatchOption, Option, option_map, unwrap_or};
+ghost use Rattle.device_files.specs.Record.{calls_in};
+ghost use Rattle.env_session.specs.Session.{bytes_of};
+ghost use Rattle.envimg_core.specs.declared.choice.Choice.TheVariants.{Second};
 ghost use Rattle.hush_commands.specs.Hardware.{hardware};
 ghost use Rattle.hush_run.specs.Runs.{rules_in};
 ghost use Rattle.fw_session.specs.Ends.{Ends};
 ghost use Rattle.fw_session.specs.NamedSessions.{named_session, unnamed};
 ghost use Rattle.fw_arguments.specs.DryRuns.{dry_run_view};
 ghost use Rattle.fw_files.specs.Said.{SaysSome};
+ghost use Rattle.fw_files.specs.WrittenBack.{AreWritten, LeavesAtAnyMoment};
 ghost use Rattle.fw_tools.specs.SessionRun.{ClosesDryRun, Reports, TriesOver, WaitsAndWarns, is_kept, text_for};
 
 use crate::hardware::{GivenHardware, hardware_or_say};
+use device_files::{OpenDevice, Start};
 use env_requests::RunRules;
 use env_session::{Session, Stored};
+use envimg_core::Choice;
 use fw_arguments::{DryRun, LockFiles};
 use fw_engines::StreamFault;
 use fw_engines::streams::say;
@@ -22,24 +28,26 @@ use std::io::{Read, Write};
 const TOO_LONG: &[u8] = b"fwenv: input too long\n";
 
 /// Answers the blocks and dot lines of `input` over a session, and leaves it; `None` if a file can't be used before.
-pub(crate) fn talk<X: System + AllocGlobal, R: Read, W: Write, E: Write>(
+pub(crate) fn talk<X: System + AllocGlobal, D: Start, R: Read, W: Write, E: Write>(
     rt: &X,
     source: &Source,
     opened: Session,
     run: &DryRun<'_, '_>,
     locks: LockFiles<'_>,
+    devices: &mut Option<OpenDevice<X::File, D>>,
     input: &mut R,
     output: &mut W,
     errors: &mut E,
 ) -> Option<u8>
-    ensures { TriesOver (dry_run_view run.now) opened
+    ensures { TriesOver (dry_run_view run.now) source.now opened
+        (record { start = D.contents; before = option_map (λ d. calls_in d.calls) devices.old; after = option_map (λ d. calls_in d.calls) devices.new })
         (record { input = R.remaining input.old; output = W.contents output.old; errors = E.contents errors.old })
         (record { input = R.remaining input.new; output = W.contents output.new; errors = E.contents errors.new })
         (unwrap_or result 1) }
 {
     let given = hardware_or_say(rt, run, false, Explains::Nothing, errors)?;
     let end = answer(rt, opened, run, &given, input, output);
-    Some(leave(rt, source, run.write, locks, end, errors))
+    Some(leave(rt, source, run.write, locks, end, devices, errors))
 }
 
 /// Answers the blocks and dot lines of `input` over a session, with this hardware. Somebody who types them is told where
@@ -68,40 +76,57 @@ fn answer<X: System + AllocGlobal, R: Read, W: Write>(
 
 /// Writes the copies back if that was asked for and the whole input was handled, reports what stopped the session
 /// before, if anything did, and answers the exit status.
-fn leave<X: System + AllocGlobal, E: Write>(
+fn leave<X: System + AllocGlobal, D: Start, E: Write>(
     rt: &X,
     source: &Source,
     write: bool,
     locks: LockFiles<'_>,
     end: SessionEnd,
+    devices: &mut Option<OpenDevice<X::File, D>>,
     errors: &mut E,
 ) -> u8
-    ensures { ClosesDryRun (is_kept write end.ending) end.ending (E.contents errors.old) (E.contents errors.new) result }
+    ensures { ClosesDryRun (is_kept write end.ending) end.ending source.now end.session
+        (record { start = D.contents; before = option_map (λ d. calls_in d.calls) devices.old; after = option_map (λ d. calls_in d.calls) devices.new })
+        (E.contents errors.old) (E.contents errors.new) result }
 {
     let ending = end.ending;
     if !is_kept(write, ending) {
         return report_ending(ending, errors);
     }
-    match write_locked(rt, source, locks, &end.session.close(), errors) {
+    match write_locked(rt, source, locks, &end.session.close(), devices, errors) {
         None => 1,
         Some(()) => report_ending(ending, errors),
     }
 }
 
 /// Writes the copies back under their locks. A fault is reported on `errors`.
-fn write_locked<X: System + AllocGlobal, E: Write>(
+fn write_locked<X: System + AllocGlobal, D: Start, E: Write>(
     rt: &X,
     source: &Source,
     locks: LockFiles<'_>,
     stored: &Stored,
+    devices: &mut Option<OpenDevice<X::File, D>>,
     errors: &mut E,
 ) -> Option<()>
-    ensures { MatchOption result (SaysSome (E.contents errors.old) (E.contents errors.new))
+    ensures said { MatchOption result (SaysSome (E.contents errors.old) (E.contents errors.new))
         (λ _. WaitsAndWarns (E.contents errors.old) (E.contents errors.new)) }
+    ensures written { IfSome result (λ _. AreWritten D.contents source.now stored.now.first.items (bytes_of stored.now.second)
+        (option_map (λ d. calls_in d.calls) devices.new)) }
+    ensures any_moment { LeavesAtAnyMoment D.contents Second source.now stored.now.first.items (bytes_of stored.now.second)
+        (option_map (λ d. calls_in d.calls) devices.new) }
 {
+    *devices = None;
     match lock_copies(rt, &source.config.first, locks, Hold::Alone, errors) {
         None => None,
-        Some(_locks) => write_back(rt, source, stored, Explains::Nothing, errors),
+        Some(_locks) => write_back(
+            rt,
+            source,
+            Choice::Second,
+            stored,
+            Explains::Nothing,
+            devices,
+            errors,
+        ),
     }
 }
 

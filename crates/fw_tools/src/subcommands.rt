@@ -1,8 +1,11 @@
 //! The subcommands over the files that the arguments name.
-ghost use Rattle.std.specs.Prelude.{◌≡◌, ◌≤◌, Some, None, IfSome, MatchOption, if◌then◌else◌, is_some, unwrap_or};
+ghost use Rattle.std.specs.Prelude.{◌≡◌, ◌≤◌, Some, true, option_map, None, IfSome, MatchOption, if◌then◌else◌, is_some, unwrap_or};
 ghost use Rattle.fw_files.specs.Opening.{AreCopiesIn, AreWantedIn};
 ghost use Rattle.fw_tools.specs.CheckRuns.{unchecked};
-ghost use Rattle.fw_tools.specs.Subcommands.{Closes, DoesJob, Uses, UsesTool, hold_for, is_left, keeps_locks, stopped_status};
+ghost use Rattle.device_files.specs.Record.{calls_in};
+ghost use Rattle.envimg_core.specs.declared.choice.Choice.TheVariants.{Second};
+ghost use Rattle.fw_tools.specs.Closing.{Closes};
+ghost use Rattle.fw_tools.specs.Subcommands.{DoesJob, Uses, UsesTool, hold_for, is_left, keeps_locks, stopped_status};
 ghost use Rattle.fw_arguments.specs.Calls.{call_view, job_view, keeps_lock, task_view};
 ghost use Rattle.fw_files.specs.Locks.{HasWaited};
 ghost use Rattle.fw_files.specs.Said.{SaysSome};
@@ -12,6 +15,7 @@ use crate::check_work::{UNCHECKED, check_session};
 use crate::script_work::run_given;
 use crate::session_run::talk;
 use crate::task_work::act;
+use device_files::{OpenDevice, Start};
 use env_session::Session;
 use envcfg_core::Config;
 use envimg_core::Choice;
@@ -24,9 +28,10 @@ use fw_files::{
 use std::io::{Read, Write};
 
 /// Runs a subcommand and answers its exit status.
-pub(crate) fn run_call<X: System + AllocGlobal, R: Read, W: Write, E: Write>(
+pub(crate) fn run_call<X: System + AllocGlobal, D: Start, R: Read, W: Write, E: Write>(
     rt: &X,
     call: &Call<'_, '_>,
+    devices: &mut Option<OpenDevice<X::File, D>>,
     input: &mut R,
     output: &mut W,
     errors: &mut E,
@@ -34,11 +39,12 @@ pub(crate) fn run_call<X: System + AllocGlobal, R: Read, W: Write, E: Write>(
     ensures status { result ≤ stopped_status (job_view call.now.job) }
     ensures most { result ≤ unchecked }
     ensures uses { Uses (call_view call.now)
+        (record { start = D.contents; before = option_map (λ d. calls_in d.calls) devices.old; after = option_map (λ d. calls_in d.calls) devices.new })
         (record { input = R.remaining input.old; output = W.contents output.old; errors = E.contents errors.old })
         (record { input = R.remaining input.new; output = W.contents output.new; errors = E.contents errors.new })
         result }
 {
-    use_files(rt, call, input, output, errors).unwrap_or(stopped_status(&call.job))
+    use_files(rt, call, devices, input, output, errors).unwrap_or(stopped_status(&call.job))
 }
 
 /// The status of a job whose files can't be used.
@@ -52,14 +58,16 @@ fn stopped_status(job: &Job<'_, '_>) -> u8
 }
 
 /// Opens the session and lets the subcommand work on it; `None` if a file can't be used.
-fn use_files<X: System + AllocGlobal, R: Read, W: Write, E: Write>(
+fn use_files<X: System + AllocGlobal, D: Start, R: Read, W: Write, E: Write>(
     rt: &X,
     call: &Call<'_, '_>,
+    devices: &mut Option<OpenDevice<X::File, D>>,
     input: &mut R,
     output: &mut W,
     errors: &mut E,
 ) -> Option<u8>
     ensures { Uses (call_view call.now)
+        (record { start = D.contents; before = option_map (λ d. calls_in d.calls) devices.old; after = option_map (λ d. calls_in d.calls) devices.new })
         (record { input = R.remaining input.old; output = W.contents output.old; errors = E.contents errors.old })
         (record { input = R.remaining input.new; output = W.contents output.new; errors = E.contents errors.new })
         (unwrap_or result (stopped_status (job_view call.now.job))) }
@@ -73,7 +81,7 @@ fn use_files<X: System + AllocGlobal, R: Read, W: Write, E: Write>(
         Explains::by(call),
         errors,
     )?;
-    work(rt, &source, session, call, input, output, errors)
+    work(rt, &source, session, call, devices, input, output, errors)
 }
 
 /// The copies for a subcommand, of which it may want one, and the locks under which it works on them, if it has any; `None`
@@ -166,16 +174,18 @@ fn locks_for_work<L: Drop>(locks: L, job: &Job<'_, '_>) -> Option<L>
 }
 
 /// Works on a session, and leaves it; `None` if a file can't be used.
-fn work<X: System + AllocGlobal, R: Read, W: Write, E: Write>(
+fn work<X: System + AllocGlobal, D: Start, R: Read, W: Write, E: Write>(
     rt: &X,
     source: &Source,
     opened: Session,
     call: &Call<'_, '_>,
+    devices: &mut Option<OpenDevice<X::File, D>>,
     input: &mut R,
     output: &mut W,
     errors: &mut E,
 ) -> Option<u8>
-    ensures { DoesJob (call_view call.now).job opened
+    ensures { DoesJob call.now.only_changes (call_view call.now).job source.now opened
+        (record { start = D.contents; before = option_map (λ d. calls_in d.calls) devices.old; after = option_map (λ d. calls_in d.calls) devices.new })
         (record { input = R.remaining input.old; output = W.contents output.old; errors = E.contents errors.old })
         (record { input = R.remaining input.new; output = W.contents output.new; errors = E.contents errors.new })
         (unwrap_or result (stopped_status (job_view call.now.job))) }
@@ -190,29 +200,36 @@ fn work<X: System + AllocGlobal, R: Read, W: Write, E: Write>(
                 call.only_changes,
                 *task,
                 explains,
+                devices,
                 output,
                 errors,
             )
         }
-        Job::DryRun(run) => talk(rt, source, opened, run, call.locks, input, output, errors),
-        Job::Script(run) => run_given(rt, source, opened, run, output, errors),
+        Job::DryRun(run) => {
+            talk(
+                rt, source, opened, run, call.locks, devices, input, output, errors,
+            )
+        }
+        Job::Script(run) => run_given(rt, source, opened, run, devices, output, errors),
         Job::Boot(power_ons) => boot_given(rt, &opened, power_ons, output, errors),
         Job::Check(check) => check_session(rt, &opened, check, output, errors),
     }
 }
 
 /// Lets a tool work on the session, and writes it back; `None` if a file can't be used.
-fn use_tool<X: System + AllocGlobal, W: Write, E: Write>(
+fn use_tool<X: System + AllocGlobal, D: Start, W: Write, E: Write>(
     rt: &X,
     source: &Source,
     opened: Session,
     only_changes: bool,
     task: Task<'_, '_>,
     explains: Explains,
+    devices: &mut Option<OpenDevice<X::File, D>>,
     output: &mut W,
     errors: &mut E,
 ) -> Option<u8>
-    ensures { UsesTool (task_view task.entry) opened
+    ensures { UsesTool only_changes (task_view task.entry) source.now opened
+        (record { start = D.contents; before = option_map (λ d. calls_in d.calls) devices.old; after = option_map (λ d. calls_in d.calls) devices.new })
         (record { output = W.contents output.old; errors = E.contents errors.old })
         (record { output = W.contents output.new; errors = E.contents errors.new }) (unwrap_or result 1) }
 {
@@ -223,7 +240,7 @@ fn use_tool<X: System + AllocGlobal, W: Write, E: Write>(
     if is_left(task.changes(), only_changes, current, touched) {
         return Some(report(end, errors));
     }
-    finish(rt, source, session, end, explains, errors)
+    finish(rt, source, session, end, explains, devices, errors)
 }
 
 /// Whether the copies are left as they are, and not compared with what was read: by what changes nothing (`changes`), and,
@@ -242,17 +259,28 @@ fn is_left(changes: bool, only_changes: bool, current: Choice, touched: usize) -
 }
 
 /// Writes the copies back that the subcommand changed, and reports what stopped it, if anything did.
-fn finish<X: System + AllocGlobal, E: Write>(
+fn finish<X: System + AllocGlobal, D: Start, E: Write>(
     rt: &X,
     source: &Source,
     session: Session,
     end: ToolEnd,
     explains: Explains,
+    devices: &mut Option<OpenDevice<X::File, D>>,
     errors: &mut E,
 ) -> Option<u8>
-    ensures { Closes end (E.contents errors.old) (E.contents errors.new) (unwrap_or result 1) }
+    ensures { Closes true Second source.now session end
+        (record { start = D.contents; before = option_map (λ d. calls_in d.calls) devices.old; after = option_map (λ d. calls_in d.calls) devices.new })
+        (E.contents errors.old) (E.contents errors.new) (unwrap_or result 1) }
 {
     let stored = session.close();
-    write_back(rt, source, &stored, explains, errors)?;
+    write_back(
+        rt,
+        source,
+        Choice::Second,
+        &stored,
+        explains,
+        devices,
+        errors,
+    )?;
     Some(report(end, errors))
 }

@@ -1,10 +1,14 @@
 //! `fwenv`: hands its arguments and streams to `fw_tools::program`.
 #![tactic(auto)]
 
-use fw_tools::{greet, program, talks, words_failed};
+use fw_tools::{OpenDevice, Unknown, greet, program, talks, words_failed};
 use std::env;
+use std::fs::File;
 use std::io::{self, IsTerminal, Read, Stderr, Stdin, Write};
 use std::process::ExitCode;
+
+/// The devices that a subcommand opens to write them, if it does.
+type Devices = Option<OpenDevice<File, Unknown>>;
 
 fn main(rt: HostRuntime) -> ExitCode {
     let status = match words(&rt) {
@@ -25,15 +29,30 @@ fn words(rt: &HostRuntime) -> io::Result<Vec<String>> {
 
 /// Runs the program. For a user at a terminal it prints what is awaited, and it asks for each line of a session.
 fn run(rt: &HostRuntime, words: &[String]) -> u8 {
+    let mut devices: Devices = None;
     let mut input = rt.stdin();
     if !input.is_terminal() {
-        return program(rt, words, &mut input, &mut rt.stdout(), &mut rt.stderr());
+        return program(
+            rt,
+            words,
+            &mut devices,
+            &mut input,
+            &mut rt.stdout(),
+            &mut rt.stderr(),
+        );
     }
     greet(words, &mut rt.stderr());
     if talks(words) {
         return run_prompted(rt, words, input);
     }
-    program(rt, words, &mut input, &mut rt.stdout(), &mut rt.stderr())
+    program(
+        rt,
+        words,
+        &mut devices,
+        &mut input,
+        &mut rt.stdout(),
+        &mut rt.stderr(),
+    )
 }
 
 /// The same, with a prompt for each line. It isn't inlined into `main`, whose stack frame every run has.
@@ -43,7 +62,15 @@ fn run_prompted(rt: &HostRuntime, words: &[String], input: Stdin) -> u8 {
         input,
         errors: rt.stderr(),
     };
-    program(rt, words, &mut lines, &mut rt.stdout(), &mut rt.stderr())
+    let mut devices: Devices = None;
+    program(
+        rt,
+        words,
+        &mut devices,
+        &mut lines,
+        &mut rt.stdout(),
+        &mut rt.stderr(),
+    )
 }
 
 /// A terminal that is asked for each of its lines.

@@ -1,7 +1,7 @@
 //! Files in memory for the program, of which each call can be made to fail, and runs over them.
 
-use crate::opened::Disk;
-use fw_tools::program;
+use crate::opened::{Disk, Opened};
+use fw_tools::{OpenDevice, Unknown, program};
 use std::alloc::{AllocError, Global};
 use std::cell::RefCell;
 use std::io;
@@ -62,7 +62,15 @@ pub(crate) fn run(
     let mut input: &[u8] = input;
     let mut output = Vec::new(alloc);
     let mut errors = Vec::new(alloc);
-    let status = program(&disk, &words, &mut input, &mut output, &mut errors);
+    let mut devices: Option<OpenDevice<Opened<'_>, Unknown>> = None;
+    let status = program(
+        &disk,
+        &words,
+        &mut devices,
+        &mut input,
+        &mut output,
+        &mut errors,
+    );
     Ok((status, output, errors))
 }
 

@@ -14,14 +14,17 @@ const REPORT: &[u8] = b"first copy   first at 0x0, 32 bytes: good, flag 1, curre
 
 /// The calls of a change, from one up to another, and what can't be done where one of them fails: the configuration is opened and read
 /// to its end by two reads; the device of the first copy is opened to be locked, and used without if that fails, and so is each
-/// lock file, for which two calls are made if it isn't there; each copy is opened, measured, sought and read, and so it is again
-/// before anything is written; the second one is opened, measured, sought, written and flushed.
-const CHANGING: [(usize, usize, &str); 5] = [
+/// lock file, for which two calls are made if it isn't there; each copy is opened, measured, sought and read. Then both devices are
+/// opened and measured, and that of the second copy, which changes, is flushed; each copy is sought and read again; the second one is
+/// measured, sought, written and flushed.
+const CHANGING: [(usize, usize, &str); 7] = [
     (0, 3, "read config"),
     (8, 12, "read first"),
     (12, 16, "read second"),
-    (16, 20, "write first"),
-    (20, 29, "write second"),
+    (16, 18, "write first"),
+    (18, 21, "write second"),
+    (21, 23, "write first"),
+    (23, 29, "write second"),
 ];
 
 #[test]

@@ -20,15 +20,17 @@ const KINDS: [(ErrorKind, &str); 8] = [
     (ErrorKind::Other, ""),
 ];
 
-/// The calls of a restore, as in the tests of files, but the text is opened and read to its end by two reads before the copies are read
-/// again; and what can't be done where one of them fails.
-const CALLS: [(usize, usize, &str); 6] = [
+/// The calls of a restore, as in the tests of files, but the text is opened and read to its end by two reads before the devices are
+/// opened again; and what can't be done where one of them fails.
+const CALLS: [(usize, usize, &str); 8] = [
     (0, 3, "read config"),
     (8, 12, "read first"),
     (12, 16, "read second"),
     (16, 19, "read text"),
-    (19, 23, "write first"),
-    (23, 32, "write second"),
+    (19, 21, "write first"),
+    (21, 24, "write second"),
+    (24, 26, "write first"),
+    (26, 32, "write second"),
 ];
 
 #[test]

@@ -244,11 +244,11 @@ def image_read():
 
 
 def copies_read():
-    """The device is opened to be locked, then for each copy, and before the write for each copy again."""
+    """The device is opened to be locked, then for each copy, and at last to read both again and to write."""
     case = call([b"setenv", b"a", b"1"])
-    for opening in (2, 3, 4, 5):
-        for place in places(FORM.size, "fail", "none", "pause"):
-            text = CANNOT_WRITE if opening > 3 else CANNOT_READ if place[2] == "fail" else TOO_SHORT
+    for opening, length in ((2, FORM.size), (3, FORM.size), (4, 2 * FORM.size)):
+        for place in places(length, "fail", "none", "pause"):
+            text = CANNOT_WRITE if opening == 4 else CANNOT_READ if place[2] == "fail" else TOO_SHORT
             wanted = Answer(1, b"", text % DEVICE, case.files)
             yield cut_case(case, DEVICE, "read", place, wanted, opening, counted=False)
     case = call([b"printenv", b"a"])
@@ -264,8 +264,23 @@ def saves():
         left = board(FORM, [STORED[0], new[: place[0]] + STORED[1][place[0] :]])
         yield cut_case(case, DEVICE, "write", place, Answer(1, b"", CANNOT_WRITE % DEVICE, left))
     yield from taken_whole(case, DEVICE, FORM.size, answer)
-    not_flushed = replace(answer, status=1, errors=CANNOT_WRITE % DEVICE)
-    yield replace(case, cut=Cut(DEVICE, "sync"), moved=(1, 0), wanted=not_flushed)
+    yield from not_flushed(case, case.files, answer.files)
+
+
+def not_flushed(case, *left):
+    """The device is flushed before anything is written, and after each copy; this is left where it can't be."""
+    for syncs, files in enumerate(left):
+        wanted = replace(case.answer(), status=1, errors=CANNOT_WRITE % DEVICE, files=files)
+        yield replace(case, cut=Cut(DEVICE, "sync", syncs), moved=(syncs + 1, 0), wanted=wanted)
+
+
+def one_cut(case, copies_before, place, wanted):
+    """The write of a copy is cut, once as many others were written by the same file."""
+    after, step, then = place
+    before = copies_before * FORM.size
+    name = f"{case.name}: the write of copy {copies_before} {then} after {after} bytes, {step or 'all'} a call"
+    moved = ((before if step else copies_before) + least_calls(after, step), before + after)
+    return replace(case, name=name, cut=Cut(DEVICE, "write", before + after, then, step), moved=moved, wanted=wanted)
 
 
 def script_read():
@@ -287,9 +302,9 @@ def saves_of_a_run():
         for place in places(FORM.size, "fail", "none"):
             cut_second = [STORED[0], second[: place[0]] + STORED[1][place[0] :]]
             cut_first = [first[: place[0]] + STORED[0][place[0] :], second]
-            for opening, copies in ((1, cut_second), (2, cut_first)):
+            for number, copies in enumerate((cut_second, cut_first)):
                 wanted = Answer(1, case.answer().output, CANNOT_WRITE % DEVICE, board(FORM, copies))
-                yield cut_case(case, DEVICE, "write", place, wanted, opening)
+                yield one_cut(case, number, place, wanted)
         yield replace(case, cut=Cut(DEVICE, "write", step=1), wanted=case.answer())
 
 
@@ -300,12 +315,10 @@ def saves_of_both():
     for after in range(FORM.size):
         cut_first = [first[:after] + STORED[0][after:], STORED[1]]
         cut_second = [first, second[:after] + STORED[1][after:]]
-        for opening, copies in ((1, cut_first), (2, cut_second)):
+        for number, copies in enumerate((cut_first, cut_second)):
             wanted = Answer(1, case.answer().output, CANNOT_WRITE % DEVICE, board(FORM, copies))
-            yield cut_case(case, DEVICE, "write", (after, 0, "fail"), wanted, opening)
-    for opening, copies in ((1, [first, STORED[1]]), (2, [first, second])):
-        wanted = Answer(1, case.answer().output, CANNOT_WRITE % DEVICE, board(FORM, copies))
-        yield replace(case, cut=Cut(DEVICE, "sync", opening=opening), moved=(1, 0), wanted=wanted)
+            yield one_cut(case, number, (after, 0, "fail"), wanted)
+    yield from not_flushed(case, case.files, board(FORM, [first, STORED[1]]), board(FORM, [first, second]))
 
 
 def chunks():

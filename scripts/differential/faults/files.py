@@ -101,6 +101,14 @@ def with_mode(mode, _runner):
     os.chmod("device", 0o644)
 
 
+@contextlib.contextmanager
+def beside_another(runner):
+    """The device may not be written, and the other one may."""
+    os.chmod("other", 0o666)
+    with with_mode(0o444, runner) as given:
+        yield given
+
+
 def through_pipe(*steps, given={}):
     """What is done as soon as the program opens a pipe: a step is a text that is written into it, or a function. `given` are
     other streams."""
@@ -151,6 +159,12 @@ def without_rights():
         case = row(name, words, given, 1, output, text % b"device", functools.partial(with_mode, mode), over_copies())
         case.prefix = NOBODY if os.getuid() == 0 else ()
         yield case
+    # both copies would change, and neither does
+    files = {b"fw.config": b"other 0 a\ndevice 0 a\n", b"other": FIRST, b"device": SECOND}
+    saved = b"Saved copy 2\nSaved copy 1\n"
+    case = row("the second of two devices may not be written", session, b".save\n.save\n", 1, saved, CANNOT_WRITE % b"device", beside_another, files)
+    case.prefix = NOBODY if os.getuid() == 0 else ()
+    yield case
 
 
 def outputs():

@@ -20,7 +20,7 @@ PROGRAM = ""
 @dataclass
 class Cut:
     """How a stream is cut (scripts/cut_streams.c): a descriptor or the path that is opened, perhaps not for the first time; the call
-    is read, write or sync; it moves `step` bytes a call, or all, and after so many bytes it fails, ends, or pauses."""
+    is read, write or sync; it moves `step` bytes a call, or all, and after so many bytes, or syncs, it fails, ends, or pauses."""
 
     stream: object
     call: str

@@ -1,7 +1,5 @@
-use Rattle.fw_files.proofs.ChangedLemmas.{front_is, warned_is}
+use Rattle.fw_files.proofs.SaidLemmas.{front_said, line_said, said_then}
 use Rattle.fw_files.proofs.changed_copies.write_back.Goals as goal
 
-pub returns : goal.returns
-returns g c =
-    front_is c.write_changes.result _ _ _ _ (warned_is c.args.source.now c.args.stored.now c.changes.result _ _ c.warning_of-warning.result.now c.changes.ensures c.warning_of-warning.ensures)
-    c.write_changes.ensures
+pub returns-in-Err-clause-said : goal.returns-in-Err-clause-said
+returns-in-Err-clause-said g c = said_then _ _ _ (front_said _ _ _ c.say.ensures) (line_said _ _ _ c.say_fault.ensures)

@@ -1,5 +1,4 @@
 use Rattle.std.proofs.Common.{Global, List, ℕ, Bor, Vec, map, ap, option_map, ◌∙◌}
-use Rattle.hush_commands.specs.Hardware.{Hardware}
 use Rattle.fw_arguments.specs.Checks.{environment_check_view}
 use Rattle.fw_check.specs.Called.{given_with}
 use Rattle.fw_engines.specs.Streams.{Writers}

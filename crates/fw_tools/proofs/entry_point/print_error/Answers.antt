@@ -1,4 +1,4 @@
-use Rattle.std.proofs.Common.{◌≡◌, true, inr, refl, subst, ◌∙◌}
+use Rattle.std.proofs.Common.{◌≡◌, true, inr, refl, subst}
 use Rattle.fw_engines.specs.Streams.{AppendsFront}
 use Rattle.fw_tools.proofs.HelpLemmas.{helped}
 use Rattle.fw_tools.proofs.entry_point.print_error.Goals as goal

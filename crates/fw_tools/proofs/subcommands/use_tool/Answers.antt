@@ -1,15 +1,22 @@
-use Rattle.std.proofs.Common.{ap, inl, inr}
+use Rattle.std.proofs.Common.{true, false, ap, inl, refl, sym}
 use Rattle.std.specs.Prelude.{unwrap_or}
 use Rattle.fw_arguments.specs.Calls.{task_view}
-use Rattle.fw_tools.proofs.SubcommandLemmas.{used_tool}
-use Rattle.fw_tools.proofs.WarnLemmas.{no_warning}
+use Rattle.fw_tools.proofs.SubcommandLemmas.{kept_if, used_tool}
 use Rattle.fw_tools.proofs.subcommands.use_tool.Goals as goal
 
 pub returns-in_err-end : goal.returns-in_err-end
-returns-in_err-end g c = inl (c.in_err-end.ensures, ap (λ o. unwrap_or o 1) c.from_residual.ensures)
+returns-in_err-end g c = inl ((c.in_err-end.ensures, ap (λ o. unwrap_or o 1) c.from_residual.ensures), refl)
 
 pub returns-then-is_left : goal.returns-then-is_left
-returns-then-is_left g c = used_tool (task_view c.args.task) c.args.opened _ _ c.in_ok-end.end _ _ c.in_ok-end.ensures (inr (_, no_warning _, c.report.ensures.said, c.report.ensures.status))
+returns-then-is_left g c =
+    let task = task_view c.args.task in
+    used_tool c.args.only_changes false task c.args.source.now c.args.opened _ _ _ c.in_ok-end.end _ _ c.in_ok-end.ensures
+    (sym (kept_if c.is_left.result c.args.only_changes _ _ _ true task c.args.opened c.act.new.session c.is_left.ensures c.changes.ensures c.current-current.ensures c.touched-touched.ensures c.if-is_left.true))
+    (c.report.ensures.said, c.report.ensures.status, refl)
 
 pub returns : goal.returns
-returns g c = used_tool (task_view c.args.task) c.args.opened _ _ c.in_ok-end.end _ _ c.in_ok-end.ensures c.finish.ensures
+returns g c =
+    let task = task_view c.args.task in
+    used_tool c.args.only_changes true task c.args.source.now c.args.opened _ _ _ c.in_ok-end.end _ _ c.in_ok-end.ensures
+    (sym (kept_if c.is_left.result c.args.only_changes _ _ _ false task c.args.opened c.act.new.session c.is_left.ensures c.changes.ensures c.current-current.ensures c.touched-touched.ensures c.if-is_left.false))
+    c.finish.ensures

@@ -1,7 +1,6 @@
 use Rattle.std.proofs.Common.{List, Option, map, subst, sym, ℕ}
 use Rattle.env_session.specs.Requests.{entry_in}
 use Rattle.envcfg_core.specs.Entries.{entry_view}
-use Rattle.envcfg_core.specs.declared.entry.TextEntry.{TextEntry}
 use Rattle.envimg_core.specs.Pieces.{Entry}
 use Rattle.fw_engines.specs.Changes.{Changes, LacksMemory, pair_of, script_effect}
 use Rattle.fw_tools.proofs.SubcommandLemmas.{pairs_in}
